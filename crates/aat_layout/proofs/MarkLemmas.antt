@@ -1,0 +1,24 @@
+-- What the mark against joining keeps.
+use Rattle.std.proofs.Common.{ℕ, ◌-◌, ◌+◌, ◌&&◌, nat_le, length, Bool, true, false, List, map, take, drop, All, Option, cond}
+use Rattle.std.proofs.lemmas.List.Elements.{All-append, All-take, All-drop, All-map}
+use Rattle.aat_layout.specs.declared.buffer.glyph.hb_glyph_info_t.{hb_glyph_info_t}
+use Rattle.aat_layout.specs.Buffer.{Buffer, Is16Bit}
+use Rattle.aat_layout.specs.Marks.{with_mask_bits, on_span, unsafe_to_concat, start_place, end_place, wants_concat}
+
+-- bits on a span keep the glyph ids
+small_span : (bits i j : ℕ) (gs : List hb_glyph_info_t) → All Is16Bit gs → All Is16Bit (on_span (map (with_mask_bits bits)) i j gs)
+small_span bits i j gs small =
+    All-append Is16Bit (take i gs) _ (All-take Is16Bit i gs small)
+    (All-append Is16Bit _ (drop j gs) (All-map Is16Bit (with_mask_bits bits) _ (All-take Is16Bit (j - i) (drop i gs) (All-drop Is16Bit i gs small)))
+    (All-drop Is16Bit j gs small))
+
+small_choice : (b : Bool) (x y : Buffer) → All Is16Bit x.line → All Is16Bit y.line → All Is16Bit (cond b x y).line
+small_choice true x y p q = p
+small_choice false x y p q = q
+
+-- the mark against joining keeps glyph ids to 16 bits
+pub small_concat : (b : Buffer) (start end : Option ℕ) → All Is16Bit b.line → All Is16Bit (unsafe_to_concat b start end).line
+small_concat b start end small =
+    let i = start_place start in
+    let j = end_place end (length b.line) in
+    small_choice (wants_concat b && nat_le (i + 1) j) (record b { line = on_span (map (with_mask_bits 2)) i j b.line }) b (small_span 2 i j b.line small) small

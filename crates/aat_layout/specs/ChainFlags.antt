@@ -1,0 +1,36 @@
+-- The flags of a chain, and how they switch its subtables. Apple's TrueType Reference Manual, "The 'morx' table", chain header and feature subtables.
+use Rattle.std.specs.Prelude.{ℕ, ◌==◌, ◌&&◌, ◌||◌, not, Bool, true, false, List, fold, bit_and, bit_or, if◌then◌else◌}
+use Rattle.aat_layout.specs.declared.font.morx.ChainFeature.{ChainFeature}
+
+-- two masks share a bit
+abbrev pub meets : ℕ → ℕ → Bool
+meets a b = not (bit_and a b == 0)
+
+-- nothing is requested
+abbrev pub nothing_requested : ℕ → ℕ → Bool
+nothing_requested kind setting = false
+
+-- a chain feature is asked for, or it is the older small capitals (3, 3) and the newer ones (37, 1) are
+abbrev pub is_asked : (ℕ → ℕ → Bool) → ChainFeature → Bool
+is_asked requested f = requested f.kind f.setting || ((f.kind == 3) && (f.setting == 3) && requested 37 1)
+
+-- flags after a chain feature
+abbrev pub after_feature : (ℕ → ℕ → Bool) → ℕ → ChainFeature → ℕ
+after_feature requested flags f = if is_asked requested f then bit_or (bit_and flags f.disable_flags) f.enable_flags else flags
+
+-- the flags of a chain: the default ones, changed by its features in their order
+abbrev pub flags_by : (ℕ → ℕ → Bool) → ℕ → List ChainFeature → ℕ
+flags_by requested default_flags features = fold (after_feature requested) default_flags features
+
+-- how a chain is switched: whether it has one range alone, and whether a subtable with some feature flags is on at a cluster
+pub record Switch : Type 0 where
+  pub has_one_range : Bool
+  pub is_on : ℕ → ℕ → Bool
+
+-- no flags are compiled: every subtable is on everywhere
+abbrev pub always_on : Switch
+always_on = record { has_one_range = false; is_on = λ feature_flags cluster. true }
+
+-- flags for each cluster: a subtable is on where its feature flags share a bit with them
+abbrev pub by_flags : Bool → (ℕ → ℕ) → Switch
+by_flags has_one_range flags = record { has_one_range = has_one_range; is_on = λ feature_flags cluster. meets (flags cluster) feature_flags }

@@ -1,0 +1,44 @@
+//! Why a table is refused.
+ghost use Rattle.std.specs.Prelude.{◌≡◌};
+ghost use Rattle.aat_layout.specs.TableErrors.{number_of_table_error};
+
+use std::alloc::AllocError;
+use thiserror::Error;
+
+/// Why a table is refused. A refused table does not exist, and nothing else changes.
+#[derive(Clone, Copy, PartialEq, Eq, Debug, Error)]
+pub enum TableError {
+    /// 1: the element at this place is the first that is not above the one before it.
+    #[error("the element at place {0} is not above the one before it")]
+    NotRising(usize),
+    /// 4: there are more than 65,535 subtables.
+    #[error("there are more than 65535 subtables")]
+    TooManySubtables,
+    /// 5: memory is wanting for a copy of a slice.
+    #[error("out of memory")]
+    OutOfMemory,
+}
+
+impl TableError {
+    /// The error's number: 1, 4 or 5.
+    pub fn number(self) -> u8
+        ensures { result ≡ number_of_table_error self }
+    {
+        match self {
+            TableError::NotRising(_) => 1,
+            TableError::TooManySubtables => 4,
+            TableError::OutOfMemory => 5,
+        }
+    }
+}
+
+impl From<AllocError> for TableError {
+    ghost use Rattle.std.specs.Prelude.{◌≡◌};
+    ghost use Rattle.aat_layout.specs.declared.font.error.TableError.TheVariants.{OutOfMemory};
+
+    ghost from_gives = { λ _ e. e ≡ OutOfMemory };
+
+    fn from(_: AllocError) -> TableError {
+        TableError::OutOfMemory
+    }
+}
