@@ -1,6 +1,11 @@
-pub mod ChainFlagsLemmas
-pub mod Falls
+pub mod CompileLemmas
+pub mod CompiledLemmas
+pub mod CutLemmas
+pub mod GatherLemmas
 pub mod Lists
+pub mod MapLemmas
 pub mod MarkLemmas
 pub mod OutcomeLemmas
-pub mod Search
+pub mod RequestLemmas
+pub mod SpanLemmas
+pub mod StartLemmas

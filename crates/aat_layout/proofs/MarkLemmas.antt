@@ -1,18 +1,21 @@
--- What the mark against joining keeps.
-use Rattle.std.proofs.Common.{ℕ, ◌-◌, ◌+◌, ◌&&◌, nat_le, length, Bool, true, false, List, map, take, drop, All, Option, cond}
+-- What the mark against joining keeps, and how few turns are.
+use Rattle.std.proofs.Common.{ℕ, ℤ, pos, negsuc, ◌≤◌, ◌<◌, ◌*◌, arith, ◌-◌, ◌+◌, ◌&&◌, nat_lt, length, Bool, true, false, List, take, drop, All, Option, cond}
 use Rattle.std.proofs.lemmas.List.Elements.{All-append, All-take, All-drop, All-map}
-use Rattle.aat_layout.specs.declared.buffer.glyph.hb_glyph_info_t.{hb_glyph_info_t}
-use Rattle.aat_layout.specs.Buffer.{Buffer, Is16Bit}
-use Rattle.aat_layout.specs.Marks.{with_mask_bits, on_span, unsafe_to_concat, start_place, end_place, wants_concat}
+use Rattle.std.specs.Int.Signed.{mag}
+use Rattle.std.proofs.lemmas.Nat.{mul-le}
+use Rattle.aat_buffer.specs.declared.glyph.hb_glyph_info_t.{hb_glyph_info_t}
+use Rattle.aat_buffer.specs.Buffer.{Buffer, Is16Bit}
+use Rattle.aat_buffer.specs.Marks.{with_mask_bits, on_span, concat_marked, unsafe_to_concat, start_place, end_place, produces_concat}
+use Rattle.aat_layout.specs.Outcome.{purse}
 
--- bits on a span keep the glyph ids
-small_span : (bits i j : ℕ) (gs : List hb_glyph_info_t) → All Is16Bit gs → All Is16Bit (on_span (map (with_mask_bits bits)) i j gs)
-small_span bits i j gs small =
+-- marks on a span keep the glyph ids
+small_span : (i j : ℕ) (gs : List hb_glyph_info_t) → All Is16Bit gs → All Is16Bit (on_span concat_marked i j gs)
+small_span i j gs small =
     All-append Is16Bit (take i gs) _ (All-take Is16Bit i gs small)
-    (All-append Is16Bit _ (drop j gs) (All-map Is16Bit (with_mask_bits bits) _ (All-take Is16Bit (j - i) (drop i gs) (All-drop Is16Bit i gs small)))
+    (All-append Is16Bit _ (drop j gs) (All-map Is16Bit (with_mask_bits 2) _ (All-take Is16Bit (j - i) (drop i gs) (All-drop Is16Bit i gs small)))
     (All-drop Is16Bit j gs small))
 
-small_choice : (b : Bool) (x y : Buffer) → All Is16Bit x.line → All Is16Bit y.line → All Is16Bit (cond b x y).line
+small_choice : (b : Bool) (x y : List hb_glyph_info_t) → All Is16Bit x → All Is16Bit y → All Is16Bit (cond b x y)
 small_choice true x y p q = p
 small_choice false x y p q = q
 
@@ -21,4 +24,16 @@ pub small_concat : (b : Buffer) (start end : Option ℕ) → All Is16Bit b.line 
 small_concat b start end small =
     let i = start_place start in
     let j = end_place end (length b.line) in
-    small_choice (wants_concat b && nat_le (i + 1) j) (record b { line = on_span (map (with_mask_bits 2)) i j b.line }) b (small_span 2 i j b.line small) small
+    small_choice (produces_concat b.flags && nat_lt i j) (on_span concat_marked i j b.line) b.line (small_span i j b.line small) small
+
+-- turns over a line and a budget within their bounds are few
+pub few_turns : (turns count line : ℕ) (budget : ℤ) → turns ≤ count * (line + purse budget + 1) → count ≤ 65535 → line ≤ 1073741823 → purse budget < 2147483648 → turns ≤ 4611686018427387904
+few_turns turns count line budget most few short spent =
+    let each : line + purse budget + 1 ≤ 3221225471 = omega (arith, short, spent) in
+    let all : count * (line + purse budget + 1) ≤ 65535 * 3221225471 = mul-le count (line + purse budget + 1) 65535 3221225471 few each in
+    omega (arith, most, all)
+
+-- a budget of 32 bits
+pub small_purse : (budget : ℤ) → mag budget < 2147483648 → purse budget < 2147483648
+small_purse (pos n) fits = fits
+small_purse (negsuc n) fits = omega arith

@@ -1,6 +1,6 @@
 -- The flags of a chain, and how they switch its subtables. Apple's TrueType Reference Manual, "The 'morx' table", chain header and feature subtables.
 use Rattle.std.specs.Prelude.{ℕ, ◌==◌, ◌&&◌, ◌||◌, not, Bool, true, false, List, fold, bit_and, bit_or, if◌then◌else◌}
-use Rattle.aat_layout.specs.declared.font.morx.ChainFeature.{ChainFeature}
+use Rattle.aat_font.specs.declared.morx.ChainFeature.{ChainFeature}
 
 -- two masks share a bit
 abbrev pub meets : ℕ → ℕ → Bool

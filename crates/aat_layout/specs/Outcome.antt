@@ -1,6 +1,6 @@
 -- What a run leaves, and runs one after another.
 use Rattle.std.specs.Prelude.{ℕ, ◌+◌, ℤ, pos, negsuc, List, fold}
-use Rattle.aat_layout.specs.Buffer.{Buffer}
+use Rattle.aat_buffer.specs.Buffer.{Buffer}
 
 -- a buffer, and the number of turns that were taken
 pub record Outcome : Type 0 where

@@ -1,22 +1,21 @@
 -- Substitution: all subtables of all chains over a line. Apple's TrueType Reference Manual, "The 'morx' table".
-use Rattle.std.specs.Prelude.{ℕ, ◌&&◌, ◌||◌, not, Bool, true, false, List, length, sum_by, None, if◌then◌else◌}
-use Rattle.aat_layout.specs.Buffer.{Buffer}
-use Rattle.aat_layout.specs.Directions.{is_vertical}
-use Rattle.aat_layout.specs.Marks.{unsafe_to_concat}
-use Rattle.aat_layout.specs.Keys.{value_in}
-use Rattle.aat_layout.specs.Coverage.{is_vertical_coverage, is_all_directions}
-use Rattle.aat_layout.specs.Noncontextual.{noncontextual}
+use Rattle.std.specs.Prelude.{ℕ, ◌&&◌, ◌||◌, not, Bool, true, false, List, length, sum_by, Option, None, if◌then◌else◌}
+use Rattle.aat_buffer.specs.Buffer.{Buffer, with_line, without_positions}
+use Rattle.aat_buffer.specs.Directions.{is_vertical}
+use Rattle.aat_buffer.specs.Marks.{unsafe_to_concat}
+use Rattle.aat_font.specs.Coverage.{is_vertical_coverage, is_all_directions}
+use Rattle.aat_layout.specs.Values.{noncontextual}
 use Rattle.aat_layout.specs.ChainFlags.{Switch}
 use Rattle.aat_layout.specs.Outcome.{Outcome, untouched, in_order}
-use Rattle.aat_layout.specs.declared.buffer.glyph.Direction.{Direction}
-use Rattle.aat_layout.specs.declared.font.morx.Coverage.{Coverage}
-use Rattle.aat_layout.specs.declared.font.morx.Subtable.{Subtable}
-use Rattle.aat_layout.specs.declared.font.morx.SubtableKind.{SubtableKind}
-use Rattle.aat_layout.specs.declared.font.morx.SubtableKind.TheVariants.{NonContextual}
+use Rattle.aat_buffer.specs.declared.glyph.Direction.{Direction}
+use Rattle.aat_font.specs.declared.morx.Coverage.{Coverage}
+use Rattle.aat_font.specs.declared.morx.Subtable.{Subtable}
+use Rattle.aat_font.specs.declared.morx.SubtableKind.{SubtableKind}
+use Rattle.aat_font.specs.declared.morx.SubtableKind.TheVariants.{NonContextual}
 
--- the mark against joining on the whole line, where the caller asks for it
-abbrev pub concat_marked : Buffer → Buffer
-concat_marked b = unsafe_to_concat b None None
+-- before a run the positions are dropped, and the whole line gets the mark against joining, where the caller asks for it
+abbrev pub prepared : Buffer → Buffer
+prepared b = unsafe_to_concat (without_positions b) None None
 
 -- two truths are one
 abbrev pub is_same : Bool → Bool → Bool
@@ -28,16 +27,16 @@ abbrev pub is_for : Direction → Coverage → Bool
 is_for direction coverage = is_all_directions coverage || is_same (is_vertical_coverage coverage) (is_vertical direction)
 
 -- a subtable is left out: its chain has one range alone and it is off there, or it is not for text of this direction
-abbrev pub is_skipped : Switch → Subtable → Buffer → Bool
-is_skipped switch s b = (switch.has_one_range && not (switch.is_on s.feature_flags 0)) || not (is_for b.direction s.coverage)
+abbrev pub is_skipped : Switch → Subtable → Direction → Bool
+is_skipped switch s direction = (switch.has_one_range && not (switch.is_on s.feature_flags 0)) || not (is_for direction s.coverage)
 
--- a run by kind, where `on` tells at which clusters the subtable is on; a noncontextual one counts a turn for each glyph
-abbrev pub kind_run : (ℕ → Bool) → SubtableKind → Buffer → Outcome
-kind_run on (NonContextual lookup) b = record { buffer = record b { line = noncontextual on (value_in lookup) b.line }; turns = length b.line }
+-- a run by kind in a font that may have classes of glyphs, where `on` tells at which clusters the subtable is on; a noncontextual one counts a turn for each glyph
+abbrev pub kind_run : Option (List (ℕ × ℕ)) → (ℕ → Bool) → SubtableKind → Buffer → Outcome
+kind_run classes on (NonContextual lookup) b = record { buffer = with_line b (noncontextual on classes lookup b.line); turns = length b.line }
 
 -- the run of a subtable
-abbrev pub subtable_run : Switch → Subtable → Buffer → Outcome
-subtable_run switch s b = if is_skipped switch s b then untouched b else kind_run (switch.is_on s.feature_flags) s.kind b
+abbrev pub subtable_run : Option (List (ℕ × ℕ)) → Switch → Subtable → Buffer → Outcome
+subtable_run classes switch s b = if is_skipped switch s b.direction then untouched b else kind_run classes (switch.is_on s.feature_flags) s.kind b
 
 -- a chain's subtables with how they are switched
 pub record SwitchedChain : Type 0 where
@@ -45,12 +44,12 @@ pub record SwitchedChain : Type 0 where
   pub subtables : List Subtable
 
 -- the run of a chain: its subtables in order
-abbrev pub chain_run : SwitchedChain → Buffer → Outcome
-chain_run c b = in_order (subtable_run c.switch) c.subtables b
+abbrev pub chain_run : Option (List (ℕ × ℕ)) → SwitchedChain → Buffer → Outcome
+chain_run classes c b = in_order (subtable_run classes c.switch) c.subtables b
 
--- substitution: the mark against joining, then all subtables of all chains in order
-abbrev pub substituted : List SwitchedChain → Buffer → Outcome
-substituted chains b = in_order chain_run chains (concat_marked b)
+-- substitution: all subtables of all chains in order, over what is prepared
+abbrev pub substituted : Option (List (ℕ × ℕ)) → List SwitchedChain → Buffer → Outcome
+substituted classes chains b = in_order (chain_run classes) chains (prepared b)
 
 -- the number of subtables of all chains, of skipped ones too
 abbrev pub count_of_subtables : List SwitchedChain → ℕ

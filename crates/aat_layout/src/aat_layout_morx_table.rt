@@ -1,6 +1,10 @@
 //! Running the extended glyph metamorphosis table.
 
 mod chains;
+mod compiling;
 mod noncontextual;
+mod running;
 
-pub(crate) use chains::run_chains;
+pub use compiling::compile_flags;
+pub use running::apply;
+pub(crate) use running::run_table;

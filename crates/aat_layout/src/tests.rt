@@ -1,17 +1,12 @@
 //! The worked rows as theorems over the definitions, each call once with ample memory, and refusals.
-ghost use Rattle.aat_layout.specs.Examples.{Row1, OffIsLeftOut, VerticalIsLeftOut, AlwaysOnRuns, WholeLineIsMarked, OlderSmallCapitals};
+ghost use Rattle.aat_layout.specs.Examples.{Row1, Row2, Row3a, Row3b, Row4, Row5, Row6, Row7a, Row7b, Row7c, Row7d, OffIsLeftOut, VerticalIsLeftOut, AlwaysOnRuns, WholeLineIsMarked, PositionsAreDropped, PropertiesFollowClasses, OlderSmallCapitals, SmallCapitalsOfOlderType};
 
-use crate::buffer::{
-    BufferError, BufferFlags, Direction, HB_BUFFER_CLUSTER_LEVEL_CHARACTERS, glyph_flag,
-    hb_buffer_t, hb_glyph_info_t,
-};
+use crate::buffer::{BufferError, hb_buffer_t, hb_glyph_info_t};
 use crate::font::{
-    Chain, ChainFeature, Coverage, FaceTables, GlyphId, Lookup, Morx, Subtable, SubtableKind,
-    TableError, hb_font_t, hb_ot_shape_plan_t, hb_tag_t,
+    Chain, ChainFeature, Coverage, FaceTables, Lookup, Morx, Subtable, SubtableKind, hb_font_t,
+    hb_ot_shape_plan_t,
 };
 use crate::{AatError, hb_aat_layout_substitute};
-use bitflags::Flags;
-use linked_list_allocator::LocalHeap;
 use std::alloc::{Allocator, Global};
 use std::process::Abort;
 use std::test::Fail;
@@ -19,11 +14,24 @@ use std::test::Fail;
 /// What the checker computes from the definitions.
 fn rows_by_definition()
     ensures row_1 { Row1 }
+    ensures row_2 { Row2 }
+    ensures row_3a { Row3a }
+    ensures row_3b { Row3b }
+    ensures row_4 { Row4 }
+    ensures row_5 { Row5 }
+    ensures row_6 { Row6 }
+    ensures row_7a { Row7a }
+    ensures row_7b { Row7b }
+    ensures row_7c { Row7c }
+    ensures row_7d { Row7d }
     ensures off { OffIsLeftOut }
     ensures vertical { VerticalIsLeftOut }
     ensures always_on { AlwaysOnRuns }
     ensures marked { WholeLineIsMarked }
+    ensures positions { PositionsAreDropped }
+    ensures properties { PropertiesFollowClasses }
     ensures older_small_capitals { OlderSmallCapitals }
+    ensures small_capitals_of_older_type { SmallCapitalsOfOlderType }
 {}
 
 #[test]
@@ -73,9 +81,9 @@ fn subtable(alloc: Global, coverage: Coverage, feature_flags: u32) -> Result<Sub
     })
 }
 
-/// A font with one chain that begins with the lowest flag, over one such subtable.
-fn face(alloc: Global, coverage: Coverage, feature_flags: u32) -> Result<hb_font_t, Fail> {
-    let chain = Chain {
+/// A chain that begins with the lowest flag, over one such subtable.
+fn chain(alloc: Global, coverage: Coverage, feature_flags: u32) -> Result<Chain, Fail> {
+    Ok(Chain {
         default_flags: 1,
         features: vec![in alloc;
             ChainFeature {
@@ -86,9 +94,17 @@ fn face(alloc: Global, coverage: Coverage, feature_flags: u32) -> Result<hb_font
             },
         ]?,
         subtables: vec![in alloc; subtable(alloc, coverage, feature_flags)?]?,
+    })
+}
+
+/// A font with one such chain.
+fn face(alloc: Global, coverage: Coverage, feature_flags: u32) -> Result<hb_font_t, Fail> {
+    let morx = Morx::new(vec![in alloc; chain(alloc, coverage, feature_flags)?]?)?;
+    let tables = FaceTables {
+        morx: Some(morx),
+        feat: None,
     };
-    let morx = Morx::new(vec![in alloc; chain]?)?;
-    Ok(hb_font_t::new(FaceTables { morx: Some(morx) }))
+    Ok(hb_font_t::new(tables, None, None))
 }
 
 fn plan(alloc: Global, apply_morx: bool) -> hb_ot_shape_plan_t {
@@ -126,7 +142,14 @@ fn substitutes(rt: HostRuntime) -> Result<(), Fail> {
     let on = face(alloc, Coverage::ALL_DIRECTIONS, 1)?;
     let off = face(alloc, Coverage::ALL_DIRECTIONS, 2)?;
     let vertical = face(alloc, Coverage::VERTICAL, 1)?;
-    let empty = hb_font_t::new(FaceTables { morx: None });
+    let empty = hb_font_t::new(
+        FaceTables {
+            morx: None,
+            feat: None,
+        },
+        None,
+        None,
+    );
     assert_substitutes(&rt, alloc, &on, true, &changed, 3)?;
     assert_substitutes(&rt, alloc, &off, true, &same, 0)?;
     assert_substitutes(&rt, alloc, &off, false, &changed, 3)?;
@@ -153,137 +176,41 @@ fn a_failed_buffer_is_refused(rt: HostRuntime) -> Result<(), Fail> {
 }
 
 #[test]
-fn buffer_fields(rt: HostRuntime) -> Result<(), Fail> {
-    let mut buffer = buffer_5_6_5(rt.alloc())?;
-    buffer.set_direction(Direction::BottomToTop);
-    buffer.set_cluster_level(HB_BUFFER_CLUSTER_LEVEL_CHARACTERS);
-    buffer.set_max_ops(-7);
-    assert!(rt; buffer.direction() == Direction::BottomToTop);
-    assert!(rt; buffer.direction().is_vertical() && buffer.direction().is_backward());
-    assert!(rt; !buffer.direction().is_horizontal() && !buffer.direction().is_forward());
-    assert!(rt; buffer.cluster_level() == 2 && buffer.max_ops() == -7);
-    buffer.unsafe_to_concat(None, None);
-    assert!(rt; is_line(&buffer, &[(5, 0, 0), (6, 1, 0), (5, 2, 0)]));
-    buffer.set_flags(BufferFlags::PRODUCE_UNSAFE_TO_CONCAT);
-    assert!(rt; buffer.flags() == BufferFlags::PRODUCE_UNSAFE_TO_CONCAT);
-    buffer.unsafe_to_concat(Some(1), Some(9));
-    let bit = glyph_flag::UNSAFE_TO_CONCAT;
-    assert!(rt; is_line(&buffer, &[(5, 0, 0), (6, 1, bit), (5, 2, bit)]));
-    assert!(rt; buffer.len() == 3);
-    buffer.info_mut(0).glyph_id = 0x10000;
-    assert!(rt; !buffer.all_glyphs_16());
-    Ok(())
-}
-
-#[test]
-fn tables(rt: HostRuntime) -> Result<(), Fail> {
-    let lookup = Lookup::new(rt.alloc(), &[(0, 7), (5, 9), (65535, 8)])?;
-    let wanted = [
-        (0, Some(7)),
-        (4, None),
-        (5, Some(9)),
-        (6, None),
-        (65535, Some(8)),
-    ];
-    for (glyph, value) in wanted {
-        assert_eq!(rt; lookup.value(GlyphId(glyph)), value, "at {glyph}");
-    }
-    let falls = Lookup::new(rt.alloc(), &[(5, 1), (5, 2)]).err();
-    assert!(rt; falls == Some(TableError::NotRising(1)));
-    assert!(rt;
-        TableError::NotRising(1).number() == 1 && TableError::TooManySubtables.number() == 4
-    );
-    assert_eq!(rt; hb_tag_t::from_bytes(b"liga").0, 0x6C696761);
-    let coverage = Coverage::from_bits_retain(0x90);
-    assert!(rt; coverage.is_vertical() && coverage.is_logical());
-    assert!(rt; !coverage.is_backwards() && !coverage.is_all_directions());
-    let face = face(rt.alloc(), coverage, 1)?;
-    let morx = face.tables().morx.as_ref();
-    assert!(rt; !face.has_glyph_classes() && morx.is_some_and(|m| m.chains().len() == 1));
-    Ok(())
-}
-
-/// A chain with a number of empty subtables.
-fn chain_of(alloc: Global, count: usize) -> Result<Chain, Fail> {
-    let mut subtables = Vec::new(alloc);
-    for _ in 0..count {
-        subtables.push(Subtable {
-            kind: SubtableKind::NonContextual(Lookup::new(alloc, &[])?),
-            coverage: Coverage::ALL_DIRECTIONS,
-            feature_flags: 1,
-        })?;
-    }
-    Ok(Chain {
-        default_flags: 1,
-        features: Vec::new(alloc),
-        subtables,
-    })
-}
-
-#[test]
-fn many_subtables(rt: HostRuntime) -> Result<(), Fail> {
+fn positions_are_dropped(rt: HostRuntime) -> Result<(), Fail> {
     let alloc = rt.alloc();
-    let refused = Morx::new(vec![in alloc; chain_of(alloc, 65535)?, chain_of(alloc, 1)?]?).err();
-    assert!(rt; refused == Some(TableError::TooManySubtables));
-    assert!(rt; Morx::new(vec![in alloc; chain_of(alloc, 65535)?]?).is_ok());
+    let plan = plan(alloc, true);
+    let empty = hb_font_t::new(
+        FaceTables {
+            morx: None,
+            feat: None,
+        },
+        None,
+        None,
+    );
+    let mut buffer = buffer_5_6_5(alloc)?;
+    buffer.clear_positions()?;
+    assert!(rt; buffer.has_positions() && buffer.all_glyphs_16());
+    let answer = hb_aat_layout_substitute(alloc, &plan, &empty, &mut buffer);
+    assert!(rt; answer == Ok(0) && !buffer.has_positions());
     Ok(())
 }
 
-/// Adds ten glyphs, and says whether no growth was refused. After a refusal the line is as it was.
-fn adds_over<A: Allocator + Copy>(rt: &impl Abort, alloc: A) -> bool {
-    let mut buffer = hb_buffer_t::new(alloc, 100, 16384);
-    for i in 0..10u32 {
-        let before = buffer.len();
-        match buffer.add(glyph(5, i)) {
-            Ok(()) => assert!(rt; buffer.len() == before + 1),
-            Err(error) => {
-                assert!(rt; error == BufferError::OutOfMemory && error.number() == 2);
-                assert!(rt; buffer.len() == before && !buffer.is_successful());
-                return false;
-            }
-        }
-    }
-    true
-}
-
-/// Makes a lookup, and says whether it was not refused for memory.
-fn looks_up_over<A: Allocator>(rt: &impl Abort, alloc: A, pairs: &[(u16, u16)]) -> bool {
-    match Lookup::new(alloc, pairs) {
-        Ok(lookup) => {
-            assert!(rt; lookup.value(GlyphId(6)) == Some(8));
-            true
-        }
-        Err(error) => {
-            assert!(rt; error == TableError::OutOfMemory && error.number() == 5);
-            false
-        }
-    }
-}
-
-/// Each growth is refused in turn, by a heap that is too small for it.
 #[test]
-fn refused_memory(rt: HostRuntime) -> Result<(), Fail> {
-    let mut refused = 0;
-    let mut done = 0;
-    let mut pairs = Vec::new(rt.alloc());
-    for glyph in 0..64u16 {
-        pairs.push((glyph, glyph + 2))?;
+fn properties_follow_the_classes(rt: HostRuntime) -> Result<(), Fail> {
+    let alloc = rt.alloc();
+    let plan = plan(alloc, true);
+    let morx = Morx::new(vec![in alloc; chain(alloc, Coverage::ALL_DIRECTIONS, 1)?]?)?;
+    let tables = FaceTables {
+        morx: Some(morx),
+        feat: None,
+    };
+    let face = hb_font_t::new(tables, Some(Lookup::new(alloc, &[(9, 8)])?), None);
+    let mut buffer = buffer_5_6_5(alloc)?;
+    assert!(rt; buffer.all_glyphs_16());
+    let answer = hb_aat_layout_substitute(alloc, &plan, &face, &mut buffer);
+    assert!(rt; answer == Ok(3) && buffer.len() == 3);
+    if buffer.len() == 3 {
+        assert!(rt; buffer.info(0).glyph_props == 8 && buffer.info(1).glyph_props == 0);
     }
-    for step in 0..40usize {
-        let heap = LocalHeap::new(rt.alloc(), step * 64)?;
-        if adds_over(&rt, &heap) {
-            done |= 1;
-        } else {
-            refused |= 1;
-        }
-        let other = LocalHeap::new(rt.alloc(), step * 16)?;
-        if looks_up_over(&rt, &other, &pairs) {
-            done |= 2;
-        } else {
-            refused |= 2;
-        }
-    }
-    assert_eq!(rt; refused, 3);
-    assert_eq!(rt; done, 3);
     Ok(())
 }

@@ -6,10 +6,75 @@ use std::process::Abort;
 use std::test::Fail;
 
 /// The text of row 1.
-const ROW_1: &str = "row 1\n9 0 0\n6 1 0\n9 2 0\nturns 3 budget 16384\n";
+const ROW_1: &str = "\
+    row 1\n\
+    9 0 0\n\
+    6 1 0\n\
+    9 2 0\n\
+    turns 3 budget 16384\n";
+
+/// The text of row 2.
+const ROW_2: &str = "\
+    row 2\n\
+    9 0 0\n\
+    5 1 0\n\
+    9 2 0\n\
+    turns 3 budget 16384\n";
+
+/// The text of row 3.
+const ROW_3: &str = "\
+    row 3a\n\
+    range 0 4294967295 1\n\
+    row 3b\n\
+    range 0 2 1\n\
+    range 3 4 3\n\
+    range 5 4294967295 1\n";
+
+/// The text of row 4.
+const ROW_4: &str = "\
+    row 4\n\
+    range 0 4294967295 1\n";
+
+/// The text of row 5.
+const ROW_5: &str = "\
+    row 5\n\
+    range 0 0 3\n\
+    range 1 1 3\n\
+    range 2 4 3\n\
+    range 5 9 5\n\
+    range 10 4294967295 1\n";
+
+/// The text of row 6.
+const ROW_6: &str = "\
+    row 6\n\
+    9 4294967295 0\n\
+    turns 1 budget 16384\n";
+
+/// The text of row 7.
+const ROW_7: &str = "\
+    row 7a\n\
+    error 1 65536\n\
+    requests 0\n\
+    row 7b\n\
+    none\n\
+    requests 1\n\
+    row 7c\n\
+    some\n\
+    requests 0\n\
+    row 7d\n\
+    none\n\
+    requests 0\n";
 
 /// The rows that are built, in their order, each with its number and its text.
-const ROWS: [(&str, &str); 1] = [("1", ROW_1)];
+const ROWS: [(&str, &str); 7] = [
+    ("1", ROW_1),
+    ("2", ROW_2),
+    ("3", ROW_3),
+    ("4", ROW_4),
+    ("5", ROW_5),
+    ("6", ROW_6),
+    ("7", ROW_7),
+];
 
 /// A writer that keeps what it is given, up to a number of writes, and refuses those after it.
 #[derive(Drop)]
@@ -80,11 +145,13 @@ fn each_row_prints_its_text(rt: HostRuntime) -> Result<(), Fail> {
 
 #[test]
 fn other_words_are_unknown(rt: HostRuntime) -> Result<(), Fail> {
-    let wrong: [&[&str]; 7] = [
+    let wrong: [&[&str]; 9] = [
         &["0"],
         &["01"],
         &["1 "],
         &["1a"],
+        &["3a"],
+        &["7d"],
         &[""],
         &["row"],
         &["1", "1"],

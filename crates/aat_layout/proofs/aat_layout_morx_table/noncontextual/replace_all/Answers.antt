@@ -1,9 +1,10 @@
-use Rattle.std.proofs.Common.{ℕ, true, ◌∙◌, ap, arith, set}
+use Rattle.std.proofs.Common.{sym, ◌∙◌, ap, arith, set}
 use Rattle.std.proofs.lemmas.List.{length-set}
 use Rattle.std.proofs.lemmas.List.Elements.{All-set}
-use Rattle.aat_layout.specs.Buffer.{Buffer, Is16Bit, with_line}
-use Rattle.aat_layout.specs.Keys.{value_in}
-use Rattle.aat_layout.specs.Noncontextual.{replaced}
+use Rattle.aat_buffer.specs.Buffer.{Buffer, Is16Bit, with_line}
+use Rattle.aat_layout.specs.Ranges.{switch_for}
+use Rattle.aat_font.specs.Face.{glyph_classes_of}
+use Rattle.aat_layout.specs.Values.{replaced}
 use Rattle.aat_layout.proofs.Lists.{map_line_step}
 use Rattle.aat_layout.proofs.aat_layout_morx_table.noncontextual.replace_all.Goals as goal
 
@@ -11,8 +12,9 @@ pub loop-i-preserved : goal.loop-i-preserved
 loop-i-preserved g c =
     let line = c.args.buffer.now.line in
     let written = set c.loop-i.buffer.line c.loop-i.i c.replacement.result in
-    let f = replaced (λ (cluster : ℕ). true) (value_in c.args.lookup.now) in
-    let step = map_line_step f line c.loop-i.buffer.line c.loop-i.i c.info_mut-glyph.result.now c.replacement.result (omega arith) (ap (λ (b : Buffer). b.line) c.loop-i.invariant.done) c.info_mut-glyph.ensures.value c.replacement.ensures.replaced in
+    let on = (switch_for c.args.ranges.now).is_on c.args.feature_flags in
+    let f = replaced on (glyph_classes_of c.args.face.now) c.args.lookup.now in
+    let step = map_line_step f line c.loop-i.buffer.line c.loop-i.i c.info_mut-glyph.result.now c.replacement.result (omega arith) (ap (λ (b : Buffer). b.line) c.loop-i.invariant.done) c.info_mut-glyph.ensures.value (c.replacement.ensures.replaced on (sym c.is_on-is_on.ensures)) in
     record {
       done = ap (λ (b : Buffer). with_line b written) c.loop-i.invariant.done ∙ ap (with_line c.args.buffer.now) step;
       same_length = length-set c.loop-i.buffer.line c.loop-i.i c.replacement.result ∙ c.loop-i.invariant.same_length;

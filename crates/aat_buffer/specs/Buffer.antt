@@ -1,0 +1,117 @@
+-- What a buffer is to its callers, and what each plain call leaves of it.
+use Rattle.std.specs.Prelude.{option_map, pos, reverse, replicate, unwrap_or, ◌+◌, remove, insert, ◌-◌, nat_lt, if◌then◌else◌, ℕ, ℤ, ◌≤◌, Bool, true, false, List, [], ◌∷◌, ◌++◌, Option, Some, None, length, slice_index_or, slice_set}
+use Rattle.aat_buffer.specs.declared.glyph.hb_glyph_info_t.{hb_glyph_info_t}
+use Rattle.aat_buffer.specs.declared.glyph.GlyphPosition.{GlyphPosition}
+use Rattle.aat_buffer.specs.declared.glyph.Direction.{Direction}
+use Rattle.aat_buffer.specs.declared.glyph.Direction.TheVariants.{LeftToRight}
+use Rattle.aat_buffer.specs.declared.flags.BufferFlags.{BufferFlags}
+use Rattle.aat_buffer.specs.declared.flags.ScratchFlags.{ScratchFlags}
+
+-- a line of glyphs with a cursor, the positions where they stand, and the plain fields
+pub record Buffer : Type 0 where
+  pub line : List hb_glyph_info_t
+  pub cursor : ℕ
+  pub positions : Option (List GlyphPosition)
+  pub direction : Direction
+  pub cluster_level : ℕ
+  pub flags : BufferFlags
+  pub scratch_flags : ScratchFlags
+  pub max_ops : ℤ
+  pub max_len : ℕ
+  pub successful : Bool
+
+-- an empty line without positions, left to right, with no flag
+abbrev pub empty_buffer : ℕ → ℤ → Buffer
+empty_buffer most ops = record { line = []; cursor = 0; positions = None; direction = LeftToRight; cluster_level = 0; flags = record { 0 = 0 }; scratch_flags = record { 0 = 0 }; max_ops = ops; max_len = most; successful = true }
+
+abbrev pub with_line : Buffer → List hb_glyph_info_t → Buffer
+with_line b gs = record b { line = gs }
+
+abbrev pub with_cursor : Buffer → ℕ → Buffer
+with_cursor b p = record b { cursor = p }
+
+abbrev pub with_direction : Buffer → Direction → Buffer
+with_direction b d = record b { direction = d }
+
+abbrev pub with_cluster_level : Buffer → ℕ → Buffer
+with_cluster_level b level = record b { cluster_level = level }
+
+abbrev pub with_flags : Buffer → BufferFlags → Buffer
+with_flags b flags = record b { flags = flags }
+
+abbrev pub with_scratch_flags : Buffer → ScratchFlags → Buffer
+with_scratch_flags b flags = record b { scratch_flags = flags }
+
+abbrev pub with_max_ops : Buffer → ℤ → Buffer
+with_max_ops b ops = record b { max_ops = ops }
+
+-- a call was refused
+abbrev pub failed : Buffer → Buffer
+failed b = record b { successful = false }
+
+abbrev pub no_glyph : hb_glyph_info_t
+no_glyph = record { glyph_id = 0; mask = 0; cluster = 0; glyph_props = 0; unicode_props = 0 }
+
+-- the glyph at place i
+abbrev pub glyph_at : List hb_glyph_info_t → ℕ → hb_glyph_info_t
+glyph_at gs i = slice_index_or gs i no_glyph
+
+-- the record r stands at place i
+abbrev pub with_info : Buffer → ℕ → hb_glyph_info_t → Buffer
+with_info b i r = record b { line = slice_set b.line i r }
+
+-- the glyph at place i gets the glyph id g
+abbrev pub with_glyph_id : Buffer → ℕ → ℕ → Buffer
+with_glyph_id b i g = with_info b i (record (glyph_at b.line i) { glyph_id = g })
+
+abbrev pub Is16Bit : hb_glyph_info_t → Type 0
+Is16Bit g = g.glyph_id ≤ 65535
+
+-- r goes last, and the positions are dropped
+abbrev pub added : Buffer → hb_glyph_info_t → Buffer
+added b r = record b { line = b.line ++ r ∷ []; positions = None }
+
+abbrev pub without_positions : Buffer → Buffer
+without_positions b = record b { positions = None }
+
+abbrev pub with_positions : Buffer → List GlyphPosition → Buffer
+with_positions b qs = record b { positions = Some qs }
+
+-- the glyph at the cursor goes, and the positions are dropped
+abbrev pub skipped : Buffer → Buffer
+skipped b = record b { line = remove b.line b.cursor; positions = None }
+
+-- the place of the glyph that one put out is a copy of: the cursor, or the last place where the cursor is at the end
+abbrev pub model_place : Buffer → ℕ
+model_place b = if nat_lt b.cursor (length b.line) then b.cursor else length b.line - 1
+
+-- a copy with the glyph id g goes in at the cursor, which moves past it; nothing goes into an empty line; the positions are dropped
+abbrev pub output : Buffer → ℕ → Buffer
+output b g = if nat_lt 0 (length b.line) then (record b { line = insert b.line b.cursor (record (glyph_at b.line (model_place b)) { glyph_id = g }); cursor = b.cursor + 1; positions = None }) else record b { positions = None }
+
+-- the glyph at the cursor gets the glyph id g, and the cursor moves on
+abbrev pub replaced : Buffer → ℕ → Buffer
+replaced b g = with_cursor (with_glyph_id b b.cursor g) (b.cursor + 1)
+
+-- line and positions in the opposite order
+abbrev pub reversed : Buffer → Buffer
+reversed b = record b { line = reverse b.line; positions = option_map reverse b.positions }
+
+abbrev pub zero_position : GlyphPosition
+zero_position = record { x_advance = pos 0; y_advance = pos 0; x_offset = pos 0; y_offset = pos 0; attach_type = 0; attach_chain = pos 0 }
+
+-- one position a glyph, all zero
+abbrev pub with_zero_positions : Buffer → Buffer
+with_zero_positions b = record b { positions = Some (replicate (length b.line) zero_position) }
+
+-- the positions, and an empty list where none stand
+abbrev pub position_list : Buffer → List GlyphPosition
+position_list b = unwrap_or b.positions []
+
+-- the position at place i
+abbrev pub position_at : Buffer → ℕ → GlyphPosition
+position_at b i = slice_index_or (position_list b) i zero_position
+
+-- the position r stands at place i
+abbrev pub with_position : Buffer → ℕ → GlyphPosition → Buffer
+with_position b i r = record b { positions = Some (slice_set (position_list b) i r) }

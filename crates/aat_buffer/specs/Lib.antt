@@ -1,0 +1,9 @@
+pub mod Buffer
+pub mod Carried
+pub mod Directions
+pub mod Errors
+pub mod Examples
+pub mod Inside
+pub mod Lending
+pub mod Marks
+pub mod Removal

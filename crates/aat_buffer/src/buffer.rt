@@ -1,0 +1,527 @@
+// The buffer: a line of glyphs with a cursor.
+ghost use Rattle.std.specs.Prelude.{◌≡◌, ◌+◌, ◌-◌, ◌<◌, ◌≤◌, ◌↔◌, length, slice_get, is_some, IsTrue, IsOk, OnOk, OnErr, IfErr, IfSome, IsErrOf, All, map, ◌^◌, vec_len, vec_capacity};
+ghost use Rattle.std.specs.VecDeque.{deque_len, deque_capacity};
+ghost use Rattle.std.specs.Bool.{OnTrue};
+ghost use Rattle.std.specs.Borrow.{sem};
+ghost use Rattle.aat_buffer.specs.Buffer.{Buffer, empty_buffer, added, failed, with_cursor, without_positions, skipped, replaced, reversed, with_zero_positions, position_list, position_at, output, model_place, glyph_at, with_info, Is16Bit, with_direction, with_cluster_level, with_flags, with_scratch_flags, with_max_ops, with_positions};
+ghost use Rattle.aat_buffer.specs.Carried.{items_of};
+ghost use Rattle.aat_buffer.specs.Lending.{LendsInfo, LendsCur, LendsPosition};
+
+use crate::error::BufferError;
+use crate::flags::{BufferFlags, ScratchFlags};
+use crate::glyph::{
+    Direction, GlyphPosition, HB_BUFFER_CLUSTER_LEVEL_MONOTONE_GRAPHEMES, hb_glyph_info_t,
+};
+use bitflags::Flags;
+use std::alloc::{AllocError, Allocator, Global};
+use std::collections::VecDeque;
+use std::marker::Model;
+use std::mem;
+
+/// A line of glyphs with a cursor, seen by contracts as the record `Buffer` of specs/. All places are places of the line.
+///
+/// Calls that return no `Result` take no memory.
+#[derive(Drop)]
+pub struct hb_buffer_t<A: Allocator + Copy = Global> {
+    before: Vec<hb_glyph_info_t, A>,
+    after: VecDeque<hb_glyph_info_t, A>,
+    positions: Vec<GlyphPosition, A>,
+    have_positions: bool,
+    direction: Direction,
+    cluster_level: u8,
+    flags: BufferFlags,
+    scratch_flags: ScratchFlags,
+    max_ops: i32,
+    max_len: usize,
+    successful: bool,
+}
+
+impl<A: Allocator + Copy> Model for hb_buffer_t<A> {
+    ghost use Rattle.aat_buffer.specs.Buffer.{Buffer};
+
+    ghost Value = { Buffer };
+
+    ghost use Rattle.aat_buffer.specs.Inside.{buffer_of, IsSoundInside};
+
+    ghost view = { buffer_of };
+
+    ghost invariant = { IsSoundInside };
+}
+
+impl<A: Allocator + Copy> hb_buffer_t<A> {
+    /// An empty line without positions, left to right, at cluster level 0. `max_len` is the greatest length of the line, and `max_ops` the budget of operations.
+    pub fn new(alloc: A, max_len: usize, max_ops: i32) -> hb_buffer_t<A>
+        requires { max_len ≤ 0x3FFFFFFF }
+        ensures { result ≡ empty_buffer max_len max_ops }
+    {
+        hb_buffer_t {
+            before: Vec::new(alloc),
+            after: VecDeque::new(alloc),
+            positions: Vec::new(alloc),
+            have_positions: false,
+            direction: Direction::LeftToRight,
+            cluster_level: HB_BUFFER_CLUSTER_LEVEL_MONOTONE_GRAPHEMES,
+            flags: BufferFlags::empty(),
+            scratch_flags: ScratchFlags::empty(),
+            max_ops,
+            max_len,
+            successful: true,
+        }
+    }
+
+    /// How many glyphs the line has.
+    pub fn len(&self) -> usize
+        ensures count { result ≡ length self.now.line }
+        ensures within { result ≤ self.now.max_len }
+        ensures small { result ≤ 0x3FFFFFFF }
+    {
+        self.before.len() + self.after.len()
+    }
+
+    /// Whether the line has no glyph.
+    pub fn is_empty(&self) -> bool
+        ensures { IsTrue result ↔ (length self.now.line ≡ 0) }
+    {
+        self.len() == 0
+    }
+
+    /// The cursor: how many glyphs stand before it.
+    pub fn backtrack_len(&self) -> usize
+        ensures place { result ≡ self.now.cursor }
+        ensures within { result ≤ length self.now.line }
+    {
+        self.before.len()
+    }
+
+    /// Whether positions stand. They may do so on an empty line too.
+    pub fn has_positions(&self) -> bool
+        ensures standing { result ≡ is_some self.now.positions }
+        ensures placed { OnTrue result (length (position_list self.now) ≡ length self.now.line) }
+    {
+        self.have_positions
+    }
+
+    /// Whether no call was refused so far.
+    pub fn is_successful(&self) -> bool
+        ensures { result ≡ self.now.successful }
+    {
+        self.successful
+    }
+
+    pub fn direction(&self) -> Direction
+        ensures { result ≡ self.now.direction }
+    {
+        self.direction
+    }
+
+    pub fn set_direction(&mut self, direction: Direction)
+        ensures { self.new ≡ with_direction self.old direction }
+    {
+        self.direction = direction;
+    }
+
+    pub fn cluster_level(&self) -> u8
+        ensures { result ≡ self.now.cluster_level }
+    {
+        self.cluster_level
+    }
+
+    pub fn set_cluster_level(&mut self, level: u8)
+        ensures { self.new ≡ with_cluster_level self.old level }
+    {
+        self.cluster_level = level;
+    }
+
+    pub fn flags(&self) -> BufferFlags
+        ensures { result ≡ self.now.flags }
+    {
+        self.flags
+    }
+
+    pub fn set_flags(&mut self, flags: BufferFlags)
+        ensures { self.new ≡ with_flags self.old flags }
+    {
+        self.flags = flags;
+    }
+
+    pub fn scratch_flags(&self) -> ScratchFlags
+        ensures { result ≡ self.now.scratch_flags }
+    {
+        self.scratch_flags
+    }
+
+    pub fn set_scratch_flags(&mut self, flags: ScratchFlags)
+        ensures { self.new ≡ with_scratch_flags self.old flags }
+    {
+        self.scratch_flags = flags;
+    }
+
+    /// What is left of the budget of operations.
+    pub fn max_ops(&self) -> i32
+        ensures { result ≡ self.now.max_ops }
+    {
+        self.max_ops
+    }
+
+    pub fn set_max_ops(&mut self, max_ops: i32)
+        ensures { self.new ≡ with_max_ops self.old max_ops }
+    {
+        self.max_ops = max_ops;
+    }
+
+    /// The greatest length of the line.
+    pub fn max_len(&self) -> usize
+        ensures most { result ≡ self.now.max_len }
+        ensures small { result ≤ 0x3FFFFFFF }
+        ensures within { length self.now.line ≤ result }
+    {
+        self.max_len
+    }
+
+    /// Notes that a call was refused, and hands the reason on.
+    fn refuse(&mut self, error: BufferError) -> BufferError
+        ensures reason { result ≡ error }
+        ensures after { self.new ≡ failed self.old }
+    {
+        self.successful = false;
+        error
+    }
+
+    /// Puts a glyph last, and drops the positions. O(1), amortised.
+    pub fn add(&mut self, info: hb_glyph_info_t) -> Result<(), BufferError>
+        ensures ok { OnOk result (self.new ≡ added self.old info) }
+        ensures too_long { IsErrOf result BufferError.TooLong ↔ (self.old.max_len ≤ length self.old.line) }
+        ensures err { OnErr result (self.new ≡ failed self.old) }
+    {
+        if self.len() >= self.max_len {
+            return Err(self.refuse(BufferError::TooLong));
+        }
+        if make_room(&mut self.before, &mut self.after).is_err() {
+            return Err(self.refuse(BufferError::OutOfMemory));
+        }
+        self.after.push_back_reserved(info);
+        self.have_positions = false;
+        Ok(())
+    }
+
+    /// The glyph at place `i`.
+    #[tactic(auto, using(std::proofs::lemmas::Option::get_or_from_slice_get))]
+    pub fn info(&self, i: usize) -> &hb_glyph_info_t
+        requires { i < length self.now.line }
+        ensures value { slice_get self.now.line i ≡ Some result.now }
+        ensures read { result.now ≡ glyph_at self.now.line i }
+    {
+        let p = self.before.len();
+        if i < p {
+            &self.before[i]
+        } else {
+            &self.after[i - p]
+        }
+    }
+
+    /// The glyph at place `i`, to be written.
+    pub fn info_mut(&mut self, i: usize) -> &mut hb_glyph_info_t
+        requires { i < length self.old.line }
+        ensures* writes_back { sem 𝓛 (LendsInfo A.row A.Allocator self.entry i result) }
+        ensures value { slice_get self.old.line i ≡ Some result.now }
+        ensures read { result.now ≡ glyph_at self.old.line i }
+    {
+        let p = self.before.len();
+        if i < p {
+            &mut self.before[i]
+        } else {
+            &mut self.after[i - p]
+        }
+    }
+
+    /// The glyph at place `i`, by value.
+    pub(crate) fn glyph(&self, i: usize) -> hb_glyph_info_t
+        requires { i < length self.now.line }
+        ensures { result ≡ glyph_at self.now.line i }
+    {
+        *self.info(i)
+    }
+
+    /// Puts a record in place of the glyph at place `i`.
+    pub(crate) fn set_glyph(&mut self, i: usize, glyph: hb_glyph_info_t)
+        requires { i < length self.old.line }
+        ensures { self.new ≡ with_info self.old i glyph }
+    {
+        *self.info_mut(i) = glyph;
+    }
+
+    /// The glyph at the cursor.
+    pub fn cur(&self) -> &hb_glyph_info_t
+        requires { self.now.cursor < length self.now.line }
+        ensures value { slice_get self.now.line self.now.cursor ≡ Some result.now }
+        ensures read { result.now ≡ glyph_at self.now.line self.now.cursor }
+    {
+        self.info(self.backtrack_len())
+    }
+
+    /// The glyph at the cursor, to be written.
+    pub fn cur_mut(&mut self) -> &mut hb_glyph_info_t
+        requires { self.old.cursor < length self.old.line }
+        ensures* writes_back { sem 𝓛 (LendsCur A.row A.Allocator self.entry result) }
+        ensures value { slice_get self.old.line self.old.cursor ≡ Some result.now }
+        ensures read { result.now ≡ glyph_at self.old.line self.old.cursor }
+    {
+        let p = self.backtrack_len();
+        self.info_mut(p)
+    }
+
+    /// Whether each glyph id is at most 0xFFFF.
+    pub fn all_glyphs_16(&self) -> bool
+        ensures { IsTrue result ↔ All Is16Bit self.now.line }
+    {
+        for i in 0..self.len() {
+            if self.glyph(i).glyph_id > 0xFFFF {
+                return false;
+            }
+        }
+        true
+    }
+
+    /// Moves the cursor over one glyph.
+    #[tactic(auto, using(crate::proofs::Parts::moved_right))]
+    pub fn next_glyph(&mut self)
+        requires { self.old.cursor < length self.old.line }
+        ensures { self.new ≡ with_cursor self.old (self.old.cursor + 1) }
+    {
+        let glyph = self.after.pop_front().unwrap();
+        self.before.push_reserved(glyph);
+    }
+
+    /// Moves the cursor back over one glyph.
+    #[tactic(auto, using(crate::proofs::Parts::moved_left))]
+    fn previous_glyph(&mut self)
+        requires { 0 < self.old.cursor }
+        ensures { self.new ≡ with_cursor self.old (self.old.cursor - 1) }
+    {
+        let glyph = self.before.take_last();
+        self.after.push_front_reserved(glyph);
+    }
+
+    /// Moves the cursor to place `i`, in as many steps as it is away.
+    pub fn move_to(&mut self, i: usize)
+        requires { i ≤ length self.old.line }
+        ensures { self.new ≡ with_cursor self.old i }
+    {
+        let p = self.backtrack_len();
+        if p < i {
+            self.move_right(i - p);
+        } else {
+            self.move_left(p - i);
+        }
+    }
+
+    fn move_right(&mut self, count: usize)
+        requires { self.old.cursor + count ≤ length self.old.line }
+        ensures { self.new ≡ with_cursor self.old (self.old.cursor + count) }
+    {
+        for moved in 0..count {
+            self.next_glyph();
+        }
+    }
+
+    fn move_left(&mut self, count: usize)
+        requires { count ≤ self.old.cursor }
+        ensures { self.new ≡ with_cursor self.old (self.old.cursor - count) }
+    {
+        for moved in 0..count {
+            self.previous_glyph();
+        }
+    }
+
+    /// Moves the cursor to the start.
+    pub fn sync(&mut self)
+        ensures { self.new ≡ with_cursor self.old 0 }
+    {
+        self.move_to(0);
+    }
+
+    /// Puts the cursor at the start, and drops the positions.
+    pub fn clear_output(&mut self) -> Result<(), BufferError>
+        ensures ok { OnOk result (self.new ≡ with_cursor (without_positions self.old) 0) }
+        ensures memory_only { IfErr result (λ e. e ≡ BufferError.OutOfMemory) }
+        ensures err { OnErr result (self.new ≡ failed self.old) }
+    {
+        let alloc = *self.before.allocator();
+        match Vec::with_capacity(alloc, self.len()) {
+            Ok(fresh) => {
+                self.sync();
+                self.before = fresh;
+                self.have_positions = false;
+                Ok(())
+            }
+            Err(_) => Err(self.refuse(BufferError::OutOfMemory)),
+        }
+    }
+
+    /// Takes the glyph at the cursor out, and drops the positions.
+    #[tactic(auto, using(crate::proofs::Parts::removed_between))]
+    pub fn skip_glyph(&mut self)
+        requires { self.old.cursor < length self.old.line }
+        ensures { self.new ≡ skipped self.old }
+    {
+        let _skipped = self.after.pop_front().unwrap();
+        self.have_positions = false;
+    }
+
+    /// Gives the glyph at the cursor another glyph id, and moves over it.
+    pub fn replace_glyph(&mut self, glyph_id: u32)
+        requires { self.old.cursor < length self.old.line }
+        ensures { self.new ≡ replaced self.old glyph_id }
+    {
+        self.cur_mut().glyph_id = glyph_id;
+        self.next_glyph();
+    }
+
+    /// Puts a record in at the cursor with this glyph id, moves over it, and drops the positions. The record is a copy of the glyph at the cursor, or of the last one where the cursor is at the end; nothing goes into an empty line. O(1), amortised.
+    #[tactic(auto, using(crate::proofs::Parts::inserted_between))]
+    pub fn output_glyph(&mut self, glyph_id: u32) -> Result<(), BufferError>
+        ensures ok { OnOk result (self.new ≡ output self.old glyph_id) }
+        ensures too_long { IsErrOf result BufferError.TooLong ↔ ((0 < length self.old.line) × (self.old.max_len ≤ length self.old.line)) }
+        ensures empty_line { length self.old.line ≡ 0 → IsOk result }
+        ensures err { OnErr result (self.new ≡ failed self.old) }
+    {
+        let len = self.len();
+        if len == 0 {
+            self.have_positions = false;
+            return Ok(());
+        }
+        if len >= self.max_len {
+            return Err(self.refuse(BufferError::TooLong));
+        }
+        let model = self.model();
+        if make_room(&mut self.before, &mut self.after).is_err() {
+            return Err(self.refuse(BufferError::OutOfMemory));
+        }
+        self.before
+            .push_reserved(hb_glyph_info_t { glyph_id, ..model });
+        self.have_positions = false;
+        Ok(())
+    }
+
+    /// The glyph at the cursor, or the last one.
+    fn model(&self) -> hb_glyph_info_t
+        requires { 0 < length self.now.line }
+        ensures { result ≡ glyph_at self.now.line (model_place self.now) }
+    {
+        let p = self.backtrack_len();
+        let len = self.len();
+        self.glyph(if p < len { p } else { len - 1 })
+    }
+
+    /// Puts a copy of the glyph at the cursor in before it, and drops the positions. O(1), amortised.
+    pub fn copy_glyph(&mut self) -> Result<(), BufferError>
+        requires { self.old.cursor < length self.old.line }
+        ensures ok { OnOk result (self.new ≡ output self.old (glyph_at self.old.line self.old.cursor).glyph_id) }
+        ensures too_long { IsErrOf result BufferError.TooLong ↔ (self.old.max_len ≤ length self.old.line) }
+        ensures err { OnErr result (self.new ≡ failed self.old) }
+    {
+        let glyph_id = self.glyph(self.backtrack_len()).glyph_id;
+        self.output_glyph(glyph_id)
+    }
+
+    /// Puts the line, and the positions where they stand, in the opposite order. The cursor stays.
+    #[tactic(auto, using(crate::proofs::Parts::turned))]
+    pub fn reverse(&mut self)
+        ensures after { self.new ≡ reversed self.old }
+        ensures count { length self.new.line ≡ length self.old.line }
+    {
+        let p = self.backtrack_len();
+        self.move_to(self.len());
+        self.before.reverse();
+        self.positions.reverse();
+        self.move_to(p);
+    }
+
+    /// Gives each glyph a position that is all zero. Where memory is refused, no positions are left.
+    pub fn clear_positions(&mut self) -> Result<(), BufferError>
+        ensures ok { OnOk result (self.new ≡ with_zero_positions self.old) }
+        ensures memory_only { IfErr result (λ e. e ≡ BufferError.OutOfMemory) }
+        ensures err { OnErr result (self.new ≡ failed (without_positions self.old)) }
+    {
+        let len = self.len();
+        self.have_positions = false;
+        self.positions.clear();
+        let zero = GlyphPosition::default();
+        if self.positions.resize(len, zero).is_err() {
+            return Err(self.refuse(BufferError::OutOfMemory));
+        }
+        self.have_positions = true;
+        Ok(())
+    }
+
+    /// Drops the positions.
+    pub fn drop_positions(&mut self)
+        ensures { self.new ≡ without_positions self.old }
+    {
+        self.have_positions = false;
+    }
+
+    /// The position of the glyph at place `i`.
+    #[tactic(auto, using(std::proofs::lemmas::Option::get_or_from_slice_get))]
+    pub fn pos(&self, i: usize) -> &GlyphPosition
+        requires { i < length (position_list self.now) }
+        ensures value { slice_get (position_list self.now) i ≡ Some result.now }
+        ensures read { result.now ≡ position_at self.now i }
+    {
+        &self.positions[i]
+    }
+
+    /// The position of the glyph at place `i`, to be written.
+    #[tactic(auto, using(std::proofs::lemmas::Option::get_or_from_slice_get))]
+    pub fn pos_mut(&mut self, i: usize) -> &mut GlyphPosition
+        requires { i < length (position_list self.old) }
+        ensures* writes_back { sem 𝓛 (LendsPosition A.row A.Allocator self.entry i result) }
+        ensures value { slice_get (position_list self.old) i ≡ Some result.now }
+        ensures read { result.now ≡ position_at self.old i }
+    {
+        &mut self.positions[i]
+    }
+
+    /// Takes the positions out, so that none stand.
+    pub(crate) fn take_positions(&mut self) -> Option<Vec<GlyphPosition, A>>
+        ensures after { self.new ≡ without_positions self.old }
+        ensures positions { items_of result ≡ self.old.positions }
+        ensures placed { IfSome result (λ qs. vec_len qs ≡ length self.old.line) }
+    {
+        if !self.have_positions {
+            return None;
+        }
+        self.have_positions = false;
+        let alloc = *self.before.allocator();
+        Some(mem::replace(&mut self.positions, Vec::new(alloc)))
+    }
+
+    /// Puts positions in, one a glyph.
+    pub(crate) fn put_positions(&mut self, positions: Vec<GlyphPosition, A>)
+        requires { vec_len positions ≡ length self.old.line }
+        ensures { self.new ≡ with_positions self.old positions.items }
+    {
+        self.positions = positions;
+        self.have_positions = true;
+    }
+}
+
+/// Makes room for one more glyph in each of two parts of a line.
+fn make_room<A: Allocator>(
+    before: &mut Vec<hb_glyph_info_t, A>,
+    after: &mut VecDeque<hb_glyph_info_t, A>,
+) -> Result<(), AllocError>
+    requires { vec_len before.old + deque_len after.old < 2 ^ 32 }
+    ensures room_before { OnOk result (vec_len before.new + deque_len after.new + 1 ≤ vec_capacity before.new) }
+    ensures room_after { OnOk result (vec_len before.new + deque_len after.new + 1 ≤ deque_capacity after.new) }
+    ensures before_items { before.new.items ≡ before.old.items }
+    ensures after_items { after.new.items ≡ after.old.items }
+    ensures before_len { vec_len before.new ≡ vec_len before.old }
+    ensures after_len { deque_len after.new ≡ deque_len after.old }
+    ensures before_capacity { vec_capacity before.old ≤ vec_capacity before.new }
+    ensures after_capacity { deque_capacity after.old ≤ deque_capacity after.new }
+{
+    let room = before.len() + after.len() + 1;
+    before.reserve(room - before.len())?;
+    after.reserve(room - after.len())
+}

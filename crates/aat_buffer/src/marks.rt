@@ -1,0 +1,244 @@
+// Marks and merges, written over the calls that read and write a glyph at a place.
+ghost use Rattle.std.specs.Prelude.{◌≡◌, ◌+◌, ◌-◌, ◌≤◌, map, length, slice_range};
+ghost use Rattle.aat_buffer.specs.Buffer.{with_line};
+ghost use Rattle.aat_buffer.specs.Marks.{on_line_span, least_of, marked_above, with_mask_bits, break_marked, concat_marked, unsafe_to_break, unsafe_to_concat, with_cluster, run_after, run_before, merged, merged_out, merge_clusters, merge_out_clusters};
+
+use crate::buffer::hb_buffer_t;
+use crate::flags::BufferFlags;
+use crate::glyph::{HB_BUFFER_CLUSTER_LEVEL_CHARACTERS, glyph_flag, hb_glyph_info_t};
+use bitflags::Flags;
+use std::alloc::Allocator;
+
+impl<A: Allocator + Copy> hb_buffer_t<A> {
+    /// Notes that the line may not be cut within a span: sets UNSAFE_TO_BREAK and UNSAFE_TO_CONCAT on each glyph from place `start` up to place `end` whose cluster is not the least of the span. `None` stands for the start and the end of the line, and an end past the line for its end. A span of fewer than two glyphs stays. In as many steps as the span is long.
+    pub fn unsafe_to_break(&mut self, start: Option<usize>, end: Option<usize>)
+        ensures after { self.new ≡ unsafe_to_break self.old start end }
+        ensures count { length self.new.line ≡ length self.old.line }
+    {
+        let len = self.len();
+        let from = start.unwrap_or(0);
+        let to = end.unwrap_or(len).min(len);
+        if from < to && to - from >= 2 {
+            self.mark_break_span(from, to);
+        }
+    }
+
+    /// The same as `unsafe_to_break`: all places are places of the line.
+    pub fn unsafe_to_break_from_outbuffer(&mut self, start: Option<usize>, end: Option<usize>)
+        ensures after { self.new ≡ unsafe_to_break self.old start end }
+        ensures count { length self.new.line ≡ length self.old.line }
+    {
+        self.unsafe_to_break(start, end);
+    }
+
+    /// Notes that parts shaped apart may not be put together within a span: where the flag PRODUCE_UNSAFE_TO_CONCAT asks for it, sets UNSAFE_TO_CONCAT on each glyph from place `start` up to place `end`. `None` and an end past the line are as in `unsafe_to_break`; the span may be of one glyph.
+    pub fn unsafe_to_concat(&mut self, start: Option<usize>, end: Option<usize>)
+        ensures after { self.new ≡ unsafe_to_concat self.old start end }
+        ensures count { length self.new.line ≡ length self.old.line }
+    {
+        let len = self.len();
+        let start = start.unwrap_or(0);
+        let end = end.unwrap_or(len).min(len);
+        if self.flags().contains(BufferFlags::PRODUCE_UNSAFE_TO_CONCAT) && start < end {
+            self.mark_concat_span(start, end);
+        }
+    }
+
+    /// Makes the glyphs from place `start` up to place `end` one cluster, the least of the span. An end past the line stands for its end, and a span of fewer than two glyphs stays. Where the span's last glyph has another cluster than the least, the span first grows right through the glyphs with that cluster; where its first has, it grows left, but not over the cursor. A glyph whose cluster changes loses its DEFINED flags. At the level CHARACTERS the clusters stay, and the span gets the marks of `unsafe_to_break`. In as many steps as the grown span is long.
+    pub fn merge_clusters(&mut self, start: usize, end: usize)
+        ensures after { self.new ≡ merge_clusters self.old start end }
+        ensures count { length self.new.line ≡ length self.old.line }
+    {
+        let end = end.min(self.len());
+        if start < end && end - start >= 2 {
+            if self.cluster_level() == HB_BUFFER_CLUSTER_LEVEL_CHARACTERS {
+                self.mark_break_span(start, end);
+            } else {
+                self.merge_span(start, end);
+            }
+        }
+    }
+
+    /// Makes the glyphs from place `start` up to place `end` one cluster, the least of the span, once it has grown through all glyphs that share its first glyph's cluster on the left and its last glyph's on the right, over the cursor too. An end past the line, short spans and flags are as in `merge_clusters`. At the level CHARACTERS nothing changes.
+    pub fn merge_out_clusters(&mut self, start: usize, end: usize)
+        ensures after { self.new ≡ merge_out_clusters self.old start end }
+        ensures count { length self.new.line ≡ length self.old.line }
+    {
+        let end = end.min(self.len());
+        if start < end
+            && end - start >= 2
+            && self.cluster_level() != HB_BUFFER_CLUSTER_LEVEL_CHARACTERS
+        {
+            self.merge_out_span(start, end);
+        }
+    }
+
+    /// The least cluster of a span.
+    #[tactic(auto, using(crate::proofs::Spans::least_more))]
+    fn least_cluster(&self, start: usize, end: usize) -> u32
+        requires ordered { start ≤ end }
+        requires in_line { end ≤ length self.now.line }
+        ensures { result ≡ least_of (slice_range self.now.line start end) }
+    {
+        let mut least = u32::MAX;
+        for i in start..end {
+            least = least.min(self.glyph(i).cluster);
+        }
+        least
+    }
+
+    fn mark_break_span(&mut self, start: usize, end: usize)
+        requires ordered { start ≤ end }
+        requires in_line { end ≤ length self.old.line }
+        ensures after { self.new ≡ on_line_span break_marked start end self.old }
+        ensures count { length self.new.line ≡ length self.old.line }
+    {
+        let least = self.least_cluster(start, end);
+        self.mark_above(start, end, least);
+    }
+
+    #[tactic(auto, using(crate::proofs::Spans::written_none))]
+    fn mark_above(&mut self, start: usize, end: usize, least: u32)
+        requires ordered { start ≤ end }
+        requires in_line { end ≤ length self.old.line }
+        ensures after { self.new ≡ on_line_span (map (marked_above least 3)) start end self.old }
+        ensures count { length self.new.line ≡ length self.old.line }
+    {
+        for i in start..end {
+            self.set_glyph(i, break_marked_glyph(self.glyph(i), least));
+        }
+    }
+
+    #[tactic(auto, using(crate::proofs::Spans::written_none))]
+    fn mark_concat_span(&mut self, start: usize, end: usize)
+        requires ordered { start ≤ end }
+        requires in_line { end ≤ length self.old.line }
+        ensures after { self.new ≡ on_line_span concat_marked start end self.old }
+        ensures count { length self.new.line ≡ length self.old.line }
+    {
+        for i in start..end {
+            self.set_glyph(i, concat_marked_glyph(self.glyph(i)));
+        }
+    }
+
+    #[tactic(auto, using(crate::proofs::Spans::written_none))]
+    fn set_cluster(&mut self, start: usize, end: usize, cluster: u32)
+        requires ordered { start ≤ end }
+        requires in_line { end ≤ length self.old.line }
+        ensures after { self.new ≡ on_line_span (map (with_cluster cluster)) start end self.old }
+        ensures count { length self.new.line ≡ length self.old.line }
+    {
+        for i in start..end {
+            self.set_glyph(i, clustered_glyph(self.glyph(i), cluster));
+        }
+    }
+
+    /// The place at which the glyphs from place `end` on stop to have this cluster.
+    #[tactic(auto, using(crate::proofs::Runs::run_after_end))]
+    fn run_end(&self, end: usize, cluster: u32) -> usize
+        requires { end ≤ length self.now.line }
+        ensures run { result ≡ end + run_after self.now.line end cluster }
+        ensures within { result ≤ length self.now.line }
+    {
+        let len = self.len();
+        for i in end..len {
+            if self.glyph(i).cluster != cluster {
+                return i;
+            }
+        }
+        len
+    }
+
+    /// The place from which on the glyphs before place `start`, but none before place `from`, have this cluster.
+    #[tactic(auto, using(crate::proofs::Runs::run_before_end))]
+    pub(crate) fn run_start(&self, from: usize, start: usize, cluster: u32) -> usize
+        requires ordered { from ≤ start }
+        requires in_line { start ≤ length self.now.line }
+        ensures run { result ≡ start - run_before self.now.line from start cluster }
+        ensures within { from ≤ result }
+        ensures ordered { result ≤ start }
+    {
+        for count in 0..start - from {
+            let i = start - count;
+            if self.glyph(i - 1).cluster != cluster {
+                return i;
+            }
+        }
+        from
+    }
+
+    #[tactic(auto, unfolding(crate::specs::Marks::merged))]
+    fn merge_span(&mut self, start: usize, end: usize)
+        requires long { start + 2 ≤ end }
+        requires in_line { end ≤ length self.old.line }
+        ensures after { self.new ≡ with_line self.old (merged self.old.line self.old.cursor start end) }
+        ensures count { length self.new.line ≡ length self.old.line }
+    {
+        let least = self.least_cluster(start, end);
+        let last = self.glyph(end - 1).cluster;
+        let to = if last != least {
+            self.run_end(end, last)
+        } else {
+            end
+        };
+        let first = self.glyph(start).cluster;
+        let cursor = self.backtrack_len();
+        let from = if first != least && cursor < start {
+            self.run_start(cursor, start, first)
+        } else {
+            start
+        };
+        self.set_cluster(from, to, least);
+    }
+
+    #[tactic(auto, unfolding(crate::specs::Marks::merged_out))]
+    fn merge_out_span(&mut self, start: usize, end: usize)
+        requires long { start + 2 ≤ end }
+        requires in_line { end ≤ length self.old.line }
+        ensures after { self.new ≡ with_line self.old (merged_out self.old.line start end) }
+        ensures count { length self.new.line ≡ length self.old.line }
+    {
+        let least = self.least_cluster(start, end);
+        let first = self.glyph(start).cluster;
+        let last = self.glyph(end - 1).cluster;
+        self.set_cluster(
+            self.run_start(0, start, first),
+            self.run_end(end, last),
+            least,
+        );
+    }
+}
+
+fn break_marked_glyph(glyph: hb_glyph_info_t, least: u32) -> hb_glyph_info_t
+    ensures { result ≡ marked_above least 3 glyph }
+{
+    if glyph.cluster == least {
+        return glyph;
+    }
+    hb_glyph_info_t {
+        mask: glyph.mask | (glyph_flag::UNSAFE_TO_BREAK | glyph_flag::UNSAFE_TO_CONCAT),
+        ..glyph
+    }
+}
+
+fn concat_marked_glyph(glyph: hb_glyph_info_t) -> hb_glyph_info_t
+    ensures { result ≡ with_mask_bits 2 glyph }
+{
+    hb_glyph_info_t {
+        mask: glyph.mask | glyph_flag::UNSAFE_TO_CONCAT,
+        ..glyph
+    }
+}
+
+fn clustered_glyph(glyph: hb_glyph_info_t, cluster: u32) -> hb_glyph_info_t
+    ensures { result ≡ with_cluster cluster glyph }
+{
+    if glyph.cluster == cluster {
+        return glyph;
+    }
+    hb_glyph_info_t {
+        cluster,
+        mask: glyph.mask & !glyph_flag::DEFINED,
+        ..glyph
+    }
+}

@@ -1,0 +1,10 @@
+pub mod Chains
+pub mod Coverage
+pub mod Entries
+pub mod Face
+pub mod FeatureNames
+pub mod Keys
+pub mod Morx
+pub mod Table
+pub mod TableErrors
+pub mod TableExamples

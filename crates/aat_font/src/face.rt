@@ -1,0 +1,81 @@
+//! A font: its optional tables, and the classes and advances of its glyphs.
+ghost use Rattle.std.specs.Prelude.{◌≡◌};
+ghost use Rattle.aat_font.specs.Face.{tables_of, glyph_classes_of, advances_of, has_classes, props_of, advance_of, value_or_zero};
+
+use crate::feat::Feat;
+use crate::lookup::Lookup;
+use crate::morx::Morx;
+use crate::plan::GlyphId;
+
+/// The tables of a font, each of which may be missing.
+#[derive(Drop)]
+pub struct FaceTables {
+    pub morx: Option<Morx>,
+    pub feat: Option<Feat>,
+}
+
+/// A font.
+#[derive(Drop)]
+pub struct hb_font_t {
+    tables: FaceTables,
+    glyph_classes: Option<Lookup>,
+    advances: Option<Lookup>,
+}
+
+impl hb_font_t {
+    /// Makes a font of its tables, a lookup of the properties of its glyphs, which their classes
+    /// give, and one of their advances in font units. Each may be missing. Takes no memory.
+    pub fn new(
+        tables: FaceTables,
+        glyph_classes: Option<Lookup>,
+        advances: Option<Lookup>,
+    ) -> hb_font_t
+        ensures tables { tables_of result ≡ tables }
+        ensures glyph_classes { glyph_classes_of result ≡ glyph_classes }
+        ensures advances { advances_of result ≡ advances }
+    {
+        hb_font_t {
+            tables,
+            glyph_classes,
+            advances,
+        }
+    }
+
+    /// The font's optional tables.
+    pub fn tables(&self) -> &FaceTables
+        ensures { result.now ≡ tables_of self.now }
+    {
+        &self.tables
+    }
+
+    /// Whether the font has classes of glyphs.
+    pub fn has_glyph_classes(&self) -> bool
+        ensures { result ≡ has_classes self.now }
+    {
+        self.glyph_classes.is_some()
+    }
+
+    /// The properties of a glyph, 0 where the font has none for it.
+    pub fn glyph_props(&self, glyph: GlyphId) -> u16
+        ensures { result ≡ props_of self.now glyph.0 }
+    {
+        value_or_zero(&self.glyph_classes, glyph)
+    }
+
+    /// The advance of a glyph in font units, 0 where the font has none for it.
+    pub fn glyph_advance(&self, glyph: GlyphId) -> u16
+        ensures { result ≡ advance_of self.now glyph.0 }
+    {
+        value_or_zero(&self.advances, glyph)
+    }
+}
+
+/// The value of a glyph in a lookup that may be missing, 0 where there is none.
+fn value_or_zero(lookup: &Option<Lookup>, glyph: GlyphId) -> u16
+    ensures { result ≡ value_or_zero lookup.now glyph.0 }
+{
+    match lookup {
+        Some(lookup) => lookup.value(glyph).unwrap_or(0),
+        None => 0,
+    }
+}

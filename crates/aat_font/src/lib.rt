@@ -1,0 +1,24 @@
+//! The typed tables of an Apple font, the numbers of its features, the font and the shaping plan.
+#![tactic(auto)]
+
+pub mod constants;
+mod error;
+mod face;
+mod feat;
+mod lookup;
+mod morx;
+mod plan;
+mod state_table;
+mod tag;
+
+pub use error::TableError;
+pub use face::{FaceTables, hb_font_t};
+pub use feat::{Feat, FeatureName};
+pub use lookup::Lookup;
+pub use morx::{Chain, ChainFeature, Coverage, Morx, Subtable, SubtableKind};
+pub use plan::{Feature, GlyphId, hb_ot_shape_plan_t};
+pub use state_table::{ExtendedStateTable, GenericStateEntry};
+pub use tag::hb_tag_t;
+
+#[cfg(test)]
+mod tests;

@@ -1,0 +1,155 @@
+//! The extended glyph metamorphosis table.
+ghost use Rattle.std.specs.Prelude.{⊤, [], ◌∷◌, codes, ◌≡◌, ◌<◌, ◌≤◌, IfOk, IfErr, OnOk};
+ghost use Rattle.aat_font.specs.Chains.{subtable_count};
+
+use crate::error::TableError;
+use crate::lookup::Lookup;
+use aat_buffer::hb_mask_t;
+use bitflags::{Flag, Flags, bitflag_items};
+
+/// The largest number of subtables of a table.
+const MAX_SUBTABLES: usize = 65535;
+
+/// For which text a subtable is, and in which order it takes the glyphs.
+#[derive(Clone, Copy, PartialEq, Eq, Debug)]
+pub struct Coverage(u8);
+
+bitflag_items! {
+    impl Coverage: u8 {
+        const VERTICAL = 0x80;
+        const BACKWARDS = 0x40;
+        const ALL_DIRECTIONS = 0x20;
+        const LOGICAL = 0x10;
+    }
+}
+
+impl Flags for Coverage {
+    type Bits = u8;
+
+    ghost exact = { ⊤ };
+
+    ghost table = { (codes "VERTICAL", 128) ∷ (codes "BACKWARDS", 64) ∷ (codes "ALL_DIRECTIONS", 32) ∷ (codes "LOGICAL", 16) ∷ [] };
+
+    ghost set_of = { λ f. f.0 };
+
+    fn flags<'a>() -> &'a [Flag<Coverage>] {
+        Coverage::FLAGS
+    }
+
+    fn bits(&self) -> u8 {
+        self.0
+    }
+
+    fn from_bits_retain(bits: u8) -> Coverage {
+        Coverage(bits)
+    }
+}
+
+impl Coverage {
+    ghost use Rattle.std.specs.Prelude.{◌≡◌};
+    ghost use Rattle.aat_font.specs.Coverage.{is_vertical_coverage, is_backwards, is_all_directions, is_logical};
+
+    /// Whether the subtable is for vertical text. Bit 0x80.
+    pub fn is_vertical(self) -> bool
+        ensures { result ≡ is_vertical_coverage self }
+    {
+        self.contains(Coverage::VERTICAL)
+    }
+
+    /// Whether the subtable takes the glyphs in descending order. Bit 0x40.
+    pub fn is_backwards(self) -> bool
+        ensures { result ≡ is_backwards self }
+    {
+        self.contains(Coverage::BACKWARDS)
+    }
+
+    /// Whether the subtable is for horizontal and vertical text. Bit 0x20.
+    pub fn is_all_directions(self) -> bool
+        ensures { result ≡ is_all_directions self }
+    {
+        self.contains(Coverage::ALL_DIRECTIONS)
+    }
+
+    /// Whether the subtable takes the glyphs in logical order. Bit 0x10.
+    pub fn is_logical(self) -> bool
+        ensures { result ≡ is_logical self }
+    {
+        self.contains(Coverage::LOGICAL)
+    }
+}
+
+/// What a subtable does.
+#[derive(Drop)]
+pub enum SubtableKind {
+    /// Each glyph by itself gets its value of a lookup.
+    NonContextual(Lookup),
+}
+
+/// A subtable of a chain.
+#[derive(Drop)]
+pub struct Subtable {
+    pub kind: SubtableKind,
+    pub coverage: Coverage,
+    /// The subtable is on where the chain's flags share a bit with these.
+    pub feature_flags: hb_mask_t,
+}
+
+/// What a feature setting does to a chain's flags: they become
+/// `(flags & disable_flags) | enable_flags`.
+#[derive(Clone, Copy, PartialEq, Eq, Debug)]
+pub struct ChainFeature {
+    pub kind: u16,
+    pub setting: u16,
+    pub enable_flags: hb_mask_t,
+    pub disable_flags: hb_mask_t,
+}
+
+/// Subtables that are run in their order, with the flags that switch them.
+#[derive(Drop)]
+pub struct Chain {
+    pub default_flags: hb_mask_t,
+    pub features: Vec<ChainFeature>,
+    pub subtables: Vec<Subtable>,
+}
+
+/// The extended glyph metamorphosis table: chains that are run in their order.
+///
+/// Apple's TrueType Reference Manual, "The 'morx' table".
+#[derive(Drop)]
+pub struct Morx {
+    chains: Vec<Chain>,
+    ghost few: { subtable_count chains.items ≤ 65535 },
+}
+
+impl Morx {
+    ghost use Rattle.std.specs.Prelude.{◌≡◌, ◌<◌, ◌≤◌, IfOk, IfErr, OnOk};
+    ghost use Rattle.aat_font.specs.Chains.{subtable_count};
+    ghost use Rattle.aat_font.specs.Morx.{chains_of};
+
+    /// Makes the table of its chains, which are kept as they are handed in. Takes no memory.
+    ///
+    /// Refused as 4, `TooManySubtables`, where the chains have more than 65,535 subtables together.
+    /// The chains are then dropped.
+    pub fn new(chains: Vec<Chain>) -> Result<Morx, TableError>
+        ensures ok { IfOk result (λ m. chains_of m ≡ chains.items) }
+        ensures few { OnOk result (subtable_count chains.items ≤ 65535) }
+        ensures refused { IfErr result (λ e. (e ≡ TableError.TooManySubtables) × (65535 < subtable_count chains.items)) }
+    {
+        let mut count = 0;
+        for chain in &chains {
+            count += chain.subtables.len();
+            if count > MAX_SUBTABLES {
+                return Err(TableError::TooManySubtables);
+            }
+        }
+        Ok(Morx { chains })
+    }
+
+    /// The chains in their order.
+    pub fn chains(&self) -> &[Chain]
+        ensures chains { result.now ≡ chains_of self.now }
+        ensures few { subtable_count result.now ≤ 65535 }
+    {
+        &self.chains
+    }
+}

@@ -1,0 +1,234 @@
+//! State tables: the class of each glyph, and what a machine does at a state and a class.
+ghost use Rattle.std.specs.Prelude.{◌≡◌, ◌+◌, ◌*◌, IfOk, IfErr, OnOk, None, option_map};
+ghost use Rattle.aat_font.specs.Entries.{has_flag, goes_on};
+ghost use Rattle.aat_font.specs.Keys.{IsRising, at_key, first_fall, is_above};
+ghost use Rattle.aat_font.specs.Table.{class_of, entry_of, rule_key, first_out_of_range, earlier_fault, bad_rule, table_fault};
+ghost use Rattle.aat_font.specs.TableErrors.{RefusesFault};
+
+use crate::error::TableError;
+use crate::lookup::{falling_place, value_of_pair};
+use crate::plan::GlyphId;
+use std::alloc::{Allocator, Global};
+use std::marker::Model;
+
+/// The smallest number of classes: end of text, out of bounds, deleted glyph, end of line.
+const MIN_CLASSES: u16 = 4;
+
+/// The class of a glyph that has no other: out of bounds.
+const OUT_OF_BOUNDS: u16 = 1;
+
+/// The deleted glyph.
+const DELETED_GLYPH: u16 = 0xFFFF;
+
+/// The class of the deleted glyph.
+const DELETED_CLASS: u16 = 2;
+
+/// What a machine does at a state and a class.
+///
+/// Apple's TrueType Reference Manual, "Font Tables", section on state tables.
+#[derive(Clone, Copy, PartialEq, Eq, Debug)]
+pub struct GenericStateEntry<T: Copy> {
+    /// The state that follows.
+    pub new_state: u16,
+    /// Bits that say what is done, most of which mean something else in each kind of machine.
+    pub flags: u16,
+    /// What the kind of machine adds.
+    pub extra: T,
+}
+
+impl<T: Copy> GenericStateEntry<T> {
+    /// Whether the glyph is put on the stack. Bit 0x8000.
+    pub fn has_push(&self) -> bool
+        ensures { result ≡ has_flag self.now 0x8000 }
+    {
+        self.flags & 0x8000 != 0
+    }
+
+    /// Whether the glyph is marked. Bit 0x8000.
+    pub fn has_mark(&self) -> bool
+        ensures { result ≡ has_flag self.now 0x8000 }
+    {
+        self.flags & 0x8000 != 0
+    }
+
+    /// Whether the machine goes on to the next glyph. Bit 0x4000 is clear.
+    pub fn has_advance(&self) -> bool
+        ensures { result ≡ goes_on self.now }
+    {
+        self.flags & 0x4000 == 0
+    }
+
+    /// Whether the stack is emptied. Bit 0x2000.
+    pub fn has_reset(&self) -> bool
+        ensures { result ≡ has_flag self.now 0x2000 }
+    {
+        self.flags & 0x2000 != 0
+    }
+}
+
+/// The classes and entries of a machine. A contract sees it as the record `TableValue`: the number
+/// of classes and the lists of classes and rules.
+///
+/// Apple's TrueType Reference Manual, "Font Tables", section on state tables.
+#[derive(Drop)]
+pub struct ExtendedStateTable<T: Copy, A: Allocator = Global> {
+    class_count: u16,
+    classes: Vec<(u16, u16), A>,
+    rules: Vec<(u16, u16, GenericStateEntry<T>), A>,
+}
+
+impl<T: Copy, A: Allocator> Model for ExtendedStateTable<T, A> {
+    ghost use Rattle.aat_font.specs.Keys.{IsRising, first};
+    ghost use Rattle.aat_font.specs.Table.{TableValue, rule_key};
+    ghost use Rattle.aat_font.specs.declared.state_table.GenericStateEntry.{GenericStateEntry};
+
+    ghost Value = { TableValue (GenericStateEntry T) };
+
+    ghost view = { λ m. record { class_count = m.class_count; classes = m.classes.items; rules = m.rules.items } };
+
+    ghost invariant = { λ m. IsRising first m.classes.items × IsRising rule_key m.rules.items };
+}
+
+impl<T: Copy, A: Allocator + Copy> ExtendedStateTable<T, A> {
+    /// Makes a table of the number of its classes, pairs of a glyph and its class, which have to
+    /// rise strictly by glyph, and rules of a state, a class and an entry, which have to rise
+    /// strictly by state, then by class. A glyph may have a class that is not below the number.
+    ///
+    /// Refused as 2, `FewClasses`, where the number is below 4; else as 1, `NotRising`, with the
+    /// place of the first pair that is not above the one before it; else at the first rule that is
+    /// not above the one before it, as 1, `NotRising`, or whose class is not below the number, as
+    /// 3, `ClassOutOfRange`, with its place, 1 before 3 at one place; and else as 5, `OutOfMemory`,
+    /// where a copy gets no memory.
+    pub fn new(
+        alloc: A,
+        class_count: u16,
+        classes: &[(u16, u16)],
+        rules: &[(u16, u16, GenericStateEntry<T>)],
+    ) -> Result<ExtendedStateTable<T, A>, TableError>
+        ensures ok { IfOk result (λ table. table ≡ record { class_count = class_count; classes = classes.now; rules = rules.now }) }
+        ensures sound { OnOk result (table_fault class_count classes.now rules.now ≡ None) }
+        ensures refused { IfErr result (RefusesFault (table_fault class_count classes.now rules.now)) }
+    {
+        if class_count < MIN_CLASSES {
+            return Err(TableError::FewClasses);
+        }
+        if let Some(place) = falling_place(classes) {
+            return Err(TableError::NotRising(place));
+        }
+        if let Some(fault) = faulty_rule(class_count, rules) {
+            return Err(fault);
+        }
+        Ok(ExtendedStateTable {
+            class_count,
+            classes: Vec::from_slice(alloc, classes)?,
+            rules: Vec::from_slice(alloc, rules)?,
+        })
+    }
+}
+
+impl<T: Copy, A: Allocator> ExtendedStateTable<T, A> {
+    /// The class of a glyph, if it has one, found by bisection. The class of the deleted glyph,
+    /// 0xFFFF, is always 2.
+    pub fn class(&self, glyph: GlyphId) -> Option<u16>
+        ensures { result ≡ class_of self.now glyph.0 }
+    {
+        if glyph.0 == DELETED_GLYPH {
+            return Some(DELETED_CLASS);
+        }
+        value_of_pair(&self.classes, glyph.0)
+    }
+
+    /// The entry of a state and a class, if there is a rule for them, found by bisection. A class
+    /// that is not below the number of classes is taken as 1.
+    pub fn entry(&self, state: u16, class: u16) -> Option<GenericStateEntry<T>>
+        ensures { result ≡ entry_of self.now state class }
+    {
+        let class = if class < self.class_count {
+            class
+        } else {
+            OUT_OF_BOUNDS
+        };
+        entry_of_rule(&self.rules, rule_key(state, class))
+    }
+}
+
+/// The number by which rules rise.
+fn rule_key(state: u16, class: u16) -> u32
+    ensures { result ≡ state * 65536 + class }
+{
+    state as u32 * 65536 + class as u32
+}
+
+/// The place of the first rule that is not above the one before it.
+#[tactic(auto, using(crate::proofs::Falls::fall_behind_none))]
+fn falling_rule<T: Copy>(rules: &[(u16, u16, GenericStateEntry<T>)]) -> Option<usize>
+    ensures { result ≡ first_fall rule_key rules.now }
+{
+    let mut before = None;
+    let mut place = 0;
+    for rule in rules {
+        let key = rule_key(rule.0, rule.1);
+        if !is_above(before, key) {
+            return Some(place);
+        }
+        before = Some(key);
+        place += 1;
+    }
+    None
+}
+
+/// Whether a key is above the one before it, if there is one.
+fn is_above(before: Option<u32>, key: u32) -> bool
+    ensures { result ≡ is_above before key }
+{
+    match before {
+        Some(before) => before < key,
+        None => true,
+    }
+}
+
+/// The place of the first rule whose class is not below the number of classes.
+fn first_out_of_range<T: Copy>(
+    class_count: u16,
+    rules: &[(u16, u16, GenericStateEntry<T>)],
+) -> Option<usize>
+    ensures { result ≡ first_out_of_range class_count rules.now }
+{
+    rules.iter().position(|rule| rule.1 >= class_count)
+}
+
+/// The earlier of a fall and a class out of range, the fall where both are at one place.
+fn earlier_fault(fall: Option<usize>, out_of_range: Option<usize>) -> Option<TableError>
+    ensures { result ≡ earlier_fault fall out_of_range }
+{
+    match (fall, out_of_range) {
+        (Some(fall), Some(place)) if place < fall => Some(TableError::ClassOutOfRange(place)),
+        (Some(fall), _) => Some(TableError::NotRising(fall)),
+        (None, Some(place)) => Some(TableError::ClassOutOfRange(place)),
+        (None, None) => None,
+    }
+}
+
+/// The first fault of rules.
+fn faulty_rule<T: Copy>(
+    class_count: u16,
+    rules: &[(u16, u16, GenericStateEntry<T>)],
+) -> Option<TableError>
+    ensures { result ≡ bad_rule class_count rules.now }
+{
+    earlier_fault(falling_rule(rules), first_out_of_range(class_count, rules))
+}
+
+/// The entry under a key among rising rules.
+fn entry_of_rule<T: Copy>(
+    rules: &[(u16, u16, GenericStateEntry<T>)],
+    key: u32,
+) -> Option<GenericStateEntry<T>>
+    requires { IsRising rule_key rules.now }
+    ensures { result ≡ option_map (λ r. r.2) (at_key rule_key rules.now key) }
+{
+    match rules.binary_search_by_key(&key, |rule| rule_key(rule.0, rule.1)) {
+        Ok(at) => Some(rules[at].2),
+        Err(_) => None,
+    }
+}

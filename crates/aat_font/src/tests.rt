@@ -1,0 +1,295 @@
+//! Each call once with ample memory, at the ends of its range, and each refusal.
+ghost use Rattle.aat_font.specs.TableExamples.{ClassesAreAsListed, EntriesAreByRule, FaultsComeInOrder, EqualKeysFall};
+
+mod numbers;
+
+use crate::{
+    Chain, ChainFeature, Coverage, ExtendedStateTable, FaceTables, Feat, Feature, FeatureName,
+    GenericStateEntry, GlyphId, Lookup, Morx, Subtable, SubtableKind, TableError, hb_font_t,
+    hb_ot_shape_plan_t, hb_tag_t,
+};
+use bitflags::Flags;
+use linked_list_allocator::LocalHeap;
+use std::alloc::{Allocator, Global};
+use std::process::Abort;
+use std::test::Fail;
+
+/// What the checker computes from the definitions.
+fn examples_by_definition()
+    ensures classes { ClassesAreAsListed }
+    ensures entries { EntriesAreByRule }
+    ensures faults { FaultsComeInOrder }
+    ensures falls { EqualKeysFall }
+{}
+
+#[test]
+fn examples_follow_from_the_definitions() {
+    examples_by_definition();
+}
+
+#[test]
+fn lookups(rt: HostRuntime) -> Result<(), Fail> {
+    let lookup = Lookup::new(rt.alloc(), &[(0, 7), (5, 9), (65535, 8)])?;
+    let wanted = [
+        (0, Some(7)),
+        (4, None),
+        (5, Some(9)),
+        (6, None),
+        (65535, Some(8)),
+    ];
+    for (glyph, value) in wanted {
+        assert_eq!(rt; lookup.value(GlyphId(glyph)), value, "at {glyph}");
+    }
+    let empty = Lookup::new(rt.alloc(), &[])?;
+    assert!(rt; empty.value(GlyphId(0)).is_none() && empty.value(GlyphId(65535)).is_none());
+    let falls = Lookup::new(rt.alloc(), &[(5, 1), (5, 2)]).err();
+    assert!(rt; falls == Some(TableError::NotRising(1)));
+    Ok(())
+}
+
+fn name(kind: u16, settings: u16) -> FeatureName {
+    FeatureName {
+        kind,
+        settings,
+        exclusive: kind == 17,
+    }
+}
+
+#[test]
+fn feature_names(rt: HostRuntime) -> Result<(), Fail> {
+    let feat = Feat::new(rt.alloc(), &[name(0, 1), name(17, 2), name(65535, 3)])?;
+    for (kind, settings) in [(0, 1), (17, 2), (65535, 3)] {
+        assert!(rt; feat.find(kind) == Some(name(kind, settings)), "at {kind}");
+    }
+    assert!(rt; feat.find(1).is_none() && feat.find(65534).is_none());
+    let falls = Feat::new(rt.alloc(), &[name(1, 1), name(3, 1), name(2, 1)]).err();
+    assert!(rt; falls == Some(TableError::NotRising(2)));
+    Ok(())
+}
+
+fn entry(extra: u8) -> GenericStateEntry<u8> {
+    GenericStateEntry {
+        new_state: 1,
+        flags: 0x8000,
+        extra,
+    }
+}
+
+#[test]
+fn state_tables(rt: HostRuntime) -> Result<(), Fail> {
+    let table = ExtendedStateTable::new(
+        rt.alloc(),
+        4,
+        &[(0, 9), (7, 3), (65535, 3)],
+        &[(0, 1, entry(10)), (0, 3, entry(11)), (65535, 0, entry(12))],
+    )?;
+    let classes = [(0, Some(9)), (7, Some(3)), (8, None), (65535, Some(2))];
+    for (glyph, class) in classes {
+        assert_eq!(rt; table.class(GlyphId(glyph)), class, "at {glyph}");
+    }
+    let entries = [
+        (0, 0, None),
+        (0, 1, Some(10)),
+        (0, 3, Some(11)),
+        (0, 4, Some(10)),
+        (0, 9, Some(10)),
+        (0, 65535, Some(10)),
+        (1, 4, None),
+        (65535, 0, Some(12)),
+        (65535, 65535, None),
+    ];
+    for (state, class, extra) in entries {
+        let found = table.entry(state, class);
+        assert!(rt;
+            found == extra.map(|extra| entry(extra)),
+            "at {state} {class}"
+        );
+    }
+    Ok(())
+}
+
+/// Why a state table with two rules at these states and classes is refused, if it is.
+fn fault(
+    alloc: Global,
+    class_count: u16,
+    classes: &[(u16, u16)],
+    first: (u16, u16),
+    second: (u16, u16),
+) -> Option<TableError> {
+    let rules = [(first.0, first.1, entry(0)), (second.0, second.1, entry(1))];
+    ExtendedStateTable::new(alloc, class_count, classes, &rules).err()
+}
+
+#[test]
+fn refused_state_tables(rt: HostRuntime) {
+    let alloc = rt.alloc();
+    let falling = [(5, 1), (5, 2)];
+    let few = fault(alloc, 3, &falling, (0, 5), (0, 4));
+    assert!(rt; few == Some(TableError::FewClasses));
+    let classes_fall = fault(alloc, 4, &falling, (0, 5), (0, 4));
+    assert!(rt; classes_fall == Some(TableError::NotRising(1)));
+    let out_of_range = fault(alloc, 4, &[], (0, 5), (0, 4));
+    assert!(rt; out_of_range == Some(TableError::ClassOutOfRange(0)));
+    let rules_fall = fault(alloc, 4, &[], (1, 0), (0, 9));
+    assert!(rt; rules_fall == Some(TableError::NotRising(1)));
+    assert!(rt; fault(alloc, 4, &[(5, 9)], (0, 3), (1, 0)).is_none());
+}
+
+#[test]
+fn flags_of_entries(rt: HostRuntime) {
+    let none = GenericStateEntry {
+        new_state: 0,
+        flags: 0x1FFF,
+        extra: (),
+    };
+    let all = GenericStateEntry {
+        flags: 0xE000,
+        ..none
+    };
+    assert!(rt; !none.has_push() && !none.has_mark() && none.has_advance() && !none.has_reset());
+    assert!(rt; all.has_push() && all.has_mark() && !all.has_advance() && all.has_reset());
+}
+
+#[test]
+fn numbers_of_errors(rt: HostRuntime) {
+    let errors = [
+        (TableError::NotRising(7), 1),
+        (TableError::FewClasses, 2),
+        (TableError::ClassOutOfRange(7), 3),
+        (TableError::TooManySubtables, 4),
+        (TableError::OutOfMemory, 5),
+    ];
+    for (error, number) in errors {
+        assert_eq!(rt; error.number(), number);
+    }
+}
+
+#[test]
+fn tags_and_coverage(rt: HostRuntime) {
+    assert_eq!(rt; hb_tag_t::from_bytes(b"liga").0, 0x6C696761);
+    assert!(rt; hb_tag_t::from_bytes(b"liga") < hb_tag_t::from_bytes(b"smcp"));
+    let coverage = Coverage::from_bits_retain(0x90);
+    assert!(rt; coverage.is_vertical() && coverage.is_logical());
+    assert!(rt; !coverage.is_backwards() && !coverage.is_all_directions());
+}
+
+#[test]
+fn plans(rt: HostRuntime) -> Result<(), Fail> {
+    let feature = Feature {
+        tag: hb_tag_t::from_bytes(b"liga"),
+        value: 1,
+        start: 0,
+        end: 0xFFFF_FFFF,
+    };
+    let plan = hb_ot_shape_plan_t {
+        user_features: vec![in rt.alloc(); feature]?,
+        apply_morx: true,
+        requested_kerning: false,
+        kern_mask: 8,
+    };
+    assert!(rt; plan.user_features.len() == 1 && plan.apply_morx && !plan.requested_kerning);
+    assert_eq!(rt; plan.kern_mask, 8);
+    Ok(())
+}
+
+/// A chain with a number of empty subtables.
+fn chain_of(alloc: Global, count: usize) -> Result<Chain, Fail> {
+    let mut subtables = Vec::new(alloc);
+    for _ in 0..count {
+        subtables.push(Subtable {
+            kind: SubtableKind::NonContextual(Lookup::new(alloc, &[])?),
+            coverage: Coverage::ALL_DIRECTIONS,
+            feature_flags: 1,
+        })?;
+    }
+    let feature = ChainFeature {
+        kind: 1,
+        setting: 2,
+        enable_flags: 2,
+        disable_flags: 0xFFFF_FFFF,
+    };
+    Ok(Chain {
+        default_flags: 1,
+        features: vec![in alloc; feature]?,
+        subtables,
+    })
+}
+
+#[test]
+fn many_subtables(rt: HostRuntime) -> Result<(), Fail> {
+    let alloc = rt.alloc();
+    let alone = Morx::new(vec![in alloc; chain_of(alloc, 65536)?]?).err();
+    assert!(rt; alone == Some(TableError::TooManySubtables));
+    let together = Morx::new(vec![in alloc; chain_of(alloc, 65535)?, chain_of(alloc, 1)?]?).err();
+    assert!(rt; together == Some(TableError::TooManySubtables));
+    assert!(rt; Morx::new(vec![in alloc; chain_of(alloc, 65535)?]?).is_ok());
+    Ok(())
+}
+
+#[test]
+fn fonts(rt: HostRuntime) -> Result<(), Fail> {
+    let alloc = rt.alloc();
+    let font = hb_font_t::new(
+        FaceTables {
+            morx: Some(Morx::new(vec![in alloc; chain_of(alloc, 3)?]?)?),
+            feat: Some(Feat::new(alloc, &[name(1, 1)])?),
+        },
+        Some(Lookup::new(alloc, &[(0, 8), (65535, 2)])?),
+        Some(Lookup::new(alloc, &[(0, 500), (65535, 65535)])?),
+    );
+    let morx = font.tables().morx.as_ref();
+    assert!(rt; morx.is_some_and(|morx| morx.chains().len() == 1));
+    assert!(rt; font.tables().feat.is_some() && font.has_glyph_classes());
+    for (glyph, props, advance) in [(0, 8, 500), (1, 0, 0), (65535, 2, 65535)] {
+        assert_eq!(rt; font.glyph_props(GlyphId(glyph)), props, "at {glyph}");
+        assert_eq!(rt; font.glyph_advance(GlyphId(glyph)), advance, "at {glyph}");
+    }
+    let bare = FaceTables {
+        morx: None,
+        feat: None,
+    };
+    let bare = hb_font_t::new(bare, None, None);
+    assert!(rt; bare.tables().morx.is_none() && !bare.has_glyph_classes());
+    assert!(rt; bare.glyph_props(GlyphId(0)) == 0 && bare.glyph_advance(GlyphId(65535)) == 0);
+    Ok(())
+}
+
+/// Whether an answer is a table. Its error is want of memory alone.
+fn is_made<T: Drop>(rt: &impl Abort, answer: Result<T, TableError>) -> bool {
+    match answer {
+        Ok(_) => true,
+        Err(error) => {
+            assert!(rt; error == TableError::OutOfMemory && error.number() == 5);
+            false
+        }
+    }
+}
+
+/// Each growth is refused in turn, by a heap that is too small for it.
+#[test]
+fn refused_memory(rt: HostRuntime) -> Result<(), Fail> {
+    let pairs = [(1, 4), (2, 5), (3, 6), (4, 7), (5, 8), (6, 9)];
+    let names = [name(1, 1), name(2, 2), name(3, 3), name(4, 4)];
+    let rules = [(0, 0, entry(0)), (0, 1, entry(1)), (0, 2, entry(2))];
+    let mut refused = [0; 3];
+    let mut made = [0; 3];
+    for step in 0..40usize {
+        let heap = LocalHeap::new(rt.alloc(), step * 8)?;
+        let answers = [
+            is_made(&rt, Lookup::new(&heap, &pairs)),
+            is_made(&rt, Feat::new(&heap, &names)),
+            is_made(&rt, ExtendedStateTable::new(&heap, 4, &pairs, &rules)),
+        ];
+        for i in 0..3 {
+            if answers[i] {
+                made[i] = step;
+            } else {
+                refused[i] = step;
+            }
+        }
+    }
+    for i in 0..3 {
+        assert!(rt; refused[i] > 0 && made[i] > refused[i], "at {i}");
+    }
+    Ok(())
+}

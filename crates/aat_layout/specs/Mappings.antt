@@ -1,0 +1,17 @@
+-- The table of features as a total function.
+use Rattle.std.specs.Prelude.{ℕ, Option}
+use Rattle.aat_font.specs.Keys.{at_key}
+use Rattle.aat_layout.specs.declared.aat_layout.mapping.hb_aat_feature_mapping_t.{hb_aat_feature_mapping_t}
+use Rattle.aat_layout.specs.declared.aat_layout.mapping.TheConstants.{feature_mappings}
+
+-- a row's tag as a number
+abbrev pub mapped_tag : hb_aat_feature_mapping_t → ℕ
+mapped_tag m = m.ot_feature_tag.0
+
+-- the row of a tag, if there is one
+abbrev pub mapping_of : ℕ → Option hb_aat_feature_mapping_t
+mapping_of tag = at_key mapped_tag feature_mappings tag
+
+-- a row of nothing, where one has to be named
+abbrev pub no_mapping : hb_aat_feature_mapping_t
+no_mapping = record { ot_feature_tag = record { 0 = 0 }; aat_feature_type = 0; selector_to_enable = 0; selector_to_disable = 0 }

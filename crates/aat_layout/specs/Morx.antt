@@ -1,8 +1,0 @@
--- What an extended glyph metamorphosis table holds.
-use Rattle.std.specs.Prelude.{List}
-use Rattle.aat_layout.specs.declared.font.morx.Chain.{Chain}
-use Rattle.aat_layout.specs.declared.font.morx.Morx.{Morx}
-
--- the chains in their order
-abbrev pub chains_of : Morx → List Chain
-chains_of m = m.chains.items
