@@ -2,6 +2,7 @@
 #![tactic(auto)]
 
 pub mod constants;
+mod entries;
 mod error;
 mod face;
 mod feat;
@@ -11,6 +12,7 @@ mod plan;
 mod state_table;
 mod tag;
 
+pub use entries::{ContextualEntryData, EntryData, InsertionEntryData, KernEntryData, Point};
 pub use error::TableError;
 pub use face::{FaceTables, hb_font_t};
 pub use feat::{Feat, FeatureName};

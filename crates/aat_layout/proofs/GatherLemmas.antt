@@ -19,7 +19,8 @@ use Rattle.std.proofs.lemmas.Bool.{cases_eq}
 use Rattle.std.proofs.lemmas.Grind.{common_steps}
 use Rattle.aat_layout.specs.declared.aat_map.feature.feature_info_t.{feature_info_t}
 use Rattle.aat_layout.specs.declared.aat_map.feature.feature_range_t.{feature_range_t}
-use Rattle.aat_layout.specs.Live.{placed, without_earliest, is_equal, kept, in_group, group_order, IsRisingByGroup, is_same_bool, group_setting}
+use Rattle.aat_layout.specs.Live.{placed, without_earliest, is_equal, kept, in_group, group_order, IsRisingByGroup, group_setting}
+use Rattle.aat_layout.specs.Entries.{is_alike}
 
 one_more : (n : ℕ) → 1 + n ≡ suc n
 one_more n = omega arith
@@ -63,13 +64,13 @@ record OneGroup (a b : feature_info_t) : Type 0 where
   exclusive : a.is_exclusive ≡ b.is_exclusive
   setting : group_setting a ≡ group_setting b
 
-same_bool_is : (a b : Bool) → is_same_bool a b ≡ true → a ≡ b
+same_bool_is : (a b : Bool) → is_alike a b ≡ true → a ≡ b
 same_bool_is true true h = refl
 same_bool_is true false h = cc
 same_bool_is false true h = cc
 same_bool_is false false h = refl
 
-same_bool_self : (a : Bool) → is_same_bool a a ≡ true
+same_bool_self : (a : Bool) → is_alike a a ≡ true
 same_bool_self true = refl
 same_bool_self false = refl
 
@@ -83,13 +84,13 @@ both_made a b p q = rw (p, q) refl
 group_opened : (a b : feature_info_t) → in_group a b ≡ true → OneGroup a b
 group_opened a b h =
     let h1 = both (eqb a.kind b.kind) _ h in
-    let h2 = both (is_same_bool a.is_exclusive b.is_exclusive) _ h1.1 in
+    let h2 = both (is_alike a.is_exclusive b.is_exclusive) _ h1.1 in
     record { kind = grind (arith, nat_tests, h1.0); exclusive = same_bool_is _ _ h2.0; setting = grind (arith, nat_tests, h2.1) }
 
 group_made : (a b : feature_info_t) → OneGroup a b → in_group a b ≡ true
 group_made a b h =
     both_made (eqb a.kind b.kind) _ (grind (arith, nat_tests, h.kind))
-    (both_made (is_same_bool a.is_exclusive b.is_exclusive) _ (rw h.exclusive (same_bool_self b.is_exclusive)) (grind (arith, nat_tests, h.setting)))
+    (both_made (is_alike a.is_exclusive b.is_exclusive) _ (rw h.exclusive (same_bool_self b.is_exclusive)) (grind (arith, nat_tests, h.setting)))
 
 -- one group with one is one group with the other
 group_trans : (a b c : feature_info_t) → in_group a b ≡ true → in_group b c ≡ true → in_group a c ≡ true

@@ -1,10 +1,11 @@
 -- Which requests count at a cluster.
-use Rattle.std.specs.Prelude.{◌≡◌, ℕ, ◌==◌, ◌&&◌, ◌||◌, not, nat_lt, nat_le, Bool, true, false, List, [], ◌∷◌, filter, map, fold, length, bit_and, if◌then◌else◌}
+use Rattle.std.specs.Prelude.{◌≡◌, ℕ, ◌==◌, ◌&&◌, ◌||◌, not, nat_lt, nat_le, Bool, List, [], ◌∷◌, filter, map, fold, length, bit_and, if◌then◌else◌}
 use Rattle.std.specs.List.{list_any, list_all, AllAdjacentBelow}
 use Rattle.std.specs.Ordering.{nat_cmp, bool_cmp, on, then_cmp}
 use Rattle.std.specs.declared.cmp.Ordering.{Ordering}
 use Rattle.std.specs.declared.cmp.Ordering.TheVariants.{Less}
 use Rattle.aat_layout.specs.ChainFlags.{flags_by}
+use Rattle.aat_layout.specs.Entries.{is_alike}
 use Rattle.aat_font.specs.declared.morx.ChainFeature.{ChainFeature}
 use Rattle.aat_layout.specs.declared.aat_map.feature.feature_info_t.{feature_info_t}
 use Rattle.aat_layout.specs.declared.aat_map.feature.feature_range_t.{feature_range_t}
@@ -41,13 +42,9 @@ has_ended x r = nat_le r.end x && not (r.end == last_cluster)
 abbrev pub infos : List feature_range_t → List feature_info_t
 infos requests = map (λ r. r.info) requests
 
-abbrev pub is_same_bool : Bool → Bool → Bool
-is_same_bool true b = b
-is_same_bool false b = not b
-
 -- equal in kind, setting and exclusiveness
 abbrev pub is_equal : feature_info_t → feature_info_t → Bool
-is_equal a b = (a.kind == b.kind) && ((a.setting == b.setting) && is_same_bool a.is_exclusive b.is_exclusive)
+is_equal a b = (a.kind == b.kind) && ((a.setting == b.setting) && is_alike a.is_exclusive b.is_exclusive)
 
 -- without the earliest that is equal to one
 abbrev pub without_earliest : List feature_info_t → feature_info_t → List feature_info_t
@@ -64,7 +61,7 @@ group_setting info = if info.is_exclusive then 0 else bit_and info.setting 0xFFF
 
 -- of one group: equal in kind, exclusiveness and the setting that tells groups apart
 abbrev pub in_group : feature_info_t → feature_info_t → Bool
-in_group a b = (a.kind == b.kind) && (is_same_bool a.is_exclusive b.is_exclusive && (group_setting a == group_setting b))
+in_group a b = (a.kind == b.kind) && (is_alike a.is_exclusive b.is_exclusive && (group_setting a == group_setting b))
 
 -- the order of groups: by kind, then not exclusive before exclusive, then by that setting
 abbrev pub group_order : feature_info_t → feature_info_t → Ordering

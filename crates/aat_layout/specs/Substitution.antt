@@ -1,11 +1,12 @@
 -- Substitution: all subtables of all chains over a line. Apple's TrueType Reference Manual, "The 'morx' table".
-use Rattle.std.specs.Prelude.{ℕ, ◌&&◌, ◌||◌, not, Bool, true, false, List, length, sum_by, Option, None, if◌then◌else◌}
+use Rattle.std.specs.Prelude.{ℕ, ◌&&◌, ◌||◌, not, Bool, List, length, sum_by, Option, None, if◌then◌else◌}
 use Rattle.aat_buffer.specs.Buffer.{Buffer, with_line, without_positions}
 use Rattle.aat_buffer.specs.Directions.{is_vertical}
 use Rattle.aat_buffer.specs.Marks.{unsafe_to_concat}
 use Rattle.aat_font.specs.Coverage.{is_vertical_coverage, is_all_directions}
 use Rattle.aat_layout.specs.Values.{noncontextual}
 use Rattle.aat_layout.specs.ChainFlags.{Switch}
+use Rattle.aat_layout.specs.Entries.{is_alike}
 use Rattle.aat_layout.specs.Outcome.{Outcome, untouched, in_order}
 use Rattle.aat_buffer.specs.declared.glyph.Direction.{Direction}
 use Rattle.aat_font.specs.declared.morx.Coverage.{Coverage}
@@ -17,14 +18,9 @@ use Rattle.aat_font.specs.declared.morx.SubtableKind.TheVariants.{NonContextual}
 abbrev pub prepared : Buffer → Buffer
 prepared b = unsafe_to_concat (without_positions b) None None
 
--- two truths are one
-abbrev pub is_same : Bool → Bool → Bool
-is_same true b = b
-is_same false b = not b
-
 -- a subtable is for text of this direction
 abbrev pub is_for : Direction → Coverage → Bool
-is_for direction coverage = is_all_directions coverage || is_same (is_vertical_coverage coverage) (is_vertical direction)
+is_for direction coverage = is_all_directions coverage || is_alike (is_vertical_coverage coverage) (is_vertical direction)
 
 -- a subtable is left out: its chain has one range alone and it is off there, or it is not for text of this direction
 abbrev pub is_skipped : Switch → Subtable → Direction → Bool

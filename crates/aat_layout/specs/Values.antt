@@ -1,5 +1,6 @@
 -- Glyphs that get a value, and the noncontextual map. Apple's TrueType Reference Manual, "The 'morx' table", noncontextual substitution.
-use Rattle.std.specs.Prelude.{ℕ, Bool, List, map, Option, Some, None, if◌then◌else◌}
+use Rattle.std.specs.Prelude.{ℕ, Bool, List, map, Option, Some, None, slice_set, if◌then◌else◌}
+use Rattle.aat_buffer.specs.Buffer.{glyph_at}
 use Rattle.aat_buffer.specs.declared.glyph.hb_glyph_info_t.{hb_glyph_info_t}
 use Rattle.aat_font.specs.Face.{value_or_zero}
 use Rattle.aat_font.specs.Keys.{value_in}
@@ -12,6 +13,10 @@ props_after (Some classes) v props = value_or_zero (Some classes) v
 -- a glyph that becomes v
 abbrev pub with_value : Option (List (ℕ × ℕ)) → ℕ → hb_glyph_info_t → hb_glyph_info_t
 with_value classes v g = record g { glyph_id = v; glyph_props = props_after classes v g.glyph_props }
+
+-- the glyph at one place becomes v
+abbrev pub with_value_at : Option (List (ℕ × ℕ)) → ℕ → ℕ → List hb_glyph_info_t → List hb_glyph_info_t
+with_value_at classes i v line = slice_set line i (with_value classes v (glyph_at line i))
 
 -- a glyph that is given a value, if there is one
 abbrev pub with_answer : Option (List (ℕ × ℕ)) → Option ℕ → hb_glyph_info_t → hb_glyph_info_t

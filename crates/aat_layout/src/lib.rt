@@ -6,6 +6,8 @@ mod aat_layout_common;
 mod aat_layout_morx_table;
 mod aat_map;
 mod error;
+pub mod laws;
+pub mod worked;
 
 /// The shaping buffer, a crate of its own.
 pub use aat_buffer as buffer;

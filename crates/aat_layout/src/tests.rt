@@ -6,7 +6,7 @@ use crate::font::{
     Chain, ChainFeature, Coverage, FaceTables, Lookup, Morx, Subtable, SubtableKind, hb_font_t,
     hb_ot_shape_plan_t,
 };
-use crate::{AatError, hb_aat_layout_substitute};
+use crate::{AatError, hb_aat_layout_substitute, laws, worked};
 use std::alloc::{Allocator, Global};
 use std::process::Abort;
 use std::test::Fail;
@@ -37,6 +37,23 @@ fn rows_by_definition()
 #[test]
 fn rows_follow_from_the_definitions() {
     rows_by_definition();
+}
+
+#[test]
+fn the_definitions_have_their_rows_and_laws() {
+    worked::rearrangement_rows();
+    worked::contextual_rows();
+    worked::ligature_rows();
+    worked::insertion_rows();
+    worked::kerning_rows();
+    laws::floor_is_unseen();
+    laws::contexts_are_lawful();
+    laws::runs_are_bounded();
+    laws::acts_keep_order();
+    laws::clusters_keep_their_order();
+    laws::glyphs_are_kept();
+    laws::drivers_are_lawful();
+    laws::kerning_is_bounded();
 }
 
 fn glyph(glyph_id: u32, cluster: u32) -> hb_glyph_info_t {

@@ -1,0 +1,219 @@
+-- Whole runs keep the order of clusters, and what they keep of the glyphs.
+use Rattle.std.proofs.Common.{◌≡◌, ◌≢◌, ℕ, ◌+◌, ◌-◌, ◌<◌, ◌≤◌, ◌&&◌, Bool, true, false, cond, List, [], ◌∷◌, length, reverse, get_or, refl, sym, ap, ◌∙◌, arith, Option, Some, None, nat_lt}
+use Rattle.std.proofs.lemmas.List.{length-map, length-reverse, get_or-reverse, get_or-map}
+use Rattle.std.proofs.lemmas.List.Sorted.{IsPermutation-refl, IsPermutation-trans}
+use Rattle.std.specs.Prelude.{fold, IsPermutation}
+use Rattle.aat_buffer.specs.Buffer.{Buffer, no_glyph, with_cursor, reversed, without_positions}
+use Rattle.aat_buffer.specs.Marks.{unsafe_to_concat, produces_concat, concat_marked, on_span, with_line, with_mask_bits, end_place}
+use Rattle.aat_buffer.specs.declared.glyph.hb_glyph_info_t.{hb_glyph_info_t}
+use Rattle.aat_font.specs.Table.{TableValue}
+use Rattle.aat_font.specs.declared.entries.ContextualEntryData.{ContextualEntryData}
+use Rattle.aat_font.specs.declared.morx.Coverage.{Coverage}
+use Rattle.aat_font.specs.declared.plan.GlyphId.{GlyphId}
+use Rattle.aat_font.specs.declared.state_table.GenericStateEntry.{GenericStateEntry}
+use Rattle.aat_font.specs.Keys.{value_in}
+use Rattle.aat_layout.specs.Context.{Context, machine_of, start}
+use Rattle.aat_layout.specs.FlatSubstitution.{Sizes, Subtable, Kind, Rearrangement, Contextual, Ligature, NonContextual, Insertion, kind_run, covered_run, subtable_run, substitution}
+use Rattle.aat_layout.specs.Kinds.{machine_run, rearrangement_run, contextual_run, ligature_run, insertion_run, noncontextual_run, reversed_run, is_reversed, ordered_run}
+use Rattle.aat_layout.specs.Outcome.{Outcome, untouched, then_run}
+use Rattle.aat_layout.specs.Substitution.{is_for}
+use Rattle.aat_layout.specs.Laws.{IsOrdered, HasSmallClusters}
+use Rattle.aat_layout.specs.Lawful.{ids, IsLawful, ActsKeepOrder, ClustersKeepTheirOrder, GlyphsAreKept}
+use Rattle.aat_layout.specs.Machine.{whole}
+use Rattle.aat_layout.specs.Values.{with_answer}
+use Rattle.aat_layout.specs.Rearrangement as r
+use Rattle.aat_layout.specs.Contextual as c
+use Rattle.aat_layout.specs.Ligature as l
+use Rattle.aat_layout.specs.Insertion as i
+use Rattle.aat_layout.proofs.Clusters.{length_on_span_of}
+use Rattle.aat_layout.proofs.LawsHold.{contexts_are_lawful}
+use Rattle.aat_layout.proofs.Lines.{chosen}
+use Rattle.aat_layout.proofs.MachineRuns.{buffer_kept, whole_in_place}
+use Rattle.aat_layout.proofs.Order.{Kept, kept_refl, kept_same, kept_unsafe, comes_trans, comes_small, same_on_span}
+use Rattle.aat_layout.proofs.OrderHolds.{rearrangement_kept, contextual_kept, ligature_kept, insertion_kept}
+use Rattle.aat_layout.proofs.Permutation.{act_permutes, ids_of_unsafe}
+
+le_same : (x y : ℕ) → x ≡ y → x ≤ y
+le_same x y e = omega (arith, e)
+
+ge_same : (x y : ℕ) → x ≡ y → y ≤ x
+ge_same x y e = omega (arith, e)
+
+abbrev Rising : ℕ → ℕ → Type 0
+Rising x y = x ≤ y
+
+abbrev Falling : ℕ → ℕ → Type 0
+Falling x y = y ≤ x
+
+pub acts_keep_order : ActsKeepOrder
+acts_keep_order = record {
+  rearrangement_keeps = λ bound. record {
+    rising = λ e s b fit level small ordered. (rearrangement_kept Rising le_same bound e s b fit small).ordered level ordered;
+    falling = λ e s b fit level small ordered. (rearrangement_kept Falling ge_same bound e s b fit small).ordered level ordered;
+    clusters = λ e s b fit small. (rearrangement_kept Rising le_same bound e s b fit small).from;
+  };
+  contextual_keeps = λ classes lookups. record {
+    rising = λ e s b fit level small ordered. (contextual_kept Rising le_same classes lookups e s b).ordered level ordered;
+    falling = λ e s b fit level small ordered. (contextual_kept Falling ge_same classes lookups e s b).ordered level ordered;
+    clusters = λ e s b fit small. (contextual_kept Rising le_same classes lookups e s b).from;
+  };
+  ligature_keeps = λ actions values ligatures. record {
+    rising = λ e s b fit level small ordered. (ligature_kept Rising le_same actions values ligatures e s b small).ordered level ordered;
+    falling = λ e s b fit level small ordered. (ligature_kept Falling ge_same actions values ligatures e s b small).ordered level ordered;
+    clusters = λ e s b fit small. (ligature_kept Rising le_same actions values ligatures e s b small).from;
+  };
+  insertion_keeps = λ glyphs. record {
+    rising = λ e s b fit level small ordered. (insertion_kept Rising le_same glyphs e s b).ordered level ordered;
+    falling = λ e s b fit level small ordered. (insertion_kept Falling ge_same glyphs e s b).ordered level ordered;
+    clusters = λ e s b fit small. (insertion_kept Rising le_same glyphs e s b).from;
+  };
+}
+
+cluster_of_answer : (classes : Option (List (ℕ × ℕ))) (o : Option ℕ) (g : hb_glyph_info_t) → (with_answer classes o g).cluster ≡ g.cluster
+cluster_of_answer classes None g = refl
+cluster_of_answer classes (Some v) g = refl
+
+module _ (R : ℕ → ℕ → Type 0) (same : (x y : ℕ) → x ≡ y → R x y) where
+  kept_trans : (a b d : Buffer) → Kept R same a b → Kept R same b d → Kept R same a d
+  kept_trans a b d f g = record {
+    level = g.level ∙ f.level;
+    from = comes_trans a.line b.line d.line f.from g.from;
+    ordered = λ level ordered. g.ordered (λ two. level (sym f.level ∙ two)) (f.ordered level ordered);
+  }
+
+  -- a run of a lawful context whose acts keep the clusters
+  pub kept_machine : {T Q : Type 0} (on : ℕ → Bool) (table : TableValue (GenericStateEntry T)) (x : Context Q (GenericStateEntry T)) (fits : Q → ℕ → ℕ → Type 0) (b : Buffer) → IsLawful x fits → HasSmallClusters b.line
+      → ((e : GenericStateEntry T) (s : Q) (d : Buffer) → fits s d.cursor (length d.line) → HasSmallClusters d.line → Kept R same d (x.act e s d).buffer) → Kept R same b (machine_run on table x b).buffer
+  unfolding machine_run
+  kept_machine on table x fits b law small each =
+      let m = machine_of on table x in
+      let c = start x.in_place b x.fresh in
+      let begun : Kept R same b c.buffer = chosen (λ (d : Buffer). Kept R same b (with_cursor d 0)) x.in_place b (without_positions b) (λ _. kept_same R same b b _ refl refl (λ k low. refl) (kept_refl R same b)) (λ _. kept_same R same b b _ refl refl (λ k low. refl) (kept_refl R same b)) in
+      let done = buffer_kept m fits law.keeps_fit law.passes_fit law.pays (Kept R same b)
+      (λ d k. kept_unsafe R same b d (Some (d.cursor - 1)) (Some (d.cursor + 1)) k)
+      (λ e s d fit k. kept_trans b d (x.act e s d).buffer k (each e s d fit (comes_small b.line d.line k.from small)))
+      (λ d k. kept_same R same b d _ refl refl (λ n low. refl) k)
+      (λ d k. kept_same R same b d _ refl refl (λ n low. refl) k) c (law.fresh (length c.buffer.line)) begun in
+      kept_same R same b (whole m c).buffer _ refl refl (λ n low. refl) done
+
+  kept_kind : (z : Sizes) (on : ℕ → Bool) (k : Kind) (b : Buffer) → 0 < z.slots → HasSmallClusters b.line → Kept R same b (kind_run z on k b).buffer
+  unfolding rearrangement_run contextual_run ligature_run insertion_run noncontextual_run
+  kept_kind z on (Rearrangement table) b some small =
+      kept_machine on table (r.context z.bound) r.IsFit b (contexts_are_lawful.rearrangement_is_lawful z.bound) small (λ e s d fit d_small. rearrangement_kept R same z.bound e s d fit d_small)
+  kept_kind z on (Contextual table lookups) b some small =
+      kept_machine on table (c.context z.classes lookups) c.IsFit b (contexts_are_lawful.contextual_is_lawful z.classes lookups) small (λ e s d fit d_small. contextual_kept R same z.classes lookups e s d)
+  kept_kind z on (Ligature table actions components ligatures) b some small =
+      kept_machine on table (l.context actions components ligatures z.slots) l.IsFit b (contexts_are_lawful.ligature_is_lawful actions components ligatures z.slots some) small (λ e s d fit d_small. ligature_kept R same actions components ligatures e s d d_small)
+  kept_kind z on (Insertion table glyphs) b some small =
+      kept_machine on table (i.context glyphs) i.IsFit b (contexts_are_lawful.insertion_is_lawful glyphs) small (λ e s d fit d_small. insertion_kept R same glyphs e s d)
+  kept_kind z on (NonContextual lookup) b some small =
+      let f = λ (g : hb_glyph_info_t). cond (on g.cluster) (with_answer z.classes (value_in lookup g.glyph_id) g) g in
+      kept_same R same b b _ refl (length-map b.line f)
+      (λ n low. ap (λ (g : hb_glyph_info_t). g.cluster) (get_or-map f b.line n no_glyph no_glyph low) ∙ cluster_of_choice (get_or b.line n no_glyph)) (kept_refl R same b)
+    where
+      cluster_of_choice : (g : hb_glyph_info_t) → (cond (on g.cluster) (with_answer z.classes (value_in lookup g.glyph_id) g) g).cluster ≡ g.cluster
+      cluster_of_choice g = chosen (λ (h : hb_glyph_info_t). h.cluster ≡ g.cluster) (on g.cluster) (with_answer z.classes (value_in lookup g.glyph_id) g) g (λ _. cluster_of_answer z.classes (value_in lookup g.glyph_id) g) (λ _. refl)
+
+  -- marking the whole line changes no cluster
+  pub kept_concat : (b : Buffer) → Kept R same b (unsafe_to_concat b None None)
+  kept_concat b =
+      let j = end_place None (length b.line) in
+      chosen (λ (gs : List hb_glyph_info_t). Kept R same b (with_line b gs)) (produces_concat b.flags && nat_lt 0 j) (on_span concat_marked 0 j b.line) b.line
+      (λ _. kept_same R same b b _ refl (length_span_of b j) (λ n low. same_on_span (with_mask_bits 2) 0 j b.line (omega arith) (omega arith) (λ g. refl) n) (kept_refl R same b)) (λ _. kept_refl R same b)
+    where
+      length_span_of : (d : Buffer) (j : ℕ) → length (on_span concat_marked 0 (end_place None (length d.line)) d.line) ≡ length d.line
+      length_span_of d j = length_on_span_of (with_mask_bits 2) 0 (end_place None (length d.line)) d.line (omega arith) (omega arith)
+
+-- a line in one order, read backwards, is in the other
+order_of_reverse : (R : ℕ → ℕ → Type 0) (gs : List hb_glyph_info_t) → IsOrdered R gs → IsOrdered (λ x y. R y x) (reverse gs)
+order_of_reverse R gs ordered n m d before within =
+    let long = length-reverse gs in
+    let first : n < length gs = omega (arith, before, within, long) in
+    let last : m < length gs = omega (arith, within, long) in
+    rw (get_or-reverse gs n d first, get_or-reverse gs m d last) (ordered (length gs - 1 - m) (length gs - 1 - n) d (omega (arith, before, last)) (omega (arith, first)))
+
+small_of_reverse : (gs : List hb_glyph_info_t) → HasSmallClusters gs → HasSmallClusters (reverse gs)
+small_of_reverse gs small n d within =
+    let inside : n < length gs = omega (arith, within, length-reverse gs) in
+    rw (get_or-reverse gs n d inside) (small (length gs - 1 - n) d (omega (arith, inside)))
+
+-- what substitution keeps of a line in order: its clusters come from it, it stays in order, at its level
+pub record InOrder (R : ℕ → ℕ → Type 0) (level : ℕ) (d : Buffer) : Type 0 where
+  pub level_is : d.cluster_level ≡ level
+  pub small : HasSmallClusters d.line
+  pub ordered : IsOrdered R d.line
+
+module _ (level : ℕ) (merges : level ≢ 2) where
+  pub in_order_of_kept : (R : ℕ → ℕ → Type 0) (same : (x y : ℕ) → x ≡ y → R x y) (b d : Buffer) → Kept R same b d → InOrder R level b → InOrder R level d
+  in_order_of_kept R same b d k o = record {
+    level_is = k.level ∙ o.level_is;
+    small = comes_small b.line d.line k.from o.small;
+    ordered = k.ordered (λ two. merges (sym o.level_is ∙ two)) o.ordered;
+  }
+
+  -- a run that keeps the order in both orders of the line keeps it in the order of a coverage
+  pub in_order_of_covered : (R : ℕ → ℕ → Type 0) (same : (x y : ℕ) → x ≡ y → R x y) (flipped : (x y : ℕ) → x ≡ y → R y x) (coverage : Coverage) (run : Buffer → Outcome) (b : Buffer)
+      → ((d : Buffer) → HasSmallClusters d.line → Kept R same d (run d).buffer)
+      → ((d : Buffer) → HasSmallClusters d.line → Kept (λ x y. R y x) flipped d (run d).buffer) → InOrder R level b → InOrder R level (ordered_run coverage run b).buffer
+  in_order_of_covered R same flipped coverage run b each each_turned o =
+      let turned : InOrder (λ x y. R y x) level (reversed b) = record { level_is = o.level_is; small = small_of_reverse b.line o.small; ordered = order_of_reverse R b.line o.ordered } in
+      let behind : InOrder (λ x y. R y x) level (run (reversed b)).buffer = in_order_of_kept (λ x y. R y x) flipped (reversed b) (run (reversed b)).buffer (each_turned (reversed b) turned.small) turned in
+      chosen (λ (x : Outcome). InOrder R level x.buffer) (is_reversed coverage b.direction) (reversed_run run b) (run b)
+      (λ _. record { level_is = behind.level_is; small = small_of_reverse (run (reversed b)).buffer.line behind.small; ordered = order_of_reverse (λ x y. R y x) (run (reversed b)).buffer.line behind.ordered })
+      (λ _. in_order_of_kept R same b (run b).buffer (each b o.small) o)
+
+  in_order_of_subtable : (R : ℕ → ℕ → Type 0) (same : (x y : ℕ) → x ≡ y → R x y) (flipped : (x y : ℕ) → x ≡ y → R y x) (z : Sizes) (s : Subtable) (b : Buffer) → 0 < z.slots → InOrder R level b → InOrder R level (subtable_run z s b).buffer
+  unfolding covered_run
+  in_order_of_subtable R same flipped z s b some o =
+      let run = kind_run z s.on s.kind in
+      chosen (λ (x : Outcome). InOrder R level x.buffer) s.is_run (covered_run s.coverage run b) (untouched b)
+      (λ _. chosen (λ (x : Outcome). InOrder R level x.buffer) (is_for b.direction s.coverage) (ordered_run s.coverage run b) (untouched b)
+      (λ _. in_order_of_covered R same flipped s.coverage run b (λ d small. kept_kind R same z s.on s.kind d some small) (λ d small. kept_kind (λ x y. R y x) flipped z s.on s.kind d some small) o)
+      (λ _. o))
+      (λ _. o)
+
+  -- runs one after another, each of which keeps the order
+  pub in_order_of_all : {X : Type 0} (R : ℕ → ℕ → Type 0) (run : X → Buffer → Outcome) (xs : List X) (o : Outcome) → ((x : X) (b : Buffer) → InOrder R level b → InOrder R level (run x b).buffer) → InOrder R level o.buffer
+      → InOrder R level (fold (λ o x. then_run o (run x)) o xs).buffer
+  in_order_of_all R run [] o each k = k
+  in_order_of_all R run (x ∷ xs) o each k = in_order_of_all R run xs (then_run o (run x)) each (each x o.buffer k)
+
+substitution_in_order : (R : ℕ → ℕ → Type 0) (same : (x y : ℕ) → x ≡ y → R x y) (flipped : (x y : ℕ) → x ≡ y → R y x) (z : Sizes) (subtables : List Subtable) (b : Buffer) → 0 < z.slots → b.cluster_level ≢ 2 → HasSmallClusters b.line → IsOrdered R b.line
+    → IsOrdered R (substitution z subtables b).buffer.line
+unfolding substitution
+substitution_in_order R same flipped z subtables b some level small ordered =
+    let begun : InOrder R b.cluster_level (unsafe_to_concat (without_positions b) None None) =
+    in_order_of_kept b.cluster_level level R same (without_positions b) (unsafe_to_concat (without_positions b) None None) (kept_concat R same (without_positions b)) (record { level_is = refl; small = small; ordered = ordered }) in
+    (in_order_of_all b.cluster_level level R (subtable_run z) subtables (untouched (unsafe_to_concat (without_positions b) None None)) (λ s d k. in_order_of_subtable b.cluster_level level R same flipped z s d some k) begun).ordered
+
+pub clusters_keep_their_order : ClustersKeepTheirOrder
+clusters_keep_their_order = record { rising = substitution_in_order Rising le_same ge_same; falling = substitution_in_order Falling ge_same le_same }
+
+run_permutes : (bound : ℕ) (on : ℕ → Bool) (table : TableValue (GenericStateEntry (Unit {0}))) (b : Buffer) → IsPermutation (ids b.line) (ids (rearrangement_run bound on table b).buffer.line)
+unfolding rearrangement_run machine_run
+run_permutes bound on table b =
+    let x = r.context bound in
+    let law = contexts_are_lawful.rearrangement_is_lawful bound in
+    buffer_kept (machine_of on table x) r.IsFit law.keeps_fit law.passes_fit law.pays (λ d. IsPermutation (ids b.line) (ids d.line))
+    (λ d k. rw (ids_of_unsafe d (Some (d.cursor - 1)) (Some (d.cursor + 1))) k)
+    (λ e s d fit k. IsPermutation-trans (ids b.line) (ids d.line) (ids (r.act bound e s d).buffer.line) k (act_permutes bound e s d fit))
+    (λ d k. k) (λ d k. k) (start true b r.fresh) (law.fresh (length b.line)) (IsPermutation-refl (ids b.line))
+
+contextual_number : (on : ℕ → Bool) (classes : Option (List (ℕ × ℕ))) (table : TableValue (GenericStateEntry ContextualEntryData)) (lookups : List (List (ℕ × ℕ))) (b : Buffer) → length (contextual_run on classes table lookups b).buffer.line ≡ length b.line
+unfolding contextual_run machine_run
+contextual_number on classes table lookups b =
+    let law = contexts_are_lawful.contextual_is_lawful classes lookups in
+    whole_in_place (machine_of on table (c.context classes lookups)) c.IsFit law.keeps_fit law.passes_fit law.pays (contexts_are_lawful.contextual_stays classes lookups).length (start true b c.fresh) (law.fresh (length b.line))
+
+ligature_number : (size : ℕ) (on : ℕ → Bool) (table : TableValue (GenericStateEntry ℕ)) (actions values : List ℕ) (ligatures : List GlyphId) (b : Buffer) → 0 < size → length (ligature_run size on table actions values ligatures b).buffer.line ≡ length b.line
+unfolding ligature_run machine_run
+ligature_number size on table actions values ligatures b some =
+    let law = contexts_are_lawful.ligature_is_lawful actions values ligatures size some in
+    whole_in_place (machine_of on table (l.context actions values ligatures size)) l.IsFit law.keeps_fit law.passes_fit law.pays (contexts_are_lawful.ligature_keeps_length actions values ligatures) (start false b (l.fresh size)) (law.fresh (length b.line))
+
+noncontextual_number : (on : ℕ → Bool) (classes : Option (List (ℕ × ℕ))) (lookup : List (ℕ × ℕ)) (b : Buffer) → length (noncontextual_run on classes lookup b).buffer.line ≡ length b.line
+unfolding noncontextual_run
+noncontextual_number on classes lookup b = length-map b.line _
+
+pub glyphs_are_kept : GlyphsAreKept
+glyphs_are_kept = record { rearrangement_permutes = run_permutes; contextual_number = contextual_number; ligature_number = ligature_number; noncontextual_number = noncontextual_number }
