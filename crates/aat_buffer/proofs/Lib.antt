@@ -3,3 +3,7 @@ pub mod Parts
 pub mod Removing
 pub mod Runs
 pub mod Spans
+pub mod Pending
+pub mod Lowering
+pub mod Reaching
+pub mod Steps

@@ -50,3 +50,10 @@ pub turned : {X : Type 0} (b a : List X) → length (b ++ a) ≤ length b → re
 turned b a h =
     let n : length a ≡ 0 = omega (arith, length-append b a) in
     rw (nil_from_length a n) (append-nil (reverse b) ∙ ap reverse (sym (append-nil b)))
+
+-- the first glyph of the second part goes behind it
+pub aside_between : {X : Type 0} (b a ds es : List X) (x d : X) (p : ℕ) → ds ≡ x ∷ a → p ≡ length b → es ≡ a ++ x ∷ [] → b ++ es ≡ remove (b ++ ds) p ++ get_or (b ++ ds) p d ∷ []
+aside_between b a ds es x d p was e new =
+    let same : p - p ≡ 0 = omega arith in
+    let read : get_or (b ++ ds) p d ≡ x = ap (λ t. get_or (b ++ t) p d) was ∙ get_or-append_right b (x ∷ a) p p d (sym e) (omega arith) ∙ rw same refl in
+    ap (λ t. b ++ t) new ∙ sym (append_assoc b a (x ∷ [])) ∙ ap (λ t. t ++ x ∷ []) (removed_between b a ds x p was e) ∙ ap (λ y. remove (b ++ ds) p ++ y ∷ []) (sym read)

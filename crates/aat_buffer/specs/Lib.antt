@@ -7,3 +7,4 @@ pub mod Inside
 pub mod Lending
 pub mod Marks
 pub mod Removal
+pub mod Pending

@@ -1,10 +1,11 @@
 // The buffer: a line of glyphs with a cursor.
-ghost use Rattle.std.specs.Prelude.{◌≡◌, ◌+◌, ◌-◌, ◌<◌, ◌≤◌, ◌↔◌, length, slice_get, is_some, IsTrue, IsOk, OnOk, OnErr, IfErr, IfSome, IsErrOf, All, map, ◌^◌, vec_len, vec_capacity};
+ghost use Rattle.std.specs.Prelude.{◌≡◌, ◌+◌, ◌-◌, ◌<◌, ◌≤◌, ◌↔◌, length, slice_get, is_some, IsTrue, IsOk, OnOk, OnErr, IfErr, IfSome, IsErrOf, All, map, take, ◌^◌, vec_len, vec_capacity};
 ghost use Rattle.std.specs.VecDeque.{deque_len, deque_capacity};
 ghost use Rattle.std.specs.Bool.{OnTrue};
 ghost use Rattle.std.specs.Borrow.{sem};
-ghost use Rattle.aat_buffer.specs.Buffer.{Buffer, empty_buffer, added, failed, with_cursor, without_positions, skipped, replaced, reversed, with_zero_positions, position_list, position_at, output, model_place, glyph_at, with_info, Is16Bit, with_direction, with_cluster_level, with_flags, with_scratch_flags, with_max_ops, with_positions};
+ghost use Rattle.aat_buffer.specs.Buffer.{Buffer, empty_buffer, added, failed, with_cursor, with_line, without_positions, skipped, replaced, reversed, with_zero_positions, position_list, position_at, output, model_place, glyph_at, with_info, Is16Bit, with_direction, with_cluster_level, with_flags, with_scratch_flags, with_max_ops, with_positions};
 ghost use Rattle.aat_buffer.specs.Carried.{items_of};
+ghost use Rattle.aat_buffer.specs.Pending.{set_aside};
 ghost use Rattle.aat_buffer.specs.Lending.{LendsInfo, LendsCur, LendsPosition};
 
 use crate::error::BufferError;
@@ -480,6 +481,24 @@ impl<A: Allocator + Copy> hb_buffer_t<A> {
         ensures read { result.now ≡ position_at self.old i }
     {
         &mut self.positions[i]
+    }
+
+    /// Puts the glyph at the cursor behind the line. O(1).
+    #[tactic(auto, using(crate::proofs::Parts::aside_between))]
+    pub(crate) fn set_aside(&mut self)
+        requires { self.old.cursor < length self.old.line }
+        ensures { self.new ≡ with_line self.old (set_aside self.old.line self.old.cursor) }
+    {
+        let glyph = self.after.pop_front().unwrap();
+        self.after.push_back_reserved(glyph);
+    }
+
+    /// Takes all glyphs from the cursor on out, and drops the positions.
+    pub(crate) fn cut_off(&mut self)
+        ensures { self.new ≡ with_line (without_positions self.old) (take self.old.cursor self.old.line) }
+    {
+        self.after.clear();
+        self.have_positions = false;
     }
 
     /// Takes the positions out, so that none stand.

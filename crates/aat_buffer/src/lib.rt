@@ -6,6 +6,7 @@ pub mod error;
 pub mod flags;
 pub mod glyph;
 mod marks;
+mod pending_run;
 mod removal;
 
 pub use buffer::hb_buffer_t;

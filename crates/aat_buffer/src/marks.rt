@@ -151,7 +151,7 @@ impl<A: Allocator + Copy> hb_buffer_t<A> {
 
     /// The place from which on the glyphs before place `start`, but none before place `from`, have this cluster.
     #[tactic(auto, using(crate::proofs::Runs::run_before_end))]
-    pub(crate) fn run_start(&self, from: usize, start: usize, cluster: u32) -> usize
+    fn run_start(&self, from: usize, start: usize, cluster: u32) -> usize
         requires ordered { from ≤ start }
         requires in_line { start ≤ length self.now.line }
         ensures run { result ≡ start - run_before self.now.line from start cluster }

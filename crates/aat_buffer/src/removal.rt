@@ -1,13 +1,15 @@
 // The removal of glyphs, written over the calls that read, write and move one glyph.
-ghost use Rattle.std.specs.Prelude.{Bool, ℕ, None, ◌≡◌, ◌+◌, ◌<◌, ◌≤◌, length, map, is_some, option_map, vec_len, IfSome, remove};
+ghost use Rattle.std.specs.Prelude.{Bool, ℕ, None, ◌≡◌, ◌+◌, ◌-◌, ◌<◌, ◌≤◌, length, map, drop, take, is_some, option_map, vec_len, IfSome, remove};
 ghost use Rattle.std.specs.Bool.{OnTrue, OnFalse};
-ghost use Rattle.aat_buffer.specs.Buffer.{with_line, without_positions};
+ghost use Rattle.aat_buffer.specs.Buffer.{glyph_at, with_line, without_positions};
 ghost use Rattle.aat_buffer.specs.Carried.{carried, items_of};
-ghost use Rattle.aat_buffer.specs.Marks.{on_line_span};
-ghost use Rattle.aat_buffer.specs.Removal.{AnswersBy, handed_back, handed_on, removal_step, removed, with_cluster_and_flags};
+ghost use Rattle.aat_buffer.specs.Marks.{cluster_at, run_before};
+ghost use Rattle.aat_buffer.specs.Pending.{IsPending, IsReached, lowers, run_written, runs_written, shown, shown_line};
+ghost use Rattle.aat_buffer.specs.Removal.{AnswersBy, handed_back, handed_on, removal_step, removed, taken};
 
 use crate::buffer::hb_buffer_t;
-use crate::glyph::{GlyphPosition, glyph_flag, hb_glyph_info_t, hb_mask_t};
+use crate::glyph::{GlyphPosition, hb_glyph_info_t};
+use crate::pending_run::{PendingRun, labelled};
 use std::alloc::Allocator;
 
 impl<A: Allocator + Copy> hb_buffer_t<A> {
@@ -17,7 +19,7 @@ impl<A: Allocator + Copy> hb_buffer_t<A> {
     /// - else, where glyphs were kept, by the last of them and all before it that share its cluster, if they have a higher one: they get that of the glyph that goes, with its DEFINED flags;
     /// - else by the next glyph: the two merge as by `merge_clusters`.
     ///
-    /// In as many steps as the line and the spans that get another cluster are long.
+    /// In as many steps as the line is long.
     pub fn delete_glyphs_inplace<F: Fn(&hb_glyph_info_t) -> bool>(&mut self, filter: F)
     where
         F: Drop,
@@ -30,12 +32,14 @@ impl<A: Allocator + Copy> hb_buffer_t<A> {
         let len = self.len();
         let mut positions = self.take_positions();
         self.sync();
+        let mut runs = 0;
         for i in 0..len {
             let kept = self.backtrack_len();
             let goes = filter(&self.glyph(kept));
             carry_down(&mut positions, goes, kept, i);
-            self.remove_or_keep(goes);
+            runs = self.remove_or_keep(goes, len - i, runs);
         }
+        self.finish(runs);
         self.sync();
         if let Some(mut positions) = positions {
             positions.truncate(self.len());
@@ -43,80 +47,152 @@ impl<A: Allocator + Copy> hb_buffer_t<A> {
         }
     }
 
-    /// Takes the glyph at the cursor out, or moves over it. Positions are not carried along.
-    fn remove_or_keep(&mut self, goes: bool)
-        requires { self.old.cursor < length self.old.line }
-        ensures after { without_positions self.new ≡ without_positions (removal_step (λ _. goes) self.old) }
-        ensures rest { length self.new.line + self.old.cursor + 1 ≡ length self.old.line + self.new.cursor }
+    /// Takes the glyph at the cursor out, or moves over it, where `rest` glyphs have not been asked and `runs` are pending. Positions are not carried along. Answers how many runs are pending then.
+    fn remove_or_keep(&mut self, goes: bool, rest: usize, runs: usize) -> usize
+        requires some { 0 < rest }
+        requires pending { IsPending self.old rest runs }
+        ensures after { without_positions (shown result (rest - 1) self.new) ≡ without_positions (removal_step (λ _. goes) (shown runs rest self.old)) }
+        ensures pending { IsPending self.new (rest - 1) result }
         ensures bare { self.old.positions ≡ None → self.new.positions ≡ None }
         ensures step { self.new.cursor ≤ self.old.cursor + 1 }
     {
-        if goes {
-            self.hand_on();
-            self.skip_glyph();
-        } else {
+        if !goes {
             self.next_glyph();
+            runs
+        } else if self.backtrack_len() == 0 {
+            self.remove_first();
+            0
+        } else {
+            self.remove_behind(rest, runs)
         }
     }
 
-    /// Sees that the cluster of the glyph at the cursor is kept by another one.
+    /// Takes the first glyph out, where none is kept.
     #[tactic(auto, unfolding(crate::specs::Removal::handed_line))]
-    fn hand_on(&mut self)
-        requires { self.old.cursor < length self.old.line }
-        ensures after { self.new ≡ handed_on self.old }
-        ensures count { length self.new.line ≡ length self.old.line }
+    fn remove_first(&mut self)
+        requires start { self.old.cursor ≡ 0 }
+        requires some { 0 < length self.old.line }
+        ensures after { self.new ≡ without_positions (taken (handed_on self.old)) }
+        ensures count { length self.new.line + 1 ≡ length self.old.line }
     {
-        let len = self.len();
-        let p = self.backtrack_len();
-        let has_next = p + 1 < len;
-        let glyph = self.glyph(p);
-        if has_next && self.glyph(p + 1).cluster == glyph.cluster {
-            return;
+        if self.len() > 1 && self.glyph(1).cluster != self.glyph(0).cluster {
+            self.merge_clusters(0, 2);
         }
-        if p > 0 {
-            let last = self.glyph(p - 1).cluster;
-            if glyph.cluster < last {
-                self.hand_back(p, last, glyph);
-            }
-        } else if has_next {
-            self.merge_clusters(p, p + 2);
+        self.skip_glyph();
+    }
+
+    /// Takes the glyph at the cursor out, behind kept ones. Its record stands behind the line then.
+    fn remove_behind(&mut self, rest: usize, runs: usize) -> usize
+        requires kept { 0 < self.old.cursor }
+        requires some { 0 < rest }
+        requires pending { IsPending self.old rest runs }
+        ensures after { shown result (rest - 1) self.new ≡ (record (taken (handed_on (shown runs rest self.old))) { positions = self.old.positions }) }
+        ensures pending { IsPending self.new (rest - 1) result }
+    {
+        let glyph = self.glyph(self.backtrack_len());
+        let lowers = self.lowers(rest);
+        self.set_aside();
+        if lowers {
+            self.lower(rest - 1, runs, glyph)
+        } else {
+            runs
         }
     }
 
-    /// Gives the glyphs just before place `p` that have the cluster `last` that of `glyph`, with its flags.
-    #[tactic(auto, unfolding(crate::specs::Removal::handed_back))]
-    fn hand_back(&mut self, p: usize, last: u32, glyph: hb_glyph_info_t)
-        requires { p ≤ length self.old.line }
-        ensures after { self.new ≡ with_line self.old (handed_back self.old.line p last glyph) }
+    /// Whether the glyph at the cursor, which goes, lowers the cluster of the kept ones.
+    fn lowers(&self, rest: usize) -> bool
+        requires kept { 0 < self.now.cursor }
+        requires some { 0 < rest }
+        requires in_line { self.now.cursor + rest ≤ length self.now.line }
+        requires small { length self.now.line ≤ 0x3FFFFFFF }
+        ensures { result ≡ lowers self.now.line self.now.cursor rest }
+    {
+        let p = self.backtrack_len();
+        let cluster = self.glyph(p).cluster;
+        !(rest > 1 && self.glyph(p + 1).cluster == cluster) && cluster < self.glyph(p - 1).cluster
+    }
+
+    /// Gives the last kept glyph, and with it all before it that share its cluster, the lower cluster of `glyph`. That is written at the last one alone, and the run is pending.
+    fn lower(&mut self, rest: usize, runs: usize, glyph: hb_glyph_info_t) -> usize
+        requires kept { 0 < self.old.cursor }
+        requires pending { IsPending self.old rest runs }
+        requires room { self.old.cursor + rest + runs < length self.old.line }
+        requires lower { glyph.cluster < cluster_at self.old.line (self.old.cursor - 1) }
+        ensures after { shown result rest self.new ≡ with_line self.old (handed_back (shown_line runs (self.old.cursor + rest) self.old.line) self.old.cursor (cluster_at self.old.line (self.old.cursor - 1)) glyph) }
+        ensures pending { IsPending self.new rest result }
+    {
+        let p = self.backtrack_len();
+        let (first, below) = self.reached(rest, runs);
+        let last = p - 1;
+        self.set_glyph(last, labelled(self.glyph(last), glyph));
+        self.set_glyph(p + rest + below, PendingRun { first, last }.as_record());
+        below + 1
+    }
+
+    /// The place from which on the kept glyphs have the cluster of the last one, and how many of the runs stand before it.
+    fn reached(&self, rest: usize, runs: usize) -> (usize, usize)
+        requires kept { 0 < self.now.cursor }
+        requires pending { IsPending self.now rest runs }
+        ensures reached { IsReached (runs_written runs (drop (self.now.cursor + rest) self.now.line) (take self.now.cursor self.now.line)) (take self.now.cursor self.now.line) (drop (self.now.cursor + rest) self.now.line) (cluster_at self.now.line (self.now.cursor - 1)) self.now.cursor result.0 result.1 }
+        ensures ends { run_before (runs_written runs (drop (self.now.cursor + rest) self.now.line) (take self.now.cursor self.now.line)) 0 result.0 (cluster_at self.now.line (self.now.cursor - 1)) ≡ 0 }
+        ensures fewer { result.1 ≤ runs }
+    {
+        let p = self.backtrack_len();
+        let cluster = self.glyph(p - 1).cluster;
+        let mut first = p;
+        let mut below = runs;
+        while first > 0 && self.glyph(first - 1).cluster == cluster {
+            if below > 0 && self.run_at(p + rest + below - 1).last == first - 1 {
+                below -= 1;
+                first = self.run_at(p + rest + below).first;
+            } else {
+                first -= 1;
+            }
+        }
+        (first, below)
+    }
+
+    /// The run in the record at place `i`.
+    fn run_at(&self, i: usize) -> PendingRun
+        requires { i < length self.now.line }
+        ensures first { result.first ≡ (glyph_at self.now.line i).glyph_id }
+        ensures last { result.last ≡ (glyph_at self.now.line i).cluster }
+    {
+        PendingRun::held_in(self.glyph(i))
+    }
+
+    /// Writes the pending runs, and cuts off what stands behind the line, where all glyphs have been asked.
+    fn finish(&mut self, runs: usize)
+        requires { IsPending self.old 0 runs }
+        ensures after { self.new ≡ without_positions (shown runs 0 self.old) }
+        ensures count { length self.new.line ≡ self.old.cursor }
+    {
+        self.write_runs(runs);
+        self.cut_off();
+    }
+
+    fn write_runs(&mut self, runs: usize)
+        requires { IsPending self.old 0 runs }
+        ensures after { self.new ≡ with_line self.old (runs_written runs (drop self.old.cursor self.old.line) self.old.line) }
         ensures count { length self.new.line ≡ length self.old.line }
     {
-        let from = self.run_start(0, p, last);
-        self.set_cluster_with(from, p, glyph.cluster, glyph.mask);
+        let p = self.backtrack_len();
+        for k in 0..runs {
+            self.write_run(self.run_at(p + k));
+        }
     }
 
     #[tactic(auto, using(crate::proofs::Spans::written_none))]
-    fn set_cluster_with(&mut self, start: usize, end: usize, cluster: u32, mask: hb_mask_t)
-        requires ordered { start ≤ end }
-        requires in_line { end ≤ length self.old.line }
-        ensures after { self.new ≡ on_line_span (map (with_cluster_and_flags cluster mask)) start end self.old }
+    fn write_run(&mut self, run: PendingRun)
+        requires ordered { run.first ≤ run.last }
+        requires in_line { run.last < length self.old.line }
+        ensures after { self.new ≡ with_line self.old (run_written run.first run.last self.old.line) }
         ensures count { length self.new.line ≡ length self.old.line }
     {
-        for i in start..end {
-            self.set_glyph(i, clustered_with_flags(self.glyph(i), cluster, mask));
+        let like = self.glyph(run.last);
+        for i in run.first..run.last {
+            self.set_glyph(i, labelled(self.glyph(i), like));
         }
-    }
-}
-
-fn clustered_with_flags(glyph: hb_glyph_info_t, cluster: u32, mask: hb_mask_t) -> hb_glyph_info_t
-    ensures { result ≡ with_cluster_and_flags cluster mask glyph }
-{
-    if glyph.cluster == cluster {
-        return glyph;
-    }
-    hb_glyph_info_t {
-        cluster,
-        mask: (glyph.mask & !glyph_flag::DEFINED) | (mask & glyph_flag::DEFINED),
-        ..glyph
     }
 }
 

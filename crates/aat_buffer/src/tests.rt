@@ -560,3 +560,90 @@ fn long_line(rt: HostRuntime) -> Result<(), Fail> {
     assert!(rt; buffer.pos(4_999).x_advance == 9_998 && buffer.info(4_999).mask == 3);
     Ok(())
 }
+
+/// Kept glyphs that share a cluster, while glyphs that go behind them have ever lower ones: first one after another, then by twos with a kept glyph before them, which each time joins those before it.
+#[test]
+fn long_run(rt: HostRuntime) -> Result<(), Fail> {
+    let mut buffer = hb_buffer_t::new(rt.alloc(), 1_000_000, 0);
+    for i in 0..4_000u32 {
+        buffer.add(record((i, 30_000, i)))?;
+    }
+    for i in 0..3_000u32 {
+        buffer.add(record((0xFFFF, 29_999 - i, 5)))?;
+    }
+    for i in 0..1_000u32 {
+        buffer.add(record((i, 40_000, 2)))?;
+        buffer.add(record((0xFFFF, 27_000 - i, 1)))?;
+        buffer.add(record((0xFFFF, 26_999 - i, 10)))?;
+    }
+    number_positions(&rt, &mut buffer)?;
+    remove_deleted(&mut buffer);
+    assert!(rt; buffer.len() == 5_000 && buffer.has_positions());
+    assert!(rt; (0..5_000).all(|i| i < buffer.len() && buffer.info(i).cluster == 26_000));
+    assert!(rt; (0..5_000).all(|i| i < buffer.len() && buffer.info(i).mask & 7 == 2));
+    assert!(rt; buffer.info(3_999).mask == 3_994 && buffer.pos(4_000).x_advance == 7_000);
+    Ok(())
+}
+
+/// Runs that are lowered apart keep their own clusters, and one that stands before a glyph of another cluster is not lowered with those behind it.
+#[test]
+fn runs_apart(rt: HostRuntime) -> Result<(), Fail> {
+    let rows: [(&[Glyph], &[Glyph]); 4] = [
+        (
+            &[
+                (1, 9, 0),
+                (2, 9, 8),
+                (0xFFFF, 7, 1),
+                (3, 8, 1),
+                (4, 8, 0),
+                (0xFFFF, 5, 2),
+                (0xFFFF, 4, 4),
+            ],
+            &[(1, 7, 1), (2, 7, 9), (3, 4, 4), (4, 4, 4)],
+        ),
+        (
+            &[
+                (1, 9, 0),
+                (2, 9, 8),
+                (0xFFFF, 7, 1),
+                (3, 8, 1),
+                (4, 8, 0),
+                (0xFFFF, 7, 2),
+                (0xFFFF, 4, 4),
+            ],
+            &[(1, 4, 4), (2, 4, 12), (3, 4, 4), (4, 4, 4)],
+        ),
+        (
+            &[
+                (1, 9, 3),
+                (2, 6, 0),
+                (3, 9, 0),
+                (4, 9, 0),
+                (0xFFFF, 6, 1),
+                (0xFFFF, 7, 0),
+                (5, 6, 2),
+                (0xFFFF, 2, 0),
+            ],
+            &[(1, 9, 3), (2, 2, 0), (3, 2, 0), (4, 2, 0), (5, 2, 0)],
+        ),
+        (
+            &[
+                (1, 9, 3),
+                (2, 6, 4),
+                (3, 9, 0),
+                (4, 9, 0),
+                (0xFFFF, 6, 1),
+                (0xFFFF, 7, 0),
+                (5, 6, 2),
+                (0xFFFF, 7, 0),
+            ],
+            &[(1, 9, 3), (2, 6, 4), (3, 6, 1), (4, 6, 1), (5, 6, 2)],
+        ),
+    ];
+    for (before, after) in rows {
+        let mut buffer = line_of(rt.alloc(), before)?;
+        remove_deleted(&mut buffer);
+        assert!(rt; line_is(&buffer, after));
+    }
+    Ok(())
+}

@@ -1,6 +1,7 @@
 -- Requests added one after another.
-use Rattle.std.proofs.Common.{◌≡◌, ◌∙◌, ap, sym, refl, ℕ, ◌+◌, ◌<◌, Bool, true, false, cond, List, [], ◌∷◌, ◌++◌, take, drop, length, get_or, arith, Option, Some, None, IsSome, is_some, find, option_map, filter_map, add-one, suc, not, ◌||◌}
+use Rattle.std.proofs.Common.{◌≡◌, ◌∙◌, ap, sym, refl, ℕ, ◌+◌, ◌<◌, Bool, true, false, cond, List, [], ◌∷◌, ◌++◌, take, drop, length, get_or, arith, Option, Some, None, IsSome, is_some, find, option_map, filter_map, add-one, suc, not}
 use Rattle.std.specs.List.{list_any, prefix_len}
+use Rattle.std.proofs.Math.Bool.{or-true}
 use Rattle.std.proofs.Math.Seq.{drop-cons}
 use Rattle.std.proofs.lemmas.List.{take_more, append_assoc, append-nil}
 use Rattle.std.proofs.lemmas.List.Elements.{filter_map-append}
@@ -62,10 +63,6 @@ passed_more names xs i d below fits was =
     ∙ ap (λ ys. take i xs ++ ys) (passed_step names xs i d below fits)
     ∙ sym (append_assoc (take i xs) (get_or xs i d ∷ []) (before_too_large names (drop (i + 1) xs)))
     ∙ ap (λ ys. ys ++ before_too_large names (drop (i + 1) xs)) (sym (take_more xs i d below))
-
-or-true : (b : Bool) → (b || true) ≡ true
-or-true true = refl
-or-true false = refl
 
 any_between : (q : Feature → Bool) (before rest : List Feature) (x : Feature) → q x ≡ true → list_any q (before ++ x ∷ rest) ≡ true
 any_between q [] rest x h = rw h refl

@@ -1,5 +1,5 @@
 -- Substitution: all subtables of all chains over a line. Apple's TrueType Reference Manual, "The 'morx' table".
-use Rattle.std.specs.Prelude.{ℕ, ◌&&◌, ◌||◌, not, Bool, List, length, sum_by, Option, None, if◌then◌else◌}
+use Rattle.std.specs.Prelude.{ℕ, ◌&&◌, ◌||◌, not, Bool, List, length, Option, None, if◌then◌else◌}
 use Rattle.aat_buffer.specs.Buffer.{Buffer, with_line, without_positions}
 use Rattle.aat_buffer.specs.Directions.{is_vertical}
 use Rattle.aat_buffer.specs.Marks.{unsafe_to_concat}
@@ -46,7 +46,3 @@ chain_run classes c b = in_order (subtable_run classes c.switch) c.subtables b
 -- substitution: all subtables of all chains in order, over what is prepared
 abbrev pub substituted : Option (List (ℕ × ℕ)) → List SwitchedChain → Buffer → Outcome
 substituted classes chains b = in_order (chain_run classes) chains (prepared b)
-
--- the number of subtables of all chains, of skipped ones too
-abbrev pub count_of_subtables : List SwitchedChain → ℕ
-count_of_subtables chains = sum_by (λ c. length c.subtables) chains

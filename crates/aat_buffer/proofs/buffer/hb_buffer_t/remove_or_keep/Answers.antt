@@ -1,0 +1,15 @@
+use Rattle.std.proofs.Common.{sym, ap, subst, ◌∙◌, ◌≡◌, ◌-◌}
+use Rattle.aat_buffer.specs.Buffer.{Buffer, without_positions}
+use Rattle.aat_buffer.specs.Pending.{IsPending, shown}
+use Rattle.aat_buffer.specs.Removal.{removal_step}
+use Rattle.aat_buffer.proofs.Steps.{kept_pending, first_gone}
+use Rattle.aat_buffer.proofs.buffer.hb_buffer_t.remove_or_keep.Goals as goal
+
+pub returns-then-not-goes-clause-pending : goal.returns-then-not-goes-clause-pending
+returns-then-not-goes-clause-pending g c = subst (λ (b : Buffer). IsPending b (c.args.rest - 1) c.args.runs) (sym c.next_glyph.ensures) (kept_pending c.args.self.now c.args.rest c.args.runs c.requires.some c.requires.pending)
+
+pub returns-then-backtrack_len-eq0-clause-after : goal.returns-then-backtrack_len-eq0-clause-after
+returns-then-backtrack_len-eq0-clause-after g c =
+    let start : c.args.self.now.cursor ≡ 0 = sym c.backtrack_len.ensures.place ∙ c.if-backtrack_len-eq0.true in
+    first_gone c.args.self.now c.remove_first.new.self c.args.rest c.args.runs c.requires.some start c.requires.pending c.remove_first.ensures.after c.remove_first.ensures.count
+    ∙ ap (λ goes. without_positions (removal_step (λ _. goes) (shown c.args.runs c.args.rest c.args.self.now))) (sym c.if-not-goes.false)
