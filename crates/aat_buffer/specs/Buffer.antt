@@ -24,24 +24,31 @@ pub record Buffer : Type 0 where
 abbrev pub empty_buffer : ℕ → ℤ → Buffer
 empty_buffer most ops = record { line = []; cursor = 0; positions = None; direction = LeftToRight; cluster_level = 0; flags = record { 0 = 0 }; scratch_flags = record { 0 = 0 }; max_ops = ops; max_len = most; successful = true }
 
+-- the line is gs
 abbrev pub with_line : Buffer → List hb_glyph_info_t → Buffer
 with_line b gs = record b { line = gs }
 
+-- the cursor is at place p
 abbrev pub with_cursor : Buffer → ℕ → Buffer
 with_cursor b p = record b { cursor = p }
 
+-- the direction is d
 abbrev pub with_direction : Buffer → Direction → Buffer
 with_direction b d = record b { direction = d }
 
+-- the cluster level is this
 abbrev pub with_cluster_level : Buffer → ℕ → Buffer
 with_cluster_level b level = record b { cluster_level = level }
 
+-- the flags are these
 abbrev pub with_flags : Buffer → BufferFlags → Buffer
 with_flags b flags = record b { flags = flags }
 
+-- the scratch flags are these
 abbrev pub with_scratch_flags : Buffer → ScratchFlags → Buffer
 with_scratch_flags b flags = record b { scratch_flags = flags }
 
+-- the budget is this
 abbrev pub with_max_ops : Buffer → ℤ → Buffer
 with_max_ops b ops = record b { max_ops = ops }
 
@@ -49,6 +56,7 @@ with_max_ops b ops = record b { max_ops = ops }
 abbrev pub failed : Buffer → Buffer
 failed b = record b { successful = false }
 
+-- a glyph that is all zero
 abbrev pub no_glyph : hb_glyph_info_t
 no_glyph = record { glyph_id = 0; mask = 0; cluster = 0; glyph_props = 0; unicode_props = 0 }
 
@@ -64,6 +72,7 @@ with_info b i r = record b { line = slice_set b.line i r }
 abbrev pub with_glyph_id : Buffer → ℕ → ℕ → Buffer
 with_glyph_id b i g = with_info b i (record (glyph_at b.line i) { glyph_id = g })
 
+-- the glyph id has 16 bits
 abbrev pub Is16Bit : hb_glyph_info_t → Type 0
 Is16Bit g = g.glyph_id ≤ 65535
 
@@ -71,9 +80,11 @@ Is16Bit g = g.glyph_id ≤ 65535
 abbrev pub added : Buffer → hb_glyph_info_t → Buffer
 added b r = record b { line = b.line ++ r ∷ []; positions = None }
 
+-- no positions stand
 abbrev pub without_positions : Buffer → Buffer
 without_positions b = record b { positions = None }
 
+-- the positions qs stand
 abbrev pub with_positions : Buffer → List GlyphPosition → Buffer
 with_positions b qs = record b { positions = Some qs }
 
@@ -97,6 +108,7 @@ replaced b g = with_cursor (with_glyph_id b b.cursor g) (b.cursor + 1)
 abbrev pub reversed : Buffer → Buffer
 reversed b = record b { line = reverse b.line; positions = option_map reverse b.positions }
 
+-- a position that is all zero
 abbrev pub zero_position : GlyphPosition
 zero_position = record { x_advance = pos 0; y_advance = pos 0; x_offset = pos 0; y_offset = pos 0; attach_type = 0; attach_chain = pos 0 }
 

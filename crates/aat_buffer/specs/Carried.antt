@@ -6,5 +6,6 @@ use Rattle.std.specs.declared.vec.Vec.{Vec}
 abbrev pub carried : {X : Type 0} → ℕ → ℕ → List X → List X
 carried p i qs = take p qs ++ drop i qs
 
+-- the items of a vector, where there is one
 abbrev pub items_of : {X Z : Type 0} → Option (Vec X Z) → Option (List X)
 items_of o = option_map (λ v. v.items) o

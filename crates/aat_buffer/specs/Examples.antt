@@ -6,9 +6,11 @@ use Rattle.aat_buffer.specs.Buffer.{Buffer, empty_buffer, no_glyph, zero_positio
 use Rattle.aat_buffer.specs.Marks.{unsafe_to_break, unsafe_to_concat, merge_clusters, merge_out_clusters}
 use Rattle.aat_buffer.specs.Removal.{removed, is_deleted}
 
+-- a glyph of a cluster
 abbrev pub in_cluster : ℕ → hb_glyph_info_t
 in_cluster c = record no_glyph { cluster = c }
 
+-- a glyph of a cluster, with a mask
 abbrev pub masked : ℕ → ℕ → hb_glyph_info_t
 masked c m = record no_glyph { cluster = c; mask = m }
 
@@ -20,12 +22,15 @@ gone c m = record no_glyph { glyph_id = 0xFFFF; cluster = c; mask = m }
 abbrev pub at_cursor : ℕ → List hb_glyph_info_t → Buffer
 at_cursor p gs = record (empty_buffer 100 (pos 0)) { line = gs; cursor = p }
 
+-- glyphs of these clusters
 abbrev pub line_of : List ℕ → List hb_glyph_info_t
 line_of cs = map in_cluster cs
 
+-- the clusters along a line
 abbrev pub clusters_of : Buffer → List ℕ
 clusters_of b = map (λ g. g.cluster) b.line
 
+-- the masks along a line
 abbrev pub masks_of : Buffer → List ℕ
 masks_of b = map (λ g. g.mask) b.line
 
@@ -33,13 +38,15 @@ masks_of b = map (λ g. g.mask) b.line
 abbrev pub apart : Buffer → Buffer
 apart b = with_cluster_level b 2
 
--- a line from left to right, and one from right to left
+-- a line from left to right
 abbrev pub rising : Buffer
 rising = at_cursor 0 (line_of (0 ∷ 1 ∷ 1 ∷ 2 ∷ 2 ∷ []))
 
+-- a line from right to left, with the cursor p
 abbrev pub falling : ℕ → Buffer
 falling p = at_cursor p (line_of (3 ∷ 3 ∷ 2 ∷ 2 ∷ []))
 
+-- what merges leave
 pub record MergeExamples : Type 0 where
   pub grows_right : clusters_of (merge_clusters rising 0 2) ≡ 0 ∷ 0 ∷ 0 ∷ 2 ∷ 2 ∷ []
   pub grows_left : clusters_of (merge_clusters (falling 0) 1 3) ≡ 2 ∷ 2 ∷ 2 ∷ 2 ∷ []
@@ -57,6 +64,7 @@ pub record MergeExamples : Type 0 where
 abbrev pub asking : Buffer → Buffer
 asking b = with_flags b (record { 0 = 64 })
 
+-- what marks leave
 pub record MarkExamples : Type 0 where
   pub all_but_least : masks_of (unsafe_to_break rising None None) ≡ 0 ∷ 3 ∷ 3 ∷ 3 ∷ 3 ∷ []
   pub least_of_span : masks_of (unsafe_to_break rising (Some 1) (Some 4)) ≡ 0 ∷ 0 ∷ 0 ∷ 3 ∷ 0 ∷ []
@@ -67,10 +75,11 @@ pub record MarkExamples : Type 0 where
   pub concat_one_glyph : masks_of (unsafe_to_concat (asking (at_cursor 0 (line_of (7 ∷ [])))) None None) ≡ 2 ∷ []
   pub concat_not_asked : masks_of (unsafe_to_concat rising None None) ≡ 0 ∷ 0 ∷ 0 ∷ 0 ∷ 0 ∷ []
 
--- the clusters and the masks that are left
+-- the clusters that a removal leaves
 abbrev pub left_clusters : List hb_glyph_info_t → List ℕ
 left_clusters gs = clusters_of (removed is_deleted (at_cursor 0 gs))
 
+-- the masks that a removal leaves
 abbrev pub left_masks : List hb_glyph_info_t → List ℕ
 left_masks gs = masks_of (removed is_deleted (at_cursor 0 gs))
 
@@ -78,9 +87,11 @@ left_masks gs = masks_of (removed is_deleted (at_cursor 0 gs))
 abbrev pub place : ℕ → GlyphPosition
 place n = record zero_position { x_advance = pos n }
 
+-- these positions stand
 abbrev pub standing : List GlyphPosition → Buffer → Buffer
 standing qs b = record b { positions = Some qs }
 
+-- what removals leave
 pub record RemovalExamples : Type 0 where
   pub next_has_it : left_clusters (gone 0 0 ∷ in_cluster 0 ∷ in_cluster 1 ∷ []) ≡ 0 ∷ 1 ∷ []
   pub next_has_it_inside : left_clusters (in_cluster 5 ∷ gone 4 0 ∷ in_cluster 4 ∷ []) ≡ 5 ∷ 4 ∷ []

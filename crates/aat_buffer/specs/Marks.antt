@@ -21,11 +21,13 @@ on_line_span f i j b = with_line b (on_span f i j b.line)
 abbrev pub least_of : List hb_glyph_info_t → ℕ
 least_of gs = fold (λ m g. min m g.cluster) 0xFFFFFFFF gs
 
+-- the cluster of the glyph at place i
 abbrev pub cluster_at : List hb_glyph_info_t → ℕ → ℕ
 cluster_at gs i = (glyph_at gs i).cluster
 
 -- Marks
 
+-- a glyph gets these bits besides its own
 abbrev pub with_mask_bits : ℕ → hb_glyph_info_t → hb_glyph_info_t
 with_mask_bits bits g = record g { mask = bit_or g.mask bits }
 
@@ -104,6 +106,7 @@ merged_line level p start end gs =
     let j = min end (length gs) in
     if nat_le (start + 2) j then (if level == 2 then on_span break_marked start j gs else merged gs p start j) else gs
 
+-- the span from start up to end is merged at the level of the buffer, and its end is at most that of the line
 abbrev pub merge_clusters : Buffer → ℕ → ℕ → Buffer
 merge_clusters b start end = with_line b (merged_line b.cluster_level b.cursor start end b.line)
 

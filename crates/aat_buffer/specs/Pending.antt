@@ -12,10 +12,11 @@ labelled h g = record g { cluster = h.cluster; mask = bit_or (bit_and g.mask 0xF
 abbrev pub run_written : ℕ → ℕ → List hb_glyph_info_t → List hb_glyph_info_t
 run_written i j gs = on_span (map (labelled (glyph_at gs j))) i j gs
 
--- the places of the first and of the last glyph of run k, which stand in the record of a glyph that went
+-- the place of the first glyph of run k, which stands in the record of a glyph that went
 abbrev pub run_first : List hb_glyph_info_t → ℕ → ℕ
 run_first rs k = (glyph_at rs k).glyph_id
 
+-- the place of its last glyph, which stands there too
 abbrev pub run_last : List hb_glyph_info_t → ℕ → ℕ
 run_last rs k = (glyph_at rs k).cluster
 

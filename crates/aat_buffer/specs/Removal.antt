@@ -28,6 +28,7 @@ handed_line level p gs =
     else (if nat_lt 0 p then (if nat_lt g.cluster last then handed_back gs p last g else gs)
     else (if nat_lt (p + 1) (length gs) then merged_line level p p (p + 2) gs else gs))
 
+-- the cluster of the glyph at the cursor is handed on
 abbrev pub handed_on : Buffer → Buffer
 handed_on b = with_line b (handed_line b.cluster_level b.cursor b.line)
 

@@ -50,7 +50,7 @@ impl<A: Allocator + Copy> Model for hb_buffer_t<A> {
 }
 
 impl<A: Allocator + Copy> hb_buffer_t<A> {
-    /// An empty line without positions, left to right, at cluster level 0. `max_len` is the greatest length of the line, and `max_ops` the budget of operations.
+    /// An empty line without positions, left to right, at cluster level 0, without flags, that has not failed. `max_len` is the greatest length of the line, in glyphs, and has to be at most 0x3FFFFFFF; `max_ops` is the budget of operations.
     pub fn new(alloc: A, max_len: usize, max_ops: i32) -> hb_buffer_t<A>
         requires { max_len ≤ 0x3FFFFFFF }
         ensures { result ≡ empty_buffer max_len max_ops }
@@ -109,68 +109,77 @@ impl<A: Allocator + Copy> hb_buffer_t<A> {
         self.successful
     }
 
+    /// The direction of the text, left to right at first.
     pub fn direction(&self) -> Direction
         ensures { result ≡ self.now.direction }
     {
         self.direction
     }
 
+    /// Sets the direction of the text. Nothing else changes.
     pub fn set_direction(&mut self, direction: Direction)
         ensures { self.new ≡ with_direction self.old direction }
     {
         self.direction = direction;
     }
 
+    /// The cluster level, one of the constants `HB_BUFFER_CLUSTER_LEVEL_*`, 0 at first.
     pub fn cluster_level(&self) -> u8
         ensures { result ≡ self.now.cluster_level }
     {
         self.cluster_level
     }
 
+    /// Sets the cluster level. A number that is none of the constants counts as 0 in each call. Nothing else changes.
     pub fn set_cluster_level(&mut self, level: u8)
         ensures { self.new ≡ with_cluster_level self.old level }
     {
         self.cluster_level = level;
     }
 
+    /// What the caller asks of the buffer, nothing at first.
     pub fn flags(&self) -> BufferFlags
         ensures { result ≡ self.now.flags }
     {
         self.flags
     }
 
+    /// Sets what the caller asks of the buffer. Nothing else changes.
     pub fn set_flags(&mut self, flags: BufferFlags)
         ensures { self.new ≡ with_flags self.old flags }
     {
         self.flags = flags;
     }
 
+    /// What shaping has found out, nothing at first.
     pub fn scratch_flags(&self) -> ScratchFlags
         ensures { result ≡ self.now.scratch_flags }
     {
         self.scratch_flags
     }
 
+    /// Sets what shaping has found out. Nothing else changes.
     pub fn set_scratch_flags(&mut self, flags: ScratchFlags)
         ensures { self.new ≡ with_scratch_flags self.old flags }
     {
         self.scratch_flags = flags;
     }
 
-    /// What is left of the budget of operations.
+    /// What is left of the budget of operations. It may be negative.
     pub fn max_ops(&self) -> i32
         ensures { result ≡ self.now.max_ops }
     {
         self.max_ops
     }
 
+    /// Sets the budget of operations. Nothing else changes.
     pub fn set_max_ops(&mut self, max_ops: i32)
         ensures { self.new ≡ with_max_ops self.old max_ops }
     {
         self.max_ops = max_ops;
     }
 
-    /// The greatest length of the line.
+    /// The greatest length of the line, in glyphs.
     pub fn max_len(&self) -> usize
         ensures most { result ≡ self.now.max_len }
         ensures small { result ≤ 0x3FFFFFFF }
@@ -189,6 +198,8 @@ impl<A: Allocator + Copy> hb_buffer_t<A> {
     }
 
     /// Puts a glyph last, and drops the positions. O(1), amortised.
+    ///
+    /// Refused as 1, `TooLong`, where the line has its greatest length already, and else as 2, `OutOfMemory`, where it gets no memory. The buffer has failed then, and all else is as before.
     pub fn add(&mut self, info: hb_glyph_info_t) -> Result<(), BufferError>
         ensures ok { OnOk result (self.new ≡ added self.old info) }
         ensures too_long { IsErrOf result BufferError.TooLong ↔ (self.old.max_len ≤ length self.old.line) }
@@ -205,7 +216,7 @@ impl<A: Allocator + Copy> hb_buffer_t<A> {
         Ok(())
     }
 
-    /// The glyph at place `i`.
+    /// The glyph at place `i`, which has to be below the length.
     #[tactic(auto, using(std::proofs::lemmas::Option::get_or_from_slice_get))]
     pub fn info(&self, i: usize) -> &hb_glyph_info_t
         requires { i < length self.now.line }
@@ -220,7 +231,7 @@ impl<A: Allocator + Copy> hb_buffer_t<A> {
         }
     }
 
-    /// The glyph at place `i`, to be written.
+    /// The glyph at place `i`, which has to be below the length, to be written.
     pub fn info_mut(&mut self, i: usize) -> &mut hb_glyph_info_t
         requires { i < length self.old.line }
         ensures* writes_back { sem 𝓛 (LendsInfo A.row A.Allocator self.entry i result) }
@@ -251,7 +262,7 @@ impl<A: Allocator + Copy> hb_buffer_t<A> {
         *self.info_mut(i) = glyph;
     }
 
-    /// The glyph at the cursor.
+    /// The glyph at the cursor, which has to be before the end.
     pub fn cur(&self) -> &hb_glyph_info_t
         requires { self.now.cursor < length self.now.line }
         ensures value { slice_get self.now.line self.now.cursor ≡ Some result.now }
@@ -260,7 +271,7 @@ impl<A: Allocator + Copy> hb_buffer_t<A> {
         self.info(self.backtrack_len())
     }
 
-    /// The glyph at the cursor, to be written.
+    /// The glyph at the cursor, which has to be before the end, to be written.
     pub fn cur_mut(&mut self) -> &mut hb_glyph_info_t
         requires { self.old.cursor < length self.old.line }
         ensures* writes_back { sem 𝓛 (LendsCur A.row A.Allocator self.entry result) }
@@ -271,7 +282,7 @@ impl<A: Allocator + Copy> hb_buffer_t<A> {
         self.info_mut(p)
     }
 
-    /// Whether each glyph id is at most 0xFFFF.
+    /// Whether each glyph id is at most 0xFFFF. In as many steps as the line is long.
     pub fn all_glyphs_16(&self) -> bool
         ensures { IsTrue result ↔ All Is16Bit self.now.line }
     {
@@ -283,7 +294,7 @@ impl<A: Allocator + Copy> hb_buffer_t<A> {
         true
     }
 
-    /// Moves the cursor over one glyph.
+    /// Moves the cursor over one glyph. It has to be before the end.
     #[tactic(auto, using(crate::proofs::Parts::moved_right))]
     pub fn next_glyph(&mut self)
         requires { self.old.cursor < length self.old.line }
@@ -303,7 +314,7 @@ impl<A: Allocator + Copy> hb_buffer_t<A> {
         self.after.push_front_reserved(glyph);
     }
 
-    /// Moves the cursor to place `i`, in as many steps as it is away.
+    /// Moves the cursor to place `i`, which has to be at most the length, in as many steps as it is away.
     pub fn move_to(&mut self, i: usize)
         requires { i ≤ length self.old.line }
         ensures { self.new ≡ with_cursor self.old i }
@@ -341,7 +352,9 @@ impl<A: Allocator + Copy> hb_buffer_t<A> {
         self.move_to(0);
     }
 
-    /// Puts the cursor at the start, and drops the positions.
+    /// Puts the cursor at the start, and drops the positions. In as many steps as the line is long.
+    ///
+    /// Refused as 2, `OutOfMemory`, where it gets no memory for the glyphs before the cursor. The buffer has failed then, and all else is as before.
     pub fn clear_output(&mut self) -> Result<(), BufferError>
         ensures ok { OnOk result (self.new ≡ with_cursor (without_positions self.old) 0) }
         ensures memory_only { IfErr result (λ e. e ≡ BufferError.OutOfMemory) }
@@ -359,7 +372,7 @@ impl<A: Allocator + Copy> hb_buffer_t<A> {
         }
     }
 
-    /// Takes the glyph at the cursor out, and drops the positions.
+    /// Takes the glyph at the cursor out, and drops the positions. The cursor has to be before the end.
     #[tactic(auto, using(crate::proofs::Parts::removed_between))]
     pub fn skip_glyph(&mut self)
         requires { self.old.cursor < length self.old.line }
@@ -369,7 +382,7 @@ impl<A: Allocator + Copy> hb_buffer_t<A> {
         self.have_positions = false;
     }
 
-    /// Gives the glyph at the cursor another glyph id, and moves over it.
+    /// Gives the glyph at the cursor another glyph id, and moves over it. The cursor has to be before the end.
     pub fn replace_glyph(&mut self, glyph_id: u32)
         requires { self.old.cursor < length self.old.line }
         ensures { self.new ≡ replaced self.old glyph_id }
@@ -379,6 +392,8 @@ impl<A: Allocator + Copy> hb_buffer_t<A> {
     }
 
     /// Puts a record in at the cursor with this glyph id, moves over it, and drops the positions. The record is a copy of the glyph at the cursor, or of the last one where the cursor is at the end; nothing goes into an empty line. O(1), amortised.
+    ///
+    /// Refused as 1, `TooLong`, where the line has glyphs and has its greatest length already, and else as 2, `OutOfMemory`, where it gets no memory; on an empty line never. The buffer has failed then, and all else is as before, the positions too.
     #[tactic(auto, using(crate::proofs::Parts::inserted_between))]
     pub fn output_glyph(&mut self, glyph_id: u32) -> Result<(), BufferError>
         ensures ok { OnOk result (self.new ≡ output self.old glyph_id) }
@@ -414,7 +429,9 @@ impl<A: Allocator + Copy> hb_buffer_t<A> {
         self.glyph(if p < len { p } else { len - 1 })
     }
 
-    /// Puts a copy of the glyph at the cursor in before it, and drops the positions. O(1), amortised.
+    /// Puts a copy of the glyph at the cursor in before it, and drops the positions. The cursor has to be before the end. O(1), amortised.
+    ///
+    /// Refused as 1, `TooLong`, where the line has its greatest length already, and else as 2, `OutOfMemory`, where it gets no memory. The buffer has failed then, and all else is as before.
     pub fn copy_glyph(&mut self) -> Result<(), BufferError>
         requires { self.old.cursor < length self.old.line }
         ensures ok { OnOk result (self.new ≡ output self.old (glyph_at self.old.line self.old.cursor).glyph_id) }
@@ -425,7 +442,7 @@ impl<A: Allocator + Copy> hb_buffer_t<A> {
         self.output_glyph(glyph_id)
     }
 
-    /// Puts the line, and the positions where they stand, in the opposite order. The cursor stays.
+    /// Puts the line, and the positions where they stand, in the opposite order. The cursor stays. In as many steps as the line is long.
     #[tactic(auto, using(crate::proofs::Parts::turned))]
     pub fn reverse(&mut self)
         ensures after { self.new ≡ reversed self.old }
@@ -434,11 +451,15 @@ impl<A: Allocator + Copy> hb_buffer_t<A> {
         let p = self.backtrack_len();
         self.move_to(self.len());
         self.before.reverse();
-        self.positions.reverse();
+        if self.have_positions {
+            self.positions.reverse();
+        }
         self.move_to(p);
     }
 
-    /// Gives each glyph a position that is all zero. Where memory is refused, no positions are left.
+    /// Gives each glyph a position that is all zero. In as many steps as the line is long.
+    ///
+    /// Refused as 2, `OutOfMemory`, where it gets no memory. The buffer has failed then, and no positions are left; all else is as before.
     pub fn clear_positions(&mut self) -> Result<(), BufferError>
         ensures ok { OnOk result (self.new ≡ with_zero_positions self.old) }
         ensures memory_only { IfErr result (λ e. e ≡ BufferError.OutOfMemory) }
@@ -462,7 +483,7 @@ impl<A: Allocator + Copy> hb_buffer_t<A> {
         self.have_positions = false;
     }
 
-    /// The position of the glyph at place `i`.
+    /// The position of the glyph at place `i`, which has to be below the length of a line whose positions stand.
     #[tactic(auto, using(std::proofs::lemmas::Option::get_or_from_slice_get))]
     pub fn pos(&self, i: usize) -> &GlyphPosition
         requires { i < length (position_list self.now) }
@@ -472,7 +493,7 @@ impl<A: Allocator + Copy> hb_buffer_t<A> {
         &self.positions[i]
     }
 
-    /// The position of the glyph at place `i`, to be written.
+    /// The position of the glyph at place `i`, which has to be below the length of a line whose positions stand, to be written.
     #[tactic(auto, using(std::proofs::lemmas::Option::get_or_from_slice_get))]
     pub fn pos_mut(&mut self, i: usize) -> &mut GlyphPosition
         requires { i < length (position_list self.old) }
@@ -525,7 +546,7 @@ impl<A: Allocator + Copy> hb_buffer_t<A> {
     }
 }
 
-/// Makes room for one more glyph in each of two parts of a line.
+/// Makes room for one more glyph in each of two parts of a line. The room of each doubles where it has to grow, however few glyphs the part has, so that a row of such calls takes a bounded number of steps for each.
 fn make_room<A: Allocator>(
     before: &mut Vec<hb_glyph_info_t, A>,
     after: &mut VecDeque<hb_glyph_info_t, A>,
@@ -542,5 +563,9 @@ fn make_room<A: Allocator>(
 {
     let room = before.len() + after.len() + 1;
     before.reserve(room - before.len())?;
-    after.reserve(room - after.len())
+    let capacity = after.capacity();
+    if capacity < room {
+        after.reserve(room.max(2 * capacity) - after.len())?;
+    }
+    Ok(())
 }

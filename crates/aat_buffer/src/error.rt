@@ -7,11 +7,11 @@ use thiserror::Error;
 /// Why a call of the buffer is refused. After either, the buffer has failed for good, and its line, cursor and positions are as before the call; a refused `clear_positions` alone leaves no positions.
 #[derive(Clone, Copy, PartialEq, Eq, Debug, Error)]
 pub enum BufferError {
-    /// The line would pass its greatest length. This is looked for before memory is.
+    /// 1: the line would pass its greatest length. This is looked for before memory is.
     #[error("the line would be too long")]
     TooLong = 1,
 
-    /// A growth was refused.
+    /// 2: memory is wanting.
     #[error("out of memory")]
     OutOfMemory = 2,
 }

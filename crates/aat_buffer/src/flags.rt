@@ -27,7 +27,8 @@ impl Flags for BufferFlags {
     }
 
     fn bits(&self) -> u32 {
-        self.0
+        let BufferFlags(own) = *self;
+        own
     }
 
     fn from_bits_retain(bits: u32) -> BufferFlags {
@@ -59,7 +60,8 @@ impl Flags for ScratchFlags {
     }
 
     fn bits(&self) -> u32 {
-        self.0
+        let ScratchFlags(own) = *self;
+        own
     }
 
     fn from_bits_retain(bits: u32) -> ScratchFlags {
@@ -91,7 +93,8 @@ impl Flags for UnicodeProps {
     }
 
     fn bits(&self) -> u16 {
-        self.0
+        let UnicodeProps(own) = *self;
+        own
     }
 
     fn from_bits_retain(bits: u16) -> UnicodeProps {

@@ -34,9 +34,13 @@ pub const HB_BUFFER_CLUSTER_LEVEL_CHARACTERS: u8 = 2;
 /// The direction of a text.
 #[derive(Clone, Copy, PartialEq, Eq, Debug)]
 pub enum Direction {
+    /// Along a row, as its characters run.
     LeftToRight,
+    /// Along a row, against its characters.
     RightToLeft,
+    /// Along a column, as its characters run.
     TopToBottom,
+    /// Along a column, against its characters.
     BottomToTop,
 }
 
@@ -75,6 +79,8 @@ impl Direction {
 pub struct hb_glyph_info_t {
     /// The glyph's place in its font.
     pub glyph_id: u32,
+
+    /// The glyph's bits: those of `glyph_flag`, and above them what features are on there.
     pub mask: hb_mask_t,
 
     /// The character that the glyph came from, or the first of several.

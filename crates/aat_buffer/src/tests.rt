@@ -164,38 +164,36 @@ fn line_calls(rt: HostRuntime) -> Result<(), Fail> {
     assert!(rt; !buffer.all_glyphs_16() && buffer.backtrack_len() == 2);
     assert!(rt; buffer.backtrack_len() < buffer.len());
     buffer.cur_mut().mask = 8;
+    assert!(rt; line_is(&buffer, &[(0xFFFF, 0, 0), (0x10000, 1, 0), (3, 2, 8)]));
+    assert!(rt; buffer.len() >= 1);
+    buffer.move_to(1);
+    assert!(rt; buffer.backtrack_len() == 1);
+    buffer.reverse();
+    assert!(rt; line_is(&buffer, &[(3, 2, 8), (0x10000, 1, 0), (0xFFFF, 0, 0)]));
+    assert!(rt; buffer.backtrack_len() == 1);
+    buffer.sync();
+    assert!(rt; buffer.backtrack_len() == 0 && buffer.is_successful());
+    Ok(())
+}
+
+#[test]
+fn glyphs_put_out(rt: HostRuntime) -> Result<(), Fail> {
+    let mut buffer = line_of(rt.alloc(), &[(2, 1, 0), (3, 2, 8)])?;
+    assert!(rt; buffer.len() >= 1);
+    buffer.move_to(1);
+    assert!(rt; buffer.backtrack_len() < buffer.len());
     buffer.copy_glyph()?;
-    assert!(rt; buffer.backtrack_len() == 3);
-    assert!(rt;
-        line_is(
-            &buffer,
-            &[(0xFFFF, 0, 0), (0x10000, 1, 0), (3, 2, 8), (3, 2, 8)]
-        )
-    );
+    assert!(rt; buffer.backtrack_len() == 2);
+    assert!(rt; line_is(&buffer, &[(2, 1, 0), (3, 2, 8), (3, 2, 8)]));
     assert!(rt; buffer.backtrack_len() < buffer.len());
     buffer.skip_glyph();
     buffer.output_glyph(9)?;
-    assert!(rt;
-        line_is(
-            &buffer,
-            &[(0xFFFF, 0, 0), (0x10000, 1, 0), (3, 2, 8), (9, 2, 8)]
-        )
-    );
-    assert!(rt; buffer.backtrack_len() == 4);
-    buffer.reverse();
-    assert!(rt;
-        line_is(
-            &buffer,
-            &[(9, 2, 8), (3, 2, 8), (0x10000, 1, 0), (0xFFFF, 0, 0)]
-        )
-    );
-    assert!(rt; buffer.backtrack_len() == 4 && buffer.len() >= 1);
+    assert!(rt; line_is(&buffer, &[(2, 1, 0), (3, 2, 8), (9, 2, 8)]));
+    assert!(rt; buffer.backtrack_len() == 3 && buffer.len() >= 1);
     buffer.move_to(1);
     buffer.output_glyph(7)?;
-    assert!(rt; buffer.backtrack_len() == 2 && buffer.len() == 5 && buffer.info(1).mask == 8);
-    assert!(rt; buffer.info(1).glyph_id == 7);
-    buffer.sync();
-    assert!(rt; buffer.backtrack_len() == 0 && buffer.is_successful());
+    assert!(rt; line_is(&buffer, &[(2, 1, 0), (7, 2, 8), (3, 2, 8), (9, 2, 8)]));
+    assert!(rt; buffer.backtrack_len() == 2);
     Ok(())
 }
 
@@ -434,8 +432,8 @@ fn full_line<'a>(
     }
     assert!(rt; !probe.is_successful() && hoard.len() > 0);
     let mut buffer = hb_buffer_t::new(heap, 100, 0);
-    for _ in 0..probe.len() {
-        buffer.add(record((5, 0, 0)))?;
+    for cluster in 0..probe.len() as u32 {
+        buffer.add(record((5, cluster, 0)))?;
     }
     Ok(buffer)
 }
@@ -466,7 +464,9 @@ fn out_of_memory(rt: HostRuntime) -> Result<(), Fail> {
         assert!(rt; buffer.len() == len && buffer.backtrack_len() == 1);
         assert!(rt; buffer.has_positions() == (call != 4));
         for i in 0..len {
-            assert!(rt; i < buffer.len() && buffer.info(i).glyph_id == 5);
+            assert!(rt; i < buffer.len() && *buffer.info(i) == record((5, i as u32, 0)));
+            let place = !buffer.has_positions() || buffer.pos(i).x_advance == i as i32;
+            assert!(rt; place);
         }
     }
     Ok(())
@@ -585,65 +585,87 @@ fn long_run(rt: HostRuntime) -> Result<(), Fail> {
     Ok(())
 }
 
-/// Runs that are lowered apart keep their own clusters, and one that stands before a glyph of another cluster is not lowered with those behind it.
+/// Removes the deleted glyphs of a line.
+fn left_of(alloc: Global, glyphs: &[Glyph]) -> Result<hb_buffer_t, BufferError> {
+    let mut buffer = line_of(alloc, glyphs)?;
+    remove_deleted(&mut buffer);
+    Ok(buffer)
+}
+
+/// Two runs are lowered apart, or the second joins the first, and both are lowered again.
 #[test]
 fn runs_apart(rt: HostRuntime) -> Result<(), Fail> {
-    let rows: [(&[Glyph], &[Glyph]); 4] = [
-        (
-            &[
-                (1, 9, 0),
-                (2, 9, 8),
-                (0xFFFF, 7, 1),
-                (3, 8, 1),
-                (4, 8, 0),
-                (0xFFFF, 5, 2),
-                (0xFFFF, 4, 4),
-            ],
-            &[(1, 7, 1), (2, 7, 9), (3, 4, 4), (4, 4, 4)],
-        ),
-        (
-            &[
-                (1, 9, 0),
-                (2, 9, 8),
-                (0xFFFF, 7, 1),
-                (3, 8, 1),
-                (4, 8, 0),
-                (0xFFFF, 7, 2),
-                (0xFFFF, 4, 4),
-            ],
-            &[(1, 4, 4), (2, 4, 12), (3, 4, 4), (4, 4, 4)],
-        ),
-        (
-            &[
-                (1, 9, 3),
-                (2, 6, 0),
-                (3, 9, 0),
-                (4, 9, 0),
-                (0xFFFF, 6, 1),
-                (0xFFFF, 7, 0),
-                (5, 6, 2),
-                (0xFFFF, 2, 0),
-            ],
-            &[(1, 9, 3), (2, 2, 0), (3, 2, 0), (4, 2, 0), (5, 2, 0)],
-        ),
-        (
-            &[
-                (1, 9, 3),
-                (2, 6, 4),
-                (3, 9, 0),
-                (4, 9, 0),
-                (0xFFFF, 6, 1),
-                (0xFFFF, 7, 0),
-                (5, 6, 2),
-                (0xFFFF, 7, 0),
-            ],
-            &[(1, 9, 3), (2, 6, 4), (3, 6, 1), (4, 6, 1), (5, 6, 2)],
-        ),
-    ];
-    for (before, after) in rows {
-        let mut buffer = line_of(rt.alloc(), before)?;
-        remove_deleted(&mut buffer);
-        assert!(rt; line_is(&buffer, after));
+    for (joining, after) in [
+        (5, [(1, 7, 1), (2, 7, 9), (3, 4, 4), (4, 4, 4)]),
+        (7, [(1, 4, 4), (2, 4, 12), (3, 4, 4), (4, 4, 4)]),
+    ] {
+        let before = [
+            (1, 9, 0),
+            (2, 9, 8),
+            (0xFFFF, 7, 1),
+            (3, 8, 1),
+            (4, 8, 0),
+            (0xFFFF, joining, 2),
+            (0xFFFF, 4, 4),
+        ];
+        assert!(rt; line_is(&left_of(rt.alloc(), &before)?, &after));
     }
+    Ok(())
+}
+
+/// A run that was lowered to the cluster of the glyphs on both sides is lowered with them, and only where the last glyph that goes is lower.
+#[test]
+fn runs_between(rt: HostRuntime) -> Result<(), Fail> {
+    for (last, after) in [
+        (2, [(1, 9, 3), (2, 2, 0), (3, 2, 0), (4, 2, 0), (5, 2, 0)]),
+        (7, [(1, 9, 3), (2, 6, 4), (3, 6, 1), (4, 6, 1), (5, 6, 2)]),
+    ] {
+        let before = [
+            (1, 9, 3),
+            (2, 6, 4),
+            (3, 9, 0),
+            (4, 9, 0),
+            (0xFFFF, 6, 1),
+            (0xFFFF, 7, 0),
+            (5, 6, 2),
+            (0xFFFF, last, 0),
+        ];
+        assert!(rt; line_is(&left_of(rt.alloc(), &before)?, &after));
+    }
+    Ok(())
+}
+
+/// A line of ten thousand glyphs gets a copy of each, and as many glyphs at its end while the cursor goes on, and is turned round again and again once it is short and its positions are gone.
+#[test]
+fn long_line_grows(rt: HostRuntime) -> Result<(), Fail> {
+    let mut buffer = hb_buffer_t::new(rt.alloc(), 1_000_000, 0);
+    for i in 0..10_000u32 {
+        buffer.add(record((1, i, 0)))?;
+    }
+    for _ in 0..10_000u32 {
+        assert!(rt; buffer.backtrack_len() < buffer.len());
+        buffer.copy_glyph()?;
+        assert!(rt; buffer.backtrack_len() < buffer.len());
+        buffer.next_glyph();
+    }
+    buffer.sync();
+    for i in 0..10_000u32 {
+        buffer.add(record((2, i, 0)))?;
+        assert!(rt; buffer.backtrack_len() < buffer.len());
+        buffer.next_glyph();
+    }
+    assert!(rt; buffer.len() == 30_000 && buffer.backtrack_len() == 10_000);
+    assert!(rt; buffer.info(19_999).cluster == 9_999 && buffer.info(20_000).cluster == 0);
+    buffer.clear_positions()?;
+    buffer.drop_positions();
+    buffer.sync();
+    for _ in 1..30_000u32 {
+        assert!(rt; buffer.backtrack_len() < buffer.len());
+        buffer.skip_glyph();
+    }
+    for _ in 0..10_000u32 {
+        buffer.reverse();
+    }
+    assert!(rt; buffer.len() == 1 && buffer.info(0).cluster == 9_999);
     Ok(())
 }

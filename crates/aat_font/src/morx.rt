@@ -11,6 +11,8 @@ use bitflags::{Flag, Flags, bitflag_items};
 const MAX_SUBTABLES: usize = 65535;
 
 /// For which text a subtable is, and in which order it takes the glyphs.
+///
+/// Apple's TrueType Reference Manual, "The 'morx' table", metamorphosis subtables.
 #[derive(Clone, Copy, PartialEq, Eq, Debug)]
 pub struct Coverage(u8);
 
@@ -86,9 +88,13 @@ pub enum SubtableKind {
 }
 
 /// A subtable of a chain.
+///
+/// Apple's TrueType Reference Manual, "The 'morx' table", metamorphosis subtables.
 #[derive(Drop)]
 pub struct Subtable {
+    /// What the subtable does.
     pub kind: SubtableKind,
+    /// For which text it is, and in which order it takes the glyphs.
     pub coverage: Coverage,
     /// The subtable is on where the chain's flags share a bit with these.
     pub feature_flags: hb_mask_t,
@@ -96,19 +102,30 @@ pub struct Subtable {
 
 /// What a feature setting does to a chain's flags: they become
 /// `(flags & disable_flags) | enable_flags`.
+///
+/// Apple's TrueType Reference Manual, "The 'morx' table", feature subtables.
 #[derive(Clone, Copy, PartialEq, Eq, Debug)]
 pub struct ChainFeature {
+    /// The feature type.
     pub kind: u16,
+    /// The selector within the type.
     pub setting: u16,
+    /// The bits that are set where the setting is asked for.
     pub enable_flags: hb_mask_t,
+    /// The bits that are kept then.
     pub disable_flags: hb_mask_t,
 }
 
 /// Subtables that are run in their order, with the flags that switch them.
+///
+/// Apple's TrueType Reference Manual, "The 'morx' table", chain header.
 #[derive(Drop)]
 pub struct Chain {
+    /// The flags where nothing is asked for.
     pub default_flags: hb_mask_t,
+    /// What settings do to the flags, one after another.
     pub features: Vec<ChainFeature>,
+    /// The subtables in their order.
     pub subtables: Vec<Subtable>,
 }
 
