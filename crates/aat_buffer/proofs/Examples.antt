@@ -1,7 +1,7 @@
 -- The examples, by computing them.
 use Rattle.std.proofs.Common.{refl}
 use Rattle.aat_buffer.specs.Marks.{merged, merged_out}
-use Rattle.aat_buffer.specs.Removal.{removal, handed_line, handed_back}
+use Rattle.aat_buffer.specs.Removal.{removal, cluster_kept_line, lowered_run}
 use Rattle.aat_buffer.specs.Examples.{MergeExamples, MarkExamples, RemovalExamples}
 
 pub merge_examples : MergeExamples
@@ -12,5 +12,5 @@ pub mark_examples : MarkExamples
 mark_examples = record { all_but_least = refl; least_of_span = refl; least_last = refl; keeps_other_bits = refl; short_span_stays = refl; concat_whole_span = refl; concat_one_glyph = refl; concat_not_asked = refl }
 
 pub removal_examples : RemovalExamples
-unfolding merged removal handed_line handed_back
+unfolding merged removal cluster_kept_line lowered_run
 removal_examples = record { next_has_it = refl; next_has_it_inside = refl; kept_take_lower = refl; kept_take_its_flags = refl; kept_are_lower = refl; last_goes = refl; none_kept_merges = refl; none_kept_higher = refl; asked_as_it_stands = refl; all_go = refl; apart_kept_take_lower = refl; apart_none_kept_marks = refl; positions_go_along = refl; positions_stand_on_nothing = refl }

@@ -1,9 +1,9 @@
 pub mod Examples
-pub mod Parts
+pub mod Gap
+pub mod Lowering
+pub mod Pending
+pub mod Reaching
 pub mod Removing
 pub mod Runs
 pub mod Spans
-pub mod Pending
-pub mod Lowering
-pub mod Reaching
 pub mod Steps

@@ -1,78 +1,129 @@
--- The run that a lower cluster reaches, by the places of the line.
-use Rattle.std.proofs.Common.{◌≡◌, ◌≢◌, ◌∙◌, ◌⊎◌, inl, inr, sym, ap, subst, refl, ℕ, zero, suc, ◌+◌, ◌-◌, ◌<◌, ◌≤◌, List, length, take, drop, arith}
-use Rattle.std.proofs.lemmas.List.{length-take-le, get_or-take, get_or-drop, take_all}
+-- The run that a lower cluster reaches, step by step.
+use Rattle.std.proofs.Common.{◌≡◌, ◌≢◌, ◌∙◌, ◌⊎◌, inl, inr, sym, ap, refl, ℕ, zero, suc, ◌+◌, ◌-◌, ◌<◌, ◌≤◌, List, length, map, take, drop, arith, ◌++◌}
+use Rattle.std.proofs.lemmas.List.{length-take-le, length-map, take-append-le, take-append-drop, get_or_append_left, get_or-append_right, get_or-take, get_or-drop, get_or-map}
 use Rattle.std.proofs.lemmas.Bool.{cases_lt}
-use Rattle.aat_buffer.specs.declared.glyph.hb_glyph_info_t.{hb_glyph_info_t}
+use Rattle.std.specs.Prelude.{slice_range}
+use Rattle.aat_glyph.specs.declared.glyph.hb_glyph_info_t.{hb_glyph_info_t}
 use Rattle.aat_buffer.specs.Buffer.{no_glyph, glyph_at}
-use Rattle.aat_buffer.specs.Marks.{cluster_at, run_before}
-use Rattle.aat_buffer.specs.Pending.{run_last, runs_written, AreRuns, IsReached}
-use Rattle.aat_buffer.proofs.Pending.{runs_length, runs_read, reached_read, reached_glyph, reached_run}
+use Rattle.aat_buffer.specs.Marks.{on_span, cluster_at, run_before}
+use Rattle.aat_buffer.specs.Removal.{with_cluster_and_flags}
+use Rattle.aat_buffer.specs.inside.Pending.{run_first, run_below, runs_written, AreRuns, IsReached, shown_line}
+use Rattle.aat_buffer.proofs.Pending.{length_range, runs_length, runs_read, runs_below}
 use Rattle.aat_buffer.proofs.Runs.{run_before_more, run_before_other}
 
--- the kept glyphs of the line from place q on have the cluster c, once the k runs behind place t are written, of which b stand before place q
-abbrev pub Reaches : List hb_glyph_info_t → ℕ → ℕ → ℕ → ℕ → ℕ → ℕ → Type 0
-Reaches gs k t p c q b = IsReached (runs_written k (drop t gs) (take p gs)) (take p gs) (drop t gs) c p q b
+take_of_take : {X : Type 0} (i j : ℕ) (xs : List X) → i ≤ j → j ≤ length xs → take i (take j xs) ≡ take i xs
+take_of_take i j xs le within = sym (take-append-le i (take j xs) (drop j xs) (omega (arith, length-take-le j xs within))) ∙ ap (take i) (take-append-drop j xs)
 
-kept_length : (gs : List hb_glyph_info_t) (k t p : ℕ) → AreRuns k (drop t gs) p → p ≤ length gs → length (runs_written k (drop t gs) (take p gs)) ≡ p
-kept_length gs k t p are within = let n : length (take p gs) ≡ p = length-take-le p gs within in runs_length k (drop t gs) (take p gs) p are (omega (arith, n)) ∙ n
+pub read_front : (j q : ℕ) (xs : List hb_glyph_info_t) → j < q → q ≤ length xs → glyph_at xs j ≡ glyph_at (take q xs) j
+read_front j q xs lt within = ap (λ t. glyph_at t j) (sym (take-append-drop q xs)) ∙ get_or_append_left (take q xs) (drop q xs) no_glyph j (omega (arith, lt, length-take-le q xs within))
 
-record_behind : (gs : List hb_glyph_info_t) (t b : ℕ) → glyph_at (drop t gs) b ≡ glyph_at gs (t + b)
-record_behind gs t b = get_or-drop t gs b no_glyph
+-- what stands before a span
+pub span_front : (f : hb_glyph_info_t → hb_glyph_info_t) (i j : ℕ) (xs : List hb_glyph_info_t) → i ≤ length xs → take i (on_span (map f) i j xs) ≡ take i xs
+span_front f i j xs within = take-append-le i (take i xs) (map f (slice_range xs i j) ++ drop j xs) (omega (arith, length-take-le i xs within)) ∙ take_of_take i i xs (omega arith) within
 
-pub reaches_none : (gs : List hb_glyph_info_t) (k t p c : ℕ) → AreRuns k (drop t gs) p → p ≤ length gs → Reaches gs k t p c p k
-reaches_none gs k t p c are within =
+span_read : (f : hb_glyph_info_t → hb_glyph_info_t) (i j k : ℕ) (xs : List hb_glyph_info_t) → i ≤ k → k < j → j ≤ length xs → glyph_at (on_span (map f) i j xs) k ≡ f (glyph_at xs k)
+span_read f i j k xs le lt within =
+    let n : length (slice_range xs i j) ≡ j - i = length_range i j xs within in
+    let at : i + (k - i) ≡ k = omega (arith, le) in
+    get_or-append_right (take i xs) (map f (slice_range xs i j) ++ drop j xs) i k no_glyph (length-take-le i xs (omega arith)) le
+    ∙ get_or_append_left (map f (slice_range xs i j)) (drop j xs) no_glyph (k - i) (omega (arith, n, length-map (slice_range xs i j) f))
+    ∙ get_or-map f (slice_range xs i j) (k - i) no_glyph no_glyph (omega (arith, n))
+    ∙ ap f (get_or-take (j - i) (drop i xs) (k - i) no_glyph (omega (arith, le, lt)) ∙ get_or-drop i xs (k - i) no_glyph ∙ rw at refl)
+
+pub shown_length : (gs : List hb_glyph_info_t) (k l p : ℕ) → AreRuns k l gs p → p ≤ length gs → length (shown_line k l gs) ≡ length gs
+shown_length gs k l p are within = runs_length k l gs gs p are within
+
+pub shown_read : (gs : List hb_glyph_info_t) (k l p j : ℕ) → AreRuns k l gs p → p ≤ length gs → p ≤ j + 1 → glyph_at (shown_line k l gs) j ≡ glyph_at gs j
+shown_read gs k l p j are within le = runs_read k l gs gs p j are within le
+
+pub reaches_none : (gs : List hb_glyph_info_t) (k l p c : ℕ) → AreRuns k l gs p → IsReached gs k l c p p k l
+reaches_none gs k l p c are =
     record {
-      before = take_all p (runs_written k (drop t gs) (take p gs)) (omega (arith, kept_length gs k t p are within)) ∙ ap (runs_written k (drop t gs)) (sym (take_all p (take p gs) (omega (arith, length-take-le p gs within))));
+      before = refl;
       same = λ j from lt. omega (arith, from, lt);
       apart = are;
       within = omega arith;
     }
 
--- a run more
-pub reaches_run : (gs : List hb_glyph_info_t) (k t p c q b i j : ℕ) (x r : hb_glyph_info_t) → AreRuns k (drop t gs) p → p ≤ length gs → Reaches gs k t p c q b → j + 1 ≡ q → 0 < b → i + 1 ≡ t + b → x ≡ glyph_at gs j → x.cluster ≡ c → r ≡ glyph_at gs i → r.cluster ≡ j → Reaches gs k t p c r.glyph_id (b - 1) × (r.glyph_id ≤ j)
-reaches_run gs k t p c q zero i j x r are within is at some place read has stands last = absurd (omega (arith, some))
-reaches_run gs k t p c q (suc b) i j x r are within is at some place read has stands last =
-    let here : glyph_at (drop t gs) b ≡ r = record_behind gs t b ∙ (let e : t + b ≡ i = omega (arith, place) in rw e (sym stands)) in
-    let own : glyph_at (take p gs) j ≡ x = get_or-take p gs j no_glyph (omega (arith, at, is.within)) ∙ sym read in
-    let n : length (take p gs) ≡ p = length-take-le p gs within in
+-- what stands before place i, which is no further than what was reached
+reached_before : (gs : List hb_glyph_info_t) (k l c p q b m i : ℕ) → AreRuns k l gs p → p ≤ length gs → IsReached gs k l c p q b m → i ≤ q → take i (shown_line k l gs) ≡ take i (shown_line b m gs)
+reached_before gs k l c p q b m i are within is le =
+    let n : length (shown_line k l gs) ≡ length gs = shown_length gs k l p are within in
+    let o : length (shown_line b m gs) ≡ length gs = shown_length gs b m q is.apart (omega (arith, within, is.within)) in
+    sym (take_of_take i q (shown_line k l gs) le (omega (arith, n, within, is.within))) ∙ ap (take i) is.before ∙ take_of_take i q (shown_line b m gs) le (omega (arith, o, within, is.within))
+
+reached_same : (gs : List hb_glyph_info_t) (k l c p q b m i : ℕ) → AreRuns k l gs p → p ≤ length gs → IsReached gs k l c p q b m → i < q → glyph_at (shown_line k l gs) i ≡ glyph_at (shown_line b m gs) i
+reached_same gs k l c p q b m i are within is lt =
+    let n : length (shown_line k l gs) ≡ length gs = shown_length gs k l p are within in
+    let o : length (shown_line b m gs) ≡ length gs = shown_length gs b m q is.apart (omega (arith, within, is.within)) in
+    read_front i q (shown_line k l gs) lt (omega (arith, n, within, is.within)) ∙ ap (λ t. glyph_at t i) is.before ∙ sym (read_front i q (shown_line b m gs) lt (omega (arith, o, within, is.within)))
+
+-- the glyph before place q shows its label already
+pub reached_read : (gs : List hb_glyph_info_t) (k l c p q b m j : ℕ) → AreRuns k l gs p → p ≤ length gs → IsReached gs k l c p q b m → j + 1 ≡ q → glyph_at (shown_line k l gs) j ≡ glyph_at gs j
+reached_read gs k l c p q b m j are within is at =
+    reached_same gs k l c p q b m j are within is (omega (arith, at))
+    ∙ shown_read gs b m q j is.apart (omega (arith, within, is.within)) (omega (arith, at))
+
+-- one glyph more, with which no run ends
+pub reaches_glyph : (gs : List hb_glyph_info_t) (k l c p q b m j : ℕ) → AreRuns k l gs p → p ≤ length gs → IsReached gs k l c p q b m → j + 1 ≡ q → cluster_at gs j ≡ c → (0 < b → m ≢ j) → IsReached gs k l c p j b m
+reaches_glyph gs k l c p q b m j are within is at has other =
+    record {
+      before = reached_before gs k l c p q b m j are within is (omega (arith, at));
+      same = λ i from lt. reaches_glyph_at i from lt (cases_lt i q) (ap (λ g. g.cluster) (reached_read gs k l c p q b m j are within is at) ∙ has);
+      apart = runs_below b m gs q j (sym at) other is.apart;
+      within = omega (arith, at, is.within);
+    }
+  where
+    reaches_glyph_at : (i : ℕ) → j ≤ i → i < p → (i < q) ⊎ (q ≤ i) → cluster_at (shown_line k l gs) j ≡ c → cluster_at (shown_line k l gs) i ≡ c
+    reaches_glyph_at i from lt (inl low) here = let same : i ≡ j = omega (arith, at, from, low) in rw same here
+    reaches_glyph_at i from lt (inr high) here = is.same i high lt
+
+-- one run more
+pub reaches_run : (gs : List hb_glyph_info_t) (k l c p q b m j : ℕ) → AreRuns k l gs p → p ≤ length gs → IsReached gs k l c p q b m → j + 1 ≡ q → cluster_at gs j ≡ c → 0 < b → m ≡ j → IsReached gs k l c p (run_first gs m) (b - 1) (run_below gs m)
+unfolding AreRuns runs_written
+reaches_run gs k l c p q zero m j are within is at has some last = absurd (omega (arith, some))
+reaches_run gs k l c p q (suc b) m j are within is at has some last =
+    let (ordered, (below, rest)) = is.apart in
+    let f : ℕ = run_first gs m in
+    let ys : List hb_glyph_info_t = runs_written b (run_below gs m) gs gs in
+    let n : length ys ≡ length gs = runs_length b (run_below gs m) gs gs f rest (omega (arith, ordered, below, within, is.within)) in
+    let h : hb_glyph_info_t = glyph_at ys m in
+    let label : h.cluster ≡ c = ap (λ g. g.cluster) (runs_read b (run_below gs m) gs gs f m rest (omega (arith, ordered, below, within, is.within)) (omega (arith, ordered))) ∙ ap (cluster_at gs) last ∙ has in
     let less : suc b - 1 ≡ b = omega arith in
-    let runs : run_last (drop t gs) b ≡ j = ap (λ g. g.cluster) here ∙ last in
-    let (reached, low) = reached_run (runs_written k (drop t gs) (take p gs)) (take p gs) (drop t gs) c p q b j is at (omega (arith, n, is.within)) (omega (arith, kept_length gs k t p are within, is.within)) (ap (λ g. g.cluster) own ∙ has) runs in
-    (rw less (subst (λ (g : hb_glyph_info_t). Reaches gs k t p c g.glyph_id b) here reached), subst (λ (g : hb_glyph_info_t). g.glyph_id ≤ j) here low)
+    rw less (record {
+      before = reached_before gs k l c p q (suc b) m f are within is (omega (arith, ordered, below)) ∙ span_front (with_cluster_and_flags h) f m ys (omega (arith, n, ordered, below, within, is.within));
+      same = λ i from lt. reaches_run_at i from lt label n (cases_lt i m) (cases_lt i q) (ap (λ g. g.cluster) (reached_read gs k l c p q (suc b) m j are within is at) ∙ has);
+      apart = rest;
+      within = omega (arith, ordered, below, is.within);
+    })
+  where
+    reaches_run_at : (i : ℕ) → run_first gs m ≤ i → i < p → (glyph_at (runs_written b (run_below gs m) gs gs) m).cluster ≡ c → length (runs_written b (run_below gs m) gs gs) ≡ length gs → (i < m) ⊎ (m ≤ i) → (i < q) ⊎ (q ≤ i) → cluster_at (shown_line k l gs) j ≡ c → cluster_at (shown_line k l gs) i ≡ c
+    reaches_run_at i from lt label n (inl low) (inl under) here =
+        let ys : List hb_glyph_info_t = runs_written b (run_below gs m) gs gs in
+        ap (λ g. g.cluster) (reached_same gs k l c p q (suc b) m i are within is under ∙ span_read (with_cluster_and_flags (glyph_at ys m)) (run_first gs m) m i ys from low (omega (arith, n, at, last, within, is.within))) ∙ label
+    reaches_run_at i from lt label n (inl low) (inr over) here = omega (arith, low, over, at, last)
+    reaches_run_at i from lt label n (inr high) (inl under) here = let eq : i ≡ j = omega (arith, high, under, at, last) in rw eq here
+    reaches_run_at i from lt label n (inr high) (inr over) here = is.same i over lt
 
-lower_runs : (b : ℕ) (rs : List hb_glyph_info_t) (q j : ℕ) → j + 1 ≡ q → ((m : ℕ) → m + 1 ≡ b → run_last rs m ≢ j) → AreRuns b rs q → AreRuns b rs j
-unfolding AreRuns
-lower_runs zero rs q j at apart are = are
-lower_runs (suc b) rs q j at apart (ordered, (below, rest)) = let other : run_last rs b ≢ j = apart b (omega arith) in (ordered, (omega (arith, below, at, other), rest))
-
--- a glyph more
-pub reaches_glyph : (gs : List hb_glyph_info_t) (k t p c q b j : ℕ) (x : hb_glyph_info_t) → AreRuns k (drop t gs) p → p ≤ length gs → Reaches gs k t p c q b → j + 1 ≡ q → x ≡ glyph_at gs j → x.cluster ≡ c → (0 < b → (i : ℕ) → i + 1 ≡ t + b → (glyph_at gs i).cluster ≢ j) → Reaches gs k t p c j b
-reaches_glyph gs k t p c q b j x are within is at read has apart =
-    let own : glyph_at (take p gs) j ≡ x = get_or-take p gs j no_glyph (omega (arith, at, is.within)) ∙ sym read in
-    let n : length (take p gs) ≡ p = length-take-le p gs within in
-    reached_glyph (runs_written k (drop t gs) (take p gs)) (take p gs) (drop t gs) c p q b j is at (omega (arith, n, is.within)) (omega (arith, kept_length gs k t p are within, is.within)) (ap (λ g. g.cluster) own ∙ has)
-    (lower_runs b (drop t gs) q j at (λ m some e. apart (omega (arith, some)) (t + m) (omega (arith, some)) (ap (λ g. g.cluster) (sym (record_behind gs t m)) ∙ e)) is.apart)
-
--- the reach ends where a glyph has another cluster, or at the start
-pub reaches_end : (gs : List hb_glyph_info_t) (k t p c q b j : ℕ) (x : hb_glyph_info_t) → AreRuns k (drop t gs) p → p ≤ length gs → Reaches gs k t p c q b → j + 1 ≡ q → x ≡ glyph_at gs j → x.cluster ≢ c → run_before (runs_written k (drop t gs) (take p gs)) 0 q c ≡ 0
-reaches_end gs k t p c q b j x are within is at read other =
-    let n : length (take p gs) ≡ p = length-take-le p gs within in
-    let m : length (runs_written k (drop t gs) (take p gs)) ≡ p = kept_length gs k t p are within in
-    let own : x ≡ glyph_at (runs_written k (drop t gs) (take p gs)) j = read ∙ sym (reached_read (runs_written k (drop t gs) (take p gs)) (take p gs) (drop t gs) c p q b j is at (omega (arith, n, is.within)) (omega (arith, m, is.within)) ∙ get_or-take p gs j no_glyph (omega (arith, at, is.within))) in
-    run_before_other (runs_written k (drop t gs) (take p gs)) c 0 q j x (omega arith) (omega (arith, m, is.within)) (omega (arith, at)) own other
+-- the reach ends where a glyph has another cluster
+pub reaches_end : (gs : List hb_glyph_info_t) (k l c p q b m j : ℕ) → AreRuns k l gs p → p ≤ length gs → IsReached gs k l c p q b m → j + 1 ≡ q → cluster_at gs j ≢ c → run_before (shown_line k l gs) 0 q c ≡ 0
+reaches_end gs k l c p q b m j are within is at other =
+    let n : length (shown_line k l gs) ≡ length gs = shown_length gs k l p are within in
+    let own : cluster_at (shown_line k l gs) j ≡ cluster_at gs j = ap (λ g. g.cluster) (reached_read gs k l c p q b m j are within is at) in
+    run_before_other (shown_line k l gs) c 0 q j (glyph_at (shown_line k l gs) j) (omega arith) (omega (arith, n, within, is.within)) (omega (arith, at)) refl (λ e. other (sym own ∙ e))
 
 -- the last glyph itself is reached
-pub reaches_some : (gs : List hb_glyph_info_t) (k t p c q b j : ℕ) → AreRuns k (drop t gs) p → p ≤ length gs → Reaches gs k t p c q b → run_before (runs_written k (drop t gs) (take p gs)) 0 q c ≡ 0 → j + 1 ≡ p → cluster_at gs j ≡ c → q ≤ j
-reaches_some gs k t p c q b j are within is none at has = reaches_some_by (cases_lt q p)
+pub reaches_some : (gs : List hb_glyph_info_t) (k l p q b m j : ℕ) → AreRuns k l gs p → p ≤ length gs → IsReached gs k l (cluster_at gs j) p q b m → run_before (shown_line k l gs) 0 q (cluster_at gs j) ≡ 0 → j + 1 ≡ p → q ≤ j
+reaches_some gs k l p q b m j are within is none at = reaches_some_by (cases_lt q p)
   where
     reaches_some_by : (q < p) ⊎ (p ≤ q) → q ≤ j
     reaches_some_by (inl lt) = omega (arith, lt, at)
     reaches_some_by (inr ge) =
-        let ks : List hb_glyph_info_t = runs_written k (drop t gs) (take p gs) in
-        let n : length (take p gs) ≡ p = length-take-le p gs within in
-        let m : length ks ≡ p = kept_length gs k t p are within in
-        let own : glyph_at ks j ≡ glyph_at gs j = runs_read k (drop t gs) (take p gs) p j are (omega (arith, n)) (omega (arith, at)) ∙ get_or-take p gs j no_glyph (omega (arith, at)) in
-        let more : run_before ks 0 p c ≡ run_before ks 0 j c + 1 = run_before_more ks c 0 p j j (glyph_at ks j) (omega arith) (omega (arith, m)) (omega (arith, at)) refl refl (ap (λ g. g.cluster) own ∙ has) in
+        let ks : List hb_glyph_info_t = shown_line k l gs in
+        let c : ℕ = cluster_at gs j in
+        let n : length ks ≡ length gs = shown_length gs k l p are within in
+        let own : glyph_at ks j ≡ glyph_at gs j = shown_read gs k l p j are within (omega (arith, at)) in
+        let more : run_before ks 0 p c ≡ run_before ks 0 j c + 1 = run_before_more ks c 0 p j j (glyph_at ks j) (omega arith) (omega (arith, n, within)) (omega (arith, at)) refl refl (ap (λ g. g.cluster) own) in
         let same : q ≡ p = omega (arith, ge, is.within) in
         let zero_here : run_before ks 0 p c ≡ 0 = ap (λ i. run_before ks 0 i c) (sym same) ∙ none in
         omega (arith, more, zero_here)

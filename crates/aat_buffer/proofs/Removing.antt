@@ -6,13 +6,13 @@ use Rattle.std.specs.List.{remove}
 use Rattle.std.specs.Prelude.{is_some, option_map, IfSome, vec_len, if◌then◌else◌}
 use Rattle.std.specs.Bool.{OnTrue, OnFalse}
 use Rattle.std.specs.declared.vec.Vec.{Vec}
-use Rattle.aat_buffer.specs.declared.glyph.hb_glyph_info_t.{hb_glyph_info_t}
-use Rattle.aat_buffer.specs.declared.glyph.GlyphPosition.{GlyphPosition}
+use Rattle.aat_glyph.specs.declared.glyph.hb_glyph_info_t.{hb_glyph_info_t}
+use Rattle.aat_glyph.specs.declared.glyph.GlyphPosition.{GlyphPosition}
 use Rattle.aat_buffer.specs.Buffer.{Buffer, glyph_at, without_positions, with_cursor, with_positions}
-use Rattle.aat_buffer.specs.Carried.{carried, items_of}
-use Rattle.aat_buffer.specs.Pending.{IsPending, shown}
-use Rattle.aat_buffer.proofs.Steps.{shown_whole, pending_none}
-use Rattle.aat_buffer.specs.Removal.{removal, removal_step, taken, handed_on}
+use Rattle.aat_buffer.specs.inside.Carried.{carried, items_of}
+use Rattle.aat_buffer.specs.inside.Pending.{IsPending, shown}
+use Rattle.aat_buffer.proofs.Steps.{shown_none, pending_none}
+use Rattle.aat_buffer.specs.Removal.{removal, removal_step, without_glyph_at_cursor, with_cluster_kept}
 
 -- a position that is not carried down
 pub carried_gone : {X : Type 0} (qs : List X) (p i : ℕ) → p ≤ i → i < length qs → carried p (i + 1) qs ≡ remove (carried p i qs) p
@@ -21,14 +21,16 @@ carried_gone qs p i le lt =
     let same : p - p ≡ 0 = omega arith in
     sym (remove-append_right (take p qs) (drop i qs) p p n (omega arith) ∙ rw (same, drop-drop) refl)
 
--- the buffer with the positions that were taken out of it, of which those behind the kept ones up to place i are used up
+-- the buffer with the positions that were taken out of it, of which those behind the kept ones up to place i are used
+-- up
 abbrev pub with_carried : Buffer → ℕ → Option (List GlyphPosition) → Buffer
 with_carried b i ps = record b { positions = option_map (carried b.cursor i) ps }
 
--- i of n turns were made, from start to now with k pending runs, by each test that is met
-pub record IsRemoving {Z : Type 0} (Met : (hb_glyph_info_t → Bool) → Type 0) (start now : Buffer) (ps : Option (Vec GlyphPosition Z)) (i n k : ℕ) : Type 0 where
-  pub ends : (test : hb_glyph_info_t → Bool) → Met test → removal (n - i) test (with_carried (shown k (n - i) now) i (items_of ps)) ≡ removal n test start
-  pub pending : IsPending now (n - i) k
+-- i of n turns were made, from start to now with k pending runs that end at place l, by each test that is met
+pub record IsRemoving {Z : Type 0} (Met : (hb_glyph_info_t → Bool) → Type 0) (start now : Buffer) (ps : Option (Vec GlyphPosition Z)) (i n k l : ℕ) : Type 0 where
+  pub ends : (test : hb_glyph_info_t → Bool) → Met test → removal (n - i) test (with_carried (shown k l now) i (items_of ps)) ≡ removal n test start
+  pub pending : IsPending now k l
+  pub rest : length now.line + i ≡ n + now.cursor
   pub behind : now.cursor ≤ i
   pub placed : IfSome ps (λ qs. vec_len qs ≡ n)
   pub bare : now.positions ≡ None
@@ -55,13 +57,13 @@ step_carried : (test : hb_glyph_info_t → Bool) (now new : Buffer) (ps ps' : Op
 step_carried test now new ps ps' true i asked after gone stays =
     let b = with_carried now i ps in
     ap (λ (t : Buffer). with_carried t (i + 1) ps') after
-    ∙ ap (λ (qs : Option (List GlyphPosition)). record (taken (handed_on now)) { positions = qs }) gone
-    ∙ ap (λ (goes : Bool). if goes then taken (handed_on b) else with_cursor b (b.cursor + 1)) (sym asked)
+    ∙ ap (λ (qs : Option (List GlyphPosition)). record (without_glyph_at_cursor (with_cluster_kept now)) { positions = qs }) gone
+    ∙ ap (λ (goes : Bool). if goes then without_glyph_at_cursor (with_cluster_kept b) else with_cursor b (b.cursor + 1)) (sym asked)
 step_carried test now new ps ps' false i asked after gone stays =
     let b = with_carried now i ps in
     ap (λ (t : Buffer). with_carried t (i + 1) ps') after
     ∙ ap (λ (qs : Option (List GlyphPosition)). record (with_cursor now (now.cursor + 1)) { positions = qs }) stays
-    ∙ ap (λ (goes : Bool). if goes then taken (handed_on b) else with_cursor b (b.cursor + 1)) (sym asked)
+    ∙ ap (λ (goes : Bool). if goes then without_glyph_at_cursor (with_cluster_kept b) else with_cursor b (b.cursor + 1)) (sym asked)
 
 pub removing_more : {Z : Type 0} (Met : (hb_glyph_info_t → Bool) → Type 0) (start now new : Buffer) (ps ps' : Option (Vec GlyphPosition Z)) (goes : Bool) (p i n : ℕ)
     → i < n
@@ -78,19 +80,19 @@ removing_more Met start now new ps ps' goes p i n lt place asked after gone stay
     ∙ was test met
 
 -- before the first turn
-pub removing_none : {Z : Type 0} (Met : (hb_glyph_info_t → Bool) → Type 0) (start now : Buffer) (ps : Option (Vec GlyphPosition Z)) (n : ℕ) → now ≡ without_positions start → start.cursor ≡ 0 → length start.line ≡ n → n ≤ 0x3FFFFFFF → items_of ps ≡ start.positions → IfSome ps (λ qs. vec_len qs ≡ n) → IsRemoving Met start now ps 0 n 0
+pub removing_none : {Z : Type 0} (Met : (hb_glyph_info_t → Bool) → Type 0) (start now : Buffer) (ps : Option (Vec GlyphPosition Z)) (n : ℕ) → now ≡ without_positions start → start.cursor ≡ 0 → length start.line ≡ n → n ≤ 0x3FFFFFFF → items_of ps ≡ start.positions → IfSome ps (λ qs. vec_len qs ≡ n) → IsRemoving Met start now ps 0 n 0 0
 removing_none Met start now ps n is at count small held placed =
     let all : n ≡ n - 0 = omega arith in
     let cursor : now.cursor ≡ 0 = ap (λ (b : Buffer). b.cursor) is ∙ at in
     let line : length now.line ≡ n = ap (λ (b : Buffer). length b.line) is ∙ count in
-    let whole : shown 0 n now ≡ now = shown_whole now n 0 refl (omega (arith, line)) in
     record {
       ends = λ test met.
-          ap (λ m. removal m test (with_carried (shown 0 m now) 0 (items_of ps))) (sym all)
-          ∙ ap (λ (b : Buffer). removal n test (with_carried b 0 (items_of ps))) (whole ∙ is)
+          ap (λ m. removal m test (with_carried (shown 0 0 now) 0 (items_of ps))) (sym all)
+          ∙ ap (λ (b : Buffer). removal n test (with_carried b 0 (items_of ps))) (shown_none now 0 0 refl ∙ is)
           ∙ ap (λ p. removal n test (record start { positions = option_map (carried p 0) (items_of ps) })) at
           ∙ ap (λ (qs : Option (List GlyphPosition)). removal n test (record start { positions = qs })) (carried_none (items_of ps) ∙ held);
-      pending = subst (λ r. IsPending now r 0) all (pending_none now n cursor line small);
+      pending = pending_none now (omega (arith, cursor)) (omega (arith, line, small));
+      rest = omega (arith, line, cursor);
       behind = omega (arith, cursor);
       placed = placed;
       bare = ap (λ (b : Buffer). b.positions) is;
@@ -106,35 +108,34 @@ removing_none Met start now ps n is at count small held placed =
     some_items (Some qs) = refl
 
 -- what is left once all n turns were made
-pub removing_done : {Z : Type 0} (Met : (hb_glyph_info_t → Bool) → Type 0) (start now : Buffer) (ps : Option (Vec GlyphPosition Z)) (i n k : ℕ) → i ≡ n → IsRemoving Met start now ps i n k → (test : hb_glyph_info_t → Bool) → Met test → with_carried (shown k 0 now) n (items_of ps) ≡ removal n test start
-removing_done Met start now ps i n k e was test met =
-    let none : n - n ≡ 0 = omega arith in
-    ap (λ r. with_carried (shown k r now) n (items_of ps)) (sym none)
-    ∙ sym (removal_none test (with_carried (shown k (n - n) now) n (items_of ps)) n)
-    ∙ ap (λ m. removal (n - m) test (with_carried (shown k (n - m) now) m (items_of ps))) (sym e)
+pub removing_done : {Z : Type 0} (Met : (hb_glyph_info_t → Bool) → Type 0) (start now : Buffer) (ps : Option (Vec GlyphPosition Z)) (i n k l : ℕ) → i ≡ n → IsRemoving Met start now ps i n k l → (test : hb_glyph_info_t → Bool) → Met test → with_carried (shown k l now) n (items_of ps) ≡ removal n test start
+removing_done Met start now ps i n k l e was test met =
+    sym (removal_none test (with_carried (shown k l now) n (items_of ps)) n)
+    ∙ ap (λ m. removal (n - m) test (with_carried (shown k l now) m (items_of ps))) (sym e)
     ∙ was.ends test met
 
 -- with nothing behind place i, the positions carried down are the first ones
 pub carried_all : {X : Type 0} (qs : List X) (p n : ℕ) → length qs ≤ n → carried p n qs ≡ take p qs
 carried_all qs p n le = rw (drop_all n qs le) (append-nil (take p qs))
 
-pub finished_some : {Z : Type 0} (Met : (hb_glyph_info_t → Bool) → Type 0) (start now new : Buffer) (ps : Option (Vec GlyphPosition Z)) (qs : Vec GlyphPosition Z) (i n k p : ℕ)
-    → i ≡ n → p ≡ now.cursor → ps ≡ Some qs → IsRemoving Met start now ps i n k
-    → new ≡ with_positions (with_cursor (shown k 0 now) 0) (take p qs.items)
+pub finished_some : {Z : Type 0} (Met : (hb_glyph_info_t → Bool) → Type 0) (start now new : Buffer) (ps : Option (Vec GlyphPosition Z)) (qs : Vec GlyphPosition Z) (i n k l p : ℕ)
+    → i ≡ n → p ≡ now.cursor → ps ≡ Some qs → IsRemoving Met start now ps i n k l
+    → new ≡ with_positions (with_cursor (shown k l now) 0) (take p qs.items)
     → (test : hb_glyph_info_t → Bool) → Met test → new ≡ with_cursor (removal n test start) 0
-finished_some {Z} Met start now new ps qs i n k p e place is was wrote test met =
-    let here : IsRemoving Met start now (Some qs) i n k = subst (λ (o : Option (Vec GlyphPosition Z)). IsRemoving Met start now o i n k) is was in
+finished_some {Z} Met start now new ps qs i n k l p e place is was wrote test met =
+    let here : IsRemoving Met start now (Some qs) i n k l = subst (λ (o : Option (Vec GlyphPosition Z)). IsRemoving Met start now o i n k l) is was in
     let all : carried now.cursor n qs.items ≡ take now.cursor qs.items = carried_all qs.items now.cursor n (omega (arith, here.placed, qs.ok)) in
     wrote
-    ∙ ap (λ j. with_positions (with_cursor (shown k 0 now) 0) (take j qs.items)) place
-    ∙ ap (with_positions (with_cursor (shown k 0 now) 0)) (sym all)
-    ∙ ap (λ (t : Buffer). with_cursor t 0) (removing_done Met start now (Some qs) i n k e here test met)
+    ∙ ap (λ j. with_positions (with_cursor (shown k l now) 0) (take j qs.items)) place
+    ∙ ap (with_positions (with_cursor (shown k l now) 0)) (sym all)
+    ∙ ap (λ (t : Buffer). with_cursor t 0) (removing_done Met start now (Some qs) i n k l e here test met)
 
-pub finished_none : {Z : Type 0} (Met : (hb_glyph_info_t → Bool) → Type 0) (start now new : Buffer) (ps : Option (Vec GlyphPosition Z)) (i n k : ℕ)
-    → i ≡ n → ps ≡ None → IsRemoving Met start now ps i n k
-    → new ≡ with_cursor (without_positions (shown k 0 now)) 0
+pub finished_none : {Z : Type 0} (Met : (hb_glyph_info_t → Bool) → Type 0) (start now new : Buffer) (ps : Option (Vec GlyphPosition Z)) (i n k l : ℕ)
+    → i ≡ n → ps ≡ None → IsRemoving Met start now ps i n k l
+    → new ≡ with_cursor (shown k l now) 0
     → (test : hb_glyph_info_t → Bool) → Met test → new ≡ with_cursor (removal n test start) 0
-finished_none {Z} Met start now new ps i n k e is was wrote test met =
-    let here : IsRemoving Met start now None i n k = subst (λ (o : Option (Vec GlyphPosition Z)). IsRemoving Met start now o i n k) is was in
+finished_none {Z} Met start now new ps i n k l e is was wrote test met =
+    let here : IsRemoving Met start now None i n k l = subst (λ (o : Option (Vec GlyphPosition Z)). IsRemoving Met start now o i n k l) is was in
     wrote
-    ∙ ap (λ (t : Buffer). with_cursor t 0) (removing_done {Z = Z} Met start now None i n k e here test met)
+    ∙ ap (λ (qs : Option (List GlyphPosition)). with_cursor (record (shown k l now) { positions = qs }) 0) was.bare
+    ∙ ap (λ (t : Buffer). with_cursor t 0) (removing_done {Z = Z} Met start now None i n k l e here test met)

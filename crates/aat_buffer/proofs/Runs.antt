@@ -4,7 +4,7 @@ use Rattle.std.proofs.lemmas.List.{drop_more, drop_all, reverse-append}
 use Rattle.std.proofs.lemmas.List.Sums.{take_while-cons}
 use Rattle.std.proofs.lemmas.Bool.Decides.{nat_tests}
 use Rattle.std.specs.Prelude.{slice_range}
-use Rattle.aat_buffer.specs.declared.glyph.hb_glyph_info_t.{hb_glyph_info_t}
+use Rattle.aat_glyph.specs.declared.glyph.hb_glyph_info_t.{hb_glyph_info_t}
 use Rattle.aat_buffer.specs.Buffer.{no_glyph, glyph_at}
 use Rattle.aat_buffer.specs.Marks.{run_of, run_after, run_before}
 use Rattle.aat_buffer.proofs.Spans.{range_more}

@@ -3,7 +3,7 @@ use Rattle.std.proofs.Common.{◌≡◌, ◌≤◌, ◌-◌, refl, sym, [], ◌�
 use Rattle.std.proofs.lemmas.List.{take_more, length-take-le, length-drop, length-append, length-map, length-set, get_or-drop, get_or_at, set_at, take-append-drop, append_assoc, map-append, drop_more}
 use Rattle.std.proofs.lemmas.List.Sums.{fold-append}
 use Rattle.std.specs.Prelude.{slice_range}
-use Rattle.aat_buffer.specs.declared.glyph.hb_glyph_info_t.{hb_glyph_info_t}
+use Rattle.aat_glyph.specs.declared.glyph.hb_glyph_info_t.{hb_glyph_info_t}
 use Rattle.aat_buffer.specs.Buffer.{Buffer, no_glyph, glyph_at, with_info, with_line}
 use Rattle.aat_buffer.specs.Marks.{on_span, on_line_span, least_of}
 

@@ -1,224 +1,194 @@
 -- A glyph that goes, on the buffer that is shown.
-use Rattle.std.proofs.Common.{◌≡◌, ◌∙◌, sym, ap, subst, refl, ℕ, suc, ◌+◌, ◌-◌, ◌<◌, ◌≤◌, ◌&&◌, ◌==◌, Bool, true, false, not, nat_lt, List, length, take, drop, set, arith}
-use Rattle.std.proofs.lemmas.List.{length-take-le, length-set, take_all, take-append-le, take-append-drop, get_or-drop}
+use Rattle.std.proofs.Common.{◌≡◌, ◌∙◌, sym, ap, subst, refl, ℕ, zero, suc, ◌+◌, ◌-◌, ◌<◌, ◌≤◌, ◌&&◌, ◌==◌, Bool, true, false, not, nat_lt, List, length, take, set, arith}
+use Rattle.std.proofs.lemmas.List.{length-set, length-take-le, length-append, length-drop}
 use Rattle.std.proofs.lemmas.Bool.Decides.{nat_tests}
 use Rattle.std.specs.Prelude.{remove, if◌then◌else◌}
-use Rattle.aat_buffer.specs.declared.glyph.hb_glyph_info_t.{hb_glyph_info_t}
-use Rattle.aat_buffer.specs.Buffer.{Buffer, no_glyph, glyph_at, with_line, with_info, with_cursor, without_positions}
+use Rattle.aat_glyph.specs.declared.glyph.hb_glyph_info_t.{hb_glyph_info_t}
+use Rattle.aat_buffer.specs.Buffer.{Buffer, glyph_at, with_line, with_cursor, without_positions}
 use Rattle.aat_buffer.specs.Marks.{cluster_at, run_before, merged_line}
-use Rattle.aat_buffer.specs.Removal.{handed_back, handed_line, handed_on, taken}
-use Rattle.aat_buffer.specs.Pending.{labelled, run_written, runs_written, run_first, run_last, AreRuns, IsPending, shown, shown_line, set_aside, lowers}
-use Rattle.aat_buffer.proofs.Pending.{runs_mono, runs_append, runs_length, runs_read, runs_bound, runs_none, runs_fewer}
-use Rattle.aat_buffer.proofs.Lowering.{lowered_line, lowered_runs, shown_read, shown_length, handed_without, aside_shown, aside_runs, aside_read, aside_count}
-use Rattle.aat_buffer.proofs.Reaching.{Reaches, reaches_some}
+use Rattle.aat_buffer.specs.Removal.{with_cluster_and_flags, lowered_run, cluster_kept_line, with_cluster_kept, without_glyph_at_cursor}
+use Rattle.aat_buffer.specs.inside.Pending.{run_written, runs_written, run_first, run_below, AreRuns, IsPending, IsReached, shown, shown_line, with_place, lowers}
+use Rattle.aat_buffer.proofs.Pending.{runs_mono, runs_none, runs_start, runs_alike, runs_commute, written_alike, run_length, Alike}
+use Rattle.aat_buffer.proofs.Lowering.{lowered_written, lowered_pending, lowered_without, shown_without, alike_without, alike_front, removed_parts}
+use Rattle.aat_buffer.proofs.Reaching.{reaches_some, shown_length, shown_read, span_front}
 
 -- The kept glyphs get a lower cluster
 
-pub lower_after : (old new : Buffer) (k r q b : ℕ) (g y held : hb_glyph_info_t)
-    → IsPending old r k → old.cursor + r + k < length old.line → 0 < old.cursor
-    → Reaches old.line k (old.cursor + r) old.cursor (cluster_at old.line (old.cursor - 1)) q b
-    → run_before (runs_written k (drop (old.cursor + r) old.line) (take old.cursor old.line)) 0 q (cluster_at old.line (old.cursor - 1)) ≡ 0
-    → b ≤ k → g.cluster < cluster_at old.line (old.cursor - 1)
-    → y ≡ labelled g (glyph_at old.line (old.cursor - 1)) → held.glyph_id ≡ q → held.cluster ≡ old.cursor - 1
-    → new ≡ with_info (with_info old (old.cursor - 1) y) (old.cursor + r + b) held
-    → shown (b + 1) r new ≡ with_line old (handed_back (shown_line k (old.cursor + r) old.line) old.cursor (cluster_at old.line (old.cursor - 1)) g)
-lower_after old new k r q b g y held pending room kept reached none fewer lt made first last wrote =
+pub lower_written : (old new : Buffer) (k l q b m j : ℕ) (g y : hb_glyph_info_t)
+    → 0 < old.cursor → j ≡ old.cursor - 1 → IsPending old k l
+    → IsReached old.line k l (cluster_at old.line (old.cursor - 1)) old.cursor q b m
+    → run_before (shown_line k l old.line) 0 q (cluster_at old.line (old.cursor - 1)) ≡ 0
+    → y ≡ with_cluster_and_flags g (glyph_at old.line j)
+    → new ≡ with_line old (run_written q j (set old.line j y))
+    → (shown b m new ≡ with_line old (lowered_run (shown_line k l old.line) old.cursor (cluster_at old.line (old.cursor - 1)) g)) × IsPending new b m
+lower_written old new k l q b m j g y kept place pending reached none made wrote =
     let p : ℕ = old.cursor in
-    let j : ℕ = p - 1 in
-    let t : ℕ = p + r in
-    let more : b + 1 ≡ suc b = omega arith in
-    let from : q ≤ j = reaches_some old.line k t p (cluster_at old.line j) q b j pending.apart (omega (arith, room)) reached none (omega (arith, kept)) refl in
-    ap (shown (b + 1) r) wrote
-    ∙ ap (λ n. with_line old (shown_line n t (set (set old.line j y) (t + b) held))) more
-    ∙ ap (λ h. with_line old (shown_line (suc b) t (set (set old.line j h) (t + b) held))) made
-    ∙ ap (with_line old) (lowered_line k b old.line p t q j g held (omega (arith, kept)) (omega arith) (omega (arith, room, fewer)) from pending.apart reached none lt first last)
+    let i : ℕ = p - 1 in
+    let zs : List hb_glyph_info_t = set old.line i (with_cluster_and_flags g (glyph_at old.line i)) in
+    let is : new ≡ with_line old (run_written q i zs) = wrote ∙ ap (λ h. with_line old (run_written q j (set old.line j h))) made ∙ ap (λ n. with_line old (run_written q n (set old.line n (with_cluster_and_flags g (glyph_at old.line n))))) place in
+    let at : i + 1 ≡ p = omega (arith, kept) in
+    let from : q ≤ i = reaches_some old.line k l p q b m i pending.apart pending.in_line reached none at in
+    let both = lowered_written old.line k l p q b m i g pending.in_line at from pending.apart reached none in
+    let long : length zs ≡ length old.line = length-set old.line i (with_cluster_and_flags g (glyph_at old.line i)) in
+    let n : length (run_written q i zs) ≡ length old.line = run_length q i zs from (omega (arith, long, at, pending.in_line)) ∙ long in (
+      ap (shown b m) is ∙ ap (with_line old) both.0,
+      subst (λ t. IsPending t b m) (sym is) (record {
+        apart = both.1;
+        in_line = omega (arith, n, pending.in_line);
+        small = omega (arith, n, pending.small);
+      }),
+    )
 
-pub lower_pending : (old new : Buffer) (k r q b : ℕ) (y held : hb_glyph_info_t)
-    → IsPending old r k → old.cursor + r + k < length old.line → 0 < old.cursor
-    → Reaches old.line k (old.cursor + r) old.cursor (cluster_at old.line (old.cursor - 1)) q b
-    → run_before (runs_written k (drop (old.cursor + r) old.line) (take old.cursor old.line)) 0 q (cluster_at old.line (old.cursor - 1)) ≡ 0
-    → b ≤ k → held.glyph_id ≡ q → held.cluster ≡ old.cursor - 1
-    → new ≡ with_info (with_info old (old.cursor - 1) y) (old.cursor + r + b) held
-    → IsPending new r (b + 1)
-lower_pending old new k r q b y held pending room kept reached none fewer first last wrote =
+pub lower_pending : (old new : Buffer) (k l q b m j : ℕ) (g y : hb_glyph_info_t)
+    → 0 < old.cursor → j ≡ old.cursor - 1 → q + 2 ≤ j → IsPending old k l
+    → IsReached old.line k l (cluster_at old.line (old.cursor - 1)) old.cursor q b m
+    → run_before (shown_line k l old.line) 0 q (cluster_at old.line (old.cursor - 1)) ≡ 0
+    → y ≡ with_cluster_and_flags g (glyph_at old.line j)
+    → new ≡ with_line old (with_place (with_place (set old.line j y) (j - 1) q) q m)
+    → (shown (b + 1) j new ≡ with_line old (lowered_run (shown_line k l old.line) old.cursor (cluster_at old.line (old.cursor - 1)) g)) × IsPending new (b + 1) j
+lower_pending old new k l q b m j g y kept place long pending reached none made wrote =
     let p : ℕ = old.cursor in
-    let j : ℕ = p - 1 in
-    let t : ℕ = p + r in
+    let i : ℕ = p - 1 in
     let more : suc b ≡ b + 1 = omega arith in
-    let from : q ≤ j = reaches_some old.line k t p (cluster_at old.line j) q b j pending.apart (omega (arith, room)) reached none (omega (arith, kept)) refl in
-    let line : List hb_glyph_info_t = set (set old.line j y) (t + b) held in
-    let n : length line ≡ length old.line = length-set (set old.line j y) (t + b) held ∙ length-set old.line j y in
-    subst (λ b'. IsPending b' r (b + 1)) (sym wrote) (record {
-      apart = subst (λ m. AreRuns m (drop t line) p) more (lowered_runs b old.line p t q j y held (omega (arith, kept)) (omega arith) (omega (arith, room, fewer)) from reached.apart first last);
-      room = omega (arith, n, room, fewer);
-      first = λ e. omega (arith, e, kept);
-      small = omega (arith, n, pending.small);
-    })
+    let xs : List hb_glyph_info_t = set old.line i (with_cluster_and_flags g (glyph_at old.line i)) in
+    let ys : List hb_glyph_info_t = with_place xs (i - 1) q in
+    let zs : List hb_glyph_info_t = with_place ys q m in
+    let is : new ≡ with_line old zs = wrote ∙ ap (λ h. with_line old (with_place (with_place (set old.line j h) (j - 1) q) q m)) made ∙ ap (λ n. with_line old (with_place (with_place (set old.line n (with_cluster_and_flags g (glyph_at old.line n))) (n - 1) q) q m)) place in
+    let both = lowered_pending old.line k l p q b m i g pending.in_line (omega (arith, kept)) (omega (arith, long, place)) pending.apart reached none in
+    let n : length zs ≡ length old.line = length-set ys q (record (glyph_at ys q) { cluster = m }) ∙ length-set xs (i - 1) (record (glyph_at xs (i - 1)) { cluster = q }) ∙ length-set old.line i (with_cluster_and_flags g (glyph_at old.line i)) in
+    let line : shown_line (b + 1) j zs ≡ lowered_run (shown_line k l old.line) p (cluster_at old.line i) g = ap (λ n. shown_line (b + 1) n zs) place ∙ ap (λ n. shown_line n i zs) (sym more) ∙ both.0 in (
+      ap (shown (b + 1) j) is ∙ ap (with_line old) line,
+      subst (λ t. IsPending t (b + 1) j) (sym is) (record {
+        apart = subst (λ n. AreRuns (b + 1) n zs p) (sym place) (subst (λ n. AreRuns n i zs p) more both.1);
+        in_line = omega (arith, n, pending.in_line);
+        small = omega (arith, n, pending.small);
+      }),
+    )
 
 -- The runs are written
 
--- the record of a run that is not written yet
-pub record_stays : (gs : List hb_glyph_info_t) (p k m : ℕ) → AreRuns m (drop p gs) p → k < m → p ≤ length gs → glyph_at (runs_written k (drop p gs) gs) (p + k) ≡ glyph_at (drop p gs) k
-record_stays gs p k m are lt within =
-    runs_read k (drop p gs) gs p (p + k) (runs_fewer m (drop p gs) p k are (omega (arith, lt))) within (omega arith)
-    ∙ sym (get_or-drop p gs k no_glyph)
+pub write_more : (b new : Buffer) (k l i m : ℕ) → 0 < k → IsPending b k l → i ≡ run_first b.line l → m ≡ cluster_at b.line i → new ≡ with_line b (run_written i l b.line) → (shown (k - 1) m new ≡ shown k l b) × IsPending new (k - 1) m
+unfolding AreRuns runs_written
+write_more b new zero l i m some pending first next wrote = absurd (omega (arith, some))
+write_more b new (suc k) l i m some pending first next wrote =
+    let (ordered, (below, rest)) = pending.apart in
+    let gs : List hb_glyph_info_t = b.line in
+    let f : ℕ = run_first gs l in
+    let d : ℕ = run_below gs l in
+    let ws : List hb_glyph_info_t = run_written f l gs in
+    let less : k ≡ suc k - 1 = omega arith in
+    let told : d ≡ m = sym (next ∙ ap (cluster_at gs) first) in
+    let is : new ≡ with_line b ws = wrote ∙ ap (λ n. with_line b (run_written n l gs)) first in
+    let n : length ws ≡ length gs = run_length f l gs (omega (arith, ordered)) (omega (arith, below, pending.in_line)) in
+    let alike : Alike gs ws f = alike_front gs ws f (omega (arith, ordered, below, pending.in_line)) n (span_front (with_cluster_and_flags (glyph_at gs l)) f l gs (omega (arith, ordered, below, pending.in_line))) in
+    let line : runs_written k d ws ws ≡ shown_line (suc k) l gs = sym (written_alike k d gs ws ws f alike rest) ∙ sym (runs_commute k d gs gs f l rest (omega (arith, ordered)) (omega (arith, below, pending.in_line))) in
+    let apart : AreRuns k d ws b.cursor = runs_mono k d ws f b.cursor (omega (arith, ordered, below)) (runs_alike k d gs ws f alike rest) in (
+      ap (λ t. shown (suc k - 1) m t) is ∙ ap (λ c. shown c m (with_line b ws)) (sym less) ∙ ap (λ c. shown k c (with_line b ws)) (sym told) ∙ ap (with_line b) line,
+      subst (λ t. IsPending t (suc k - 1) m) (sym is) (record {
+        apart = subst (λ c. AreRuns c m ws b.cursor) less (subst (λ c. AreRuns k c ws b.cursor) told apart);
+        in_line = omega (arith, n, pending.in_line);
+        small = omega (arith, n, pending.small);
+      }),
+    )
 
-pub write_more : (old now new : Buffer) (p k i j : ℕ) → now ≡ with_line old (runs_written k (drop p old.line) old.line) → i ≡ run_first (drop p old.line) k → j ≡ run_last (drop p old.line) k → new ≡ with_line now (run_written i j now.line) → new ≡ with_line old (runs_written (k + 1) (drop p old.line) old.line)
-unfolding runs_written
-write_more old now new p k i j was first last wrote =
-    let more : suc k ≡ k + 1 = omega arith in
-    wrote
-    ∙ ap (λ (b : Buffer). with_line b (run_written i j b.line)) was
-    ∙ ap (λ n. with_line old (run_written n j (runs_written k (drop p old.line) old.line))) first
-    ∙ ap (λ n. with_line old (run_written (run_first (drop p old.line) k) n (runs_written k (drop p old.line) old.line))) last
-    ∙ ap (λ n. with_line old (runs_written n (drop p old.line) old.line)) more
-
--- run k, as it is read before it is written
-pub run_read : (old now : Buffer) (p k m i j : ℕ) → p ≡ old.cursor → IsPending old 0 m → k < m → now ≡ with_line old (runs_written k (drop p old.line) old.line) → i ≡ (glyph_at now.line (p + k)).glyph_id → j ≡ (glyph_at now.line (p + k)).cluster
-    → ((i ≡ run_first (drop p old.line) k) × (j ≡ run_last (drop p old.line) k)) × ((i ≤ j) × (j < p))
-run_read old now p k m i j place pending lt was first last =
-    let none : old.cursor + 0 ≡ p = omega (arith, place) in
-    let are : AreRuns m (drop p old.line) p = subst (λ q. AreRuns m (drop p old.line) q) (sym place) (subst (λ t. AreRuns m (drop t old.line) old.cursor) none pending.apart) in
-    let read : glyph_at now.line (p + k) ≡ glyph_at (drop p old.line) k = ap (λ (b : Buffer). glyph_at b.line (p + k)) was ∙ record_stays old.line p k m are lt (omega (arith, pending.room, place)) in
-    let i_is : i ≡ run_first (drop p old.line) k = first ∙ ap (λ h. h.glyph_id) read in
-    let j_is : j ≡ run_last (drop p old.line) k = last ∙ ap (λ h. h.cluster) read in
-    let bound = runs_bound m (drop p old.line) p k are lt in
-    ((i_is, j_is), (omega (arith, i_is, j_is, bound.0), omega (arith, j_is, bound.1)))
-
--- what stands behind the kept glyphs is cut off
-pub finished_line : (b : Buffer) (k : ℕ) → IsPending b 0 k → take b.cursor (runs_written k (drop b.cursor b.line) b.line) ≡ shown_line k (b.cursor + 0) b.line
-finished_line b k pending =
-    let p : ℕ = b.cursor in
-    let none : p + 0 ≡ p = omega arith in
-    let rs : List hb_glyph_info_t = drop p b.line in
-    let are : AreRuns k rs p = subst (λ t. AreRuns k (drop t b.line) p) none pending.apart in
-    let n : length (take p b.line) ≡ p = length-take-le p b.line (omega (arith, pending.room)) in
-    let m : length (runs_written k rs (take p b.line)) ≡ p = runs_length k rs (take p b.line) p are (omega (arith, n)) ∙ n in
-    ap (λ xs. take p (runs_written k rs xs)) (sym (take-append-drop p b.line))
-    ∙ ap (take p) (runs_append k rs (take p b.line) rs p are (omega (arith, n)))
-    ∙ take-append-le p (runs_written k rs (take p b.line)) rs (omega (arith, m))
-    ∙ take_all p (runs_written k rs (take p b.line)) (omega (arith, m))
-    ∙ ap (λ t. shown_line k t b.line) (sym none)
+pub shown_none : (b : Buffer) (k l : ℕ) → k ≡ 0 → shown k l b ≡ b
+shown_none b k l none = ap (λ n. shown n l b) none ∙ ap (with_line b) (runs_none l b.line b.line)
 
 -- A glyph is kept, or none is yet
 
-pub kept_pending : (b : Buffer) (r k : ℕ) → 0 < r → IsPending b r k → IsPending (with_cursor b (b.cursor + 1)) (r - 1) k
-kept_pending b r k some pending =
-    let same : b.cursor + r ≡ b.cursor + 1 + (r - 1) = omega (arith, some) in
+pub kept_pending : (b : Buffer) (k l : ℕ) → b.cursor < length b.line → IsPending b k l → IsPending (with_cursor b (b.cursor + 1)) k l
+kept_pending b k l some pending =
     record {
-      apart = runs_mono k (drop (b.cursor + 1 + (r - 1)) b.line) b.cursor (b.cursor + 1) (omega arith) (subst (λ t. AreRuns k (drop t b.line) b.cursor) same pending.apart);
-      room = omega (arith, same, pending.room);
-      first = λ e. omega (arith, e);
+      apart = runs_mono k l b.line b.cursor (b.cursor + 1) (omega arith) pending.apart;
+      in_line = omega (arith, some);
       small = pending.small;
     }
 
-pub shown_whole : (b : Buffer) (r k : ℕ) → k ≡ 0 → length b.line ≤ b.cursor + r → shown k r b ≡ b
-shown_whole b r k none all =
-    ap (λ n. shown n r b) none
-    ∙ ap (with_line b) (runs_none (drop (b.cursor + r) b.line) (take (b.cursor + r) b.line) ∙ take_all (b.cursor + r) b.line all)
+pub first_gone : (old new : Buffer) (k l : ℕ) → old.cursor ≡ 0 → IsPending old k l → new ≡ without_positions (without_glyph_at_cursor (with_cluster_kept old)) → without_positions (shown 0 0 new) ≡ without_positions (without_glyph_at_cursor (with_cluster_kept (shown k l old)))
+first_gone old new k l start pending wrote =
+    ap without_positions (shown_none new 0 0 refl ∙ wrote)
+    ∙ ap (λ (b : Buffer). without_positions (without_glyph_at_cursor (with_cluster_kept b))) (sym (shown_none old k l (runs_start k l old.line old.cursor start pending.apart)))
 
--- nothing was kept
-pub first_gone : (old new : Buffer) (r k : ℕ) → 0 < r → old.cursor ≡ 0 → IsPending old r k → new ≡ without_positions (taken (handed_on old)) → length new.line + 1 ≡ length old.line → without_positions (shown 0 (r - 1) new) ≡ without_positions (taken (handed_on (shown k r old)))
-first_gone old new r k some start pending wrote count =
-    let n : length old.line ≡ r = pending.first start in
-    ap without_positions (shown_whole new (r - 1) 0 refl (omega (arith, count, n)) ∙ wrote)
-    ∙ ap (λ (b : Buffer). without_positions (taken (handed_on b))) (sym (shown_whole old r k (omega (arith, pending.room, n)) (omega (arith, n))))
+-- before the first turn no run is pending
+pub pending_none : (b : Buffer) → b.cursor ≤ length b.line → length b.line ≤ 0x3FFFFFFF → IsPending b 0 0
+unfolding AreRuns
+pending_none b within small =
+    record {
+      apart = tt;
+      in_line = within;
+      small = small;
+    }
 
 -- A glyph goes behind kept ones
-
-pub aside_now : (b : Buffer) (r k : ℕ) → 0 < r → IsPending b r k → shown_line k (b.cursor + (r - 1)) (set_aside b.line b.cursor) ≡ remove (shown_line k (b.cursor + r) b.line) b.cursor
-aside_now b r k some pending =
-    let s : ℕ = b.cursor + (r - 1) in
-    let same : b.cursor + r ≡ s + 1 = omega (arith, some) in
-    aside_shown b.line b.cursor s k (omega arith) (omega (arith, same, pending.room)) (subst (λ t. AreRuns k (drop t b.line) b.cursor) same pending.apart)
-    ∙ ap (λ t. remove (shown_line k t b.line) b.cursor) (sym same)
-
-pub aside_pending : (b : Buffer) (r k : ℕ) → 0 < r → 0 < b.cursor → IsPending b r k → IsPending (with_line b (set_aside b.line b.cursor)) (r - 1) k
-aside_pending b r k some kept pending =
-    let s : ℕ = b.cursor + (r - 1) in
-    let same : b.cursor + r ≡ s + 1 = omega (arith, some) in
-    let n : length (set_aside b.line b.cursor) ≡ length b.line = aside_count b.line b.cursor (omega (arith, some, pending.room)) in
-    record {
-      apart = aside_runs b.line b.cursor s k (omega arith) (omega (arith, same, pending.room)) (subst (λ t. AreRuns k (drop t b.line) b.cursor) same pending.apart);
-      room = omega (arith, n, some, pending.room);
-      first = λ e. omega (arith, e, kept);
-      small = omega (arith, n, pending.small);
-    }
 
 either : {X : Type 0} (next low some : Bool) (a b d : X) → some ≡ true → (if next then a else (if some then (if low then b else a) else d)) ≡ (if not next && low then b else a)
 either true low some a b d e = refl
 either false low some a b d e = ap (λ t. if t then (if low then b else a) else d) e
 
-next_same : (gs line : List hb_glyph_info_t) (p r : ℕ) → length gs ≡ p + r → glyph_at gs p ≡ glyph_at line p → (1 < r → glyph_at gs (p + 1) ≡ glyph_at line (p + 1)) → (nat_lt (p + 1) (length gs) && (cluster_at gs (p + 1) == (glyph_at gs p).cluster)) ≡ (nat_lt 1 r && (cluster_at line (p + 1) == cluster_at line p))
-next_same gs line p r n here next =
-    let test : nat_lt (p + 1) (length gs) ≡ nat_lt 1 r = grind (arith, nat_tests, n) in
-    ap (λ t. t && (cluster_at gs (p + 1) == (glyph_at gs p).cluster)) test
-    ∙ ap (λ (g : hb_glyph_info_t). nat_lt 1 r && (cluster_at gs (p + 1) == g.cluster)) here
-    ∙ next_same_by (nat_lt 1 r) (λ e. next (grind (arith, nat_tests, e)))
-  where
-    next_same_by : (b : Bool) → (b ≡ true → glyph_at gs (p + 1) ≡ glyph_at line (p + 1)) → (b && (cluster_at gs (p + 1) == cluster_at line p)) ≡ (b && (cluster_at line (p + 1) == cluster_at line p))
-    next_same_by true same = ap (λ (g : hb_glyph_info_t). g.cluster == cluster_at line p) (same refl)
-    next_same_by false same = refl
-
--- what the glyph that goes hands on, by the tests that the line itself is put to
-pub handed_by : (level p r k : ℕ) (line : List hb_glyph_info_t) → 0 < p → 0 < r → p + r ≤ length line → AreRuns k (drop (p + r) line) p
-    → handed_line level p (shown_line k (p + r) line) ≡ (if lowers line p r then handed_back (shown_line k (p + r) line) p (cluster_at line (p - 1)) (glyph_at line p) else shown_line k (p + r) line)
-unfolding handed_line
-handed_by level p r k line kept some within are =
-    let gs : List hb_glyph_info_t = shown_line k (p + r) line in
-    let n : length gs ≡ p + r = shown_length k p (p + r) line are (omega arith) within in
-    let here : glyph_at gs p ≡ glyph_at line p = shown_read k p (p + r) p line are (omega arith) within (omega arith) (omega (arith, some)) in
-    let back : glyph_at gs (p - 1) ≡ glyph_at line (p - 1) = shown_read k p (p + r) (p - 1) line are (omega arith) within (omega (arith, kept)) (omega (arith, some)) in
+-- the cluster of the glyph that goes is kept, by the tests that the line itself is put to
+kept_by : (level p k l : ℕ) (line : List hb_glyph_info_t) → 0 < p → p < length line → AreRuns k l line p
+    → cluster_kept_line level p (shown_line k l line) ≡ (if lowers line p then lowered_run (shown_line k l line) p (cluster_at line (p - 1)) (glyph_at line p) else shown_line k l line)
+unfolding cluster_kept_line
+kept_by level p k l line kept some are =
+    let gs : List hb_glyph_info_t = shown_line k l line in
+    let n : length gs ≡ length line = shown_length line k l p are (omega (arith, some)) in
+    let read : (j : ℕ) → p ≤ j + 1 → glyph_at gs j ≡ glyph_at line j = λ j le. shown_read line k l p j are (omega (arith, some)) le in
     let test : nat_lt 0 p ≡ true = grind (arith, nat_tests, kept) in
-    either (nat_lt (p + 1) (length gs) && (cluster_at gs (p + 1) == (glyph_at gs p).cluster)) (nat_lt (glyph_at gs p).cluster (cluster_at gs (p - 1))) (nat_lt 0 p) gs (handed_back gs p (cluster_at gs (p - 1)) (glyph_at gs p)) (if nat_lt (p + 1) (length gs) then merged_line level p p (p + 2) gs else gs) test
-    ∙ ap (λ t. if not t && nat_lt (glyph_at gs p).cluster (cluster_at gs (p - 1)) then handed_back gs p (cluster_at gs (p - 1)) (glyph_at gs p) else gs)
-    (next_same gs line p r n here (λ more. shown_read k p (p + r) (p + 1) line are (omega arith) within (omega arith) (omega (arith, more))))
-    ∙ ap (λ (g : hb_glyph_info_t). if not (nat_lt 1 r && (cluster_at line (p + 1) == cluster_at line p)) && nat_lt g.cluster (cluster_at gs (p - 1)) then handed_back gs p (cluster_at gs (p - 1)) g else gs) here
-    ∙ ap (λ (h : hb_glyph_info_t). if not (nat_lt 1 r && (cluster_at line (p + 1) == cluster_at line p)) && nat_lt (cluster_at line p) h.cluster then handed_back gs p h.cluster (glyph_at line p) else gs) back
+    either (nat_lt (p + 1) (length gs) && (cluster_at gs (p + 1) == (glyph_at gs p).cluster)) (nat_lt (glyph_at gs p).cluster (cluster_at gs (p - 1))) (nat_lt 0 p) gs (lowered_run gs p (cluster_at gs (p - 1)) (glyph_at gs p)) (if nat_lt (p + 1) (length gs) then merged_line level p p (p + 2) gs else gs) test
+    ∙ ap (λ i. if not (nat_lt (p + 1) i && (cluster_at gs (p + 1) == (glyph_at gs p).cluster)) && nat_lt (glyph_at gs p).cluster (cluster_at gs (p - 1)) then lowered_run gs p (cluster_at gs (p - 1)) (glyph_at gs p) else gs) n
+    ∙ ap (λ (h : hb_glyph_info_t). if not (nat_lt (p + 1) (length line) && (h.cluster == (glyph_at gs p).cluster)) && nat_lt (glyph_at gs p).cluster (cluster_at gs (p - 1)) then lowered_run gs p (cluster_at gs (p - 1)) (glyph_at gs p) else gs) (read (p + 1) (omega arith))
+    ∙ ap (λ (h : hb_glyph_info_t). if not (nat_lt (p + 1) (length line) && (cluster_at line (p + 1) == h.cluster)) && nat_lt h.cluster (cluster_at gs (p - 1)) then lowered_run gs p (cluster_at gs (p - 1)) h else gs) (read p (omega arith))
+    ∙ ap (λ (h : hb_glyph_info_t). if not (nat_lt (p + 1) (length line) && (cluster_at line (p + 1) == cluster_at line p)) && nat_lt (cluster_at line p) h.cluster then lowered_run gs p h.cluster (glyph_at line p) else gs) (read (p - 1) (omega (arith, kept)))
 
--- the glyph is gone, with what it handed on
+-- the glyph is gone, and its cluster kept
 abbrev pub gone : Buffer → Buffer
-gone b = record (taken (handed_on b)) { positions = b.positions }
+gone b = without_positions (without_glyph_at_cursor (with_cluster_kept b))
 
-gone_by : (b : Buffer) (r k : ℕ) (low : Bool) → 0 < b.cursor → 0 < r → IsPending b r k → lowers b.line b.cursor r ≡ low
-    → gone (shown k r b) ≡ with_line b (remove (if low then handed_back (shown_line k (b.cursor + r) b.line) b.cursor (cluster_at b.line (b.cursor - 1)) (glyph_at b.line b.cursor) else shown_line k (b.cursor + r) b.line) b.cursor)
-gone_by b r k low kept some pending is =
-    ap (λ gs. with_line b (remove gs b.cursor)) (handed_by b.cluster_level b.cursor r k b.line kept some (omega (arith, pending.room)) pending.apart)
-    ∙ ap (λ t. with_line b (remove (if t then handed_back (shown_line k (b.cursor + r) b.line) b.cursor (cluster_at b.line (b.cursor - 1)) (glyph_at b.line b.cursor) else shown_line k (b.cursor + r) b.line) b.cursor)) is
+gone_by : (b : Buffer) (k l : ℕ) (low : Bool) → 0 < b.cursor → b.cursor < length b.line → IsPending b k l → lowers b.line b.cursor ≡ low
+    → gone (shown k l b) ≡ without_positions (with_line b (remove (if low then lowered_run (shown_line k l b.line) b.cursor (cluster_at b.line (b.cursor - 1)) (glyph_at b.line b.cursor) else shown_line k l b.line) b.cursor))
+gone_by b k l low kept some pending is =
+    ap (λ gs. without_positions (with_line b (remove gs b.cursor))) (kept_by b.cluster_level b.cursor k l b.line kept some pending.apart)
+    ∙ ap (λ t. without_positions (with_line b (remove (if t then lowered_run (shown_line k l b.line) b.cursor (cluster_at b.line (b.cursor - 1)) (glyph_at b.line b.cursor) else shown_line k l b.line) b.cursor))) is
 
-pub behind_stays : (old new : Buffer) (r k : ℕ) → 0 < old.cursor → 0 < r → IsPending old r k → lowers old.line old.cursor r ≡ false → new ≡ with_line old (set_aside old.line old.cursor) → shown k (r - 1) new ≡ gone (shown k r old)
-behind_stays old new r k kept some pending is wrote =
-    ap (shown k (r - 1)) wrote
-    ∙ ap (with_line old) (aside_now old r k some pending)
-    ∙ sym (gone_by old r k false kept some pending is)
+-- the buffer without its glyph at the cursor and without positions
+abbrev pub skipping : Buffer → Buffer
+skipping b = without_positions (with_line b (remove b.line b.cursor))
 
-pub behind_lowers : (old aside new : Buffer) (r k m : ℕ) (g : hb_glyph_info_t) → 0 < old.cursor → 0 < r → IsPending old r k → lowers old.line old.cursor r ≡ true → g ≡ glyph_at old.line old.cursor → aside ≡ with_line old (set_aside old.line old.cursor)
-    → shown m (r - 1) new ≡ with_line aside (handed_back (shown_line k (aside.cursor + (r - 1)) aside.line) aside.cursor (cluster_at aside.line (aside.cursor - 1)) g)
-    → shown m (r - 1) new ≡ gone (shown k r old)
-behind_lowers old aside new r k m g kept some pending is read wrote lowered =
+pub skipping_count : (b : Buffer) → b.cursor < length b.line → length (skipping b).line + 1 ≡ length b.line
+skipping_count b some =
+    let n : length (remove b.line b.cursor) ≡ length (take b.cursor b.line) + (length b.line - (b.cursor + 1)) = ap length (removed_parts b.line b.cursor some) ∙ length-append (take b.cursor b.line) _ ∙ ap (λ i. length (take b.cursor b.line) + i) (length-drop (b.cursor + 1) b.line) in
+    omega (arith, n, some, length-take-le b.cursor b.line (omega (arith, some)))
+
+pub skipping_pending : (b : Buffer) (k l : ℕ) → b.cursor < length b.line → IsPending b k l → IsPending (skipping b) k l
+skipping_pending b k l some pending =
+    let n : length (remove b.line b.cursor) + 1 ≡ length b.line = skipping_count b some in
+    record {
+      apart = runs_alike k l b.line (remove b.line b.cursor) b.cursor (alike_without b.line b.cursor some) pending.apart;
+      in_line = omega (arith, n, some);
+      small = omega (arith, n, pending.small);
+    }
+
+pub behind_stays : (old new : Buffer) (k l : ℕ) → 0 < old.cursor → old.cursor < length old.line → IsPending old k l → lowers old.line old.cursor ≡ false → new ≡ skipping old → shown k l new ≡ gone (shown k l old)
+behind_stays old new k l kept some pending is wrote =
+    ap (shown k l) wrote
+    ∙ ap (λ gs. without_positions (with_line old gs)) (shown_without old.line k l old.cursor some pending.apart)
+    ∙ sym (gone_by old k l false kept some pending is)
+
+pub behind_lowers : (old skip new : Buffer) (k l b m : ℕ) (g : hb_glyph_info_t) → 0 < old.cursor → old.cursor < length old.line → IsPending old k l → lowers old.line old.cursor ≡ true → g ≡ glyph_at old.line old.cursor → skip ≡ skipping old
+    → shown b m new ≡ with_line skip (lowered_run (shown_line k l skip.line) skip.cursor (cluster_at skip.line (skip.cursor - 1)) g)
+    → shown b m new ≡ gone (shown k l old)
+behind_lowers old skip new k l b m g kept some pending is read wrote lowered =
     let p : ℕ = old.cursor in
-    let line : List hb_glyph_info_t = set_aside old.line p in
-    let gs : List hb_glyph_info_t = shown_line k (p + r) old.line in
-    let n : length gs ≡ p + r = shown_length k p (p + r) old.line pending.apart (omega arith) (omega (arith, pending.room)) in
+    let gs : List hb_glyph_info_t = shown_line k l old.line in
+    let n : length gs ≡ length old.line = shown_length old.line k l p pending.apart pending.in_line in
     lowered
-    ∙ ap (λ (b : Buffer). with_line b (handed_back (shown_line k (b.cursor + (r - 1)) b.line) b.cursor (cluster_at b.line (b.cursor - 1)) g)) wrote
-    ∙ ap (λ (h : hb_glyph_info_t). with_line old (handed_back (shown_line k (p + (r - 1)) line) p h.cluster g)) (aside_read old.line p (p - 1) (omega (arith, kept)) (omega (arith, pending.room, some)))
-    ∙ ap (λ h. with_line old (handed_back (shown_line k (p + (r - 1)) line) p (cluster_at old.line (p - 1)) h)) read
-    ∙ ap (λ l. with_line old (handed_back l p (cluster_at old.line (p - 1)) (glyph_at old.line p))) (aside_now old r k some pending)
-    ∙ ap (with_line old) (handed_without gs p (cluster_at old.line (p - 1)) (glyph_at old.line p) (omega (arith, n, some)))
-    ∙ sym (gone_by old r k true kept some pending is)
+    ∙ ap (λ (t : Buffer). with_line t (lowered_run (shown_line k l t.line) t.cursor (cluster_at t.line (t.cursor - 1)) g)) wrote
+    ∙ ap (λ c. without_positions (with_line old (lowered_run (shown_line k l (remove old.line p)) p c g))) (sym (alike_without old.line p some (p - 1) (omega (arith, kept))))
+    ∙ ap (λ h. without_positions (with_line old (lowered_run (shown_line k l (remove old.line p)) p (cluster_at old.line (p - 1)) h))) read
+    ∙ ap (λ xs. without_positions (with_line old (lowered_run xs p (cluster_at old.line (p - 1)) (glyph_at old.line p)))) (shown_without old.line k l p some pending.apart)
+    ∙ ap (λ xs. without_positions (with_line old xs)) (lowered_without gs p (cluster_at old.line (p - 1)) (glyph_at old.line p) (omega (arith, n, some)))
+    ∙ sym (gone_by old k l true kept some pending is)
 
 -- the glyph at the cursor is shown as it is
-pub shown_here : (b : Buffer) (r k p : ℕ) → p ≡ b.cursor → 0 < r → IsPending b r k → glyph_at (shown k r b).line p ≡ glyph_at b.line p
-shown_here b r k p place some pending = shown_read k b.cursor (b.cursor + r) p b.line pending.apart (omega arith) (omega (arith, pending.room)) (omega (arith, place)) (omega (arith, place, some))
-
--- before the first turn no run is pending
-pub pending_none : (b : Buffer) (n : ℕ) → b.cursor ≡ 0 → length b.line ≡ n → n ≤ 0x3FFFFFFF → IsPending b n 0
-unfolding AreRuns
-pending_none b n start count small =
-    record {
-      apart = tt;
-      room = omega (arith, start, count);
-      first = λ e. count;
-      small = omega (arith, count, small);
-    }
+pub shown_here : (b : Buffer) (k l p : ℕ) → p ≡ b.cursor → IsPending b k l → glyph_at (shown k l b).line p ≡ glyph_at b.line p
+shown_here b k l p place pending = shown_read b.line k l b.cursor p pending.apart pending.in_line (omega (arith, place))

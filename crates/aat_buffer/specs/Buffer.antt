@@ -1,11 +1,11 @@
 -- What a buffer is to its callers, and what each plain call leaves of it.
-use Rattle.std.specs.Prelude.{option_map, pos, reverse, replicate, unwrap_or, ◌+◌, remove, insert, ◌-◌, nat_lt, if◌then◌else◌, ℕ, ℤ, ◌≤◌, Bool, true, false, List, [], ◌∷◌, ◌++◌, Option, Some, None, length, slice_index_or, slice_set}
-use Rattle.aat_buffer.specs.declared.glyph.hb_glyph_info_t.{hb_glyph_info_t}
-use Rattle.aat_buffer.specs.declared.glyph.GlyphPosition.{GlyphPosition}
-use Rattle.aat_buffer.specs.declared.glyph.Direction.{Direction}
-use Rattle.aat_buffer.specs.declared.glyph.Direction.TheVariants.{LeftToRight}
-use Rattle.aat_buffer.specs.declared.flags.BufferFlags.{BufferFlags}
-use Rattle.aat_buffer.specs.declared.flags.ScratchFlags.{ScratchFlags}
+use Rattle.std.specs.Prelude.{min, option_map, pos, reverse, replicate, unwrap_or, ◌+◌, remove, insert, ◌-◌, nat_lt, if◌then◌else◌, ℕ, ℤ, ◌≤◌, Bool, true, false, List, [], ◌∷◌, ◌++◌, Option, Some, None, length, slice_index_or, slice_set}
+use Rattle.aat_glyph.specs.declared.glyph.hb_glyph_info_t.{hb_glyph_info_t}
+use Rattle.aat_glyph.specs.declared.glyph.GlyphPosition.{GlyphPosition}
+use Rattle.aat_glyph.specs.declared.glyph.Direction.{Direction}
+use Rattle.aat_glyph.specs.declared.glyph.Direction.TheVariants.{LeftToRight}
+use Rattle.aat_glyph.specs.declared.flags.BufferFlags.{BufferFlags}
+use Rattle.aat_glyph.specs.declared.flags.ScratchFlags.{ScratchFlags}
 
 -- a line of glyphs with a cursor, the positions where they stand, and the plain fields
 pub record Buffer : Type 0 where
@@ -22,7 +22,19 @@ pub record Buffer : Type 0 where
 
 -- an empty line without positions, left to right, with no flag
 abbrev pub empty_buffer : ℕ → ℤ → Buffer
-empty_buffer most ops = record { line = []; cursor = 0; positions = None; direction = LeftToRight; cluster_level = 0; flags = record { 0 = 0 }; scratch_flags = record { 0 = 0 }; max_ops = ops; max_len = most; successful = true }
+empty_buffer most ops =
+    record {
+      line = [];
+      cursor = 0;
+      positions = None;
+      direction = LeftToRight;
+      cluster_level = 0;
+      flags = record { 0 = 0 };
+      scratch_flags = record { 0 = 0 };
+      max_ops = ops;
+      max_len = most;
+      successful = true;
+    }
 
 -- the line is gs
 abbrev pub with_line : Buffer → List hb_glyph_info_t → Buffer
@@ -92,13 +104,21 @@ with_positions b qs = record b { positions = Some qs }
 abbrev pub skipped : Buffer → Buffer
 skipped b = record b { line = remove b.line b.cursor; positions = None }
 
--- the place of the glyph that one put out is a copy of: the cursor, or the last place where the cursor is at the end
-abbrev pub model_place : Buffer → ℕ
-model_place b = if nat_lt b.cursor (length b.line) then b.cursor else length b.line - 1
+-- the glyph that one put in at place i is a copy of: that at place i, or the last one where i is past the line
+abbrev pub model_at : List hb_glyph_info_t → ℕ → hb_glyph_info_t
+model_at gs i = glyph_at gs (min i (length gs - 1))
 
--- a copy with the glyph id g goes in at the cursor, which moves past it; nothing goes into an empty line; the positions are dropped
+-- a copy with the glyph id g goes in at the cursor, which moves past it; nothing goes into an empty line; the
+-- positions are dropped
 abbrev pub output : Buffer → ℕ → Buffer
-output b g = if nat_lt 0 (length b.line) then (record b { line = insert b.line b.cursor (record (glyph_at b.line (model_place b)) { glyph_id = g }); cursor = b.cursor + 1; positions = None }) else record b { positions = None }
+output b g =
+    if nat_lt 0 (length b.line)
+    then (record b {
+      line = insert b.line b.cursor (record (model_at b.line b.cursor) { glyph_id = g });
+      cursor = b.cursor + 1;
+      positions = None;
+    })
+    else record b { positions = None }
 
 -- the glyph at the cursor gets the glyph id g, and the cursor moves on
 abbrev pub replaced : Buffer → ℕ → Buffer
@@ -110,7 +130,15 @@ reversed b = record b { line = reverse b.line; positions = option_map reverse b.
 
 -- a position that is all zero
 abbrev pub zero_position : GlyphPosition
-zero_position = record { x_advance = pos 0; y_advance = pos 0; x_offset = pos 0; y_offset = pos 0; attach_type = 0; attach_chain = pos 0 }
+zero_position =
+    record {
+      x_advance = pos 0;
+      y_advance = pos 0;
+      x_offset = pos 0;
+      y_offset = pos 0;
+      attach_type = 0;
+      attach_chain = pos 0;
+    }
 
 -- one position a glyph, all zero
 abbrev pub with_zero_positions : Buffer → Buffer

@@ -1,7 +1,7 @@
 -- Examples that the definitions of marks, merges and removal compute to. A test's contract names each list of them.
 use Rattle.std.specs.Prelude.{ℕ, ◌≡◌, ◌==◌, List, [], ◌∷◌, map, pos, Some, None}
-use Rattle.aat_buffer.specs.declared.glyph.hb_glyph_info_t.{hb_glyph_info_t}
-use Rattle.aat_buffer.specs.declared.glyph.GlyphPosition.{GlyphPosition}
+use Rattle.aat_glyph.specs.declared.glyph.hb_glyph_info_t.{hb_glyph_info_t}
+use Rattle.aat_glyph.specs.declared.glyph.GlyphPosition.{GlyphPosition}
 use Rattle.aat_buffer.specs.Buffer.{Buffer, empty_buffer, no_glyph, zero_position, with_cluster_level, with_flags}
 use Rattle.aat_buffer.specs.Marks.{unsafe_to_break, unsafe_to_concat, merge_clusters, merge_out_clusters}
 use Rattle.aat_buffer.specs.Removal.{removed, is_deleted}
@@ -69,7 +69,8 @@ pub record MarkExamples : Type 0 where
   pub all_but_least : masks_of (unsafe_to_break rising None None) ≡ 0 ∷ 3 ∷ 3 ∷ 3 ∷ 3 ∷ []
   pub least_of_span : masks_of (unsafe_to_break rising (Some 1) (Some 4)) ≡ 0 ∷ 0 ∷ 0 ∷ 3 ∷ 0 ∷ []
   pub least_last : masks_of (unsafe_to_break (falling 2) (Some 1) (Some 9)) ≡ 0 ∷ 3 ∷ 0 ∷ 0 ∷ []
-  pub keeps_other_bits : masks_of (unsafe_to_break (at_cursor 0 (masked 0 8 ∷ masked 1 9 ∷ [])) None None) ≡ 8 ∷ 11 ∷ []
+  pub keeps_other_bits :
+      masks_of (unsafe_to_break (at_cursor 0 (masked 0 8 ∷ masked 1 9 ∷ [])) None None) ≡ 8 ∷ 11 ∷ []
   pub short_span_stays : masks_of (unsafe_to_break rising (Some 2) (Some 3)) ≡ 0 ∷ 0 ∷ 0 ∷ 0 ∷ 0 ∷ []
   pub concat_whole_span : masks_of (unsafe_to_concat (asking rising) (Some 1) (Some 3)) ≡ 0 ∷ 2 ∷ 2 ∷ 0 ∷ 0 ∷ []
   pub concat_one_glyph : masks_of (unsafe_to_concat (asking (at_cursor 0 (line_of (7 ∷ [])))) None None) ≡ 2 ∷ []
@@ -91,11 +92,17 @@ place n = record zero_position { x_advance = pos n }
 abbrev pub standing : List GlyphPosition → Buffer → Buffer
 standing qs b = record b { positions = Some qs }
 
+-- a line of three glyphs, of which the middle one is deleted
+abbrev pub three_glyphs : Buffer
+three_glyphs = at_cursor 2 (in_cluster 0 ∷ gone 1 0 ∷ in_cluster 2 ∷ [])
+
 -- what removals leave
 pub record RemovalExamples : Type 0 where
   pub next_has_it : left_clusters (gone 0 0 ∷ in_cluster 0 ∷ in_cluster 1 ∷ []) ≡ 0 ∷ 1 ∷ []
   pub next_has_it_inside : left_clusters (in_cluster 5 ∷ gone 4 0 ∷ in_cluster 4 ∷ []) ≡ 5 ∷ 4 ∷ []
-  pub kept_take_lower : left_clusters (in_cluster 9 ∷ in_cluster 5 ∷ in_cluster 5 ∷ gone 4 0 ∷ in_cluster 3 ∷ []) ≡ 9 ∷ 4 ∷ 4 ∷ 3 ∷ []
+  pub kept_take_lower :
+      left_clusters (in_cluster 9 ∷ in_cluster 5 ∷ in_cluster 5 ∷ gone 4 0 ∷ in_cluster 3 ∷ [])
+      ≡ 9 ∷ 4 ∷ 4 ∷ 3 ∷ []
   pub kept_take_its_flags : left_masks (masked 5 15 ∷ masked 5 9 ∷ gone 4 18 ∷ []) ≡ 10 ∷ 10 ∷ []
   pub kept_are_lower : left_clusters (in_cluster 0 ∷ gone 1 0 ∷ in_cluster 2 ∷ []) ≡ 0 ∷ 2 ∷ []
   pub last_goes : left_clusters (in_cluster 2 ∷ gone 1 0 ∷ []) ≡ 1 ∷ []
@@ -103,7 +110,12 @@ pub record RemovalExamples : Type 0 where
   pub none_kept_higher : left_clusters (gone 3 0 ∷ in_cluster 2 ∷ []) ≡ 2 ∷ []
   pub asked_as_it_stands : clusters_of (removed (λ g. g.cluster == 0) (at_cursor 0 (line_of (0 ∷ 1 ∷ 2 ∷ [])))) ≡ []
   pub all_go : left_clusters (gone 1 0 ∷ gone 0 0 ∷ []) ≡ []
-  pub apart_kept_take_lower : clusters_of (removed is_deleted (apart (at_cursor 0 (in_cluster 2 ∷ gone 1 0 ∷ [])))) ≡ 1 ∷ []
-  pub apart_none_kept_marks : masks_of (removed is_deleted (apart (at_cursor 0 (gone 0 0 ∷ in_cluster 1 ∷ [])))) ≡ 3 ∷ []
-  pub positions_go_along : (removed is_deleted (standing (place 1 ∷ place 2 ∷ place 3 ∷ []) (at_cursor 2 (in_cluster 0 ∷ gone 1 0 ∷ in_cluster 2 ∷ [])))).positions ≡ Some (place 1 ∷ place 3 ∷ [])
-  pub positions_stand_on_nothing : (removed is_deleted (standing (place 1 ∷ []) (at_cursor 1 (gone 0 0 ∷ [])))).positions ≡ Some []
+  pub apart_kept_take_lower :
+      clusters_of (removed is_deleted (apart (at_cursor 0 (in_cluster 2 ∷ gone 1 0 ∷ [])))) ≡ 1 ∷ []
+  pub apart_none_kept_marks :
+      masks_of (removed is_deleted (apart (at_cursor 0 (gone 0 0 ∷ in_cluster 1 ∷ [])))) ≡ 3 ∷ []
+  pub positions_go_along :
+      (removed is_deleted (standing (place 1 ∷ place 2 ∷ place 3 ∷ []) three_glyphs)).positions
+      ≡ Some (place 1 ∷ place 3 ∷ [])
+  pub positions_stand_on_nothing :
+      (removed is_deleted (standing (place 1 ∷ []) (at_cursor 1 (gone 0 0 ∷ [])))).positions ≡ Some []

@@ -1,10 +1,9 @@
+pub use Rattle.aat_glyph.specs.Directions
+pub use Rattle.aat_glyph.specs.Errors
 pub mod Buffer
-pub mod Carried
-pub mod Directions
-pub mod Errors
+pub mod Clusters
 pub mod Examples
-pub mod Inside
-pub mod Lending
 pub mod Marks
 pub mod Removal
-pub mod Pending
+pub mod facts
+pub mod inside

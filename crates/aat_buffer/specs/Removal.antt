@@ -5,40 +5,47 @@ use Rattle.std.specs.Borrow.{Bor}
 pub use Rattle.aat_buffer.specs.Buffer.{glyph_at}
 use Rattle.aat_buffer.specs.Buffer.{Buffer, with_cursor, with_line}
 use Rattle.aat_buffer.specs.Marks.{on_span, cluster_at, run_before, merged_line}
-use Rattle.aat_buffer.specs.declared.glyph.hb_glyph_info_t.{hb_glyph_info_t}
+use Rattle.aat_glyph.specs.declared.glyph.hb_glyph_info_t.{hb_glyph_info_t}
 
 -- the filter answers by this test
-abbrev pub AnswersBy : {F : Type 0} → Shared F (Bor hb_glyph_info_t × Unit {0}) Bool → F → (hb_glyph_info_t → Bool) → Type 0
+abbrev pub AnswersBy :
+    {F : Type 0} → Shared F (Bor hb_glyph_info_t × Unit {0}) Bool → F → (hb_glyph_info_t → Bool) → Type 0
 AnswersBy fn f test = (g : hb_glyph_info_t) (r : Bool) → FnReturnsAt fn f g r → test g ≡ r
 
--- setting a cluster with a mask: where it changes, the DEFINED flags (7) become those of the mask
-abbrev pub with_cluster_and_flags : ℕ → ℕ → hb_glyph_info_t → hb_glyph_info_t
-with_cluster_and_flags c m g = if g.cluster == c then g else record g { cluster = c; mask = bit_or (bit_and g.mask 0xFFFFFFF8) (bit_and m 7) }
+-- a glyph with the cluster of h, and the DEFINED flags (7) of h
+abbrev pub with_cluster_and_flags : hb_glyph_info_t → hb_glyph_info_t → hb_glyph_info_t
+with_cluster_and_flags h g =
+    record g { cluster = h.cluster; mask = bit_or (bit_and g.mask 0xFFFFFFF8) (bit_and h.mask 7) }
 
--- the glyphs just before place p that have the cluster `last` get that of g, with its flags
-unfoldable pub handed_back : List hb_glyph_info_t → ℕ → ℕ → hb_glyph_info_t → List hb_glyph_info_t
-handed_back gs p last g = on_span (map (with_cluster_and_flags g.cluster g.mask)) (p - run_before gs 0 p last) p gs
+-- the glyphs just before place p that have the cluster `last` get that of g, which is another one, with its flags
+unfoldable pub lowered_run : List hb_glyph_info_t → ℕ → ℕ → hb_glyph_info_t → List hb_glyph_info_t
+lowered_run gs p last g = on_span (map (with_cluster_and_flags g)) (p - run_before gs 0 p last) p gs
 
--- before the glyph at place p goes, where those before p are kept: the next glyph has its cluster; or the last kept ones take it where it is lower than theirs; or, where none is kept, it is merged with the next
-unfoldable pub handed_line : ℕ → ℕ → List hb_glyph_info_t → List hb_glyph_info_t
-handed_line level p gs =
+-- before the glyph at place p goes, where those before p are kept: the next glyph has its cluster; or the last kept
+-- ones take it where it is lower than theirs; or, where none is kept, it is merged with the next
+unfoldable pub cluster_kept_line : ℕ → ℕ → List hb_glyph_info_t → List hb_glyph_info_t
+cluster_kept_line level p gs =
     let g = glyph_at gs p in
     let last = cluster_at gs (p - 1) in
     if nat_lt (p + 1) (length gs) && (cluster_at gs (p + 1) == g.cluster) then gs
-    else (if nat_lt 0 p then (if nat_lt g.cluster last then handed_back gs p last g else gs)
+    else (if nat_lt 0 p then (if nat_lt g.cluster last then lowered_run gs p last g else gs)
     else (if nat_lt (p + 1) (length gs) then merged_line level p p (p + 2) gs else gs))
 
--- the cluster of the glyph at the cursor is handed on
-abbrev pub handed_on : Buffer → Buffer
-handed_on b = with_line b (handed_line b.cluster_level b.cursor b.line)
+-- before the glyph at the cursor goes, its cluster is kept
+abbrev pub with_cluster_kept : Buffer → Buffer
+with_cluster_kept b = with_line b (cluster_kept_line b.cluster_level b.cursor b.line)
 
 -- the glyph at the cursor goes, with its position
-abbrev pub taken : Buffer → Buffer
-taken b = record b { line = remove b.line b.cursor; positions = option_map (λ qs. remove qs b.cursor) b.positions }
+abbrev pub without_glyph_at_cursor : Buffer → Buffer
+without_glyph_at_cursor b =
+    record b { line = remove b.line b.cursor; positions = option_map (λ qs. remove qs b.cursor) b.positions }
 
 -- the glyph at the cursor, behind the kept ones, goes where the test names it, and else is kept
 abbrev pub removal_step : (hb_glyph_info_t → Bool) → Buffer → Buffer
-removal_step test b = if test (glyph_at b.line b.cursor) then taken (handed_on b) else with_cursor b (b.cursor + 1)
+removal_step test b =
+    if test (glyph_at b.line b.cursor)
+    then without_glyph_at_cursor (with_cluster_kept b)
+    else with_cursor b (b.cursor + 1)
 
 -- the next n glyphs, one after another
 unfoldable pub removal : ℕ → (hb_glyph_info_t → Bool) → Buffer → Buffer
@@ -49,6 +56,6 @@ removal (suc n) test b = removal n test (removal_step test b)
 abbrev pub removed : (hb_glyph_info_t → Bool) → Buffer → Buffer
 removed test b = with_cursor (removal (length b.line) test (with_cursor b 0)) 0
 
--- a glyph that shaping has deleted has the glyph id 0xFFFF
+-- a glyph that shaping has deleted has the glyph id 0xFFFF (the manual's chapter on the `morx` table)
 abbrev pub is_deleted : hb_glyph_info_t → Bool
 is_deleted g = g.glyph_id == 0xFFFF

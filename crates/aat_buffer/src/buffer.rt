@@ -1,31 +1,28 @@
-// The buffer: a line of glyphs with a cursor.
-ghost use Rattle.std.specs.Prelude.{◌≡◌, ◌+◌, ◌-◌, ◌<◌, ◌≤◌, ◌↔◌, length, slice_get, is_some, IsTrue, IsOk, OnOk, OnErr, IfErr, IfSome, IsErrOf, All, map, take, ◌^◌, vec_len, vec_capacity};
-ghost use Rattle.std.specs.VecDeque.{deque_len, deque_capacity};
+//! The buffer: a line of glyphs with a cursor.
+ghost use Rattle.std.specs.Prelude.{◌≡◌, ◌+◌, ◌-◌, ◌<◌, ◌≤◌, ◌↔◌, length, slice_get, is_some, IsTrue, IsOk, OnOk, OnErr, IfErr, IfSome, IsErrOf, All, vec_len};
 ghost use Rattle.std.specs.Bool.{OnTrue};
 ghost use Rattle.std.specs.Borrow.{sem};
-ghost use Rattle.aat_buffer.specs.Buffer.{Buffer, empty_buffer, added, failed, with_cursor, with_line, without_positions, skipped, replaced, reversed, with_zero_positions, position_list, position_at, output, model_place, glyph_at, with_info, Is16Bit, with_direction, with_cluster_level, with_flags, with_scratch_flags, with_max_ops, with_positions};
-ghost use Rattle.aat_buffer.specs.Carried.{items_of};
-ghost use Rattle.aat_buffer.specs.Pending.{set_aside};
-ghost use Rattle.aat_buffer.specs.Lending.{LendsInfo, LendsCur, LendsPosition};
+ghost use Rattle.aat_buffer.specs.Buffer.{Buffer, empty_buffer, added, failed, with_cursor, with_line, without_positions, skipped, replaced, reversed, with_zero_positions, position_list, position_at, output, model_at, glyph_at, with_info, Is16Bit, with_direction, with_cluster_level, with_flags, with_scratch_flags, with_max_ops, with_positions};
+ghost use Rattle.aat_buffer.specs.inside.Carried.{items_of};
+ghost use Rattle.aat_buffer.specs.inside.Lending.{LendsInfo, LendsCur, LendsPosition};
 
-use crate::error::BufferError;
-use crate::flags::{BufferFlags, ScratchFlags};
-use crate::glyph::{
-    Direction, GlyphPosition, HB_BUFFER_CLUSTER_LEVEL_MONOTONE_GRAPHEMES, hb_glyph_info_t,
+use crate::gap_line::GapLine;
+use aat_glyph::{
+    BufferError, BufferFlags, Direction, GlyphPosition, HB_BUFFER_CLUSTER_LEVEL_MONOTONE_GRAPHEMES,
+    ScratchFlags, hb_glyph_info_t,
 };
 use bitflags::Flags;
-use std::alloc::{AllocError, Allocator, Global};
-use std::collections::VecDeque;
+use std::alloc::{Allocator, Global};
 use std::marker::Model;
 use std::mem;
 
-/// A line of glyphs with a cursor, seen by contracts as the record `Buffer` of specs/. All places are places of the line.
+/// A line of glyphs with a cursor, seen by contracts as the record `Buffer` of specs/. All places are places of
+/// the line.
 ///
-/// Calls that return no `Result` take no memory.
+/// Calls that return no `Result` take no memory, and neither does `clear_output`.
 #[derive(Drop)]
 pub struct hb_buffer_t<A: Allocator + Copy = Global> {
-    before: Vec<hb_glyph_info_t, A>,
-    after: VecDeque<hb_glyph_info_t, A>,
+    line: GapLine<A>,
     positions: Vec<GlyphPosition, A>,
     have_positions: bool,
     direction: Direction,
@@ -42,7 +39,7 @@ impl<A: Allocator + Copy> Model for hb_buffer_t<A> {
 
     ghost Value = { Buffer };
 
-    ghost use Rattle.aat_buffer.specs.Inside.{buffer_of, IsSoundInside};
+    ghost use Rattle.aat_buffer.specs.inside.Inside.{buffer_of, IsSoundInside};
 
     ghost view = { buffer_of };
 
@@ -50,14 +47,15 @@ impl<A: Allocator + Copy> Model for hb_buffer_t<A> {
 }
 
 impl<A: Allocator + Copy> hb_buffer_t<A> {
-    /// An empty line without positions, left to right, at cluster level 0, without flags, that has not failed. `max_len` is the greatest length of the line, in glyphs, and has to be at most 0x3FFFFFFF; `max_ops` is the budget of operations.
+    /// An empty line without positions, left to right, at cluster level 0, without flags, that has not failed.
+    /// `max_len` is the greatest length of the line, in glyphs, and has to be at most 0x3FFFFFFF; `max_ops` is
+    /// the budget of operations.
     pub fn new(alloc: A, max_len: usize, max_ops: i32) -> hb_buffer_t<A>
         requires { max_len ≤ 0x3FFFFFFF }
         ensures { result ≡ empty_buffer max_len max_ops }
     {
         hb_buffer_t {
-            before: Vec::new(alloc),
-            after: VecDeque::new(alloc),
+            line: GapLine::new(alloc),
             positions: Vec::new(alloc),
             have_positions: false,
             direction: Direction::LeftToRight,
@@ -76,7 +74,7 @@ impl<A: Allocator + Copy> hb_buffer_t<A> {
         ensures within { result ≤ self.now.max_len }
         ensures small { result ≤ 0x3FFFFFFF }
     {
-        self.before.len() + self.after.len()
+        self.line.len()
     }
 
     /// Whether the line has no glyph.
@@ -91,7 +89,7 @@ impl<A: Allocator + Copy> hb_buffer_t<A> {
         ensures place { result ≡ self.now.cursor }
         ensures within { result ≤ length self.now.line }
     {
-        self.before.len()
+        self.line.cursor()
     }
 
     /// Whether positions stand. They may do so on an empty line too.
@@ -130,7 +128,8 @@ impl<A: Allocator + Copy> hb_buffer_t<A> {
         self.cluster_level
     }
 
-    /// Sets the cluster level. A number that is none of the constants counts as 0 in each call. Nothing else changes.
+    /// Sets the cluster level. A number that is none of the constants counts as 0 in each call. Nothing else
+    /// changes.
     pub fn set_cluster_level(&mut self, level: u8)
         ensures { self.new ≡ with_cluster_level self.old level }
     {
@@ -199,7 +198,8 @@ impl<A: Allocator + Copy> hb_buffer_t<A> {
 
     /// Puts a glyph last, and drops the positions. O(1), amortised.
     ///
-    /// Refused as 1, `TooLong`, where the line has its greatest length already, and else as 2, `OutOfMemory`, where it gets no memory. The buffer has failed then, and all else is as before.
+    /// Refused as 1, `TooLong`, where the line has its greatest length already, and else as 2, `OutOfMemory`,
+    /// where it gets no memory. The buffer has failed then, and all else is as before.
     pub fn add(&mut self, info: hb_glyph_info_t) -> Result<(), BufferError>
         ensures ok { OnOk result (self.new ≡ added self.old info) }
         ensures too_long { IsErrOf result BufferError.TooLong ↔ (self.old.max_len ≤ length self.old.line) }
@@ -208,10 +208,9 @@ impl<A: Allocator + Copy> hb_buffer_t<A> {
         if self.len() >= self.max_len {
             return Err(self.refuse(BufferError::TooLong));
         }
-        if make_room(&mut self.before, &mut self.after).is_err() {
+        if self.line.push(info).is_err() {
             return Err(self.refuse(BufferError::OutOfMemory));
         }
-        self.after.push_back_reserved(info);
         self.have_positions = false;
         Ok(())
     }
@@ -223,27 +222,18 @@ impl<A: Allocator + Copy> hb_buffer_t<A> {
         ensures value { slice_get self.now.line i ≡ Some result.now }
         ensures read { result.now ≡ glyph_at self.now.line i }
     {
-        let p = self.before.len();
-        if i < p {
-            &self.before[i]
-        } else {
-            &self.after[i - p]
-        }
+        self.line.get(i)
     }
 
     /// The glyph at place `i`, which has to be below the length, to be written.
+    #[tactic(auto, using(std::proofs::lemmas::Option::get_or_from_slice_get))]
     pub fn info_mut(&mut self, i: usize) -> &mut hb_glyph_info_t
         requires { i < length self.old.line }
         ensures* writes_back { sem 𝓛 (LendsInfo A.row A.Allocator self.entry i result) }
         ensures value { slice_get self.old.line i ≡ Some result.now }
         ensures read { result.now ≡ glyph_at self.old.line i }
     {
-        let p = self.before.len();
-        if i < p {
-            &mut self.before[i]
-        } else {
-            &mut self.after[i - p]
-        }
+        self.line.get_mut(i)
     }
 
     /// The glyph at place `i`, by value.
@@ -286,32 +276,15 @@ impl<A: Allocator + Copy> hb_buffer_t<A> {
     pub fn all_glyphs_16(&self) -> bool
         ensures { IsTrue result ↔ All Is16Bit self.now.line }
     {
-        for i in 0..self.len() {
-            if self.glyph(i).glyph_id > 0xFFFF {
-                return false;
-            }
-        }
-        true
+        self.line.all_16()
     }
 
     /// Moves the cursor over one glyph. It has to be before the end.
-    #[tactic(auto, using(crate::proofs::Parts::moved_right))]
     pub fn next_glyph(&mut self)
         requires { self.old.cursor < length self.old.line }
         ensures { self.new ≡ with_cursor self.old (self.old.cursor + 1) }
     {
-        let glyph = self.after.pop_front().unwrap();
-        self.before.push_reserved(glyph);
-    }
-
-    /// Moves the cursor back over one glyph.
-    #[tactic(auto, using(crate::proofs::Parts::moved_left))]
-    fn previous_glyph(&mut self)
-        requires { 0 < self.old.cursor }
-        ensures { self.new ≡ with_cursor self.old (self.old.cursor - 1) }
-    {
-        let glyph = self.before.take_last();
-        self.after.push_front_reserved(glyph);
+        self.line.next();
     }
 
     /// Moves the cursor to place `i`, which has to be at most the length, in as many steps as it is away.
@@ -319,30 +292,7 @@ impl<A: Allocator + Copy> hb_buffer_t<A> {
         requires { i ≤ length self.old.line }
         ensures { self.new ≡ with_cursor self.old i }
     {
-        let p = self.backtrack_len();
-        if p < i {
-            self.move_right(i - p);
-        } else {
-            self.move_left(p - i);
-        }
-    }
-
-    fn move_right(&mut self, count: usize)
-        requires { self.old.cursor + count ≤ length self.old.line }
-        ensures { self.new ≡ with_cursor self.old (self.old.cursor + count) }
-    {
-        for moved in 0..count {
-            self.next_glyph();
-        }
-    }
-
-    fn move_left(&mut self, count: usize)
-        requires { count ≤ self.old.cursor }
-        ensures { self.new ≡ with_cursor self.old (self.old.cursor - count) }
-    {
-        for moved in 0..count {
-            self.previous_glyph();
-        }
+        self.line.move_to(i);
     }
 
     /// Moves the cursor to the start.
@@ -352,33 +302,24 @@ impl<A: Allocator + Copy> hb_buffer_t<A> {
         self.move_to(0);
     }
 
-    /// Puts the cursor at the start, and drops the positions. In as many steps as the line is long.
-    ///
-    /// Refused as 2, `OutOfMemory`, where it gets no memory for the glyphs before the cursor. The buffer has failed then, and all else is as before.
+    /// Puts the cursor at the start, and drops the positions. It is never refused and takes no memory.
     pub fn clear_output(&mut self) -> Result<(), BufferError>
         ensures ok { OnOk result (self.new ≡ with_cursor (without_positions self.old) 0) }
         ensures memory_only { IfErr result (λ e. e ≡ BufferError.OutOfMemory) }
         ensures err { OnErr result (self.new ≡ failed self.old) }
+        ensures success { IsOk result }
     {
-        let alloc = *self.before.allocator();
-        match Vec::with_capacity(alloc, self.len()) {
-            Ok(fresh) => {
-                self.sync();
-                self.before = fresh;
-                self.have_positions = false;
-                Ok(())
-            }
-            Err(_) => Err(self.refuse(BufferError::OutOfMemory)),
-        }
+        self.sync();
+        self.have_positions = false;
+        Ok(())
     }
 
     /// Takes the glyph at the cursor out, and drops the positions. The cursor has to be before the end.
-    #[tactic(auto, using(crate::proofs::Parts::removed_between))]
     pub fn skip_glyph(&mut self)
         requires { self.old.cursor < length self.old.line }
         ensures { self.new ≡ skipped self.old }
     {
-        let _skipped = self.after.pop_front().unwrap();
+        self.line.remove();
         self.have_positions = false;
     }
 
@@ -391,10 +332,13 @@ impl<A: Allocator + Copy> hb_buffer_t<A> {
         self.next_glyph();
     }
 
-    /// Puts a record in at the cursor with this glyph id, moves over it, and drops the positions. The record is a copy of the glyph at the cursor, or of the last one where the cursor is at the end; nothing goes into an empty line. O(1), amortised.
+    /// Puts a record in at the cursor with this glyph id, moves over it, and drops the positions. The record is
+    /// a copy of the glyph at the cursor, or of the last one where the cursor is at the end; nothing goes into
+    /// an empty line. O(1), amortised.
     ///
-    /// Refused as 1, `TooLong`, where the line has glyphs and has its greatest length already, and else as 2, `OutOfMemory`, where it gets no memory; on an empty line never. The buffer has failed then, and all else is as before, the positions too.
-    #[tactic(auto, using(crate::proofs::Parts::inserted_between))]
+    /// Refused as 1, `TooLong`, where the line has glyphs and has its greatest length already, and else as 2,
+    /// `OutOfMemory`, where it gets no memory; on an empty line never. The buffer has failed then, and all else
+    /// is as before, the positions too.
     pub fn output_glyph(&mut self, glyph_id: u32) -> Result<(), BufferError>
         ensures ok { OnOk result (self.new ≡ output self.old glyph_id) }
         ensures too_long { IsErrOf result BufferError.TooLong ↔ ((0 < length self.old.line) × (self.old.max_len ≤ length self.old.line)) }
@@ -410,11 +354,10 @@ impl<A: Allocator + Copy> hb_buffer_t<A> {
             return Err(self.refuse(BufferError::TooLong));
         }
         let model = self.model();
-        if make_room(&mut self.before, &mut self.after).is_err() {
+        let copy = hb_glyph_info_t { glyph_id, ..model };
+        if self.line.insert(copy).is_err() {
             return Err(self.refuse(BufferError::OutOfMemory));
         }
-        self.before
-            .push_reserved(hb_glyph_info_t { glyph_id, ..model });
         self.have_positions = false;
         Ok(())
     }
@@ -422,16 +365,16 @@ impl<A: Allocator + Copy> hb_buffer_t<A> {
     /// The glyph at the cursor, or the last one.
     fn model(&self) -> hb_glyph_info_t
         requires { 0 < length self.now.line }
-        ensures { result ≡ glyph_at self.now.line (model_place self.now) }
+        ensures { result ≡ model_at self.now.line self.now.cursor }
     {
-        let p = self.backtrack_len();
-        let len = self.len();
-        self.glyph(if p < len { p } else { len - 1 })
+        self.glyph(self.backtrack_len().min(self.len() - 1))
     }
 
-    /// Puts a copy of the glyph at the cursor in before it, and drops the positions. The cursor has to be before the end. O(1), amortised.
+    /// Puts a copy of the glyph at the cursor in before it, and drops the positions. The cursor has to be
+    /// before the end. O(1), amortised.
     ///
-    /// Refused as 1, `TooLong`, where the line has its greatest length already, and else as 2, `OutOfMemory`, where it gets no memory. The buffer has failed then, and all else is as before.
+    /// Refused as 1, `TooLong`, where the line has its greatest length already, and else as 2, `OutOfMemory`,
+    /// where it gets no memory. The buffer has failed then, and all else is as before.
     pub fn copy_glyph(&mut self) -> Result<(), BufferError>
         requires { self.old.cursor < length self.old.line }
         ensures ok { OnOk result (self.new ≡ output self.old (glyph_at self.old.line self.old.cursor).glyph_id) }
@@ -442,24 +385,22 @@ impl<A: Allocator + Copy> hb_buffer_t<A> {
         self.output_glyph(glyph_id)
     }
 
-    /// Puts the line, and the positions where they stand, in the opposite order. The cursor stays. In as many steps as the line is long.
-    #[tactic(auto, using(crate::proofs::Parts::turned))]
+    /// Puts the line, and the positions where they stand, in the opposite order. The cursor stays. In as many
+    /// steps as the line is long.
     pub fn reverse(&mut self)
         ensures after { self.new ≡ reversed self.old }
         ensures count { length self.new.line ≡ length self.old.line }
     {
-        let p = self.backtrack_len();
-        self.move_to(self.len());
-        self.before.reverse();
+        self.line.reverse();
         if self.have_positions {
             self.positions.reverse();
         }
-        self.move_to(p);
     }
 
     /// Gives each glyph a position that is all zero. In as many steps as the line is long.
     ///
-    /// Refused as 2, `OutOfMemory`, where it gets no memory. The buffer has failed then, and no positions are left; all else is as before.
+    /// Refused as 2, `OutOfMemory`, where it gets no memory. The buffer has failed then, and no positions are
+    /// left; all else is as before.
     pub fn clear_positions(&mut self) -> Result<(), BufferError>
         ensures ok { OnOk result (self.new ≡ with_zero_positions self.old) }
         ensures memory_only { IfErr result (λ e. e ≡ BufferError.OutOfMemory) }
@@ -493,7 +434,8 @@ impl<A: Allocator + Copy> hb_buffer_t<A> {
         &self.positions[i]
     }
 
-    /// The position of the glyph at place `i`, which has to be below the length of a line whose positions stand, to be written.
+    /// The position of the glyph at place `i`, which has to be below the length of a line whose positions
+    /// stand, to be written.
     #[tactic(auto, using(std::proofs::lemmas::Option::get_or_from_slice_get))]
     pub fn pos_mut(&mut self, i: usize) -> &mut GlyphPosition
         requires { i < length (position_list self.old) }
@@ -502,24 +444,6 @@ impl<A: Allocator + Copy> hb_buffer_t<A> {
         ensures read { result.now ≡ position_at self.old i }
     {
         &mut self.positions[i]
-    }
-
-    /// Puts the glyph at the cursor behind the line. O(1).
-    #[tactic(auto, using(crate::proofs::Parts::aside_between))]
-    pub(crate) fn set_aside(&mut self)
-        requires { self.old.cursor < length self.old.line }
-        ensures { self.new ≡ with_line self.old (set_aside self.old.line self.old.cursor) }
-    {
-        let glyph = self.after.pop_front().unwrap();
-        self.after.push_back_reserved(glyph);
-    }
-
-    /// Takes all glyphs from the cursor on out, and drops the positions.
-    pub(crate) fn cut_off(&mut self)
-        ensures { self.new ≡ with_line (without_positions self.old) (take self.old.cursor self.old.line) }
-    {
-        self.after.clear();
-        self.have_positions = false;
     }
 
     /// Takes the positions out, so that none stand.
@@ -532,7 +456,7 @@ impl<A: Allocator + Copy> hb_buffer_t<A> {
             return None;
         }
         self.have_positions = false;
-        let alloc = *self.before.allocator();
+        let alloc = *self.positions.allocator();
         Some(mem::replace(&mut self.positions, Vec::new(alloc)))
     }
 
@@ -544,28 +468,4 @@ impl<A: Allocator + Copy> hb_buffer_t<A> {
         self.positions = positions;
         self.have_positions = true;
     }
-}
-
-/// Makes room for one more glyph in each of two parts of a line. The room of each doubles where it has to grow, however few glyphs the part has, so that a row of such calls takes a bounded number of steps for each.
-fn make_room<A: Allocator>(
-    before: &mut Vec<hb_glyph_info_t, A>,
-    after: &mut VecDeque<hb_glyph_info_t, A>,
-) -> Result<(), AllocError>
-    requires { vec_len before.old + deque_len after.old < 2 ^ 32 }
-    ensures room_before { OnOk result (vec_len before.new + deque_len after.new + 1 ≤ vec_capacity before.new) }
-    ensures room_after { OnOk result (vec_len before.new + deque_len after.new + 1 ≤ deque_capacity after.new) }
-    ensures before_items { before.new.items ≡ before.old.items }
-    ensures after_items { after.new.items ≡ after.old.items }
-    ensures before_len { vec_len before.new ≡ vec_len before.old }
-    ensures after_len { deque_len after.new ≡ deque_len after.old }
-    ensures before_capacity { vec_capacity before.old ≤ vec_capacity before.new }
-    ensures after_capacity { deque_capacity after.old ≤ deque_capacity after.new }
-{
-    let room = before.len() + after.len() + 1;
-    before.reserve(room - before.len())?;
-    let capacity = after.capacity();
-    if capacity < room {
-        after.reserve(room.max(2 * capacity) - after.len())?;
-    }
-    Ok(())
 }

@@ -1,16 +1,18 @@
-// Marks and merges, written over the calls that read and write a glyph at a place.
+//! Marks and merges, written over the calls that read and write a glyph at a place.
 ghost use Rattle.std.specs.Prelude.{◌≡◌, ◌+◌, ◌-◌, ◌≤◌, map, length, slice_range};
 ghost use Rattle.aat_buffer.specs.Buffer.{with_line};
 ghost use Rattle.aat_buffer.specs.Marks.{on_line_span, least_of, marked_above, with_mask_bits, break_marked, concat_marked, unsafe_to_break, unsafe_to_concat, with_cluster, run_after, run_before, merged, merged_out, merge_clusters, merge_out_clusters};
 
 use crate::buffer::hb_buffer_t;
-use crate::flags::BufferFlags;
-use crate::glyph::{HB_BUFFER_CLUSTER_LEVEL_CHARACTERS, glyph_flag, hb_glyph_info_t};
+use aat_glyph::{BufferFlags, HB_BUFFER_CLUSTER_LEVEL_CHARACTERS, glyph_flag, hb_glyph_info_t};
 use bitflags::Flags;
 use std::alloc::Allocator;
 
 impl<A: Allocator + Copy> hb_buffer_t<A> {
-    /// Notes that the line may not be cut within a span: sets UNSAFE_TO_BREAK and UNSAFE_TO_CONCAT on each glyph from place `start` up to place `end` whose cluster is not the least of the span. `None` stands for the start and the end of the line, and an end past the line for its end. A span of fewer than two glyphs stays. In as many steps as the span is long.
+    /// Notes that the line may not be cut within a span: sets UNSAFE_TO_BREAK and UNSAFE_TO_CONCAT on each
+    /// glyph from place `start` up to place `end` whose cluster is not the least of the span. `None` stands for
+    /// the start and the end of the line, and an end past the line for its end. A span of fewer than two glyphs
+    /// stays. In as many steps as the span is long.
     pub fn unsafe_to_break(&mut self, start: Option<usize>, end: Option<usize>)
         ensures after { self.new ≡ unsafe_to_break self.old start end }
         ensures count { length self.new.line ≡ length self.old.line }
@@ -31,7 +33,9 @@ impl<A: Allocator + Copy> hb_buffer_t<A> {
         self.unsafe_to_break(start, end);
     }
 
-    /// Notes that parts shaped apart may not be put together within a span: where the flag PRODUCE_UNSAFE_TO_CONCAT asks for it, sets UNSAFE_TO_CONCAT on each glyph from place `start` up to place `end`. `None` and an end past the line are as in `unsafe_to_break`; the span may be of one glyph.
+    /// Notes that parts shaped apart may not be put together within a span: where the flag
+    /// PRODUCE_UNSAFE_TO_CONCAT asks for it, sets UNSAFE_TO_CONCAT on each glyph from place `start` up to place
+    /// `end`. `None` and an end past the line are as in `unsafe_to_break`; the span may be of one glyph.
     pub fn unsafe_to_concat(&mut self, start: Option<usize>, end: Option<usize>)
         ensures after { self.new ≡ unsafe_to_concat self.old start end }
         ensures count { length self.new.line ≡ length self.old.line }
@@ -44,7 +48,12 @@ impl<A: Allocator + Copy> hb_buffer_t<A> {
         }
     }
 
-    /// Makes the glyphs from place `start` up to place `end` one cluster, the least of the span. An end past the line stands for its end, and a span of fewer than two glyphs stays. Where the span's last glyph has another cluster than the least, the span first grows right through the glyphs with that cluster; where its first has, it grows left, but not over the cursor. A glyph whose cluster changes loses its DEFINED flags. At the level CHARACTERS the clusters stay, and the span gets the marks of `unsafe_to_break`. In as many steps as the grown span is long.
+    /// Makes the glyphs from place `start` up to place `end` one cluster, the least of the span. An end past
+    /// the line stands for its end, and a span of fewer than two glyphs stays. Where the span's last glyph has
+    /// another cluster than the least, the span first grows right through the glyphs with that cluster; where
+    /// its first has, it grows left, but not over the cursor. A glyph whose cluster changes loses its DEFINED
+    /// flags. At the level CHARACTERS the clusters stay, and the span gets the marks of `unsafe_to_break`. In
+    /// as many steps as the grown span is long.
     pub fn merge_clusters(&mut self, start: usize, end: usize)
         ensures after { self.new ≡ merge_clusters self.old start end }
         ensures count { length self.new.line ≡ length self.old.line }
@@ -59,7 +68,10 @@ impl<A: Allocator + Copy> hb_buffer_t<A> {
         }
     }
 
-    /// Makes the glyphs from place `start` up to place `end` one cluster, the least of the span, once it has grown through all glyphs that share its first glyph's cluster on the left and its last glyph's on the right, over the cursor too. An end past the line, short spans and flags are as in `merge_clusters`. At the level CHARACTERS nothing changes.
+    /// Makes the glyphs from place `start` up to place `end` one cluster, the least of the span, once it has
+    /// grown through all glyphs that share its first glyph's cluster on the left and its last glyph's on the
+    /// right, over the cursor too. An end past the line, short spans and flags are as in `merge_clusters`. At
+    /// the level CHARACTERS nothing changes.
     pub fn merge_out_clusters(&mut self, start: usize, end: usize)
         ensures after { self.new ≡ merge_out_clusters self.old start end }
         ensures count { length self.new.line ≡ length self.old.line }

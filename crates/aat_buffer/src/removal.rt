@@ -1,22 +1,25 @@
-// The removal of glyphs, written over the calls that read, write and move one glyph.
-ghost use Rattle.std.specs.Prelude.{Bool, ℕ, None, ◌≡◌, ◌+◌, ◌-◌, ◌<◌, ◌≤◌, length, map, drop, take, is_some, option_map, vec_len, IfSome, remove};
+//! The removal of glyphs, written over the calls that read, write and move one glyph.
+ghost use Rattle.std.specs.Prelude.{Bool, ℕ, None, ◌≡◌, ◌+◌, ◌-◌, ◌<◌, ◌≤◌, length, map, is_some, option_map, vec_len, IfSome, remove};
 ghost use Rattle.std.specs.Bool.{OnTrue, OnFalse};
-ghost use Rattle.aat_buffer.specs.Buffer.{glyph_at, with_line, without_positions};
-ghost use Rattle.aat_buffer.specs.Carried.{carried, items_of};
+ghost use Rattle.aat_buffer.specs.Buffer.{with_line, without_positions};
+ghost use Rattle.aat_buffer.specs.inside.Carried.{carried, items_of};
 ghost use Rattle.aat_buffer.specs.Marks.{cluster_at, run_before};
-ghost use Rattle.aat_buffer.specs.Pending.{IsPending, IsReached, lowers, run_written, runs_written, shown, shown_line};
-ghost use Rattle.aat_buffer.specs.Removal.{AnswersBy, handed_back, handed_on, removal_step, removed, taken};
+ghost use Rattle.aat_buffer.specs.inside.Pending.{IsPending, IsReached, lowers, run_written, shown, shown_line, with_place};
+ghost use Rattle.aat_buffer.specs.Removal.{AnswersBy, lowered_run, with_cluster_kept, removal_step, removed, without_glyph_at_cursor};
 
 use crate::buffer::hb_buffer_t;
-use crate::glyph::{GlyphPosition, hb_glyph_info_t};
-use crate::pending_run::{PendingRun, labelled};
+use crate::pending_runs::{PendingRuns, with_cluster_and_flags};
+use aat_glyph::{GlyphPosition, hb_glyph_info_t};
 use std::alloc::Allocator;
 
 impl<A: Allocator + Copy> hb_buffer_t<A> {
-    /// Takes the glyphs that the filter names out, from the first to the last, and puts the cursor at the start. The others keep their order and their positions, which stand where they stood. The filter is asked once a glyph, of its record as it stands then; what it names goes, and its cluster is kept:
+    /// Takes the glyphs that the filter names out, from the first to the last, and puts the cursor at the
+    /// start. The others keep their order and their positions, which stand where they stood. The filter is
+    /// asked once a glyph, of its record as it stands then; what it names goes, and its cluster is kept:
     ///
     /// - by the next glyph, where that one has it;
-    /// - else, where glyphs were kept, by the last of them and all before it that share its cluster, if they have a higher one: they get that of the glyph that goes, with its DEFINED flags;
+    /// - else, where glyphs were kept, by the last of them and all before it that share its cluster, if they
+    ///   have a higher one: they get that of the glyph that goes, with its DEFINED flags;
     /// - else by the next glyph: the two merge as by `merge_clusters`.
     ///
     /// In as many steps as the line is long.
@@ -32,14 +35,14 @@ impl<A: Allocator + Copy> hb_buffer_t<A> {
         let len = self.len();
         let mut positions = self.take_positions();
         self.sync();
-        let mut runs = 0;
+        let mut runs = PendingRuns { count: 0, last: 0 };
         for i in 0..len {
             let kept = self.backtrack_len();
             let goes = filter(&self.glyph(kept));
             carry_down(&mut positions, goes, kept, i);
-            runs = self.remove_or_keep(goes, len - i, runs);
+            runs = self.remove_or_keep(goes, runs);
         }
-        self.finish(runs);
+        self.write_runs(runs);
         self.sync();
         if let Some(mut positions) = positions {
             positions.truncate(self.len());
@@ -47,13 +50,15 @@ impl<A: Allocator + Copy> hb_buffer_t<A> {
         }
     }
 
-    /// Takes the glyph at the cursor out, or moves over it, where `rest` glyphs have not been asked and `runs` are pending. Positions are not carried along. Answers how many runs are pending then.
-    fn remove_or_keep(&mut self, goes: bool, rest: usize, runs: usize) -> usize
-        requires some { 0 < rest }
-        requires pending { IsPending self.old rest runs }
-        ensures after { without_positions (shown result (rest - 1) self.new) ≡ without_positions (removal_step (λ _. goes) (shown runs rest self.old)) }
-        ensures pending { IsPending self.new (rest - 1) result }
+    /// Takes the glyph at the cursor out, or moves over it. Positions are not carried along. Answers the runs
+    /// that are pending then.
+    fn remove_or_keep(&mut self, goes: bool, runs: PendingRuns) -> PendingRuns
+        requires some { self.old.cursor < length self.old.line }
+        requires pending { IsPending self.old runs.count runs.last }
+        ensures after { without_positions (shown result.count result.last self.new) ≡ without_positions (removal_step (λ _. goes) (shown runs.count runs.last self.old)) }
+        ensures pending { IsPending self.new result.count result.last }
         ensures bare { self.old.positions ≡ None → self.new.positions ≡ None }
+        ensures rest { length self.new.line + self.old.cursor + 1 ≡ length self.old.line + self.new.cursor }
         ensures step { self.new.cursor ≤ self.old.cursor + 1 }
     {
         if !goes {
@@ -61,18 +66,18 @@ impl<A: Allocator + Copy> hb_buffer_t<A> {
             runs
         } else if self.backtrack_len() == 0 {
             self.remove_first();
-            0
+            PendingRuns { count: 0, last: 0 }
         } else {
-            self.remove_behind(rest, runs)
+            self.remove_behind(runs)
         }
     }
 
     /// Takes the first glyph out, where none is kept.
-    #[tactic(auto, unfolding(crate::specs::Removal::handed_line))]
+    #[tactic(auto, unfolding(crate::specs::Removal::cluster_kept_line))]
     fn remove_first(&mut self)
         requires start { self.old.cursor ≡ 0 }
         requires some { 0 < length self.old.line }
-        ensures after { self.new ≡ without_positions (taken (handed_on self.old)) }
+        ensures after { self.new ≡ without_positions (without_glyph_at_cursor (with_cluster_kept self.old)) }
         ensures count { length self.new.line + 1 ≡ length self.old.line }
     {
         if self.len() > 1 && self.glyph(1).cluster != self.glyph(0).cluster {
@@ -81,117 +86,131 @@ impl<A: Allocator + Copy> hb_buffer_t<A> {
         self.skip_glyph();
     }
 
-    /// Takes the glyph at the cursor out, behind kept ones. Its record stands behind the line then.
-    fn remove_behind(&mut self, rest: usize, runs: usize) -> usize
+    /// Takes the glyph at the cursor out, behind kept ones.
+    fn remove_behind(&mut self, runs: PendingRuns) -> PendingRuns
         requires kept { 0 < self.old.cursor }
-        requires some { 0 < rest }
-        requires pending { IsPending self.old rest runs }
-        ensures after { shown result (rest - 1) self.new ≡ (record (taken (handed_on (shown runs rest self.old))) { positions = self.old.positions }) }
-        ensures pending { IsPending self.new (rest - 1) result }
+        requires some { self.old.cursor < length self.old.line }
+        requires pending { IsPending self.old runs.count runs.last }
+        ensures after { shown result.count result.last self.new ≡ without_positions (without_glyph_at_cursor (with_cluster_kept (shown runs.count runs.last self.old))) }
+        ensures pending { IsPending self.new result.count result.last }
+        ensures count { length self.new.line + 1 ≡ length self.old.line }
     {
         let glyph = self.glyph(self.backtrack_len());
-        let lowers = self.lowers(rest);
-        self.set_aside();
+        let lowers = self.lowers();
+        self.skip_glyph();
         if lowers {
-            self.lower(rest - 1, runs, glyph)
+            self.lower(runs, glyph)
         } else {
             runs
         }
     }
 
     /// Whether the glyph at the cursor, which goes, lowers the cluster of the kept ones.
-    fn lowers(&self, rest: usize) -> bool
+    fn lowers(&self) -> bool
         requires kept { 0 < self.now.cursor }
-        requires some { 0 < rest }
-        requires in_line { self.now.cursor + rest ≤ length self.now.line }
-        requires small { length self.now.line ≤ 0x3FFFFFFF }
-        ensures { result ≡ lowers self.now.line self.now.cursor rest }
+        requires some { self.now.cursor < length self.now.line }
+        ensures { result ≡ lowers self.now.line self.now.cursor }
     {
         let p = self.backtrack_len();
+        let len = self.len();
         let cluster = self.glyph(p).cluster;
-        !(rest > 1 && self.glyph(p + 1).cluster == cluster) && cluster < self.glyph(p - 1).cluster
+        !(p + 1 < len && self.glyph(p + 1).cluster == cluster)
+            && cluster < self.glyph(p - 1).cluster
     }
 
-    /// Gives the last kept glyph, and with it all before it that share its cluster, the lower cluster of `glyph`. That is written at the last one alone, and the run is pending.
-    fn lower(&mut self, rest: usize, runs: usize, glyph: hb_glyph_info_t) -> usize
+    /// Gives the last kept glyph, and with it all before it that share its cluster, the cluster and the flags of
+    /// `glyph`. Where they are three or more that is written at the last one alone, and the run is pending.
+    fn lower(&mut self, runs: PendingRuns, glyph: hb_glyph_info_t) -> PendingRuns
         requires kept { 0 < self.old.cursor }
-        requires pending { IsPending self.old rest runs }
-        requires room { self.old.cursor + rest + runs < length self.old.line }
-        requires lower { glyph.cluster < cluster_at self.old.line (self.old.cursor - 1) }
-        ensures after { shown result rest self.new ≡ with_line self.old (handed_back (shown_line runs (self.old.cursor + rest) self.old.line) self.old.cursor (cluster_at self.old.line (self.old.cursor - 1)) glyph) }
-        ensures pending { IsPending self.new rest result }
+        requires pending { IsPending self.old runs.count runs.last }
+        ensures after { shown result.count result.last self.new ≡ with_line self.old (lowered_run (shown_line runs.count runs.last self.old.line) self.old.cursor (cluster_at self.old.line (self.old.cursor - 1)) glyph) }
+        ensures pending { IsPending self.new result.count result.last }
+        ensures count { length self.new.line ≡ length self.old.line }
     {
-        let p = self.backtrack_len();
-        let (first, below) = self.reached(rest, runs);
-        let last = p - 1;
-        self.set_glyph(last, labelled(self.glyph(last), glyph));
-        self.set_glyph(p + rest + below, PendingRun { first, last }.as_record());
-        below + 1
+        let last = self.backtrack_len() - 1;
+        let (first, below) = self.reached(runs);
+        self.set_glyph(last, with_cluster_and_flags(self.glyph(last), glyph));
+        if last - first < 2 {
+            self.write_run(first, last);
+            return below;
+        }
+        self.set_place(last - 1, first as u32);
+        self.set_place(first, below.last);
+        PendingRuns {
+            count: below.count + 1,
+            last: last as u32,
+        }
     }
 
-    /// The place from which on the kept glyphs have the cluster of the last one, and how many of the runs stand before it.
-    fn reached(&self, rest: usize, runs: usize) -> (usize, usize)
+    /// Lets the glyph at place `i` hold another place for its cluster.
+    fn set_place(&mut self, i: usize, place: u32)
+        requires { i < length self.old.line }
+        ensures { self.new ≡ with_line self.old (with_place self.old.line i place) }
+    {
+        self.info_mut(i).cluster = place;
+    }
+
+    /// The place that the glyph at place `i` holds.
+    fn place_at(&self, i: usize) -> u32
+        requires { i < length self.now.line }
+        ensures { result ≡ cluster_at self.now.line i }
+    {
+        self.glyph(i).cluster
+    }
+
+    /// The place from which on the kept glyphs have the cluster of the last one, and the runs that stand before it.
+    fn reached(&self, runs: PendingRuns) -> (usize, PendingRuns)
         requires kept { 0 < self.now.cursor }
-        requires pending { IsPending self.now rest runs }
-        ensures reached { IsReached (runs_written runs (drop (self.now.cursor + rest) self.now.line) (take self.now.cursor self.now.line)) (take self.now.cursor self.now.line) (drop (self.now.cursor + rest) self.now.line) (cluster_at self.now.line (self.now.cursor - 1)) self.now.cursor result.0 result.1 }
-        ensures ends { run_before (runs_written runs (drop (self.now.cursor + rest) self.now.line) (take self.now.cursor self.now.line)) 0 result.0 (cluster_at self.now.line (self.now.cursor - 1)) ≡ 0 }
-        ensures fewer { result.1 ≤ runs }
+        requires pending { IsPending self.now runs.count runs.last }
+        ensures reached { IsReached self.now.line runs.count runs.last (cluster_at self.now.line (self.now.cursor - 1)) self.now.cursor result.0 result.1.count result.1.last }
+        ensures ends { run_before (shown_line runs.count runs.last self.now.line) 0 result.0 (cluster_at self.now.line (self.now.cursor - 1)) ≡ 0 }
+        ensures some { result.0 < self.now.cursor }
+        ensures few { result.1.count ≤ result.0 }
     {
         let p = self.backtrack_len();
         let cluster = self.glyph(p - 1).cluster;
         let mut first = p;
-        let mut below = runs;
+        let mut count = runs.count;
+        let mut last = runs.last;
         while first > 0 && self.glyph(first - 1).cluster == cluster {
-            if below > 0 && self.run_at(p + rest + below - 1).last == first - 1 {
-                below -= 1;
-                first = self.run_at(p + rest + below).first;
+            if count > 0 && last as usize == first - 1 {
+                first = self.place_at(last as usize - 1) as usize;
+                last = self.place_at(first);
+                count -= 1;
             } else {
                 first -= 1;
             }
         }
-        (first, below)
+        (first, PendingRuns { count, last })
     }
 
-    /// The run in the record at place `i`.
-    fn run_at(&self, i: usize) -> PendingRun
-        requires { i < length self.now.line }
-        ensures first { result.first ≡ (glyph_at self.now.line i).glyph_id }
-        ensures last { result.last ≡ (glyph_at self.now.line i).cluster }
-    {
-        PendingRun::held_in(self.glyph(i))
-    }
-
-    /// Writes the pending runs, and cuts off what stands behind the line, where all glyphs have been asked.
-    fn finish(&mut self, runs: usize)
-        requires { IsPending self.old 0 runs }
-        ensures after { self.new ≡ without_positions (shown runs 0 self.old) }
-        ensures count { length self.new.line ≡ self.old.cursor }
-    {
-        self.write_runs(runs);
-        self.cut_off();
-    }
-
-    fn write_runs(&mut self, runs: usize)
-        requires { IsPending self.old 0 runs }
-        ensures after { self.new ≡ with_line self.old (runs_written runs (drop self.old.cursor self.old.line) self.old.line) }
+    /// Writes the pending runs.
+    fn write_runs(&mut self, runs: PendingRuns)
+        requires { IsPending self.old runs.count runs.last }
+        ensures after { self.new ≡ shown runs.count runs.last self.old }
         ensures count { length self.new.line ≡ length self.old.line }
     {
-        let p = self.backtrack_len();
-        for k in 0..runs {
-            self.write_run(self.run_at(p + k));
+        let mut count = runs.count;
+        let mut last = runs.last;
+        while count > 0 {
+            let first = self.place_at(last as usize - 1) as usize;
+            let below = self.place_at(first);
+            self.write_run(first, last as usize);
+            last = below;
+            count -= 1;
         }
     }
 
     #[tactic(auto, using(crate::proofs::Spans::written_none))]
-    fn write_run(&mut self, run: PendingRun)
-        requires ordered { run.first ≤ run.last }
-        requires in_line { run.last < length self.old.line }
-        ensures after { self.new ≡ with_line self.old (run_written run.first run.last self.old.line) }
+    fn write_run(&mut self, first: usize, last: usize)
+        requires ordered { first ≤ last }
+        requires in_line { last < length self.old.line }
+        ensures after { self.new ≡ with_line self.old (run_written first last self.old.line) }
         ensures count { length self.new.line ≡ length self.old.line }
     {
-        let like = self.glyph(run.last);
-        for i in run.first..run.last {
-            self.set_glyph(i, labelled(self.glyph(i), like));
+        let like = self.glyph(last);
+        for i in first..last {
+            self.set_glyph(i, with_cluster_and_flags(self.glyph(i), like));
         }
     }
 }

@@ -1,4 +1,4 @@
-// What no clause says: examples from outside, each call once, growth that is refused, and a long line.
+//! What no clause says: examples from outside, each call once, growth that is refused, and a long line.
 ghost use Rattle.std.specs.Prelude.{◌≡◌, ◌<◌, length};
 ghost use Rattle.aat_buffer.specs.Buffer.{with_glyph_id};
 ghost use Rattle.aat_buffer.specs.Examples.{MarkExamples, MergeExamples, RemovalExamples};
@@ -360,7 +360,8 @@ fn removals(rt: HostRuntime) -> Result<(), Fail> {
     Ok(())
 }
 
-/// The filter is asked once a glyph, of its record as it stands then: each glyph that goes hands its cluster to the next.
+/// The filter is asked once a glyph, of its record as it stands then: each glyph that goes hands its cluster to
+/// the next.
 #[test]
 fn filter_asked_once(rt: HostRuntime) -> Result<(), Fail> {
     let asked = Cell::new(0u32);
@@ -441,11 +442,11 @@ fn full_line<'a>(
 /// What takes memory is refused without it, and leaves the line, the cursor and the positions as they were.
 #[test]
 fn out_of_memory(rt: HostRuntime) -> Result<(), Fail> {
-    for call in 0..5u32 {
+    for call in 0..4u32 {
         let heap = LocalHeap::new(rt.alloc(), 4096)?;
         let mut buffer = full_line(&rt, rt.alloc(), &heap)?;
         let len = buffer.len();
-        if call != 4 {
+        if call != 3 {
             number_positions(&rt, &mut buffer)?;
         }
         assert!(rt; buffer.len() > 1);
@@ -456,13 +457,12 @@ fn out_of_memory(rt: HostRuntime) -> Result<(), Fail> {
             0 => buffer.add(record((6, 0, 0))),
             1 => buffer.output_glyph(6),
             2 => buffer.copy_glyph(),
-            3 => buffer.clear_output(),
             _ => buffer.clear_positions(),
         };
         assert!(rt; refused == Err(BufferError::OutOfMemory), "call {call}");
         assert!(rt; !buffer.is_successful() && hoard.len() > 0);
         assert!(rt; buffer.len() == len && buffer.backtrack_len() == 1);
-        assert!(rt; buffer.has_positions() == (call != 4));
+        assert!(rt; buffer.has_positions() == (call != 3));
         for i in 0..len {
             assert!(rt; i < buffer.len() && *buffer.info(i) == record((5, i as u32, 0)));
             let place = !buffer.has_positions() || buffer.pos(i).x_advance == i as i32;
@@ -536,13 +536,42 @@ fn without_memory(rt: HostRuntime) -> Result<(), Fail> {
     assert!(rt; clusters_are(&buffer, &[4, 3, 1, 1, 0]) && advances_are(&buffer, &[5, 3, 2, 1, 0]));
     buffer.merge_out_clusters(0, 9);
     assert!(rt; clusters_are(&buffer, &[0, 0, 0, 0, 0]) && buffer.backtrack_len() < buffer.len());
-    buffer.skip_glyph();
+    buffer.cur_mut().cluster = 7;
+    buffer.info_mut(0).mask = 9;
+    assert!(rt; buffer.has_positions() && buffer.pos(0).x_advance == 5);
+    buffer.pos_mut(0).x_advance = 6;
+    assert!(rt; buffer.cur().cluster == 7 && advances_are(&buffer, &[6, 3, 2, 1, 0]));
     buffer.drop_positions();
-    assert!(rt; buffer.len() == 4 && buffer.is_successful());
+    assert!(rt; buffer.backtrack_len() < buffer.len());
+    buffer.skip_glyph();
+    buffer.move_to(buffer.len());
+    assert!(rt; buffer.clear_output() == Ok(()) && buffer.backtrack_len() == 0);
+    assert!(rt; clusters_are(&buffer, &[0, 0, 0, 0]) && buffer.all_glyphs_16());
+    assert!(rt; buffer.is_successful() && hoard.len() > 0);
     Ok(())
 }
 
-/// Ten thousand glyphs are added, passed with a mark at each step, and every second one goes, with positions. With a call that is quadratic this does not end in time.
+/// After the cursor has moved on over copies that went in, `clear_output` takes no memory and is not refused,
+/// and keeps them.
+#[test]
+fn output_kept_without_memory(rt: HostRuntime) -> Result<(), Fail> {
+    let heap = LocalHeap::new(rt.alloc(), 4096)?;
+    let mut buffer = hb_buffer_t::new(&heap, 100, 0);
+    for cluster in 0..4u32 {
+        buffer.add(record((cluster, cluster, 0)))?;
+        assert!(rt; buffer.backtrack_len() < buffer.len());
+        buffer.copy_glyph()?;
+        assert!(rt; buffer.backtrack_len() < buffer.len());
+        buffer.next_glyph();
+    }
+    let hoard = exhaust(&rt, rt.alloc(), &heap)?;
+    assert!(rt; buffer.clear_output().is_ok() && hoard.len() > 0);
+    assert!(rt; clusters_are(&buffer, &[0, 0, 1, 1, 2, 2, 3, 3]) && buffer.backtrack_len() == 0);
+    Ok(())
+}
+
+/// Ten thousand glyphs are added, passed with a mark at each step, and every second one goes, with positions.
+/// With a call that is quadratic this does not end in time.
 #[test]
 fn long_line(rt: HostRuntime) -> Result<(), Fail> {
     let mut buffer = hb_buffer_t::new(rt.alloc(), 1_000_000, 0);
@@ -561,7 +590,8 @@ fn long_line(rt: HostRuntime) -> Result<(), Fail> {
     Ok(())
 }
 
-/// Kept glyphs that share a cluster, while glyphs that go behind them have ever lower ones: first one after another, then by twos with a kept glyph before them, which each time joins those before it.
+/// Kept glyphs that share a cluster, while glyphs that go behind them have ever lower ones: first one after
+/// another, then by twos with a kept glyph before them, which each time joins those before it.
 #[test]
 fn long_run(rt: HostRuntime) -> Result<(), Fail> {
     let mut buffer = hb_buffer_t::new(rt.alloc(), 1_000_000, 0);
@@ -613,7 +643,8 @@ fn runs_apart(rt: HostRuntime) -> Result<(), Fail> {
     Ok(())
 }
 
-/// A run that was lowered to the cluster of the glyphs on both sides is lowered with them, and only where the last glyph that goes is lower.
+/// A run that was lowered to the cluster of the glyphs on both sides is lowered with them, and only where the
+/// last glyph that goes is lower.
 #[test]
 fn runs_between(rt: HostRuntime) -> Result<(), Fail> {
     for (last, after) in [
@@ -635,7 +666,8 @@ fn runs_between(rt: HostRuntime) -> Result<(), Fail> {
     Ok(())
 }
 
-/// A line of ten thousand glyphs gets a copy of each, and as many glyphs at its end while the cursor goes on, and is turned round again and again once it is short and its positions are gone.
+/// A line of ten thousand glyphs gets a copy of each, and as many glyphs at its end while the cursor goes on,
+/// and is turned round again and again once it is short and its positions are gone.
 #[test]
 fn long_line_grows(rt: HostRuntime) -> Result<(), Fail> {
     let mut buffer = hb_buffer_t::new(rt.alloc(), 1_000_000, 0);
@@ -667,5 +699,51 @@ fn long_line_grows(rt: HostRuntime) -> Result<(), Fail> {
         buffer.reverse();
     }
     assert!(rt; buffer.len() == 1 && buffer.info(0).cluster == 9_999);
+    Ok(())
+}
+
+/// Puts a run of three glyphs in at every tenth place of a line of a hundred thousand. Where `back` is set, the
+/// cursor goes to the front between.
+fn insert_runs(rt: &impl Abort, alloc: Global, back: bool) -> Result<hb_buffer_t, BufferError> {
+    let mut buffer = hb_buffer_t::new(alloc, 1_000_000, 0);
+    for i in 0..100_000u32 {
+        buffer.add(record((1, i, 0)))?;
+    }
+    for i in 0..10_000usize {
+        if back {
+            buffer.sync();
+        }
+        assert!(rt; 13 * i <= buffer.len());
+        buffer.move_to(13 * i);
+        for _ in 0..3u32 {
+            buffer.output_glyph(2)?;
+        }
+    }
+    Ok(buffer)
+}
+
+/// Whether a line is what `insert_runs` leaves.
+fn has_runs(buffer: &hb_buffer_t) -> bool {
+    buffer.len() == 130_000
+        && (0..130_000usize).all(|i| {
+            let id = if i % 13 < 3 { 2 } else { 1 };
+            let cluster = 10 * (i / 13) + (i % 13).max(3) - 3;
+            i < buffer.len() && *buffer.info(i) == record((id, cluster as u32, 0))
+        })
+}
+
+/// From the front on this takes as many steps as the line is long.
+#[test]
+fn runs_from_front(rt: HostRuntime) -> Result<(), Fail> {
+    let buffer = insert_runs(&rt, rt.alloc(), false)?;
+    assert!(rt; has_runs(&buffer) && buffer.backtrack_len() == 129_990);
+    Ok(())
+}
+
+/// With the cursor sent to the front between, each move costs its distance.
+#[test]
+fn runs_from_front_each(rt: HostRuntime) -> Result<(), Fail> {
+    let buffer = insert_runs(&rt, rt.alloc(), true)?;
+    assert!(rt; has_runs(&buffer) && buffer.backtrack_len() == 129_990);
     Ok(())
 }

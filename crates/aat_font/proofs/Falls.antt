@@ -1,50 +1,13 @@
-use Rattle.std.proofs.Common.{◌≡◌, ℕ, zero, suc, ◌+◌, ◌<◌, List, [], ◌∷◌, length, get_or, drop, Some, None, Option, Bool, true, false, refl, arith, cond, ltb, add-one}
-use Rattle.std.proofs.lemmas.Bool.Decides.{nat_tests}
-use Rattle.std.proofs.Math.Seq.{drop-cons}
-use Rattle.aat_font.specs.Keys.{IsRising, first_fall, fall_after, is_above}
-
--- a choice that is none was not the second
-opened : (b : Bool) (o : Option ℕ) (n : ℕ) → cond b o (Some n) ≡ None → (b ≡ true) × (o ≡ None)
-opened true o n h = (refl, h)
-opened false o n h = cc
+use Rattle.std.proofs.Common.{◌≡◌, ℕ, ◌-◌, ◌≤◌, List, [], ◌∷◌, length, get_or, drop, None, refl, sym}
+use Rattle.std.proofs.lemmas.List.{drop_all}
+use Rattle.aat_font.specs.Keys.{first_fall, fall_after}
 
 module _ {X : Type 0} (key : X → ℕ) where
-  -- what never falls behind a key rises above it
-  above_after : (n k : ℕ) (xs : List X) → fall_after key n k xs ≡ None → (j : ℕ) (d : X) → j < length xs → k < key (get_or xs j d)
-  above_after n k [] none j d lt = absurd (omega arith)
-  above_after n k (x ∷ xs) none zero d lt = let h = opened (ltb k (key x)) _ n none in grind (arith, nat_tests, h.0)
-  above_after n k (x ∷ xs) none (suc j) d lt =
-      let h = opened (ltb k (key x)) _ n none in
-      let deeper : key x < key (get_or xs j d) = above_after (n + 1) (key x) xs h.1 j d (omega arith) in
-      grind (arith, nat_tests, h.0)
-
-  rising_after : (n k : ℕ) (xs : List X) → fall_after key n k xs ≡ None → IsRising key xs
-  rising_after n k [] none i j d lt within = absurd (omega arith)
-  rising_after n k (x ∷ xs) none i zero d lt within = absurd (omega arith)
-  rising_after n k (x ∷ xs) none zero (suc j) d lt within = above_after (n + 1) (key x) xs (opened (ltb k (key x)) _ n none).1 j d (omega arith)
-  rising_after n k (x ∷ xs) none (suc i) (suc j) d lt within = rising_after (n + 1) (key x) xs (opened (ltb k (key x)) _ n none).1 i j d (omega arith) (omega arith)
-
-  -- what doesn't fall rises
-  pub rising : (xs : List X) → first_fall key xs ≡ None → IsRising key xs
-  rising [] none i j d lt within = absurd (omega arith)
-  rising (x ∷ xs) none i zero d lt within = absurd (omega arith)
-  rising (x ∷ xs) none zero (suc j) d lt within = above_after 1 (key x) xs none j d (omega arith)
-  rising (x ∷ xs) none (suc i) (suc j) d lt within = rising_after 1 (key x) xs none i j d (omega arith) (omega arith)
-
-  -- a look for a fall, one step
-  pub fall_more : (n k i : ℕ) (d : X) (xs : List X) → i < length xs → fall_after key n k (drop i xs) ≡ cond (ltb k (key (get_or xs i d))) (fall_after key (n + 1) (key (get_or xs i d)) (drop (i + 1) xs)) (Some n)
-  fall_more n k i d xs lt = rw (drop-cons xs i d lt) (simp add-one)
-
-  -- the first fall of a list that stands behind a key, if there is one, from place i on
-  abbrev pub fall_behind : Option ℕ → ℕ → List X → Option ℕ
-  fall_behind before i [] = None
-  fall_behind before i (x ∷ xs) = cond (is_above before (key x)) (fall_behind (Some (key x)) (i + 1) xs) (Some i)
-
-  fall_behind_some : (k i : ℕ) (xs : List X) → fall_behind (Some k) i xs ≡ fall_after key i k xs
-  fall_behind_some k i [] = refl
-  fall_behind_some k i (x ∷ xs) = rw (fall_behind_some (key x) (i + 1) xs) refl
-
-  -- behind nothing it is that of the whole list
-  pub fall_behind_none : (xs : List X) → fall_behind None 0 xs ≡ first_fall key xs
-  fall_behind_none [] = refl
-  fall_behind_none (x ∷ xs) = fall_behind_some (key x) 1 xs
+  -- a look for a fall that has come to the end has found none
+  pub no_more :
+      (i : ℕ) (xs : List X)
+      → length xs ≤ i
+      → ((d : X) → fall_after key i (key (get_or xs (i - 1) d)) (drop i xs) ≡ first_fall key xs)
+      → None ≡ first_fall key xs
+  no_more i [] past same = refl
+  no_more i (x ∷ xs) past same = rw (sym (same x), drop_all i (x ∷ xs) past) refl

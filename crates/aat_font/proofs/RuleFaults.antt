@@ -2,11 +2,11 @@
 use Rattle.std.proofs.Common.{◌≡◌, ◌≤◌, ℕ, List, Some, None, Option, Bool, true, false, refl, subst, arith, cond, ltb}
 use Rattle.std.proofs.lemmas.Bool.Decides.{nat_tests}
 use Rattle.aat_font.specs.Keys.{IsRising, first, first_fall}
-use Rattle.aat_font.specs.Table.{Rule, rule_key, first_out_of_range, earlier_fault, bad_rule, table_fault}
+use Rattle.aat_font.specs.Table.{Rule, rule_key, first_out_of_range, earlier_fault, rules_fault, table_fault}
 use Rattle.aat_font.specs.TableErrors.{RefusesFault}
 use Rattle.aat_font.specs.declared.error.TableError.{TableError}
 use Rattle.aat_font.specs.declared.error.TableError.TheVariants.{NotRising, ClassOutOfRange}
-use Rattle.aat_font.proofs.Falls.{rising}
+use Rattle.aat_font.specs.facts.Falls.{rising}
 
 -- a choice of two faults is a fault
 chosen_some : (b : Bool) (e f : TableError) → cond b (Some e) (Some f) ≡ None → ⊥
@@ -25,7 +25,10 @@ refused_as e f same refused =
     let P : TableError → Type 0 = λ x. RefusesFault (Some x) x in
     subst P equal refused
 
-chosen_refused : (b : Bool) (i j : ℕ) (e : TableError) → cond b (Some (ClassOutOfRange j)) (Some (NotRising i)) ≡ Some e → RefusesFault (Some e) e
+chosen_refused :
+    (b : Bool) (i j : ℕ) (e : TableError)
+    → cond b (Some (ClassOutOfRange j)) (Some (NotRising i)) ≡ Some e
+    → RefusesFault (Some e) e
 chosen_refused true i j e h = refused_as (ClassOutOfRange j) e h refl
 chosen_refused false i j e h = refused_as (NotRising i) e h refl
 
@@ -37,11 +40,14 @@ refuses (Some i) (Some j) e h = chosen_refused (ltb j i) i j e h
 
 module _ {E : Type 0} (count : ℕ) (rules : List (Rule E)) where
   -- rules without a fault rise
-  pub rules_rise : bad_rule count rules ≡ None → IsRising rule_key rules
+  pub rules_rise : rules_fault count rules ≡ None → IsRising rule_key rules
   rules_rise none = rising rule_key rules (no_fall (first_fall rule_key rules) (first_out_of_range count rules) none)
 
   -- the fault of the rules is the table's where nothing comes before it
-  pub refused_for_rules : (classes : List (ℕ × ℕ)) (e : TableError) → 4 ≤ count → first_fall first classes ≡ None → bad_rule count rules ≡ Some e → RefusesFault (table_fault count classes rules) e
+  pub refused_for_rules :
+      (classes : List (ℕ × ℕ)) (e : TableError)
+      → 4 ≤ count → first_fall first classes ≡ None → rules_fault count rules ≡ Some e
+      → RefusesFault (table_fault count classes rules) e
   refused_for_rules classes e enough none bad =
       let few : ltb count 4 ≡ false = grind (arith, nat_tests) in
       rw (few, none, bad) (refuses (first_fall rule_key rules) (first_out_of_range count rules) e bad)

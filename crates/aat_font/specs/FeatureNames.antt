@@ -1,5 +1,5 @@
 -- The names of a font's features as a total function. Apple's TrueType Reference Manual, "The 'feat' table".
-use Rattle.std.specs.Prelude.{ℕ, List, Option, false}
+use Rattle.std.specs.Prelude.{ℕ, List, Option}
 use Rattle.aat_font.specs.Keys.{at_key}
 use Rattle.aat_font.specs.declared.feat.FeatureName.{FeatureName}
 
@@ -10,7 +10,3 @@ kind_of n = n.kind
 -- the name of a feature type, if there is one
 abbrev pub name_of : List FeatureName → ℕ → Option FeatureName
 name_of names kind = at_key kind_of names kind
-
--- a name of nothing, where one has to be named
-abbrev pub no_name : FeatureName
-no_name = record { kind = 0; settings = 0; exclusive = false }

@@ -1,8 +1,8 @@
 -- Lists that rise by a key, as the tables of a font do.
-use Rattle.std.specs.Prelude.{ℕ, ◌+◌, ◌<◌, List, [], ◌∷◌, length, if◌then◌else◌, ◌==◌, nat_lt, slice_index_or, Some, None, Option, find, option_map, Bool, true}
+use Rattle.std.specs.Prelude.{ℕ, ◌+◌, ◌<◌, List, [], ◌∷◌, length, if◌then◌else◌, ◌==◌, nat_lt, slice_index_or, Some, None, Option, find, option_map}
 
 module _ {X : Type 0} (key : X → ℕ) where
-  -- the place of the first element that is not above the one before it, from place i on, behind one with the key k
+  -- the place of the first element that is not above the one before it, from place i on, behind one with key k
   abbrev pub fall_after : ℕ → ℕ → List X → Option ℕ
   fall_after i k [] = None
   fall_after i k (x ∷ xs) = if nat_lt k (key x) then fall_after (i + 1) (key x) xs else Some i
@@ -14,16 +14,12 @@ module _ {X : Type 0} (key : X → ℕ) where
 
   -- each key is below those after it
   abbrev pub IsRising : List X → Type 0
-  IsRising xs = (i j : ℕ) (d : X) → i < j → j < length xs → key (slice_index_or xs i d) < key (slice_index_or xs j d)
+  IsRising xs =
+      (i j : ℕ) (d : X) → i < j → j < length xs → key (slice_index_or xs i d) < key (slice_index_or xs j d)
 
   -- the element that has the key
   abbrev pub at_key : List X → ℕ → Option X
   at_key xs k = find (λ x. key x == k) xs
-
--- whether a key is above the one before it, if there is one
-abbrev pub is_above : Option ℕ → ℕ → Bool
-is_above None k = true
-is_above (Some b) k = nat_lt b k
 
 -- the first part of a pair
 abbrev pub first : ℕ × ℕ → ℕ

@@ -1,3 +1,4 @@
+pub mod AnchorPoints
 pub mod Chains
 pub mod Coverage
 pub mod Entries
@@ -5,6 +6,8 @@ pub mod Face
 pub mod FeatureNames
 pub mod Keys
 pub mod Morx
+pub mod Subtables
 pub mod Table
 pub mod TableErrors
 pub mod TableExamples
+pub mod facts

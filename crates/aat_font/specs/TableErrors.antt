@@ -1,5 +1,5 @@
 -- Why a table is refused.
-use Rattle.std.specs.Prelude.{◌≡◌, ℕ, Option, Some, None}
+use Rattle.std.specs.Prelude.{◌≡◌, ◌<◌, ℕ, Option, Some, None}
 use Rattle.aat_font.specs.declared.error.TableError.{TableError}
 use Rattle.aat_font.specs.declared.error.TableError.TheVariants.{NotRising, FewClasses, ClassOutOfRange, TooManySubtables, OutOfMemory}
 
@@ -11,7 +11,8 @@ number_of_table_error (ClassOutOfRange place) = 3
 number_of_table_error TooManySubtables = 4
 number_of_table_error OutOfMemory = 5
 
--- why a list that has to rise makes no table, given the place of its first fall: the fall, and want of memory only where there is none
+-- why a list that has to rise makes no table, given the place of its first fall: the fall, and want of memory only
+-- where there is none
 abbrev pub RefusesRising : Option ℕ → TableError → Type 0
 RefusesRising fall (NotRising place) = fall ≡ Some place
 RefusesRising fall FewClasses = ⊥
@@ -26,3 +27,7 @@ RefusesFault fault FewClasses = fault ≡ Some FewClasses
 RefusesFault fault (ClassOutOfRange place) = fault ≡ Some (ClassOutOfRange place)
 RefusesFault fault TooManySubtables = ⊥
 RefusesFault fault OutOfMemory = fault ≡ None
+
+-- why no table of chains is made, given the number of their subtables: there are more than 65,535, and no other reason
+abbrev pub RefusesMany : ℕ → TableError → Type 0
+RefusesMany count e = (e ≡ TooManySubtables) × (65535 < count)

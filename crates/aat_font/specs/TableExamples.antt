@@ -5,8 +5,8 @@ use Rattle.aat_font.specs.Table.{Rule, TableValue, class_of, entry_of, table_fau
 use Rattle.aat_font.specs.declared.error.TableError.TheVariants.{NotRising, FewClasses, ClassOutOfRange}
 
 -- entries that are told apart by a number
-abbrev pub table : TableValue ℕ
-table = record {
+abbrev pub example_table : TableValue ℕ
+example_table = record {
   class_count = 4;
   classes = (0, 9) ∷ (7, 3) ∷ (65535, 3) ∷ [];
   rules = (0, 1, 10) ∷ (0, 3, 11) ∷ (65535, 0, 12) ∷ [];
@@ -15,12 +15,21 @@ table = record {
 -- a glyph may have a class that is not below the count; the deleted glyph has class 2 whatever is listed for it
 abbrev pub ClassesAreAsListed : Type 0
 ClassesAreAsListed =
-    (class_of table 0 ≡ Some 9) × (class_of table 7 ≡ Some 3) × (class_of table 8 ≡ None) × (class_of table 65535 ≡ Some 2)
+    (class_of example_table 0 ≡ Some 9)
+    × (class_of example_table 7 ≡ Some 3)
+    × (class_of example_table 8 ≡ None)
+    × (class_of example_table 65535 ≡ Some 2)
 
 -- a class at or above the count is taken as 1, and what has no rule is missing
 abbrev pub EntriesAreByRule : Type 0
 EntriesAreByRule =
-    (entry_of table 0 3 ≡ Some 11) × (entry_of table 0 4 ≡ Some 10) × (entry_of table 0 9 ≡ Some 10) × (entry_of table 0 65535 ≡ Some 10) × (entry_of table 0 2 ≡ None) × (entry_of table 1 4 ≡ None) × (entry_of table 65535 0 ≡ Some 12)
+    (entry_of example_table 0 3 ≡ Some 11)
+    × (entry_of example_table 0 4 ≡ Some 10)
+    × (entry_of example_table 0 9 ≡ Some 10)
+    × (entry_of example_table 0 65535 ≡ Some 10)
+    × (entry_of example_table 0 2 ≡ None)
+    × (entry_of example_table 1 4 ≡ None)
+    × (entry_of example_table 65535 0 ≡ Some 12)
 
 -- rules of a state and a class
 abbrev pub rules_at : ℕ × ℕ → ℕ × ℕ → List (Rule ℕ)

@@ -1,6 +1,8 @@
-//! What the entries of state tables hold beside a state and flags, one kind for each kind of machine, and the anchor points of glyphs.
+//! What the entries of state tables hold beside a state and flags, one kind for each kind of machine, and the anchor
+//! points of glyphs.
 
-/// What a contextual entry names: by their places in the subtable, the lookup for the marked glyph and that for the current one. 0xFFFF is none.
+/// What a contextual entry names: by their places in the subtable, the lookup for the marked glyph and that for the
+/// current one. 0xFFFF is none.
 ///
 /// Apple's TrueType Reference Manual, "The 'morx' table", contextual glyph substitution.
 #[derive(Clone, Copy, PartialEq, Eq, Debug)]
@@ -11,7 +13,8 @@ pub struct ContextualEntryData {
     pub current_index: u16,
 }
 
-/// What an insertion entry names: where in the subtable's glyphs those begin that go in at the cursor, and those that go in at the mark. 0xFFFF is none.
+/// What an insertion entry names: where in the subtable's glyphs those begin that go in at the cursor, and those that
+/// go in at the mark. 0xFFFF is none.
 ///
 /// Apple's TrueType Reference Manual, "The 'morx' table", glyph insertion.
 #[derive(Clone, Copy, PartialEq, Eq, Debug)]

@@ -1,6 +1,7 @@
 //! A font: its optional tables, and the classes and advances of its glyphs.
 ghost use Rattle.std.specs.Prelude.{◌≡◌};
-ghost use Rattle.aat_font.specs.Face.{tables_of, glyph_classes_of, advances_of, has_classes, props_of, advance_of, value_or_zero};
+ghost use Rattle.aat_font.specs.Face.{tables_of, glyph_classes_of, advances_of, has_classes, props_of, advance_of};
+ghost use Rattle.aat_font.specs.Face.{value_or_zero};
 
 use crate::feat::Feat;
 use crate::lookup::Lookup;

@@ -1,10 +1,11 @@
 //! The feature name table.
 ghost use Rattle.std.specs.Prelude.{◌≡◌, IfOk, IfErr, OnOk, None};
-ghost use Rattle.aat_font.specs.Keys.{first_fall, IsRising};
+ghost use Rattle.aat_font.specs.Keys.{first_fall};
 ghost use Rattle.aat_font.specs.FeatureNames.{kind_of, name_of};
 ghost use Rattle.aat_font.specs.TableErrors.{RefusesRising};
 
 use crate::error::TableError;
+use crate::keys::{Keyed, first_fall, row_at};
 use std::alloc::{Allocator, Global};
 use std::marker::Model;
 
@@ -50,7 +51,7 @@ impl<A: Allocator> Feat<A> {
         ensures rising { OnOk result (first_fall kind_of names.now ≡ None) }
         ensures refused { IfErr result (RefusesRising (first_fall kind_of names.now)) }
     {
-        if let Some(place) = falling_name(names) {
+        if let Some(place) = first_fall(names) {
             return Err(TableError::NotRising(place));
         }
         Ok(Feat {
@@ -62,29 +63,16 @@ impl<A: Allocator> Feat<A> {
     pub fn find(&self, kind: u16) -> Option<FeatureName>
         ensures { result ≡ name_of self.now kind }
     {
-        name_of_kind(&self.names, kind)
+        row_at(&self.names, kind as u32)
     }
 }
 
-/// The place of the first name that is not above the one before it.
-fn falling_name(names: &[FeatureName]) -> Option<usize>
-    ensures { result ≡ first_fall kind_of names.now }
-{
-    for i in 1..names.len() {
-        if names[i].kind <= names[i - 1].kind {
-            return Some(i);
-        }
-    }
-    None
-}
+impl Keyed for FeatureName {
+    ghost use Rattle.aat_font.specs.FeatureNames.{kind_of};
 
-/// The name of a feature type among rising names.
-fn name_of_kind(names: &[FeatureName], kind: u16) -> Option<FeatureName>
-    requires { IsRising kind_of names.now }
-    ensures { result ≡ name_of names.now kind }
-{
-    match names.binary_search_by_key(&kind, |name| name.kind) {
-        Ok(at) => Some(names[at]),
-        Err(_) => None,
+    ghost key_of = { kind_of };
+
+    fn key(&self) -> u32 {
+        self.kind as u32
     }
 }

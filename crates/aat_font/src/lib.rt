@@ -6,10 +6,12 @@ mod entries;
 mod error;
 mod face;
 mod feat;
+pub mod keys;
 mod lookup;
 mod morx;
 mod plan;
 mod state_table;
+mod subtables;
 mod tag;
 
 pub use entries::{ContextualEntryData, EntryData, InsertionEntryData, KernEntryData, Point};
@@ -20,6 +22,7 @@ pub use lookup::Lookup;
 pub use morx::{Chain, ChainFeature, Coverage, Morx, Subtable, SubtableKind};
 pub use plan::{Feature, GlyphId, hb_ot_shape_plan_t};
 pub use state_table::{ExtendedStateTable, GenericStateEntry};
+pub use subtables::{ContextualSubtable, InsertionSubtable, LigatureSubtable};
 pub use tag::hb_tag_t;
 
 #[cfg(test)]

@@ -4,6 +4,7 @@ ghost use Rattle.aat_font.specs.Keys.{first, first_fall, value_in, IsRising};
 ghost use Rattle.aat_font.specs.TableErrors.{RefusesRising};
 
 use crate::error::TableError;
+use crate::keys::{Keyed, first_fall, row_at};
 use crate::plan::GlyphId;
 use std::alloc::{Allocator, Global};
 use std::marker::Model;
@@ -37,7 +38,7 @@ impl<A: Allocator> Lookup<A> {
         ensures rising { OnOk result (first_fall first pairs.now ≡ None) }
         ensures refused { IfErr result (RefusesRising (first_fall first pairs.now)) }
     {
-        if let Some(place) = falling_place(pairs) {
+        if let Some(place) = first_fall(pairs) {
             return Err(TableError::NotRising(place));
         }
         Ok(Lookup {
@@ -53,16 +54,14 @@ impl<A: Allocator> Lookup<A> {
     }
 }
 
-/// The place of the first pair that is not above the one before it.
-pub(crate) fn falling_place(pairs: &[(u16, u16)]) -> Option<usize>
-    ensures { result ≡ first_fall first pairs.now }
-{
-    for i in 1..pairs.len() {
-        if pairs[i].0 <= pairs[i - 1].0 {
-            return Some(i);
-        }
+impl Keyed for (u16, u16) {
+    ghost use Rattle.aat_font.specs.Keys.{first};
+
+    ghost key_of = { first };
+
+    fn key(&self) -> u32 {
+        self.0 as u32
     }
-    None
 }
 
 /// The value of a glyph among rising pairs.
@@ -70,8 +69,5 @@ pub(crate) fn value_of_pair(pairs: &[(u16, u16)], glyph: u16) -> Option<u16>
     requires { IsRising first pairs.now }
     ensures { result ≡ value_in pairs.now glyph }
 {
-    match pairs.binary_search_by_key(&glyph, |&(g, _)| g) {
-        Ok(at) => Some(pairs[at].1),
-        Err(_) => None,
-    }
+    row_at(pairs, glyph as u32).map(|pair| pair.1)
 }

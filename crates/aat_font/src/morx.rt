@@ -1,16 +1,19 @@
 //! The extended glyph metamorphosis table.
-ghost use Rattle.std.specs.Prelude.{⊤, [], ◌∷◌, codes, ◌≡◌, ◌<◌, ◌≤◌, IfOk, IfErr, OnOk};
+ghost use Rattle.std.specs.Prelude.{⊤, ◌≡◌, ◌≤◌, IfOk, IfErr, OnOk};
 ghost use Rattle.aat_font.specs.Chains.{subtable_count};
 
 use crate::error::TableError;
 use crate::lookup::Lookup;
-use aat_buffer::hb_mask_t;
+use crate::plan::hb_mask_t;
+use crate::state_table::ExtendedStateTable;
+use crate::subtables::{ContextualSubtable, InsertionSubtable, LigatureSubtable};
 use bitflags::{Flag, Flags, bitflag_items};
 
-/// The largest number of subtables of a table.
+/// The largest number of subtables of a table, so that the turns of a run fit a number of 64 bits.
 const MAX_SUBTABLES: usize = 65535;
 
-/// For which text a subtable is, and in which order it takes the glyphs.
+/// For which text a subtable is, and in which order it takes the glyphs: the four highest bits of
+/// the manual's field, as a byte.
 ///
 /// Apple's TrueType Reference Manual, "The 'morx' table", metamorphosis subtables.
 #[derive(Clone, Copy, PartialEq, Eq, Debug)]
@@ -26,11 +29,14 @@ bitflag_items! {
 }
 
 impl Flags for Coverage {
+    ghost use Rattle.std.specs.Prelude.{⊤};
+    ghost use Rattle.aat_font.specs.Coverage.{coverage_bits};
+
     type Bits = u8;
 
     ghost exact = { ⊤ };
 
-    ghost table = { (codes "VERTICAL", 128) ∷ (codes "BACKWARDS", 64) ∷ (codes "ALL_DIRECTIONS", 32) ∷ (codes "LOGICAL", 16) ∷ [] };
+    ghost table = { coverage_bits };
 
     ghost set_of = { λ f. f.0 };
 
@@ -51,28 +57,32 @@ impl Coverage {
     ghost use Rattle.std.specs.Prelude.{◌≡◌};
     ghost use Rattle.aat_font.specs.Coverage.{is_vertical_coverage, is_backwards, is_all_directions, is_logical};
 
-    /// Whether the subtable is for vertical text. Bit 0x80.
+    /// Whether the subtable is for vertical text alone. Without the bit it is for horizontal text
+    /// alone. Bit 0x80, 31 in the manual.
     pub fn is_vertical(self) -> bool
         ensures { result ≡ is_vertical_coverage self }
     {
         self.contains(Coverage::VERTICAL)
     }
 
-    /// Whether the subtable takes the glyphs in descending order. Bit 0x40.
+    /// Whether the subtable takes the glyphs backwards in their order, the last one first. Bit
+    /// 0x40, 30 in the manual.
     pub fn is_backwards(self) -> bool
         ensures { result ≡ is_backwards self }
     {
         self.contains(Coverage::BACKWARDS)
     }
 
-    /// Whether the subtable is for horizontal and vertical text. Bit 0x20.
+    /// Whether the subtable is for horizontal and vertical text, whatever `is_vertical` says. Bit
+    /// 0x20, 29 in the manual.
     pub fn is_all_directions(self) -> bool
         ensures { result ≡ is_all_directions self }
     {
         self.contains(Coverage::ALL_DIRECTIONS)
     }
 
-    /// Whether the subtable takes the glyphs in logical order. Bit 0x10.
+    /// Whether the order is the logical one, that of the characters. Without the bit it is the one
+    /// in which the glyphs are laid out. Bit 0x10, 28 in the manual.
     pub fn is_logical(self) -> bool
         ensures { result ≡ is_logical self }
     {
@@ -81,10 +91,20 @@ impl Coverage {
 }
 
 /// What a subtable does.
+///
+/// Apple's TrueType Reference Manual, "The 'morx' table", metamorphosis subtables.
 #[derive(Drop)]
 pub enum SubtableKind {
-    /// Each glyph by itself gets its value of a lookup.
+    /// A machine puts the glyphs of a span in another order. The manual's "indic rearrangement".
+    Rearrangement(ExtendedStateTable<()>),
+    /// A machine replaces the marked and the current glyph. The manual's "contextual glyph substitution".
+    Contextual(ContextualSubtable),
+    /// A machine joins glyphs. The manual's "ligature substitution".
+    Ligature(LigatureSubtable),
+    /// Each glyph by itself gets its value of a lookup. The manual's "noncontextual glyph substitution".
     NonContextual(Lookup),
+    /// A machine inserts glyphs. The manual's "glyph insertion".
+    Insertion(InsertionSubtable),
 }
 
 /// A subtable of a chain.
@@ -139,9 +159,10 @@ pub struct Morx {
 }
 
 impl Morx {
-    ghost use Rattle.std.specs.Prelude.{◌≡◌, ◌<◌, ◌≤◌, IfOk, IfErr, OnOk};
+    ghost use Rattle.std.specs.Prelude.{◌≡◌, ◌≤◌, IfOk, IfErr, OnOk};
     ghost use Rattle.aat_font.specs.Chains.{subtable_count};
     ghost use Rattle.aat_font.specs.Morx.{chains_of};
+    ghost use Rattle.aat_font.specs.TableErrors.{RefusesMany};
 
     /// Makes the table of its chains, which are kept as they are handed in. Takes no memory.
     ///
@@ -150,7 +171,7 @@ impl Morx {
     pub fn new(chains: Vec<Chain>) -> Result<Morx, TableError>
         ensures ok { IfOk result (λ m. chains_of m ≡ chains.items) }
         ensures few { OnOk result (subtable_count chains.items ≤ 65535) }
-        ensures refused { IfErr result (λ e. (e ≡ TableError.TooManySubtables) × (65535 < subtable_count chains.items)) }
+        ensures refused { IfErr result (RefusesMany (subtable_count chains.items)) }
     {
         let mut count = 0;
         for chain in &chains {

@@ -1,7 +1,9 @@
 //! What the caller asks of a shaping.
 
 use crate::tag::hb_tag_t;
-use aat_buffer::hb_mask_t;
+
+/// The mask of a glyph, the same number that the buffer spells by this name.
+pub type hb_mask_t = u32;
 
 /// The number of a glyph in a font.
 #[derive(Clone, Copy, PartialEq, Eq, Debug, Default)]

@@ -1,26 +1,29 @@
 //! State tables: the class of each glyph, and what a machine does at a state and a class.
 ghost use Rattle.std.specs.Prelude.{◌≡◌, ◌+◌, ◌*◌, IfOk, IfErr, OnOk, None, option_map};
 ghost use Rattle.aat_font.specs.Entries.{has_flag, goes_on};
-ghost use Rattle.aat_font.specs.Keys.{IsRising, at_key, first_fall, is_above};
-ghost use Rattle.aat_font.specs.Table.{class_of, entry_of, rule_key, first_out_of_range, earlier_fault, bad_rule, table_fault};
+ghost use Rattle.aat_font.specs.Table.{class_of, entry_of, table_value};
+ghost use Rattle.aat_font.specs.Table.{first_out_of_range, earlier_fault, rules_fault, table_fault};
 ghost use Rattle.aat_font.specs.TableErrors.{RefusesFault};
 
 use crate::error::TableError;
-use crate::lookup::{falling_place, value_of_pair};
+use crate::keys::{Keyed, first_fall, row_at};
+use crate::lookup::value_of_pair;
 use crate::plan::GlyphId;
 use std::alloc::{Allocator, Global};
 use std::marker::Model;
 
-/// The smallest number of classes: end of text, out of bounds, deleted glyph, end of line.
+/// The smallest number of classes. The manual gives the first four their meaning: 0 is the end of
+/// the text, 1 out of bounds, 2 the deleted glyph, 3 the end of a line.
 const MIN_CLASSES: u16 = 4;
 
-/// The class of a glyph that has no other: out of bounds.
+/// Out of bounds: the class of a glyph that has no other, and as which a class is taken that the
+/// table does not have.
 const OUT_OF_BOUNDS: u16 = 1;
 
-/// The deleted glyph.
+/// The deleted glyph: a machine deletes a glyph by putting this one in its place.
 const DELETED_GLYPH: u16 = 0xFFFF;
 
-/// The class of the deleted glyph.
+/// The class of the deleted glyph, which the manual keeps for it: a table lists no glyph under it.
 const DELETED_CLASS: u16 = 2;
 
 /// What a machine does at a state and a class.
@@ -105,14 +108,14 @@ impl<T: Copy, A: Allocator + Copy> ExtendedStateTable<T, A> {
         classes: &[(u16, u16)],
         rules: &[(u16, u16, GenericStateEntry<T>)],
     ) -> Result<ExtendedStateTable<T, A>, TableError>
-        ensures ok { IfOk result (λ table. table ≡ record { class_count = class_count; classes = classes.now; rules = rules.now }) }
+        ensures ok { IfOk result (λ table. table ≡ table_value class_count classes.now rules.now) }
         ensures sound { OnOk result (table_fault class_count classes.now rules.now ≡ None) }
         ensures refused { IfErr result (RefusesFault (table_fault class_count classes.now rules.now)) }
     {
         if class_count < MIN_CLASSES {
             return Err(TableError::FewClasses);
         }
-        if let Some(place) = falling_place(classes) {
+        if let Some(place) = first_fall(classes) {
             return Err(TableError::NotRising(place));
         }
         if let Some(fault) = faulty_rule(class_count, rules) {
@@ -148,7 +151,7 @@ impl<T: Copy, A: Allocator> ExtendedStateTable<T, A> {
         } else {
             OUT_OF_BOUNDS
         };
-        entry_of_rule(&self.rules, rule_key(state, class))
+        row_at(&self.rules, rule_key(state, class)).map(|rule| rule.2)
     }
 }
 
@@ -159,31 +162,13 @@ fn rule_key(state: u16, class: u16) -> u32
     state as u32 * 65536 + class as u32
 }
 
-/// The place of the first rule that is not above the one before it.
-#[tactic(auto, using(crate::proofs::Falls::fall_behind_none))]
-fn falling_rule<T: Copy>(rules: &[(u16, u16, GenericStateEntry<T>)]) -> Option<usize>
-    ensures { result ≡ first_fall rule_key rules.now }
-{
-    let mut before = None;
-    let mut place = 0;
-    for rule in rules {
-        let key = rule_key(rule.0, rule.1);
-        if !is_above(before, key) {
-            return Some(place);
-        }
-        before = Some(key);
-        place += 1;
-    }
-    None
-}
+impl<T: Copy> Keyed for (u16, u16, GenericStateEntry<T>) {
+    ghost use Rattle.aat_font.specs.Table.{rule_key};
 
-/// Whether a key is above the one before it, if there is one.
-fn is_above(before: Option<u32>, key: u32) -> bool
-    ensures { result ≡ is_above before key }
-{
-    match before {
-        Some(before) => before < key,
-        None => true,
+    ghost key_of = { rule_key };
+
+    fn key(&self) -> u32 {
+        rule_key(self.0, self.1)
     }
 }
 
@@ -214,21 +199,7 @@ fn faulty_rule<T: Copy>(
     class_count: u16,
     rules: &[(u16, u16, GenericStateEntry<T>)],
 ) -> Option<TableError>
-    ensures { result ≡ bad_rule class_count rules.now }
+    ensures { result ≡ rules_fault class_count rules.now }
 {
-    earlier_fault(falling_rule(rules), first_out_of_range(class_count, rules))
-}
-
-/// The entry under a key among rising rules.
-fn entry_of_rule<T: Copy>(
-    rules: &[(u16, u16, GenericStateEntry<T>)],
-    key: u32,
-) -> Option<GenericStateEntry<T>>
-    requires { IsRising rule_key rules.now }
-    ensures { result ≡ option_map (λ r. r.2) (at_key rule_key rules.now key) }
-{
-    match rules.binary_search_by_key(&key, |rule| rule_key(rule.0, rule.1)) {
-        Ok(at) => Some(rules[at].2),
-        Err(_) => None,
-    }
+    earlier_fault(first_fall(rules), first_out_of_range(class_count, rules))
 }

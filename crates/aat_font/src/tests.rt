@@ -4,9 +4,10 @@ ghost use Rattle.aat_font.specs.TableExamples.{ClassesAreAsListed, EntriesAreByR
 mod numbers;
 
 use crate::{
-    Chain, ChainFeature, Coverage, ExtendedStateTable, FaceTables, Feat, Feature, FeatureName,
-    GenericStateEntry, GlyphId, Lookup, Morx, Subtable, SubtableKind, TableError, hb_font_t,
-    hb_ot_shape_plan_t, hb_tag_t,
+    Chain, ChainFeature, ContextualEntryData, ContextualSubtable, Coverage, ExtendedStateTable,
+    FaceTables, Feat, Feature, FeatureName, GenericStateEntry, GlyphId, InsertionEntryData,
+    InsertionSubtable, LigatureSubtable, Lookup, Morx, Subtable, SubtableKind, TableError,
+    hb_font_t, hb_ot_shape_plan_t, hb_tag_t,
 };
 use bitflags::Flags;
 use linked_list_allocator::LocalHeap;
@@ -189,6 +190,92 @@ fn plans(rt: HostRuntime) -> Result<(), Fail> {
     };
     assert!(rt; plan.user_features.len() == 1 && plan.apply_morx && !plan.requested_kerning);
     assert_eq!(rt; plan.kern_mask, 8);
+    Ok(())
+}
+
+/// The rule of state 0 and class 4 in a machine of this kind.
+fn rule<T: Copy>(extra: T) -> (u16, u16, GenericStateEntry<T>) {
+    let entry = GenericStateEntry {
+        new_state: 1,
+        flags: 0x8000,
+        extra,
+    };
+    (0, 4, entry)
+}
+
+/// What the machine of a kind adds to its one rule, as a number, and how many elements its lists have.
+fn parts_of(kind: &SubtableKind) -> Option<(u16, usize)> {
+    match kind {
+        SubtableKind::Rearrangement(state) => Some((state.entry(0, 4)?.new_state, 0)),
+        SubtableKind::Contextual(tables) => {
+            let extra = tables.state.entry(0, 4)?.extra;
+            Some((extra.mark_index, tables.lookups.len()))
+        }
+        SubtableKind::Ligature(tables) => {
+            let lists = tables
+                .ligature_actions
+                .len()
+                .wrapping_add(tables.components.len());
+            let lists = lists.wrapping_add(tables.ligatures.len());
+            Some((tables.state.entry(0, 4)?.extra, lists))
+        }
+        SubtableKind::NonContextual(lookup) => Some((lookup.value(GlyphId(1))?, 0)),
+        SubtableKind::Insertion(tables) => {
+            let extra = tables.state.entry(0, 4)?.extra;
+            Some((extra.marked_insert_index, tables.glyphs.len()))
+        }
+    }
+}
+
+fn contextual(alloc: Global) -> Result<SubtableKind, Fail> {
+    let rule = rule(ContextualEntryData {
+        mark_index: 7,
+        current_index: 0xFFFF,
+    });
+    Ok(SubtableKind::Contextual(ContextualSubtable {
+        state: ExtendedStateTable::new(alloc, 6, &[(1, 4)], &[rule])?,
+        lookups: vec![in alloc; Lookup::new(alloc, &[(1, 2)])?]?,
+    }))
+}
+
+fn ligature(alloc: Global) -> Result<SubtableKind, Fail> {
+    Ok(SubtableKind::Ligature(LigatureSubtable {
+        state: ExtendedStateTable::new(alloc, 6, &[(1, 4)], &[rule(5)])?,
+        ligature_actions: vec![in alloc; 0x3FFF_FFF6, 0xBFFF_FFF6]?,
+        components: vec![in alloc; 0, 0, 0]?,
+        ligatures: vec![in alloc; GlyphId(20)]?,
+    }))
+}
+
+fn insertion(alloc: Global) -> Result<SubtableKind, Fail> {
+    let rule = rule(InsertionEntryData {
+        current_insert_index: 0xFFFF,
+        marked_insert_index: 3,
+    });
+    Ok(SubtableKind::Insertion(InsertionSubtable {
+        state: ExtendedStateTable::new(alloc, 6, &[(1, 4)], &[rule])?,
+        glyphs: vec![in alloc; GlyphId(7), GlyphId(8)]?,
+    }))
+}
+
+#[test]
+fn contextual_subtables(rt: HostRuntime) -> Result<(), Fail> {
+    let kind = contextual(rt.alloc())?;
+    assert!(rt; parts_of(&kind) == Some((7, 1)));
+    Ok(())
+}
+
+#[test]
+fn ligature_subtables(rt: HostRuntime) -> Result<(), Fail> {
+    let kind = ligature(rt.alloc())?;
+    assert!(rt; parts_of(&kind) == Some((5, 6)));
+    Ok(())
+}
+
+#[test]
+fn insertion_subtables(rt: HostRuntime) -> Result<(), Fail> {
+    let kind = insertion(rt.alloc())?;
+    assert!(rt; parts_of(&kind) == Some((3, 2)));
     Ok(())
 }
 

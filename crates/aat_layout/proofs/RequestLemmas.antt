@@ -7,13 +7,13 @@ use Rattle.std.proofs.lemmas.List.{take_more, append_assoc, append-nil}
 use Rattle.std.proofs.lemmas.List.Elements.{filter_map-append}
 use Rattle.aat_font.specs.declared.feat.FeatureName.{FeatureName}
 use Rattle.aat_font.specs.declared.plan.Feature.{Feature}
-use Rattle.aat_layout.specs.declared.error.AatError.{AatError}
-use Rattle.aat_layout.specs.declared.error.AatError.TheVariants.{AaltValue, OutOfMemory, BufferFailed}
-use Rattle.aat_layout.specs.declared.aat_map.feature.feature_range_t.{feature_range_t}
-use Rattle.aat_layout.specs.declared.aat_map.feature.feature_info_t.{feature_info_t}
-use Rattle.aat_layout.specs.Builder.{Builder, with_request}
-use Rattle.aat_layout.specs.Requests.{is_too_large, request_of, requests_of, addition}
-use Rattle.aat_layout.specs.Adding.{RefusesFeature}
+use Rattle.aat_run.specs.declared.error.AatError.{AatError}
+use Rattle.aat_run.specs.declared.error.AatError.TheVariants.{AaltValue, TooLong, OutOfMemory, BufferFailed}
+use Rattle.aat_map.specs.declared.feature.feature_range_t.{feature_range_t}
+use Rattle.aat_map.specs.declared.feature.feature_info_t.{feature_info_t}
+use Rattle.aat_map.specs.Builder.{Builder, with_request}
+use Rattle.aat_map.specs.Requests.{is_too_large, request_of, requests_of, addition}
+use Rattle.aat_map.specs.Adding.{RefusesFeature}
 use Rattle.aat_layout.specs.Refusals.{RefusesFeatures, before_too_large}
 
 -- any feature: it is never read
@@ -75,4 +75,5 @@ refused_lifted names xs i d (AaltValue v) below same passed refused =
 refused_lifted names xs i d OutOfMemory below same passed refused =
     ap (list_any (λ f. is_some (request_of names f))) (passed ∙ ap (λ ys. take i xs ++ ys) (passed_step names xs i d below refused.0))
     ∙ any_between (λ f. is_some (request_of names f)) (take i xs) (before_too_large names (drop (i + 1) xs)) (get_or xs i d) (asks names (get_or xs i d) (addition names (get_or xs i d)).appended refl refused.1)
+refused_lifted names xs i d TooLong below same passed refused = absurd refused
 refused_lifted names xs i d BufferFailed below same passed refused = absurd refused

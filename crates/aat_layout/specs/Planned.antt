@@ -1,45 +1,14 @@
--- What maps, requests and plans make of a font's chains.
-use Rattle.std.specs.Prelude.{Bool, List, [], ◌∷◌, map, if◌then◌else◌}
+-- Substitution by a plan. Apple's TrueType Reference Manual, "The 'morx' table".
 use Rattle.aat_buffer.specs.Buffer.{Buffer}
-use Rattle.aat_layout.specs.ChainFlags.{Switch, always_on, by_flags}
-use Rattle.aat_layout.specs.Live.{has_one_range, flags_at_cluster}
-use Rattle.aat_layout.specs.Ranges.{switch_for}
-use Rattle.aat_layout.specs.Requests.{requests_of}
-use Rattle.aat_layout.specs.Outcome.{Outcome}
-use Rattle.aat_layout.specs.Substitution.{SwitchedChain, substituted}
-use Rattle.aat_font.specs.Face.{tables_of, chains_in, glyph_classes_of}
-use Rattle.aat_layout.specs.declared.aat_map.feature.feature_range_t.{feature_range_t}
-use Rattle.aat_layout.specs.declared.aat_map.map.range_flags_t.{range_flags_t}
-use Rattle.aat_font.specs.declared.morx.Chain.{Chain}
+use Rattle.aat_font.specs.Face.{tables_of, chains_in}
 use Rattle.aat_font.specs.declared.face.hb_font_t.{hb_font_t}
 use Rattle.aat_font.specs.declared.plan.hb_ot_shape_plan_t.{hb_ot_shape_plan_t}
-
--- a chain that is switched in some way
-abbrev pub with_switch : Switch → Chain → SwitchedChain
-with_switch switch c = record { switch = switch; subtables = c.subtables.items }
-
--- chains that are switched by the lists of a map: one without a list is as one without a range, and lists past the chains are not read
-abbrev pub switched_by : List Chain → List (List range_flags_t) → List SwitchedChain
-switched_by [] lists = []
-switched_by (c ∷ cs) [] = with_switch (switch_for []) c ∷ switched_by cs []
-switched_by (c ∷ cs) (l ∷ ls) = with_switch (switch_for l) c ∷ switched_by cs ls
-
--- a chain that is switched by requests: at each cluster by its flags there
-abbrev pub switched_at : List feature_range_t → Chain → SwitchedChain
-switched_at requests c = with_switch (by_flags (has_one_range requests) (flags_at_cluster requests c.default_flags c.features.items)) c
-
--- chains that are switched by requests
-abbrev pub by_requests : List feature_range_t → List Chain → List SwitchedChain
-by_requests requests chains = map (switched_at requests) chains
-
--- chains that are switched by requests, or where the plan does not ask for that, always on
-abbrev pub switched : Bool → List feature_range_t → List Chain → List SwitchedChain
-switched applies requests chains = if applies then by_requests requests chains else map (with_switch always_on) chains
-
--- the requests that a plan makes of a font
-abbrev pub plan_requests : hb_ot_shape_plan_t → hb_font_t → List feature_range_t
-plan_requests plan face = requests_of (tables_of face).feat plan.user_features.items
+use Rattle.aat_run.specs.Outcome.{Outcome}
+use Rattle.aat_kinds.specs.Kinds.{sizes_for}
+use Rattle.aat_map.specs.SwitchedChains.{switched, plan_requests}
+use Rattle.aat_morx.specs.Substitution.{substituted}
 
 -- substitution by a plan: what it leaves of a buffer, in how many turns
 abbrev pub substitution : hb_ot_shape_plan_t → hb_font_t → Buffer → Outcome
-substitution plan face b = substituted (glyph_classes_of face) (switched plan.apply_morx (plan_requests plan face) (chains_in (tables_of face).morx)) b
+substitution plan face b =
+    substituted (sizes_for face) (switched plan.apply_morx (plan_requests plan face) (chains_in (tables_of face).morx)) b

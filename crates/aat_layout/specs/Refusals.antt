@@ -1,15 +1,17 @@
--- Why a substitution is refused.
-use Rattle.std.specs.Prelude.{◌≡◌, ℕ, ◌||◌, ◌&&◌, not, is_some, is_none, take_while, Bool, true, false, List, Option, Some, find, option_map, IsTrue}
-use Rattle.aat_buffer.specs.Buffer.{Buffer}
-use Rattle.aat_layout.specs.Requests.{is_too_large, request_of}
+-- Why a substitution is refused, and what it leaves then.
+use Rattle.std.specs.Prelude.{◌≡◌, ◌⊎◌, ℕ, ◌<◌, ◌||◌, ◌&&◌, not, nat_lt, is_some, is_none, take_while, Bool, true, false, List, Option, Some, None, find, length, option_map, IsTrue}
 use Rattle.std.specs.List.{list_any}
+use Rattle.aat_buffer.specs.Buffer.{Buffer}
 use Rattle.aat_font.specs.Face.{tables_of}
 use Rattle.aat_font.specs.declared.feat.FeatureName.{FeatureName}
 use Rattle.aat_font.specs.declared.plan.Feature.{Feature}
 use Rattle.aat_font.specs.declared.face.hb_font_t.{hb_font_t}
 use Rattle.aat_font.specs.declared.plan.hb_ot_shape_plan_t.{hb_ot_shape_plan_t}
-use Rattle.aat_layout.specs.declared.error.AatError.{AatError}
-use Rattle.aat_layout.specs.declared.error.AatError.TheVariants.{AaltValue, OutOfMemory, BufferFailed}
+use Rattle.aat_run.specs.Driven.{IsRefused}
+use Rattle.aat_run.specs.declared.error.AatError.{AatError}
+use Rattle.aat_run.specs.declared.error.AatError.TheVariants.{AaltValue, TooLong, OutOfMemory, BufferFailed}
+use Rattle.aat_map.specs.Requests.{is_too_large, request_of}
+use Rattle.aat_layout.specs.Planned.{substitution}
 
 -- the value of the first feature that asks for alternates with a value that is no setting
 abbrev pub first_too_large : hb_ot_shape_plan_t → hb_font_t → Option ℕ
@@ -25,22 +27,41 @@ makes_request names features = list_any (λ f. is_some (request_of names f)) (be
 
 -- a plan makes a request, or where no feature is too large has its requests compiled
 abbrev pub wants_memory : hb_ot_shape_plan_t → hb_font_t → Bool
-wants_memory plan face = makes_request (tables_of face).feat plan.user_features.items || (plan.apply_morx && is_none (first_too_large plan face))
+wants_memory plan face =
+    makes_request (tables_of face).feat plan.user_features.items || (plan.apply_morx && is_none (first_too_large plan face))
 
 -- why features are refused: the first that is too large, or want of memory where one before it makes a request
 abbrev pub RefusesFeatures : Option (List FeatureName) → List Feature → AatError → Type 0
 RefusesFeatures names features (AaltValue value) = option_map (λ f. f.value) (find (is_too_large names) features) ≡ Some value
+RefusesFeatures names features TooLong = ⊥
 RefusesFeatures names features OutOfMemory = IsTrue (makes_request names features)
 RefusesFeatures names features BufferFailed = ⊥
 
 -- why a plan is refused
 abbrev pub RefusesPlan : hb_ot_shape_plan_t → hb_font_t → AatError → Type 0
 RefusesPlan plan face (AaltValue value) = first_too_large plan face ≡ Some value
+RefusesPlan plan face TooLong = ⊥
 RefusesPlan plan face OutOfMemory = IsTrue (wants_memory plan face)
 RefusesPlan plan face BufferFailed = ⊥
 
--- why a substitution is refused: first a buffer that had failed, then the plan
+-- the line that substitution leaves is longer than a number
+abbrev pub passes : hb_ot_shape_plan_t → hb_font_t → Buffer → ℕ → Bool
+passes plan face b n = nat_lt n (length (substitution plan face b).buffer.line)
+
+-- why a substitution is refused: first a buffer that had failed; then the plan; then a line that would pass the
+-- longest one, or want of memory where the line would get longer
 abbrev pub RefusesSubstitution : hb_ot_shape_plan_t → hb_font_t → Buffer → AatError → Type 0
 RefusesSubstitution plan face b (AaltValue value) = (b.successful ≡ true) × (first_too_large plan face ≡ Some value)
-RefusesSubstitution plan face b OutOfMemory = (b.successful ≡ true) × IsTrue (wants_memory plan face)
+RefusesSubstitution plan face b TooLong =
+    (b.successful ≡ true) × (first_too_large plan face ≡ None) × IsTrue (passes plan face b b.max_len)
+RefusesSubstitution plan face b OutOfMemory =
+    (b.successful ≡ true) × IsTrue (wants_memory plan face || passes plan face b (length b.line))
 RefusesSubstitution plan face b BufferFailed = b.successful ≡ false
+
+-- what a refused substitution leaves: nothing changed, unless it was refused in the middle of a run that makes the
+-- line longer
+abbrev pub LeavesBehind : hb_ot_shape_plan_t → hb_font_t → Buffer → Buffer → AatError → Type 0
+LeavesBehind plan face old new (AaltValue value) = new ≡ old
+LeavesBehind plan face old new TooLong = IsRefused old new
+LeavesBehind plan face old new OutOfMemory = (new ≡ old) ⊎ (IsRefused old new × IsTrue (passes plan face old (length old.line)))
+LeavesBehind plan face old new BufferFailed = new ≡ old

@@ -2,31 +2,45 @@
 #![tactic(auto)]
 
 mod aat_layout;
-mod aat_layout_common;
-mod aat_layout_morx_table;
-mod aat_map;
-mod error;
-pub mod laws;
-pub mod worked;
 
 /// The shaping buffer, a crate of its own.
 pub use aat_buffer as buffer;
-/// The typed tables of a font, a crate of its own.
+/// The typed tables of a font, a crate of their own.
 pub use aat_font as font;
 /// The numbers of the feature types and their selectors.
 pub use aat_font::constants;
-pub use aat_layout::{Turns, feature_mappings, hb_aat_feature_mapping_t, hb_aat_layout_substitute};
-pub use aat_layout_common::hb_aat_apply_context_t;
-pub use aat_layout_morx_table::{apply, compile_flags};
-pub use aat_map::{
-    feature_info_t, feature_order, feature_range_t, hb_aat_map_builder_t, hb_aat_map_t,
-    range_flags_t,
+pub use aat_kerning::{
+    DELETED_GLYPH, hb_aat_layout_remove_deleted_glyphs, hb_aat_layout_zero_width_deleted_glyphs,
 };
-pub use error::AatError;
+pub use aat_kinds::{
+    ContextualCtx, InsertionCtx, LIGATURE_SLOTS, LigatureCtx, MAX_CONTEXT_LENGTH, RearrangementCtx,
+};
+pub use aat_layout::{Turns, hb_aat_layout_substitute};
+pub use aat_map::{
+    compile_flags, feature_info_t, feature_mappings, feature_order, feature_range_t,
+    hb_aat_feature_mapping_t, hb_aat_map_builder_t, hb_aat_map_t,
+};
+pub use aat_morx::apply;
+pub use aat_run::{AatError, drive, driver_context_t, hb_aat_apply_context_t, range_flags_t};
 
-#[cfg(test)]
-mod mapping_tests;
-#[cfg(test)]
-mod request_tests;
-#[cfg(test)]
-mod tests;
+/// The laws of the definitions as theorems.
+#[doc(hidden)]
+pub mod laws {
+    pub use aat_kerning::laws::{drivers_are_lawful, kerning_changes_little, kerning_is_bounded};
+    pub use aat_kinds::laws::{
+        acts_keep_order, acts_keep_small, contexts_are_lawful, glyphs_are_kept,
+        later_components_are_deleted,
+    };
+    pub use aat_morx::laws::{clusters_keep_their_order, runs_are_bounded};
+    pub use aat_run::laws::{floor_is_unseen, runs_end, runs_keep_order};
+}
+
+/// The worked rows as theorems.
+#[doc(hidden)]
+pub mod worked {
+    pub use aat_kerning::worked::{kerning_examples, kerning_rows};
+    pub use aat_map::worked::{alternate_rows, range_rows, small_capital_rows};
+    pub use aat_morx::worked::{
+        contextual_rows, insertion_rows, ligature_rows, rearrangement_rows, substitution_examples,
+    };
+}

@@ -1,8 +1,10 @@
 //! Prints worked examples of Apple Advanced Typography, row by row.
 #![tactic(auto)]
 
+mod build;
 mod print;
 mod rows;
+mod stop;
 #[cfg(test)]
 mod tests;
 

@@ -1,72 +1,18 @@
 //! Shaping the worked rows and printing what comes out.
-ghost use Rattle.std.specs.Prelude.{◌≤◌, All, IfOk};
-ghost use Rattle.aat_buffer.specs.Buffer.{Is16Bit};
+ghost use Rattle.std.specs.Prelude.{◌≤◌};
 
-use crate::rows::{Addition, Compilation, FontData, Part, ROWS, Request, Row, Shown, Substitution};
-use aat_layout::buffer::{BufferError, glyph_flag, hb_buffer_t, hb_glyph_info_t};
-use aat_layout::font::{
-    Chain, Coverage, FaceTables, Feat, Feature, FeatureName, Lookup, Morx, Subtable, SubtableKind,
-    TableError, hb_font_t, hb_ot_shape_plan_t, hb_tag_t,
+use crate::build::{buffer_of, builder_of, face_of, feature_of, plan_of};
+use crate::rows::{
+    Addition, After, Compilation, FROM_7, FROM_13, FROM_26, Part, Row, Shown, Substitution, TO_6,
 };
+use crate::stop::Stop;
+use aat_layout::buffer::{glyph_flag, hb_buffer_t};
 use aat_layout::{
-    AatError, Turns, hb_aat_layout_substitute, hb_aat_map_builder_t, hb_aat_map_t, range_flags_t,
+    AatError, Turns, hb_aat_layout_remove_deleted_glyphs, hb_aat_layout_substitute,
+    hb_aat_map_builder_t, hb_aat_map_t, range_flags_t,
 };
-use std::alloc::{AllocError, AllocFailed, Global};
-use std::io::{self, Write};
-
-/// The number of the error for want of memory.
-const OUT_OF_MEMORY: u8 = 3;
-
-/// The longest line of a row.
-const MAX_LEN: usize = 16384;
-
-/// The budget of a row.
-const MAX_OPS: i32 = 16384;
-
-/// Why the printing of a row stops.
-#[derive(Drop)]
-enum Stop {
-    /// A write failed.
-    Unwritten,
-    /// A call was refused, with this number.
-    Refused(u8),
-}
-
-impl From<io::Error> for Stop {
-    fn from(_: io::Error) -> Stop {
-        Stop::Unwritten
-    }
-}
-
-impl From<AllocError> for Stop {
-    fn from(_: AllocError) -> Stop {
-        Stop::Refused(OUT_OF_MEMORY)
-    }
-}
-
-impl<T: Drop> From<AllocFailed<T>> for Stop {
-    fn from(_: AllocFailed<T>) -> Stop {
-        Stop::Refused(OUT_OF_MEMORY)
-    }
-}
-
-impl From<BufferError> for Stop {
-    fn from(_: BufferError) -> Stop {
-        Stop::Refused(OUT_OF_MEMORY)
-    }
-}
-
-impl From<TableError> for Stop {
-    fn from(_: TableError) -> Stop {
-        Stop::Refused(OUT_OF_MEMORY)
-    }
-}
-
-impl From<AatError> for Stop {
-    fn from(error: AatError) -> Stop {
-        Stop::Refused(error.number())
-    }
-}
+use std::alloc::Global;
+use std::io::Write;
 
 /// Prints the rows that the words choose, and answers the program's status.
 ///
@@ -97,7 +43,22 @@ fn print_chosen<W: Write>(alloc: Global, words: &[String], out: &mut W) -> Resul
         return Ok(false);
     }
     let mut is_known = words.is_empty();
-    for row in &ROWS {
+    is_known |= print_those(alloc, words, &TO_6, out)?;
+    is_known |= print_those(alloc, words, &FROM_7, out)?;
+    is_known |= print_those(alloc, words, &FROM_13, out)?;
+    is_known |= print_those(alloc, words, &FROM_26, out)?;
+    Ok(is_known)
+}
+
+/// Prints those of some rows that the words choose, and says whether they choose any.
+fn print_those<W: Write>(
+    alloc: Global,
+    words: &[String],
+    rows: &[Row],
+    out: &mut W,
+) -> Result<bool, Stop> {
+    let mut is_known = false;
+    for row in rows {
         if is_chosen(words, row) {
             is_known = true;
             print_row(alloc, row, out)?;
@@ -129,16 +90,21 @@ fn print_part<W: Write>(alloc: Global, part: &Part, out: &mut W) -> Result<(), S
     }
 }
 
-/// Substitutes a line and prints it with the turns and the budget.
+/// Substitutes a line, removes its deleted glyphs if that is asked for, and prints it with the turns and the budget.
 fn print_substitution<W: Write>(
     alloc: Global,
     shown: &Substitution,
     out: &mut W,
 ) -> Result<(), Stop> {
     let face = face_of(alloc, &shown.font)?;
-    let mut buffer = buffer_of(alloc, shown.line)?;
+    let mut buffer = buffer_of(alloc, shown.line, shown.max_ops)?;
+    buffer.set_direction(shown.direction);
     let plan = plan_of(alloc, shown.requests)?;
     let turns = hb_aat_layout_substitute(alloc, &plan, &face, &mut buffer)?;
+    match shown.after {
+        After::Nothing => (),
+        After::Removal => hb_aat_layout_remove_deleted_glyphs(&mut buffer),
+    }
     print_buffer(&buffer, turns, out)
 }
 
@@ -177,85 +143,6 @@ fn print_addition<W: Write>(alloc: Global, shown: &Addition, out: &mut W) -> Res
     }
     writeln!(out, "requests {}", builder.features().len())?;
     Ok(())
-}
-
-/// The font of a description.
-fn face_of(alloc: Global, font: &FontData) -> Result<hb_font_t, Stop> {
-    let subtable = Subtable {
-        kind: SubtableKind::NonContextual(Lookup::new(alloc, font.values)?),
-        coverage: Coverage::ALL_DIRECTIONS,
-        feature_flags: 1,
-    };
-    let chain = Chain {
-        default_flags: font.default_flags,
-        features: Vec::from_slice(alloc, font.features)?,
-        subtables: vec![in alloc; subtable]?,
-    };
-    let tables = FaceTables {
-        morx: Some(Morx::new(vec![in alloc; chain]?)?),
-        feat: feat_of(alloc, font.names)?,
-    };
-    Ok(hb_font_t::new(tables, None, None))
-}
-
-/// The table of feature names, if there is one.
-fn feat_of(alloc: Global, names: Option<&[FeatureName]>) -> Result<Option<Feat>, Stop> {
-    match names {
-        Some(names) => Ok(Some(Feat::new(alloc, names)?)),
-        None => Ok(None),
-    }
-}
-
-/// What a request asks.
-fn feature_of(request: &Request) -> Feature {
-    Feature {
-        tag: hb_tag_t::from_bytes(request.tag),
-        value: request.value,
-        start: request.start,
-        end: request.end,
-    }
-}
-
-/// A builder to which requests are added in their order.
-fn builder_of(
-    alloc: Global,
-    face: &hb_font_t,
-    requests: &[Request],
-) -> Result<hb_aat_map_builder_t, Stop> {
-    let mut builder = hb_aat_map_builder_t::default(alloc);
-    for request in requests {
-        builder.add_feature(face, &feature_of(request))?;
-    }
-    Ok(builder)
-}
-
-/// A plan that applies the flags of the substitution table, under requests.
-fn plan_of(alloc: Global, requests: &[Request]) -> Result<hb_ot_shape_plan_t, Stop> {
-    let mut user_features = Vec::new(alloc);
-    for request in requests {
-        user_features.push(feature_of(request))?;
-    }
-    Ok(hb_ot_shape_plan_t {
-        user_features,
-        apply_morx: true,
-        requested_kerning: false,
-        kern_mask: 0,
-    })
-}
-
-/// A buffer with a line.
-fn buffer_of(alloc: Global, line: &[(u16, u32)]) -> Result<hb_buffer_t, Stop>
-    ensures { IfOk result (λ buffer. All Is16Bit buffer.line) }
-{
-    let mut buffer = hb_buffer_t::new(alloc, MAX_LEN, MAX_OPS);
-    for (glyph, cluster) in line {
-        buffer.add(hb_glyph_info_t {
-            glyph_id: *glyph as u32,
-            cluster: *cluster,
-            ..hb_glyph_info_t::default()
-        })?;
-    }
-    Ok(buffer)
 }
 
 /// Prints a line, a glyph to a line of text, and then the turns and the budget that is left.

@@ -1,6 +1,102 @@
 //! The worked rows, as descriptions of what is shaped.
 
-use aat_layout::font::{ChainFeature, FeatureName};
+use aat_layout::buffer::Direction;
+use aat_layout::font::{
+    ChainFeature, ContextualEntryData, FeatureName, GenericStateEntry, GlyphId, InsertionEntryData,
+};
+
+/// A part that shows a line that is substituted by the one subtable of a font, without requests: its name, the kind
+/// of the subtable and the line, and if not the usual budget, the budget, or if not for all directions and left to
+/// right, the coverage and the direction.
+macro_rules! substituted {
+    ($name:literal, $kind:expr, $line:expr) => {
+        substituted!($name, $kind, $line, AllDirections, LeftToRight, MAX_OPS)
+    };
+    ($name:literal, $kind:expr, $line:expr, $max_ops:literal) => {
+        substituted!($name, $kind, $line, AllDirections, LeftToRight, $max_ops)
+    };
+    ($name:literal, $kind:expr, $line:expr, $coverage:ident, $direction:ident) => {
+        substituted!($name, $kind, $line, $coverage, $direction, MAX_OPS)
+    };
+    ($name:literal, $kind:expr, $line:expr, $coverage:ident, $direction:ident, $max_ops:expr) => {
+        Part {
+            name: $name,
+            shown: Shown::Substitution(Substitution {
+                font: FontData {
+                    default_flags: 1,
+                    features: &[],
+                    subtables: &[SubtableData {
+                        kind: $kind,
+                        coverage: CoverageData::$coverage,
+                    }],
+                    names: Some(LIGATURES),
+                },
+                requests: &[],
+                line: $line,
+                direction: Direction::$direction,
+                max_ops: $max_ops,
+                after: After::Nothing,
+            }),
+        }
+    };
+}
+
+/// A glyph at a cluster, or at each cluster from one to another.
+macro_rules! run {
+    ($glyph:literal, $cluster:expr) => {
+        Run {
+            glyph: $glyph,
+            first: $cluster,
+            last: $cluster,
+        }
+    };
+    ($glyph:literal, $first:literal, $last:literal) => {
+        Run {
+            glyph: $glyph,
+            first: $first,
+            last: $last,
+        }
+    };
+}
+
+/// The rule of a state and a class: the state that follows, flags, and what the kind adds.
+macro_rules! rule {
+    ($state:literal, $class:literal, $new_state:literal, $flags:expr, $extra:expr) => {
+        (
+            $state,
+            $class,
+            GenericStateEntry {
+                new_state: $new_state,
+                flags: $flags,
+                extra: $extra,
+            },
+        )
+    };
+}
+
+/// The request for a value of a tag, from a cluster to the one before another.
+macro_rules! request {
+    ($tag:literal, $value:literal, $start:literal, $end:expr) => {
+        Request {
+            tag: $tag,
+            value: $value,
+            start: $start,
+            end: $end,
+        }
+    };
+}
+
+mod contextual;
+mod insertion;
+mod ligature;
+mod rearrangement;
+mod requests;
+
+use contextual::{ROW_10, ROW_35};
+use insertion::{ROW_13, ROW_14, ROW_25, ROW_27, ROW_33};
+use ligature::{ROW_11, ROW_12, ROW_24, ROW_31, ROW_32};
+use rearrangement::{ROW_8, ROW_9, ROW_22, ROW_23, ROW_26};
+use requests::{ROW_1, ROW_2, ROW_3, ROW_4, ROW_5, ROW_6, ROW_7};
 
 /// A worked row: its number, and its parts in their order.
 pub(crate) struct Row {
@@ -29,8 +125,28 @@ pub(crate) struct Substitution {
     pub(crate) font: FontData,
     /// The requests, in their order.
     pub(crate) requests: &'static [Request],
-    /// The line: each glyph with its cluster.
-    pub(crate) line: &'static [(u16, u32)],
+    /// The line, run by run.
+    pub(crate) line: &'static [Run],
+    /// The direction of the line.
+    pub(crate) direction: Direction,
+    /// The budget of the buffer.
+    pub(crate) max_ops: i32,
+    pub(crate) after: After,
+}
+
+/// What is done with the line after it is substituted.
+pub(crate) enum After {
+    /// Nothing.
+    Nothing,
+    /// Its deleted glyphs are removed.
+    Removal,
+}
+
+/// One glyph at each cluster from a first one to a last one.
+pub(crate) struct Run {
+    pub(crate) glyph: u16,
+    pub(crate) first: u32,
+    pub(crate) last: u32,
 }
 
 /// Requests that are compiled into the flags of each chain.
@@ -46,17 +162,70 @@ pub(crate) struct Addition {
     pub(crate) request: Request,
 }
 
-/// A font with one chain of one noncontextual subtable that is for all directions, and perhaps with
-/// feature names.
+/// A font with one chain, and perhaps with feature names.
 pub(crate) struct FontData {
     /// The flags that the chain begins with.
     pub(crate) default_flags: u32,
     /// The features of the chain, in their order.
     pub(crate) features: &'static [ChainFeature],
-    /// The lookup of the subtable: each glyph with its value.
-    pub(crate) values: &'static [(u16, u16)],
+    /// The subtables of the chain, in their order.
+    pub(crate) subtables: &'static [SubtableData],
     /// The feature names, if the font has the table of them.
     pub(crate) names: Option<&'static [FeatureName]>,
+}
+
+/// A subtable that is on at the lowest flag.
+pub(crate) struct SubtableData {
+    pub(crate) kind: KindData,
+    pub(crate) coverage: CoverageData,
+}
+
+/// For which text a subtable is, and in which order it takes the glyphs.
+pub(crate) enum CoverageData {
+    /// For all directions.
+    AllDirections,
+    /// For all directions, in the order of the characters.
+    Logical,
+    /// For horizontal text alone.
+    Horizontal,
+}
+
+/// What a subtable does.
+pub(crate) enum KindData {
+    /// Each glyph gets its value.
+    NonContextual(&'static [(u16, u16)]),
+    /// Glyphs are put in another order.
+    Rearrangement(TableData<()>),
+    /// The marked and the current glyph get their values of the lookups that entries name.
+    Contextual(TableData<ContextualEntryData>, &'static [&'static [(u16, u16)]]),
+    /// Glyphs are joined.
+    Ligature(LigatureData),
+    /// Glyphs of the list that entries name are inserted.
+    Insertion(TableData<InsertionEntryData>, &'static [GlyphId]),
+}
+
+/// How glyphs are joined.
+pub(crate) struct LigatureData {
+    pub(crate) state: TableData<u16>,
+    /// The actions in their order, each with the number of times that it stands there.
+    pub(crate) actions: &'static [(u32, usize)],
+    pub(crate) components: &'static [u16],
+    pub(crate) ligatures: &'static [GlyphId],
+}
+
+/// A state table. Its first states have an entry for each class: the listed one, and else one that goes to state 0
+/// and does nothing.
+pub(crate) struct TableData<T: Copy + 'static> {
+    /// The number of classes.
+    pub(crate) class_count: u16,
+    /// The number of states that have entries.
+    pub(crate) states: u16,
+    /// Each glyph with its class.
+    pub(crate) classes: &'static [(u16, u16)],
+    /// The listed entries, each with its state and its class.
+    pub(crate) listed: &'static [(u16, u16, GenericStateEntry<T>)],
+    /// What the kind adds to an entry that does nothing.
+    pub(crate) idle: T,
 }
 
 /// What the user asks of a feature: a value over the clusters `start` to `end - 1`.
@@ -68,17 +237,8 @@ pub(crate) struct Request {
     pub(crate) end: u32,
 }
 
-/// The request for a value of a tag, from a cluster to the one before another.
-macro_rules! request {
-    ($tag:literal, $value:literal, $start:literal, $end:expr) => {
-        Request {
-            tag: $tag,
-            value: $value,
-            start: $start,
-            end: $end,
-        }
-    };
-}
+/// The usual budget of a row.
+const MAX_OPS: i32 = 16384;
 
 /// The name of ligatures, whose settings do not exclude one another.
 const LIGATURES: &[FeatureName] = &[FeatureName {
@@ -87,201 +247,14 @@ const LIGATURES: &[FeatureName] = &[FeatureName {
     exclusive: false,
 }];
 
-/// The name of character alternatives.
-const ALTERNATIVES: &[FeatureName] = &[FeatureName {
-    kind: 17,
-    settings: 1,
-    exclusive: false,
-}];
+/// The rows up to 6, in the order in which they are printed.
+pub(crate) static TO_6: [Row; 6] = [ROW_1, ROW_2, ROW_3, ROW_4, ROW_5, ROW_6];
 
-/// The chain feature that common ligatures switch on.
-const LIGATURES_ON: ChainFeature = ChainFeature {
-    kind: 1,
-    setting: 2,
-    enable_flags: 2,
-    disable_flags: u32::MAX,
-};
+/// The rows from 7 to 12.
+pub(crate) static FROM_7: [Row; 6] = [ROW_7, ROW_8, ROW_9, ROW_10, ROW_11, ROW_12];
 
-/// The chain feature that common ligatures switch off.
-const LIGATURES_OFF: ChainFeature = ChainFeature {
-    kind: 1,
-    setting: 3,
-    enable_flags: 4,
-    disable_flags: u32::MAX,
-};
+/// The rows from 13 to 25.
+pub(crate) static FROM_13: [Row; 6] = [ROW_13, ROW_14, ROW_22, ROW_23, ROW_24, ROW_25];
 
-/// A font whose only chain feature is that of common ligatures on.
-const LIGATURES_FONT: FontData = FontData {
-    default_flags: 1,
-    features: &[LIGATURES_ON],
-    values: &[],
-    names: Some(LIGATURES),
-};
-
-/// A font whose chain has no feature, with some feature names.
-macro_rules! font_with_names {
-    ($names:expr) => {
-        FontData {
-            default_flags: 1,
-            features: &[],
-            values: &[],
-            names: $names,
-        }
-    };
-}
-
-/// All rows, in the order in which they are printed.
-pub(crate) static ROWS: [Row; 7] = [ROW_1, ROW_2, ROW_3, ROW_4, ROW_5, ROW_6, ROW_7];
-
-/// A noncontextual substitution.
-const ROW_1: Row = Row {
-    number: "1",
-    parts: &[Part {
-        name: "1",
-        shown: Shown::Substitution(Substitution {
-            font: FontData {
-                default_flags: 1,
-                features: &[],
-                values: &[(5, 9)],
-                names: Some(LIGATURES),
-            },
-            requests: &[],
-            line: &[(5, 0), (6, 1), (5, 2)],
-        }),
-    }],
-};
-
-/// A substitution that a request switches off for one glyph.
-const ROW_2: Row = Row {
-    number: "2",
-    parts: &[Part {
-        name: "2",
-        shown: Shown::Substitution(Substitution {
-            font: FontData {
-                default_flags: 1,
-                features: &[ChainFeature {
-                    kind: 1,
-                    setting: 3,
-                    enable_flags: 0,
-                    disable_flags: 0,
-                }],
-                values: &[(5, 9)],
-                names: Some(LIGATURES),
-            },
-            requests: &[request!(b"liga", 0, 1, 2)],
-            line: &[(5, 0), (5, 1), (5, 2)],
-        }),
-    }],
-};
-
-/// The ranges of no request and of one.
-const ROW_3: Row = Row {
-    number: "3",
-    parts: &[
-        Part {
-            name: "3a",
-            shown: Shown::Compilation(Compilation {
-                font: LIGATURES_FONT,
-                requests: &[],
-            }),
-        },
-        Part {
-            name: "3b",
-            shown: Shown::Compilation(Compilation {
-                font: LIGATURES_FONT,
-                requests: &[request!(b"liga", 1, 3, 5)],
-            }),
-        },
-    ],
-};
-
-/// Requests whose start is not below their end.
-const ROW_4: Row = Row {
-    number: "4",
-    parts: &[Part {
-        name: "4",
-        shown: Shown::Compilation(Compilation {
-            font: LIGATURES_FONT,
-            requests: &[request!(b"liga", 1, 4, 4), request!(b"liga", 1, 7, 3)],
-        }),
-    }],
-};
-
-/// Requests that overlap.
-const ROW_5: Row = Row {
-    number: "5",
-    parts: &[Part {
-        name: "5",
-        shown: Shown::Compilation(Compilation {
-            font: FontData {
-                default_flags: 1,
-                features: &[LIGATURES_ON, LIGATURES_OFF],
-                values: &[],
-                names: Some(LIGATURES),
-            },
-            requests: &[
-                request!(b"liga", 1, 0, 10),
-                request!(b"liga", 0, 1, 10),
-                request!(b"liga", 1, 2, 5),
-            ],
-        }),
-    }],
-};
-
-/// A request up to the last cluster, with a glyph there.
-const ROW_6: Row = Row {
-    number: "6",
-    parts: &[Part {
-        name: "6",
-        shown: Shown::Substitution(Substitution {
-            font: FontData {
-                default_flags: 0,
-                features: &[ChainFeature {
-                    kind: 1,
-                    setting: 2,
-                    enable_flags: 1,
-                    disable_flags: u32::MAX,
-                }],
-                values: &[(5, 9)],
-                names: Some(LIGATURES),
-            },
-            requests: &[request!(b"liga", 1, 0, u32::MAX)],
-            line: &[(5, u32::MAX)],
-        }),
-    }],
-};
-
-/// Requests for character alternatives.
-const ROW_7: Row = Row {
-    number: "7",
-    parts: &[
-        Part {
-            name: "7a",
-            shown: Shown::Addition(Addition {
-                font: font_with_names!(Some(ALTERNATIVES)),
-                request: request!(b"aalt", 65536, 0, u32::MAX),
-            }),
-        },
-        Part {
-            name: "7b",
-            shown: Shown::Addition(Addition {
-                font: font_with_names!(Some(ALTERNATIVES)),
-                request: request!(b"aalt", 65535, 0, u32::MAX),
-            }),
-        },
-        Part {
-            name: "7c",
-            shown: Shown::Addition(Addition {
-                font: font_with_names!(Some(LIGATURES)),
-                request: request!(b"aalt", 65536, 0, u32::MAX),
-            }),
-        },
-        Part {
-            name: "7d",
-            shown: Shown::Addition(Addition {
-                font: font_with_names!(None),
-                request: request!(b"aalt", 65536, 0, u32::MAX),
-            }),
-        },
-    ],
-};
+/// The rows from 26 on.
+pub(crate) static FROM_26: [Row; 6] = [ROW_26, ROW_27, ROW_31, ROW_32, ROW_33, ROW_35];

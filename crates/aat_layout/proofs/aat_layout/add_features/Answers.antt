@@ -1,13 +1,13 @@
 use Rattle.std.proofs.Common.{◌∙◌, ap, sym, cond, Some, find, drop, get_or, ◌+◌, Bool}
 use Rattle.std.proofs.lemmas.Result.{err_from_is_err_and}
-use Rattle.aat_layout.specs.Builder.{Builder}
+use Rattle.aat_map.specs.Builder.{Builder}
 use Rattle.aat_font.specs.Face.{tables_of}
-use Rattle.aat_layout.specs.Requests.{is_too_large}
+use Rattle.aat_map.specs.Requests.{is_too_large}
 use Rattle.aat_layout.proofs.RequestLemmas.{find_step, requests_more, refused_lifted, passed_more, no_feature}
 use Rattle.aat_layout.proofs.aat_layout.add_features.Goals as goal
 
-pub returns-in_err-add_feature-clause-refused : goal.returns-in_err-add_feature-clause-refused
-returns-in_err-add_feature-clause-refused g c =
+pub returns-in_err-add_feature-clause-reason : goal.returns-in_err-add_feature-clause-reason
+returns-in_err-add_feature-clause-reason g c =
     let p = err_from_is_err_and c.from_residual.result c.from_residual.ensures.1 in
     rw (p.1, p.2) (refused_lifted (tables_of c.args.face.now).feat c.args.features.now c.loop-feature.feature-index no_feature c.in_err-add_feature.field-0.0 c.loop-feature-test.true c.loop-feature.invariant.same c.loop-feature.invariant.passed c.in_err-add_feature.ensures.refused)
 

@@ -1,7 +1,7 @@
 use Rattle.std.proofs.Common.{◌≡◌, ◌++◌, take, drop, find}
 use Rattle.aat_font.specs.Face.{tables_of}
 use Rattle.aat_layout.specs.Refusals.{before_too_large}
-use Rattle.aat_layout.specs.Requests.{requests_of, is_too_large}
+use Rattle.aat_map.specs.Requests.{requests_of, is_too_large}
 use Rattle.aat_layout.proofs.aat_layout.add_features.Given as goal
 
 abbrev pub invariant-loop-feature : goal.invariant-loop-feature

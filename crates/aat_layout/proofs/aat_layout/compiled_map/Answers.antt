@@ -1,9 +1,9 @@
 use Rattle.std.proofs.Common.{◌≡◌, ◌∙◌, ◌++◌, ap, refl}
-use Rattle.aat_layout.specs.Builder.{Builder}
+use Rattle.aat_map.specs.Builder.{Builder}
 use Rattle.aat_font.specs.Face.{tables_of, chains_in}
-use Rattle.aat_layout.specs.Planned.{switched_by, by_requests, plan_requests}
-use Rattle.aat_layout.specs.Requests.{requests_of}
-use Rattle.aat_layout.proofs.OutcomeLemmas.{switched_without}
+use Rattle.aat_map.specs.SwitchedChains.{switched_by, by_requests, plan_requests}
+use Rattle.aat_map.specs.Requests.{requests_of}
+use Rattle.aat_map.specs.facts.Switched.{switched_without}
 use Rattle.aat_layout.proofs.aat_layout.compiled_map.Goals.{then-plan+in_ok-compile, else-plan}
 use Rattle.aat_layout.proofs.aat_layout.compiled_map.Goals as goal
 

@@ -1,23 +1,43 @@
-use Rattle.std.proofs.Common.{arith, refl, sym, ap, ◌∙◌, drop}
-use Rattle.aat_buffer.specs.Buffer.{with_line}
-use Rattle.aat_buffer.proofs.Pending.{runs_none}
-use Rattle.aat_buffer.proofs.Steps.{run_read, write_more}
+use Rattle.std.proofs.Common.{arith, sym, ◌∙◌}
+use Rattle.aat_buffer.proofs.Pending.{runs_top}
+use Rattle.aat_buffer.proofs.Steps.{write_more, shown_none}
 use Rattle.aat_buffer.proofs.buffer.hb_buffer_t.write_runs.Goals as goal
 
-pub loop-k-init : goal.loop-k-init
-loop-k-init g c = (ap (with_line c.args.self.now) (sym (runs_none (drop c.backtrack_len-p.result c.args.self.now.line) c.args.self.now.line)), refl)
+pub overflow_sub-last : goal.overflow_sub-last
+overflow_sub-last g c =
+    let at = c.loop-count in
+    let top = runs_top at.count at.last at.self.line at.self.cursor c.loop-count-test.true at.invariant.1.0.apart in
+    omega (arith, top.0.0)
+
+pub place_at-first-requires : goal.place_at-first-requires
+place_at-first-requires g c =
+    let at = c.loop-count in
+    let top = runs_top at.count at.last at.self.line at.self.cursor c.loop-count-test.true at.invariant.1.0.apart in
+    omega (arith, top.0.0, top.0.1, at.invariant.1.0.in_line)
+
+pub place_at-below-requires : goal.place_at-below-requires
+place_at-below-requires g c =
+    let at = c.loop-count in
+    let top = runs_top at.count at.last at.self.line at.self.cursor c.loop-count-test.true at.invariant.1.0.apart in
+    omega (arith, top.0.0, top.0.1, at.invariant.1.0.in_line, c.place_at-first.ensures)
 
 pub write_run-requires-clause-ordered : goal.write_run-requires-clause-ordered
 write_run-requires-clause-ordered g c =
-    let read = run_read c.args.self.now c.loop-k.self c.backtrack_len-p.result c.loop-k.k c.args.runs c.run_at.result.first c.run_at.result.last c.backtrack_len-p.ensures.place c.requires c.loop-k-test.true c.loop-k.invariant.0 c.run_at.ensures.first c.run_at.ensures.last in
-    read.1.0
+    let at = c.loop-count in
+    let top = runs_top at.count at.last at.self.line at.self.cursor c.loop-count-test.true at.invariant.1.0.apart in
+    omega (arith, top.0.0, c.place_at-first.ensures)
 
 pub write_run-requires-clause-in_line : goal.write_run-requires-clause-in_line
 write_run-requires-clause-in_line g c =
-    let read = run_read c.args.self.now c.loop-k.self c.backtrack_len-p.result c.loop-k.k c.args.runs c.run_at.result.first c.run_at.result.last c.backtrack_len-p.ensures.place c.requires c.loop-k-test.true c.loop-k.invariant.0 c.run_at.ensures.first c.run_at.ensures.last in
-    omega (arith, read.1.1, c.loop-k.invariant.1)
+    let at = c.loop-count in
+    let top = runs_top at.count at.last at.self.line at.self.cursor c.loop-count-test.true at.invariant.1.0.apart in
+    omega (arith, top.0.1, at.invariant.1.0.in_line)
 
-pub loop-k-preserved : goal.loop-k-preserved
-loop-k-preserved g c =
-    let read = run_read c.args.self.now c.loop-k.self c.backtrack_len-p.result c.loop-k.k c.args.runs c.run_at.result.first c.run_at.result.last c.backtrack_len-p.ensures.place c.requires c.loop-k-test.true c.loop-k.invariant.0 c.run_at.ensures.first c.run_at.ensures.last in
-    (write_more c.args.self.now c.loop-k.self c.write_run.new.self c.backtrack_len-p.result c.loop-k.k c.run_at.result.first c.run_at.result.last c.loop-k.invariant.0 read.0.0 read.0.1 c.write_run.ensures.after, c.write_run.ensures.count ∙ c.loop-k.invariant.1)
+pub loop-count-preserved : goal.loop-count-preserved
+loop-count-preserved g c =
+    let at = c.loop-count in
+    let more = write_more at.self c.write_run.new.self at.count at.last c.place_at-first.result c.place_at-below.result c.loop-count-test.true at.invariant.1.0 c.place_at-first.ensures c.place_at-below.ensures c.write_run.ensures.after in
+    (more.0 ∙ at.invariant.0, (more.1, c.write_run.ensures.count ∙ at.invariant.1.1))
+
+pub returns-clause-after : goal.returns-clause-after
+returns-clause-after g c = sym (shown_none c.loop-count.self c.loop-count.count c.loop-count.last (omega arith)) ∙ c.loop-count.invariant.0

@@ -1,15 +1,20 @@
 use Rattle.std.proofs.Common.{sym, ◌∙◌, arith}
 use Rattle.aat_font.specs.Keys.{first}
-use Rattle.aat_font.proofs.Falls.{rising}
+use Rattle.aat_font.specs.facts.Falls.{rising}
 use Rattle.aat_font.proofs.RuleFaults.{rules_rise, refused_for_rules}
 use Rattle.aat_font.proofs.state_table.ExtendedStateTable.new.Goals as goal
 
 pub returns-in-Some-faulty_rule-clause-refused : goal.returns-in-Some-faulty_rule-clause-refused
 returns-in-Some-faulty_rule-clause-refused g c =
-    refused_for_rules c.args.class_count c.args.rules.now c.args.classes.now c.in-Some-faulty_rule.fault (omega arith) (sym c.falling_place.ensures ∙ c.in_default.is) (sym c.faulty_rule.ensures ∙ c.in-Some-faulty_rule.is)
+    let fault = c.in-Some-faulty_rule.fault in
+    let none = sym c.first_fall.ensures ∙ c.in_default.is in
+    let found = sym c.faulty_rule.ensures ∙ c.in-Some-faulty_rule.is in
+    refused_for_rules c.args.class_count c.args.rules.now c.args.classes.now fault (omega arith) none found
 
 pub invariant_of-result : goal.invariant_of-result
-invariant_of-result g c = (
-  rw c.in_ok-from_slice.ensures.items (rising first c.args.classes.now (sym c.falling_place.ensures ∙ c.in_default.is)),
-  rw c.in_ok-from_slice-2.ensures.items (rules_rise c.args.class_count c.args.rules.now (sym c.faulty_rule.ensures ∙ c.in_default-faulty_rule.is)),
-)
+invariant_of-result g c =
+    let none = sym c.first_fall.ensures ∙ c.in_default.is in
+    let no_fault = sym c.faulty_rule.ensures ∙ c.in_default-faulty_rule.is in (
+      rw c.in_ok-from_slice.ensures.items (rising first c.args.classes.now none),
+      rw c.in_ok-from_slice-2.ensures.items (rules_rise c.args.class_count c.args.rules.now no_fault),
+    )

@@ -1,0 +1,71 @@
+-- How a gap moves, and what stands round it.
+use Rattle.std.proofs.Common.{◌≡◌, Some, ◌∙◌, sym, refl, ℕ, ◌<◌, ◌≤◌, ◌+◌, ◌-◌, List, ◌++◌, take, drop, length, get_or, set, arith, rules}
+use Rattle.std.proofs.lemmas.List.{drop_all, append-nil, get_or-append-add, get_or_append_left, length-take-le, drop-drop, same_lists, places, length-append, length-drop, get_or-set_same}
+use Rattle.std.proofs.lemmas.List.Edits.{remove-append_right}
+use Rattle.std.proofs.lemmas.Option.{slice_get_read}
+use Rattle.std.proofs.lemmas.Bool.{cases_eq}
+use Rattle.std.specs.List.{All, slice_get, copy_within, insert, remove}
+use Rattle.aat_buffer.specs.inside.Gap.{around_gap}
+
+-- the gap moves to the right
+pub carried_right : {X : Type 0} (xs : List X) (i j p : ℕ) → i ≤ p → i ≤ j → j + (p - i) ≤ length xs → around_gap (copy_within xs j (j + (p - i)) i) p (j + (p - i)) ≡ around_gap xs i j
+carried_right xs i j p le leq within = same_lists _ _ (search (rules, places)) (λ k d h. grind (arith, places))
+
+-- the gap moves to the left
+pub carried_left : {X : Type 0} (xs : List X) (i j p : ℕ) → p ≤ i → i ≤ j → j ≤ length xs → around_gap (copy_within xs p i (j - (i - p))) p (j - (i - p)) ≡ around_gap xs i j
+carried_left xs i j p le leq within = same_lists _ _ (search (rules, places)) (λ k d h. grind (arith, places))
+
+-- a glyph goes into the gap
+pub put_in_gap : {X : Type 0} (xs : List X) (i j : ℕ) (x : X) → i < j → j ≤ length xs → around_gap (set xs i x) (i + 1) j ≡ insert (around_gap xs i j) i x
+put_in_gap xs i j x lt within = same_lists _ _ (search (rules, places)) (λ k d h. grind (arith, places, get_or-set_same, cases_eq k i))
+
+-- the gap takes the glyph behind it
+pub taken_by_gap : {X : Type 0} (xs : List X) (i j : ℕ) → i ≤ j → j < length xs → around_gap xs i (j + 1) ≡ remove (around_gap xs i j) i
+taken_by_gap xs i j le within =
+    let n : length (take i xs) ≡ i = length-take-le i xs (omega arith) in
+    let same : i - i ≡ 0 = omega arith in
+    sym (remove-append_right (take i xs) (drop j xs) i i n (omega arith) ∙ rw (same, drop-drop) refl)
+
+-- a write before the gap
+pub set_before_gap : {X : Type 0} (xs : List X) (i j k : ℕ) (x : X) → k < i → i ≤ j → j ≤ length xs → around_gap (set xs k x) i j ≡ set (around_gap xs i j) k x
+set_before_gap xs i j k x lt le within = same_lists _ _ (search (rules, places)) (λ m d h. grind (arith, places, get_or-set_same, cases_eq m k))
+
+-- a write behind the gap
+pub set_behind_gap : {X : Type 0} (xs : List X) (i j k : ℕ) (x : X) → i ≤ k → i ≤ j → k + (j - i) < length xs → around_gap (set xs (k + (j - i)) x) i j ≡ set (around_gap xs i j) k x
+set_behind_gap xs i j k x lt le within = same_lists _ _ (search (rules, places)) (λ m d h. grind (arith, places, get_or-set_same, cases_eq m k))
+
+-- what stands before the gap was written anew
+front_written : {X : Type 0} (xs ws : List X) (i j : ℕ) → length ws ≡ i → i ≤ j → j ≤ length xs → around_gap (ws ++ drop i xs) i j ≡ ws ++ drop j xs
+front_written xs ws i j n le within = same_lists _ _ (search (rules, places)) (λ k d h. grind (arith, places))
+
+-- the whole line stands before the gap
+pub whole_front : {X : Type 0} (xs ws : List X) (i j : ℕ) → length ws ≡ i → i ≤ j → j ≡ length xs → around_gap (ws ++ drop i xs) i j ≡ ws
+whole_front xs ws i j n le e = front_written xs ws i j n le (omega arith) ∙ rw (drop_all j xs (omega arith)) (append-nil ws)
+
+-- and is what those cells hold
+pub whole_line : {X : Type 0} (xs : List X) (i j : ℕ) → j ≡ length xs → around_gap xs i j ≡ take i xs
+whole_line xs i j e = rw (drop_all j xs (omega arith)) (append-nil (take i xs))
+
+-- how many cells are not in the gap
+pub length-around_gap : {X : Type 0} (xs : List X) (i j : ℕ) → i ≤ j → j ≤ length xs → length (around_gap xs i j) ≡ i + (length xs - j)
+length-around_gap xs i j le within = omega (arith, length-append (take i xs) (drop j xs), length-take-le i xs (omega arith), length-drop j xs)
+
+-- a read before the gap
+pub read_before_gap : {X : Type 0} (xs : List X) (i j k : ℕ) (x : X) → k < i → i ≤ j → j ≤ length xs → x ≡ get_or xs k x → slice_get (around_gap xs i j) k ≡ Some x
+read_before_gap xs i j k x lt le within e =
+    let r : get_or (around_gap xs i j) k x ≡ get_or xs k x = grind (arith, places) in
+    slice_get_read (around_gap xs i j) _ k x refl (omega (arith, length-around_gap xs i j le within)) (e ∙ sym r)
+
+-- a read behind the gap
+pub read_behind_gap : {X : Type 0} (xs : List X) (i j k : ℕ) (x : X) → i ≤ k → i ≤ j → k + (j - i) < length xs → x ≡ get_or xs (k + (j - i)) x → slice_get (around_gap xs i j) k ≡ Some x
+read_behind_gap xs i j k x lt le within e =
+    let r : get_or (around_gap xs i j) k x ≡ get_or xs (k + (j - i)) x = grind (arith, places) in
+    slice_get_read (around_gap xs i j) _ k x refl (omega (arith, length-around_gap xs i j le (omega arith))) (e ∙ sym r)
+
+-- what holds of the cells on both sides holds before the gap
+pub all_parts_first : {X : Type 0} (P : X → Type 0) (b c : List X) → All P (b ++ c) → All P b
+all_parts_first P b c all = λ k d h. rw (get_or_append_left b c d k h) at (all k d (omega (arith, length-append b c)))
+
+-- and behind it
+pub all_parts_second : {X : Type 0} (P : X → Type 0) (b c : List X) → All P (b ++ c) → All P c
+all_parts_second P b c all = λ k d h. rw (get_or-append-add b c k d) at (all (length b + k) d (omega (arith, length-append b c)))

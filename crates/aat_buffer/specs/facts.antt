@@ -1,0 +1,7 @@
+pub mod Cases
+pub mod Clusters
+pub mod Ids
+pub mod Lines
+pub mod Order
+pub mod Removed
+pub mod Small

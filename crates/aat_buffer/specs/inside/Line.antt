@@ -1,0 +1,36 @@
+-- What a line of glyphs with a cursor is to the buffer that holds it.
+use Rattle.std.specs.Prelude.{ℕ, List, [], ◌∷◌, ◌++◌, ◌+◌, insert, remove, reverse, slice_set}
+use Rattle.aat_glyph.specs.declared.glyph.hb_glyph_info_t.{hb_glyph_info_t}
+
+-- the glyphs, and the place of the cursor
+pub record Line : Type 0 where
+  pub glyphs : List hb_glyph_info_t
+  pub cursor : ℕ
+
+-- no glyph
+abbrev pub empty_line : Line
+empty_line = record { glyphs = []; cursor = 0 }
+
+-- the cursor is at place p
+abbrev pub moved_to : Line → ℕ → Line
+moved_to l p = record l { cursor = p }
+
+-- the record r stands at place i
+abbrev pub with_glyph : Line → ℕ → hb_glyph_info_t → Line
+with_glyph l i r = record l { glyphs = slice_set l.glyphs i r }
+
+-- r goes last
+abbrev pub with_last : Line → hb_glyph_info_t → Line
+with_last l r = record l { glyphs = l.glyphs ++ r ∷ [] }
+
+-- r goes in at the cursor, which moves past it
+abbrev pub with_inserted : Line → hb_glyph_info_t → Line
+with_inserted l r = record { glyphs = insert l.glyphs l.cursor r; cursor = l.cursor + 1 }
+
+-- the glyph at the cursor goes
+abbrev pub without_current : Line → Line
+without_current l = record l { glyphs = remove l.glyphs l.cursor }
+
+-- the glyphs in the opposite order
+abbrev pub turned_line : Line → Line
+turned_line l = record l { glyphs = reverse l.glyphs }

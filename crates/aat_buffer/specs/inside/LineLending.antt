@@ -1,0 +1,13 @@
+-- What a borrow leaves in a line.
+use Rattle.std.specs.Prelude.{ℕ}
+use denote.RattleType.{RattleType}
+use Rattle.std.specs.declared.alloc.Allocator.{Ghosts}
+use Rattle.std.specs.Borrow.{Lends, MutBor, Fml}
+use Rattle.aat_buffer.specs.inside.Line.{Line, with_glyph}
+use Rattle.aat_buffer.specs.contracts.gap_line.GapLine.{the_row as line_row}
+use Rattle.aat_glyph.specs.declared.glyph.hb_glyph_info_t.{hb_glyph_info_t}
+use Rattle.aat_glyph.specs.contracts.glyph.hb_glyph_info_t.{the_row as glyph_row}
+
+-- the line ends with the glyph at place i as it was last written through r
+abbrev pub LendsGlyph : (A : RattleType) → Ghosts A.Denot → MutBor Line → ℕ → MutBor hb_glyph_info_t → Fml
+LendsGlyph A heap s i r = Lends (line_row A heap) glyph_row s r (with_glyph s.now i)

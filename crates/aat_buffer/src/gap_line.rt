@@ -1,0 +1,232 @@
+//! How a line of glyphs is kept: in one vector, whose unused cells stand at the cursor.
+ghost use Rattle.std.specs.Prelude.{◌≡◌, ◌+◌, ◌-◌, ◌<◌, ◌≤◌, ◌^◌, ◌↔◌, ◌++◌, All, Some, IfOk, IsTrue, OnOk, OnErr, length, reverse, slice_get, vec_len};
+ghost use Rattle.std.specs.Borrow.{sem};
+ghost use Rattle.aat_buffer.specs.Buffer.{Is16Bit};
+ghost use Rattle.aat_buffer.specs.inside.Gap.{around_gap};
+ghost use Rattle.aat_buffer.specs.inside.Line.{Line, empty_line, moved_to, turned_line, with_inserted, with_last, without_current};
+ghost use Rattle.aat_buffer.specs.inside.LineLending.{LendsGlyph};
+
+use aat_glyph::hb_glyph_info_t;
+use std::alloc::{AllocError, Allocator};
+use std::marker::Model;
+
+/// A line of glyphs with a cursor, seen by contracts as the record `Line` of specs/inside.
+///
+/// The cells from `gap_start` up to `gap_end` are the gap and are not part of the line. The gap begins at the
+/// cursor: where that moves, the glyphs on its way are carried over the gap.
+#[derive(Drop)]
+pub(crate) struct GapLine<A: Allocator + Copy> {
+    cells: Vec<hb_glyph_info_t, A>,
+    gap_start: usize,
+    gap_end: usize,
+}
+
+impl<A: Allocator + Copy> Model for GapLine<A> {
+    ghost use Rattle.aat_buffer.specs.inside.Line.{Line};
+
+    ghost Value = { Line };
+
+    ghost use Rattle.aat_buffer.specs.inside.Gap.{line_of, IsSoundGap};
+
+    ghost view = { line_of };
+
+    ghost invariant = { IsSoundGap };
+}
+
+impl<A: Allocator + Copy> GapLine<A> {
+    /// A line without glyphs. It takes no memory.
+    pub(crate) fn new(alloc: A) -> GapLine<A>
+        ensures { result ≡ empty_line }
+    {
+        GapLine {
+            cells: Vec::new(alloc),
+            gap_start: 0,
+            gap_end: 0,
+        }
+    }
+
+    /// How many glyphs the line has.
+    pub(crate) fn len(&self) -> usize
+        ensures { result ≡ length self.now.glyphs }
+    {
+        self.gap_start + (self.cells.len() - self.gap_end)
+    }
+
+    /// How many glyphs stand before the cursor.
+    pub(crate) fn cursor(&self) -> usize
+        ensures place { result ≡ self.now.cursor }
+        ensures within { result ≤ length self.now.glyphs }
+    {
+        self.gap_start
+    }
+
+    /// The glyph at place `i`.
+    pub(crate) fn get(&self, i: usize) -> &hb_glyph_info_t
+        requires { i < length self.now.glyphs }
+        ensures { slice_get self.now.glyphs i ≡ Some result.now }
+    {
+        let cell = if i < self.gap_start {
+            i
+        } else {
+            i + (self.gap_end - self.gap_start)
+        };
+        &self.cells[cell]
+    }
+
+    /// The glyph at place `i`, to be written.
+    pub(crate) fn get_mut(&mut self, i: usize) -> &mut hb_glyph_info_t
+        requires { i < length self.old.glyphs }
+        ensures* writes_back { sem 𝓛 (LendsGlyph A.row A.Allocator self.entry i result) }
+        ensures value { slice_get self.old.glyphs i ≡ Some result.now }
+    {
+        if i < self.gap_start {
+            &mut self.cells[i]
+        } else {
+            let cell = i + (self.gap_end - self.gap_start);
+            &mut self.cells[cell]
+        }
+    }
+
+    /// Moves the cursor over one glyph.
+    pub(crate) fn next(&mut self)
+        requires { self.old.cursor < length self.old.glyphs }
+        ensures { self.new ≡ moved_to self.old (self.old.cursor + 1) }
+    {
+        self.cells[self.gap_start] = self.cells[self.gap_end];
+        self.gap_start += 1;
+        self.gap_end += 1;
+    }
+
+    /// Moves the cursor to place `i`, in as many steps as it is away.
+    #[tactic(auto, using(crate::proofs::Gap::carried_right, crate::proofs::Gap::carried_left))]
+    pub(crate) fn move_to(&mut self, i: usize)
+        requires { i ≤ length self.old.glyphs }
+        ensures { self.new ≡ moved_to self.old i }
+    {
+        self.gap_end = carry_gap(self.cells.as_mut_slice(), self.gap_start, self.gap_end, i);
+        self.gap_start = i;
+    }
+
+    /// Puts a glyph last. O(1), amortised.
+    pub(crate) fn push(&mut self, glyph: hb_glyph_info_t) -> Result<(), AllocError>
+        ensures ok { OnOk result (self.new ≡ with_last self.old glyph) }
+        ensures err { OnErr result (self.new ≡ self.old) }
+    {
+        self.cells.reserve(1)?;
+        self.cells.push_reserved(glyph);
+        Ok(())
+    }
+
+    /// Puts a glyph in at the cursor, which moves past it. O(1), amortised.
+    #[tactic(auto, using(crate::proofs::Gap::put_in_gap))]
+    pub(crate) fn insert(&mut self, glyph: hb_glyph_info_t) -> Result<(), AllocError>
+        requires { length self.old.glyphs < 2 ^ 32 }
+        ensures ok { OnOk result (self.new ≡ with_inserted self.old glyph) }
+        ensures err { OnErr result (self.new ≡ self.old) }
+    {
+        if self.gap_start == self.gap_end {
+            self.gap_end = grow_gap(&mut self.cells, self.gap_start)?;
+        }
+        self.cells[self.gap_start] = glyph;
+        self.gap_start += 1;
+        Ok(())
+    }
+
+    /// Takes the glyph at the cursor out. O(1).
+    pub(crate) fn remove(&mut self)
+        requires { self.old.cursor < length self.old.glyphs }
+        ensures { self.new ≡ without_current self.old }
+    {
+        self.gap_end += 1;
+    }
+
+    /// Puts the glyphs in the opposite order, in as many steps as there are. The cursor stays.
+    pub(crate) fn reverse(&mut self)
+        ensures { self.new ≡ turned_line self.old }
+    {
+        let p = self.gap_start;
+        self.move_to(self.len());
+        turn_front(self.cells.as_mut_slice(), self.gap_start, self.gap_end);
+        self.move_to(p);
+    }
+
+    /// Whether each glyph id is at most 0xFFFF, part by part.
+    pub(crate) fn all_16(&self) -> bool
+        ensures { IsTrue result ↔ All Is16Bit self.now.glyphs }
+    {
+        cells_16(&self.cells, self.gap_start, self.gap_end)
+    }
+}
+
+/// Moves the gap to `place` of the line, and gives its new end.
+#[tactic(auto, using(crate::proofs::Gap::carried_right, crate::proofs::Gap::carried_left))]
+fn carry_gap(cells: &mut [hb_glyph_info_t], start: usize, end: usize, place: usize) -> usize
+    requires ordered { start ≤ end }
+    requires in_cells { end ≤ length cells.old }
+    requires in_line { place ≤ start + (length cells.old - end) }
+    ensures new_end { result ≡ place + (end - start) }
+    ensures within { result ≤ length cells.new }
+    ensures line { around_gap cells.new place result ≡ around_gap cells.old start end }
+    ensures len { length cells.new ≡ length cells.old }
+{
+    if start < place {
+        let count = place - start;
+        cells.copy_within(end..end + count, start);
+        end + count
+    } else {
+        let count = start - place;
+        cells.copy_within(place..start, end - count);
+        end - count
+    }
+}
+
+/// Makes an empty gap as large as the line and larger, and gives its new end.
+fn grow_gap<A: Allocator>(
+    cells: &mut Vec<hb_glyph_info_t, A>,
+    place: usize,
+) -> Result<usize, AllocError>
+    requires in_cells { place ≤ vec_len cells.old }
+    requires small { vec_len cells.old < 2 ^ 32 }
+    ensures wider { IfOk result (λ e. (place < e) × (e ≤ vec_len cells.new)) }
+    ensures line { IfOk result (λ e. around_gap cells.new.items place e ≡ cells.old.items) }
+    ensures err { OnErr result ((cells.new.items ≡ cells.old.items) × (vec_len cells.new ≡ vec_len cells.old)) }
+{
+    let len = cells.len();
+    let more = len + 16;
+    cells.resize(len + more, hb_glyph_info_t::default())?;
+    cells.copy_within(place..len, place + more);
+    Ok(place + more)
+}
+
+/// Puts the glyphs of a line that stands before the gap as a whole in the opposite order.
+#[tactic(auto, using(crate::proofs::Gap::whole_front, crate::proofs::Gap::whole_line))]
+fn turn_front(cells: &mut [hb_glyph_info_t], start: usize, end: usize)
+    requires ordered { start ≤ end }
+    requires in_cells { end ≡ length cells.old }
+    ensures line { around_gap cells.new start end ≡ reverse (around_gap cells.old start end) }
+    ensures len { length cells.new ≡ length cells.old }
+{
+    cells[..start].reverse();
+}
+
+/// Whether each glyph id in the cells round a gap is at most 0xFFFF.
+#[tactic(auto, using(std::proofs::lemmas::List::take_rest))]
+fn cells_16(cells: &[hb_glyph_info_t], start: usize, end: usize) -> bool
+    requires ordered { start ≤ end }
+    requires in_cells { end ≤ length cells.now }
+    ensures { IsTrue result ↔ All Is16Bit (around_gap cells.now start end) }
+{
+    both_16(&cells[..start], &cells[end..])
+}
+
+fn both_16(front: &[hb_glyph_info_t], back: &[hb_glyph_info_t]) -> bool
+    ensures { IsTrue result ↔ All Is16Bit (front.now ++ back.now) }
+{
+    all_16(front) && all_16(back)
+}
+
+fn all_16(glyphs: &[hb_glyph_info_t]) -> bool
+    ensures { IsTrue result ↔ All Is16Bit glyphs.now }
+{
+    glyphs.iter().all(|glyph| glyph.glyph_id <= 0xFFFF)
+}

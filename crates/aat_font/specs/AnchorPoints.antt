@@ -1,0 +1,16 @@
+-- The anchor points of glyphs as a total function. Apple's TrueType Reference Manual, "The 'ankr' table".
+use Rattle.std.specs.Prelude.{ℕ, List, Option, option_and_then, unwrap_or, slice_get, pos}
+use Rattle.aat_font.specs.Keys.{at_key}
+use Rattle.aat_font.specs.declared.entries.Point.{Point}
+
+-- the anchor points of glyphs
+abbrev pub Points : Type 0
+Points = List (ℕ × List Point)
+
+-- the point that is listed for a glyph at an index, if there is one
+abbrev pub listed_point : Points → ℕ → ℕ → Option Point
+listed_point points glyph index = option_and_then (λ p. slice_get p.1 index) (at_key (λ p. p.0) points glyph)
+
+-- the point of a glyph at an index, and the origin without one
+abbrev pub point_of : Points → ℕ → ℕ → Point
+point_of points glyph index = unwrap_or (listed_point points glyph index) (record { x = pos 0; y = pos 0 })

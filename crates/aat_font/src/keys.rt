@@ -1,0 +1,37 @@
+//! Rows that rise by a key, as the tables of a font keep them: how they are tested and searched.
+ghost use Rattle.std.specs.Prelude.{◌≡◌};
+ghost use Rattle.aat_font.specs.Keys.{IsRising, at_key, first_fall};
+
+/// A row of a table, with the number by which its rows rise.
+pub trait Keyed: Copy {
+    ghost use Rattle.std.specs.Prelude.{◌≡◌, ℕ};
+
+    ghost key_of: { Self → ℕ };
+
+    /// The number by which rows rise.
+    fn key(&self) -> u32
+        ensures { result ≡ key_of self.now };
+}
+
+/// The place of the first row that is not above the one before it.
+pub fn first_fall<R: Keyed>(rows: &[R]) -> Option<usize>
+    ensures { result ≡ first_fall R.key_of rows.now }
+{
+    for i in 1..rows.len() {
+        if rows[i].key() <= rows[i - 1].key() {
+            return Some(i);
+        }
+    }
+    None
+}
+
+/// The row that has the key, if there is one, found by bisection.
+pub fn row_at<R: Keyed>(rows: &[R], key: u32) -> Option<R>
+    requires { IsRising R.key_of rows.now }
+    ensures { result ≡ at_key R.key_of rows.now key }
+{
+    match rows.binary_search_by_key(&key, |row| row.key()) {
+        Ok(at) => Some(rows[at]),
+        Err(_) => None,
+    }
+}

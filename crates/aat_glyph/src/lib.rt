@@ -1,0 +1,15 @@
+//! What a line of glyphs is made of: glyph records, positions, directions, named bits, and why a call of the
+//! shaping buffer is refused.
+#![tactic(auto)]
+
+mod error;
+mod flags;
+mod glyph;
+
+pub use error::BufferError;
+pub use flags::{BufferFlags, ScratchFlags, UnicodeProps};
+pub use glyph::{
+    Direction, GlyphPosition, HB_BUFFER_CLUSTER_LEVEL_CHARACTERS,
+    HB_BUFFER_CLUSTER_LEVEL_MONOTONE_CHARACTERS, HB_BUFFER_CLUSTER_LEVEL_MONOTONE_GRAPHEMES,
+    glyph_flag, hb_glyph_info_t, hb_mask_t,
+};

@@ -1,0 +1,16 @@
+pub use Rattle.aat_buffer.specs.Clusters
+pub use Rattle.aat_buffer.specs.Removal
+pub mod Anchors
+pub mod KerningExamples
+pub mod KerningLawful
+pub mod KerningLaws
+pub mod KerningMachine
+pub mod KerningRows
+pub mod PairKerning
+pub mod Pairs
+pub mod Positioning
+pub mod Positions
+pub mod RowWords
+pub mod Stack
+pub mod Zeroing
+pub mod facts

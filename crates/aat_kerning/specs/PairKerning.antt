@@ -1,0 +1,50 @@
+-- Kerning by pairs. TrueType Reference Manual: The 'kern' table, and The 'kerx' table, formats 0, 2 and 6.
+use Rattle.std.specs.Prelude.{ℕ, ◌+◌, ◌*◌, Bool, List, ℤ, pos, ◌-ℤ◌, Some, option_map, unwrap_or, fold, if◌then◌else◌}
+use Rattle.std.specs.Int.{int_shr}
+use Rattle.std.specs.Ordering.{int_eq}
+use Rattle.aat_buffer.specs.Buffer.{Buffer, glyph_at}
+use Rattle.aat_buffer.specs.Marks.{unsafe_to_break}
+use Rattle.aat_font.specs.Keys.{at_key}
+use Rattle.aat_glyph.specs.Directions.{is_horizontal}
+use Rattle.aat_kerning.specs.Pairs.{Pair, pairs_of}
+use Rattle.aat_kerning.specs.Positions.{on_position, with_advance, with_shift, with_cross_offset, with_attachment_flag}
+
+-- pairs rise by left, then by right; glyph ids have 16 bits. TrueType Reference Manual: The 'kern' table, format 0.
+abbrev pub pair_key : ℕ → ℕ → ℕ
+pair_key left right = left * 65536 + right
+
+-- the value of two glyphs, and 0 without one
+abbrev pub value_of : List (ℕ × ℕ × ℤ) → ℕ → ℕ → ℤ
+value_of values left right =
+    unwrap_or (option_map (λ v. v.2) (at_key (λ v. pair_key v.0 v.1) values (pair_key left right))) (pos 0)
+
+-- the half of a value, rounded down
+abbrev pub half : ℤ → ℤ
+half v = int_shr v 1
+
+-- In the stream the half goes to the advance of the left glyph, and the rest to the advance and the offset of the right
+-- one. So the right glyph and all behind it move by the whole value, odd or even, and the two glyphs share the change
+-- of width: a caret between them stands in its middle.
+abbrev pub in_stream : Pair → ℤ → Buffer → Buffer
+in_stream p v b =
+    let h = is_horizontal b.direction in
+    let rest = v -ℤ half v in
+    on_position (λ q. with_shift h rest (with_advance h rest q)) p.right
+    (on_position (with_advance h (half v)) p.left b)
+
+-- across the stream the value becomes the offset of the right glyph, and the buffer remembers that glyphs are attached;
+-- the pair itself attaches nothing. TrueType Reference Manual: The 'kern' table, cross-stream kerning.
+abbrev pub cross_stream : Pair → ℤ → Buffer → Buffer
+cross_stream p v b = with_attachment_flag (on_position (with_cross_offset (is_horizontal b.direction) v) p.right b)
+
+-- a pair with a value that is not 0 is kerned, and marked from its left to its right glyph
+unfoldable pub kerned : Bool → List (ℕ × ℕ × ℤ) → Pair → Buffer → Buffer
+kerned is_cross values p b =
+    let v = value_of values (glyph_at b.line p.left).glyph_id (glyph_at b.line p.right).glyph_id in
+    if int_eq v (pos 0) then b
+    else unsafe_to_break (if is_cross then cross_stream p v b else in_stream p v b) (Some p.left) (Some (p.right + 1))
+
+-- all pairs of the line as it stands at first
+unfoldable pub pair_kerning : ℕ → ℕ → Bool → List (ℕ × ℕ × ℤ) → Buffer → Buffer
+pair_kerning skips kern_mask is_cross values b =
+    fold (λ d p. kerned is_cross values p d) b (pairs_of skips kern_mask b.line)

@@ -1,0 +1,3 @@
+pub mod AnchorLaws
+pub mod StackLaws
+pub mod Writes

@@ -1,0 +1,57 @@
+//! Deleted glyphs: they take no room, or they go.
+ghost use Rattle.std.specs.Prelude.{◌≡◌, ◌≢◌, ◌==◌, All, filter, not};
+ghost use Rattle.aat_buffer.specs.Clusters.{ids};
+ghost use Rattle.aat_buffer.specs.Removal.{is_deleted, removed};
+ghost use Rattle.aat_kerning.specs.Zeroing.{zeroed, zeroed_position};
+
+use aat_buffer::{GlyphPosition, hb_buffer_t, hb_glyph_info_t};
+use std::alloc::Allocator;
+
+/// The glyph id of a glyph that shaping has deleted. (TrueType Reference Manual, The 'morx' table: the deleted
+/// glyph index.)
+pub const DELETED_GLYPH: u32 = 0xFFFF;
+
+/// The position of a glyph, that of a deleted one without room.
+fn zeroed_position(glyph: hb_glyph_info_t, position: GlyphPosition) -> GlyphPosition
+    ensures { result ≡ zeroed_position glyph position }
+{
+    if glyph.glyph_id != DELETED_GLYPH {
+        return position;
+    }
+    GlyphPosition {
+        x_advance: 0,
+        y_advance: 0,
+        x_offset: 0,
+        y_offset: 0,
+        ..position
+    }
+}
+
+/// Sets both advances and both offsets of each deleted glyph to 0. What it is attached to stays, and so does all
+/// else. Where no positions stand (`has_positions` tells it), nothing changes.
+///
+/// It takes no memory and cannot be refused. In as many steps as the line is long.
+pub fn hb_aat_layout_zero_width_deleted_glyphs<A: Allocator + Copy>(buffer: &mut hb_buffer_t<A>)
+    ensures { buffer.new ≡ zeroed buffer.old }
+{
+    if !buffer.has_positions() {
+        return;
+    }
+    for i in 0..buffer.len() {
+        let glyph = *buffer.info(i);
+        let position = buffer.pos_mut(i);
+        *position = zeroed_position(glyph, *position);
+    }
+}
+
+/// Takes the deleted glyphs out, with their positions, and puts the cursor at the start. The others keep their
+/// order, and the cluster of each glyph that goes is kept as `delete_glyphs_inplace` tells.
+///
+/// It takes no memory and cannot be refused. In as many steps as the line is long.
+pub fn hb_aat_layout_remove_deleted_glyphs<A: Allocator + Copy>(buffer: &mut hb_buffer_t<A>)
+    ensures removed { buffer.new ≡ removed is_deleted buffer.old }
+    ensures none { All (λ g. g.glyph_id ≢ 0xFFFF) buffer.new.line }
+    ensures order { ids buffer.new.line ≡ filter (λ g. not (g == 0xFFFF)) (ids buffer.old.line) }
+{
+    buffer.delete_glyphs_inplace(|glyph| glyph.glyph_id == DELETED_GLYPH);
+}

@@ -1,0 +1,15 @@
+pub use Rattle.aat_buffer.specs.Buffer
+pub use Rattle.aat_buffer.specs.Clusters
+pub use Rattle.aat_font.specs.Face
+pub use Rattle.aat_run.specs.Driven
+pub use Rattle.aat_run.specs.Outcome
+pub use Rattle.aat_run.specs.Ranges
+pub mod Contextual
+pub mod Insertion
+pub mod Kinds
+pub mod Lawful
+pub mod Ligature
+pub mod Rearrangement
+pub mod Values
+pub mod facts
+pub mod inside

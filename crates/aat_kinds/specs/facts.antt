@@ -1,0 +1,12 @@
+pub mod ContextualHeld
+pub mod ContextualLaws
+pub mod ContextualSmall
+pub mod InPlaceRuns
+pub mod InsertionHeld
+pub mod InsertionLaws
+pub mod LigatureHeld
+pub mod LigatureLaws
+pub mod OrderHolds
+pub mod Permutation
+pub mod RearrangementKeeps
+pub mod RearrangementLaws

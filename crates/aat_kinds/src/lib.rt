@@ -1,0 +1,23 @@
+//! The kinds of subtables of the extended glyph metamorphosis table: what each does to a line, with its laws.
+#![tactic(auto)]
+
+mod contextual;
+mod insertion;
+mod kinds;
+#[doc(hidden)]
+pub mod laws;
+mod ligature;
+mod machines;
+mod noncontextual;
+mod rearrangement;
+mod rearrangement_span;
+mod run;
+mod values;
+mod verb;
+
+pub use contextual::ContextualCtx;
+pub use insertion::InsertionCtx;
+pub use kinds::run_kind;
+pub use ligature::{LIGATURE_SLOTS, LigatureCtx};
+pub use rearrangement::{MAX_CONTEXT_LENGTH, RearrangementCtx};
+pub use run::SubtableRun;

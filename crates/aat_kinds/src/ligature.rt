@@ -1,0 +1,397 @@
+//! Ligature subtables: glyphs are held as components, and joined to ligatures.
+ghost use Rattle.std.specs.Prelude.{◌≡◌, ℕ, ◌+◌, ◌-◌, ◌<◌, ◌≤◌, ◌^◌, pos, ◌+ℤ◌, length, if◌then◌else◌, nat_lt, IfErr, IfSome, IsOk, None, OnErr, OnOk};
+ghost use Rattle.aat_buffer.specs.Buffer.{glyph_at, with_line};
+ghost use Rattle.aat_buffer.specs.Clusters.{IsSmall};
+ghost use Rattle.aat_buffer.specs.Marks.{merge_out_clusters};
+ghost use Rattle.aat_run.specs.Driven.{IsRefusal, IsRefused};
+ghost use Rattle.aat_run.specs.Laws.{FitsFresh};
+ghost use Rattle.aat_kinds.specs.Ligature.{GoesOn, IsFit, IsHeldFit, Stops, component, deleted, element_at, fresh};
+ghost use Rattle.aat_kinds.specs.Ligature.{held_act, later_deleted, offset_of, stored, with_place_held};
+ghost use Rattle.aat_kinds.specs.inside.Taken.{all_taken, moved, step_of};
+
+use aat_buffer::{UnicodeProps, hb_buffer_t, hb_glyph_info_t};
+use aat_font::{GenericStateEntry, GlyphId, LigatureSubtable};
+use aat_run::{AatError, driver_context_t};
+use bitflags::Flags;
+use std::alloc::Allocator;
+use std::marker::Model;
+
+/// The number of slots in the run of a ligature subtable: of how many of the newest components it keeps the places.
+pub const LIGATURE_SLOTS: usize = 64;
+
+/// The flag of an entry that takes the held components in.
+const PERFORM_ACTION: u16 = 0x2000;
+
+/// The bits of an action that store a ligature: the last one of a list, and one that says so.
+const STORE: u32 = 0xC000_0000;
+
+/// The bit of the last action of a list.
+const LAST: u32 = 0x8000_0000;
+
+/// The glyph that stands for none.
+const DELETED_GLYPH: u32 = 0xFFFF;
+
+/// The places of the components that are held: of as many of the newest as there are slots.
+#[derive(Drop)]
+struct Components<const SLOTS: usize> {
+    count: usize,
+    slots: [usize; SLOTS],
+}
+
+impl<const SLOTS: usize> Model for Components<SLOTS> {
+    ghost use Rattle.aat_kinds.specs.Ligature.{Registers};
+
+    ghost Value = { Registers };
+
+    ghost view = { λ m. record { count = m.count; slots = m.slots } };
+
+    ghost use Rattle.std.specs.Prelude.{◌≡◌, length};
+
+    ghost invariant = { λ m. length m.slots ≡ SLOTS };
+}
+
+impl<const SLOTS: usize> Components<SLOTS> {
+    fn new() -> Components<SLOTS>
+        ensures { result ≡ fresh SLOTS }
+    {
+        Components {
+            count: 0,
+            slots: [0; SLOTS],
+        }
+    }
+
+    /// How many components are held.
+    fn count(&self) -> usize
+        ensures { result ≡ self.now.count }
+    {
+        self.count
+    }
+
+    /// Holds fewer components.
+    fn truncate(&mut self, count: usize)
+        ensures { self.new ≡ record self.old { count = count } }
+    {
+        self.count = count;
+    }
+
+    /// The place of component `j`, the oldest of them 0.
+    fn place(&self, j: usize) -> usize
+        requires { 0 < length self.now.slots }
+        ensures { result ≡ component self.now j }
+    {
+        let slots: &[usize] = &self.slots;
+        slots[j % slots.len()]
+    }
+
+    /// Holds a place as the newest component, unless it is that already. O(1).
+    fn push(&mut self, place: usize)
+        requires some { 0 < length self.old.slots }
+        requires few { self.old.count < 2 ^ 32 }
+        ensures { self.new ≡ with_place_held self.old place }
+    {
+        if self.count > 0 && self.place(self.count - 1) == place {
+            return;
+        }
+        let slots: &mut [usize] = &mut self.slots;
+        let slot = self.count % slots.len();
+        slots[slot] = place;
+        self.count += 1;
+    }
+
+    /// Deletes the components behind component `c`, from the newest down.
+    fn delete_later<A: Allocator + Copy>(&self, c: usize, buffer: &mut hb_buffer_t<A>)
+        requires below { c < self.now.count }
+        requires fit { IsFit self.now buffer.old.cursor (length buffer.old.line) }
+        requires ids { IsSmall buffer.old }
+        ensures line { buffer.new ≡ with_line buffer.old (later_deleted self.now c (self.now.count - 1 - c) buffer.old.line) }
+        ensures ids { IsSmall buffer.new }
+        ensures count { length buffer.new.line ≡ length buffer.old.line }
+    {
+        let mut n = self.count() - 1 - c;
+        while n > 0 {
+            let glyph = buffer.info_mut(self.place(c + n));
+            *glyph = deleted(*glyph);
+            n -= 1;
+        }
+    }
+
+    /// Stores a ligature at component `c`, which is then the newest one: those behind it are deleted, and what lies
+    /// from it through the newest of them becomes one cluster. In as many steps as there are components behind it, and
+    /// as the merged span is long.
+    #[tactic(auto, unfolding(crate::specs::Ligature::stored))]
+    fn store<A: Allocator + Copy>(
+        &mut self,
+        c: usize,
+        ligature: GlyphId,
+        buffer: &mut hb_buffer_t<A>,
+    )
+        requires below { c < self.old.count }
+        requires fit { IsFit self.old buffer.old.cursor (length buffer.old.line) }
+        requires ids { IsSmall buffer.old }
+        ensures held { self.new ≡ record self.old { count = c + 1 } }
+        ensures stored { buffer.new ≡ (stored c ligature.0 self.old buffer.old).buffer }
+        ensures deleted { (j : ℕ) → c < j → j < self.old.count → (glyph_at buffer.new.line (component self.old j)).glyph_id ≡ 0xFFFF }
+        ensures successful { buffer.new.successful ≡ buffer.old.successful }
+        ensures ids { IsSmall buffer.new }
+        ensures count { length buffer.new.line ≡ length buffer.old.line }
+    {
+        let _length = buffer.len();
+        let start = self.place(c);
+        let end = self.place(self.count() - 1) + 1;
+        buffer.info_mut(start).glyph_id = u32::from(ligature.0);
+        self.delete_later(c, buffer);
+        merge_span(buffer, start, end);
+        self.truncate(c + 1);
+    }
+
+    /// Takes component `c` in by the action at a place: its value goes to the sum, and where the action stores, the
+    /// ligature there is stored. The sum to go on with; none where the act stops.
+    #[tactic(auto, unfolding(crate::specs::Ligature::component_step, crate::specs::Ligature::stored))]
+    fn take_in<A: Allocator + Copy>(
+        &mut self,
+        subtable: &LigatureSubtable,
+        place: usize,
+        c: usize,
+        sum: usize,
+        buffer: &mut hb_buffer_t<A>,
+    ) -> Option<usize>
+        requires below { c < self.old.count }
+        requires fit { IsFit self.old buffer.old.cursor (length buffer.old.line) }
+        requires ids { IsSmall buffer.old }
+        requires small { sum < 2 ^ 62 }
+        ensures goes_on { IfSome result (λ more. step_of subtable.now place c sum self.old buffer.old ≡ GoesOn more (moved self.new buffer.new)) }
+        ensures stops { result ≡ None → step_of subtable.now place c sum self.old buffer.old ≡ Stops (moved self.new buffer.new) }
+        ensures more { IfSome result (λ more. more ≤ sum + 65535) }
+        ensures slots { self.new.slots ≡ self.old.slots }
+        ensures held { c < self.new.count }
+        ensures fewer { self.new.count ≤ self.old.count }
+        ensures successful { buffer.new.successful ≡ buffer.old.successful }
+        ensures ids { IsSmall buffer.new }
+        ensures count { length buffer.new.line ≡ length buffer.old.line }
+    {
+        let action = *subtable.ligature_actions.get(place)?;
+        let glyph = buffer.info(self.place(c)).glyph_id;
+        let value = value_of(&subtable.components, glyph, action)?;
+        let sum = sum + usize::from(value);
+        if action & STORE == 0 {
+            return Some(sum);
+        }
+        let ligature = *subtable.ligatures.get(sum)?;
+        self.store(c, ligature, buffer);
+        if action & LAST != 0 {
+            return None;
+        }
+        Some(sum)
+    }
+
+    /// Takes the held components in, from the newest down, each by the next action from a place on.
+    fn ligate<A: Allocator + Copy>(
+        &mut self,
+        subtable: &LigatureSubtable,
+        first: u16,
+        buffer: &mut hb_buffer_t<A>,
+    )
+        requires fit { IsFit self.old buffer.old.cursor (length buffer.old.line) }
+        requires few { self.old.count < 2 ^ 32 }
+        requires ids { IsSmall buffer.old }
+        ensures act { moved self.new buffer.new ≡ all_taken subtable.now first self.old buffer.old }
+        ensures ids { IsSmall buffer.new }
+        ensures successful { buffer.new.successful ≡ buffer.old.successful }
+        ensures count { length buffer.new.line ≡ length buffer.old.line }
+    {
+        let mut action = usize::from(first);
+        let mut sum = 0;
+        let mut left = self.count();
+        while left > 0 {
+            left -= 1;
+            match self.take_in(subtable, action, left, sum, buffer) {
+                Some(more) => sum = more,
+                None => return,
+            }
+            action += 1;
+        }
+        self.truncate(0);
+    }
+}
+
+/// The registers of a ligature machine, over the lists of a subtable: the components that it holds, glyphs of the line
+/// that are to be joined.
+///
+/// An entry may hold the glyph at the cursor as the newest component, and may take the components in: from the newest
+/// of them down, each by the next action, the value for its glyph is added to a sum, and where the action stores, the
+/// component becomes the ligature with the sum as its number, and each component behind it the deleted glyph, 0xFFFF,
+/// with the property IGNORABLE. Components are counted from the oldest, 0; component j stands in slot j mod `SLOTS`, so
+/// that more components than slots write over the oldest places.
+///
+/// A contract sees it as the record `Held`. It takes no memory, and no act changes the number of glyphs, so that a run
+/// over it is never refused.
+///
+/// Apple's TrueType Reference Manual, "The 'morx' table", ligature substitution.
+#[derive(Drop)]
+pub struct LigatureCtx<'a, const SLOTS: usize> {
+    subtable: &'a LigatureSubtable,
+    held: Components<SLOTS>,
+}
+
+impl<'a, const SLOTS: usize> Model for LigatureCtx<'a, SLOTS> {
+    ghost use Rattle.aat_kinds.specs.Ligature.{Held};
+
+    ghost Value = { Held };
+
+    ghost view = { λ m. record {
+      actions = m.subtable.now.actions;
+      components = m.subtable.now.components;
+      ligatures = m.subtable.now.ligatures;
+      registers = m.held;
+    } };
+}
+
+impl<'a, const SLOTS: usize> LigatureCtx<'a, SLOTS> {
+    /// No component, over the lists of a subtable. There has to be a slot. It fits at the front of each line.
+    #[tactic(auto, using(crate::specs::facts::LigatureHeld::fits_fresh))]
+    pub fn new(subtable: &'a LigatureSubtable) -> LigatureCtx<'a, SLOTS>
+        requires { 0 < SLOTS }
+        ensures value { result ≡ record {
+          actions = subtable.now.actions;
+          components = subtable.now.components;
+          ligatures = subtable.now.ligatures;
+          registers = fresh SLOTS;
+        } }
+        ensures fits { FitsFresh IsHeldFit result }
+    {
+        LigatureCtx {
+            subtable,
+            held: Components::new(),
+        }
+    }
+}
+
+impl<'a, const SLOTS: usize> driver_context_t<u16> for LigatureCtx<'a, SLOTS> {
+    ghost use Rattle.std.specs.Prelude.{false};
+    ghost use Rattle.aat_font.specs.Entries.{goes_on};
+    ghost use Rattle.aat_kinds.specs.Ligature as ligature;
+    ghost use Rattle.aat_kinds.specs.facts.LigatureHeld as laws;
+
+    ghost fits = { ligature.IsHeldFit };
+
+    ghost stays_in_place = { false };
+
+    ghost advances = { goes_on };
+
+    ghost actionable = { ligature.held_actionable };
+
+    ghost act = { ligature.held_act };
+
+    fn in_place(&self) -> bool {
+        false
+    }
+
+    fn can_advance(&self, entry: &GenericStateEntry<u16>) -> bool {
+        entry.has_advance()
+    }
+
+    fn is_actionable<A: Allocator + Copy>(
+        &self,
+        entry: &GenericStateEntry<u16>,
+        _buffer: &hb_buffer_t<A>,
+    ) -> bool {
+        entry.flags & PERFORM_ACTION != 0
+    }
+
+    /// Does what the entry says. The number of glyphs stays. Never refused.
+    ///
+    /// Holding a component is O(1); taking components in is O(of their number, and of the glyphs that become one
+    /// cluster).
+    #[tactic(auto, unfolding(crate::specs::Ligature::act))]
+    fn transition<A: Allocator + Copy>(
+        &mut self,
+        entry: &GenericStateEntry<u16>,
+        buffer: &mut hb_buffer_t<A>,
+    ) -> Result<(), AatError>
+        requires fit { IsHeldFit self.old buffer.old.cursor (length buffer.old.line) }
+        requires ids { IsSmall buffer.old }
+        ensures taken { IsOk result }
+        ensures act { OnOk result (record { regs = self.new; buffer = buffer.new } ≡ held_act entry.now self.old buffer.old) }
+        ensures ids { OnOk result (IsSmall buffer.new) }
+        ensures successful { OnOk result (buffer.new.successful ≡ buffer.old.successful) }
+        ensures reason { IfErr result (IsRefusal buffer.old (held_act entry.now self.old buffer.old).buffer) }
+        ensures refused { OnErr result (IsRefused buffer.old buffer.new) }
+        ensures count { length buffer.new.line ≡ length buffer.old.line }
+    {
+        let cursor = buffer.backtrack_len();
+        let length = buffer.len();
+        if entry.has_push() {
+            self.held.push(cursor);
+        }
+        if entry.flags & PERFORM_ACTION != 0 && cursor < length {
+            self.held.ligate(self.subtable, entry.extra, buffer);
+        }
+        Ok(())
+    }
+
+    ghost keeps_fit = { laws.keeps_fit };
+
+    ghost passes_fit = { laws.passes_fit };
+
+    ghost pays = { laws.pays };
+
+    ghost bounded = { laws.bounded };
+
+    ghost lengthens = { laws.lengthens };
+
+    ghost makes_no_positions = { laws.makes_no_positions };
+
+    ghost keeps_settings = { laws.keeps_settings };
+
+    ghost keeps_place = { laws.keeps_place };
+
+    ghost keeps_order = { laws.keeps_order };
+}
+
+/// Makes the glyphs from one place up to another one cluster, if there are any.
+#[tactic(auto, using(crate::specs::facts::LigatureLaws::small_of_merge_out))]
+fn merge_span<A: Allocator + Copy>(buffer: &mut hb_buffer_t<A>, start: usize, end: usize)
+    requires ids { IsSmall buffer.old }
+    ensures merged { buffer.new ≡ (if nat_lt start end then merge_out_clusters buffer.old start end else buffer.old) }
+    ensures ids { IsSmall buffer.new }
+    ensures count { length buffer.new.line ≡ length buffer.old.line }
+{
+    if start >= end {
+        return;
+    }
+    buffer.merge_out_clusters(start, end);
+}
+
+/// A component that goes into a ligature.
+fn deleted(glyph: hb_glyph_info_t) -> hb_glyph_info_t
+    ensures { result ≡ deleted glyph }
+{
+    hb_glyph_info_t {
+        glyph_id: DELETED_GLYPH,
+        unicode_props: glyph.unicode_props | UnicodeProps::IGNORABLE.bits(),
+        ..glyph
+    }
+}
+
+/// The low 30 bits of an action, signed: what is added to a glyph id, for the place of its value.
+fn offset_of(action: u32) -> i32
+    ensures { result ≡ offset_of action }
+{
+    let low = (action & 0x1FFF_FFFF) as i32;
+    if action & 0x2000_0000 == 0 {
+        low
+    } else {
+        low - 0x2000_0000
+    }
+}
+
+/// The value at the place that a glyph and an action name, if there is one.
+fn value_of(values: &[u16], glyph: u32, action: u32) -> Option<u16>
+    ensures { result ≡ element_at values.now (pos glyph +ℤ offset_of action) }
+{
+    let place = i64::from(glyph) + i64::from(offset_of(action));
+    if place < 0 {
+        return None;
+    }
+    values.get(place as usize).copied()
+}

@@ -1,0 +1,113 @@
+//! The runs of the kinds that are state machines, each from fresh registers.
+ghost use Rattle.std.specs.Prelude.{◌≡◌, IfOk, IfErr, IsOk, IsTrue, OnErr, length, true};
+ghost use Rattle.aat_buffer.specs.Clusters.{IsSmall};
+ghost use Rattle.aat_font.specs.Face.{glyph_classes_of};
+ghost use Rattle.aat_kinds.specs.Kinds.{contextual_run, insertion_run, ligature_run, rearrangement_run};
+ghost use Rattle.aat_run.specs.Driven.{IsRefusal, IsRefused, StaysWithin};
+ghost use Rattle.aat_run.specs.Outcome.{Outcome};
+ghost use Rattle.aat_run.specs.Ranges.{IsGapless, is_whole_list, switch_for};
+
+use crate::contextual::ContextualCtx;
+use crate::insertion::InsertionCtx;
+use crate::ligature::{LIGATURE_SLOTS, LigatureCtx};
+use crate::rearrangement::RearrangementCtx;
+use crate::run::SubtableRun;
+use aat_buffer::hb_buffer_t;
+use aat_font::{ContextualSubtable, ExtendedStateTable, InsertionSubtable, LigatureSubtable};
+use aat_run::{AatError, run_machine};
+use std::alloc::Allocator;
+
+/// Runs a rearrangement subtable, and answers the turns. It takes no memory, and is never refused.
+pub(crate) fn run_rearrangement<A: Allocator + Copy>(
+    run: &SubtableRun,
+    table: &ExtendedStateTable<()>,
+    buffer: &mut hb_buffer_t<A>,
+) -> Result<u64, AatError>
+    requires gapless { IsGapless run.now.ranges.now }
+    requires whole { IsTrue (is_whole_list run.now.ranges.now) }
+    requires on { length run.now.ranges.now ≡ 1 → (switch_for run.now.ranges.now).is_on run.now.feature_flags 0 ≡ true }
+    requires ids { IsSmall buffer.old }
+    ensures run { IfOk result (λ turns. record { buffer = buffer.new; turns = turns } ≡ rearrangement_run 64 ((switch_for run.now.ranges.now).is_on run.now.feature_flags) table.now buffer.old) }
+    ensures within { IfOk result (StaysWithin 1 buffer.old buffer.new) }
+    ensures served { IsOk result }
+{
+    let mut context = RearrangementCtx::new();
+    run_machine(table, &mut context, buffer, run.ranges, run.feature_flags)
+}
+
+/// Runs a contextual subtable, and answers the turns. It takes no memory, and is never refused.
+pub(crate) fn run_contextual<A: Allocator + Copy>(
+    run: &SubtableRun,
+    subtable: &ContextualSubtable,
+    buffer: &mut hb_buffer_t<A>,
+) -> Result<u64, AatError>
+    requires gapless { IsGapless run.now.ranges.now }
+    requires whole { IsTrue (is_whole_list run.now.ranges.now) }
+    requires on { length run.now.ranges.now ≡ 1 → (switch_for run.now.ranges.now).is_on run.now.feature_flags 0 ≡ true }
+    requires ids { IsSmall buffer.old }
+    ensures run { IfOk result (λ turns. record { buffer = buffer.new; turns = turns } ≡ contextual_run ((switch_for run.now.ranges.now).is_on run.now.feature_flags) (glyph_classes_of run.now.face.now) subtable.now.state subtable.now.lookups buffer.old) }
+    ensures within { IfOk result (StaysWithin 1 buffer.old buffer.new) }
+    ensures served { IsOk result }
+{
+    let mut context = ContextualCtx::new(run.face, subtable);
+    run_machine(
+        &subtable.state,
+        &mut context,
+        buffer,
+        run.ranges,
+        run.feature_flags,
+    )
+}
+
+/// Runs a ligature subtable, and answers the turns. Its line keeps the number of glyphs.
+pub(crate) fn run_ligature<A: Allocator + Copy>(
+    run: &SubtableRun,
+    subtable: &LigatureSubtable,
+    buffer: &mut hb_buffer_t<A>,
+) -> Result<u64, AatError>
+    requires gapless { IsGapless run.now.ranges.now }
+    requires whole { IsTrue (is_whole_list run.now.ranges.now) }
+    requires on { length run.now.ranges.now ≡ 1 → (switch_for run.now.ranges.now).is_on run.now.feature_flags 0 ≡ true }
+    requires ids { IsSmall buffer.old }
+    ensures run { IfOk result (λ turns. record { buffer = buffer.new; turns = turns } ≡ ligature_run 64 ((switch_for run.now.ranges.now).is_on run.now.feature_flags) subtable.now.state subtable.now.actions subtable.now.components subtable.now.ligatures buffer.old) }
+    ensures within { IfOk result (StaysWithin 1 buffer.old buffer.new) }
+    ensures reason { IfErr result (IsRefusal buffer.old (ligature_run 64 ((switch_for run.now.ranges.now).is_on run.now.feature_flags) subtable.now.state subtable.now.actions subtable.now.components subtable.now.ligatures buffer.old).buffer) }
+    ensures refused { OnErr result (IsRefused buffer.old buffer.new) }
+{
+    let mut context = LigatureCtx::<LIGATURE_SLOTS>::new(subtable);
+    run_machine(
+        &subtable.state,
+        &mut context,
+        buffer,
+        run.ranges,
+        run.feature_flags,
+    )
+}
+
+/// Runs an insertion subtable, and answers the turns.
+///
+/// Refused as 2, `TooLong`, only where the run would leave a line longer than the buffer's `max_len`, and else as 3,
+/// `OutOfMemory`, only where it would leave a longer line than it found.
+pub(crate) fn run_insertion<A: Allocator + Copy>(
+    run: &SubtableRun,
+    subtable: &InsertionSubtable,
+    buffer: &mut hb_buffer_t<A>,
+) -> Result<u64, AatError>
+    requires gapless { IsGapless run.now.ranges.now }
+    requires whole { IsTrue (is_whole_list run.now.ranges.now) }
+    requires on { length run.now.ranges.now ≡ 1 → (switch_for run.now.ranges.now).is_on run.now.feature_flags 0 ≡ true }
+    requires ids { IsSmall buffer.old }
+    ensures run { IfOk result (λ turns. record { buffer = buffer.new; turns = turns } ≡ insertion_run ((switch_for run.now.ranges.now).is_on run.now.feature_flags) subtable.now.state subtable.now.glyphs buffer.old) }
+    ensures within { IfOk result (StaysWithin 1 buffer.old buffer.new) }
+    ensures reason { IfErr result (IsRefusal buffer.old (insertion_run ((switch_for run.now.ranges.now).is_on run.now.feature_flags) subtable.now.state subtable.now.glyphs buffer.old).buffer) }
+    ensures refused { OnErr result (IsRefused buffer.old buffer.new) }
+{
+    let mut context = InsertionCtx::new(&subtable.glyphs);
+    run_machine(
+        &subtable.state,
+        &mut context,
+        buffer,
+        run.ranges,
+        run.feature_flags,
+    )
+}

@@ -1,0 +1,178 @@
+//! Rearrangement: spans of a line whose ends change their places.
+ghost use Rattle.std.specs.Prelude.{◌≡◌, ◌+◌, ◌-◌, ◌<◌, ◌≤◌, length, IfErr, IsOk, IsPermutation, OnErr, OnOk};
+ghost use Rattle.aat_buffer.specs.Clusters.{IsSmall, ids};
+ghost use Rattle.aat_run.specs.Driven.{IsRefusal, IsRefused};
+ghost use Rattle.aat_kinds.specs.Rearrangement.{IsFit, act, fresh, is_within, moved, size_of, with_marks};
+
+use crate::rearrangement_span::move_span;
+use crate::verb::{Verb, verb_of};
+use aat_buffer::hb_buffer_t;
+use aat_font::GenericStateEntry;
+use aat_run::{AatError, driver_context_t};
+use std::alloc::Allocator;
+use std::marker::Model;
+
+/// How many glyphs a span has at most that is moved, in a context by `RearrangementCtx::new`.
+pub const MAX_CONTEXT_LENGTH: usize = 64;
+
+/// The registers of a rearrangement machine: the span that its entries have marked. A span of more than `LONGEST`
+/// glyphs stays, as does one that has fewer glyphs than its verb names.
+///
+/// A contract sees it as the record `Registers`. It takes no memory, so that a run over it is never refused.
+///
+/// Apple's TrueType Reference Manual, "The 'morx' table", rearrangement subtable.
+#[derive(Drop)]
+pub struct RearrangementCtx<const LONGEST: usize> {
+    start: usize,
+    end: usize,
+}
+
+impl<const LONGEST: usize> Model for RearrangementCtx<LONGEST> {
+    ghost use Rattle.aat_kinds.specs.Rearrangement.{Registers};
+
+    ghost Value = { Registers };
+
+    ghost view = { λ m. record { start = m.start; end = m.end } };
+}
+
+impl RearrangementCtx<MAX_CONTEXT_LENGTH> {
+    /// An empty span at the front of the line, of which at most `MAX_CONTEXT_LENGTH` glyphs are moved.
+    pub fn new() -> Self
+        ensures { result ≡ fresh }
+    {
+        RearrangementCtx::with_longest()
+    }
+}
+
+impl<const LONGEST: usize> RearrangementCtx<LONGEST> {
+    /// An empty span at the front of the line, of which at most `LONGEST` glyphs are moved.
+    pub fn with_longest() -> Self
+        ensures { result ≡ fresh }
+    {
+        RearrangementCtx { start: 0, end: 0 }
+    }
+
+    /// Sets the marks that an entry asks for: the start at the cursor, the end behind the glyph at it.
+    fn set_marks(&mut self, entry: &GenericStateEntry<()>, cursor: usize, len: usize)
+        requires { len ≤ 0x3FFFFFFF }
+        ensures { self.new ≡ with_marks entry.now self.old cursor len }
+    {
+        if entry.flags & 0x8000 != 0 {
+            self.start = cursor;
+        }
+        if entry.flags & 0x2000 != 0 {
+            self.end = if cursor < len { cursor + 1 } else { len };
+        }
+    }
+
+    /// Whether the span has all glyphs that a verb names, and is not too long.
+    fn is_within(&self, verb: Verb) -> bool
+        ensures { result ≡ is_within LONGEST verb self.now }
+    {
+        let len = self.end.saturating_sub(self.start);
+        verb.front.size() + verb.back.size() <= len && len <= LONGEST
+    }
+
+    /// Merges the clusters from the start of the span to the cursor, then those of the span, and then moves it.
+    #[tactic(auto, unfolding(crate::specs::Rearrangement::moved))]
+    fn move_marked<A: Allocator + Copy>(&self, verb: Verb, buffer: &mut hb_buffer_t<A>)
+        requires room { size_of verb.front + size_of verb.back ≤ self.now.end - self.now.start }
+        requires some { self.now.start < self.now.end }
+        requires in_line { self.now.end ≤ length buffer.old.line }
+        ensures { buffer.new ≡ moved verb self.now buffer.old }
+    {
+        let len = buffer.len();
+        buffer.merge_clusters(self.start, (buffer.backtrack_len() + 1).min(len));
+        buffer.merge_clusters(self.start, self.end);
+        move_span(verb, buffer, self.start, self.end);
+    }
+
+    /// Does what an entry says.
+    #[tactic(auto, unfolding(crate::specs::Rearrangement::act))]
+    fn act<A: Allocator + Copy>(
+        &mut self,
+        entry: &GenericStateEntry<()>,
+        buffer: &mut hb_buffer_t<A>,
+    )
+        requires { IsFit self.old buffer.old.cursor (length buffer.old.line) }
+        ensures { record { regs = self.new; buffer = buffer.new } ≡ act LONGEST entry.now self.old buffer.old }
+    {
+        self.set_marks(entry, buffer.backtrack_len(), buffer.len());
+        let verb = verb_of(entry);
+        if self.is_actionable(entry, buffer) && self.is_within(verb) {
+            self.move_marked(verb, buffer);
+        }
+    }
+}
+
+impl<const LONGEST: usize> driver_context_t<()> for RearrangementCtx<LONGEST> {
+    ghost use Rattle.std.specs.Prelude.{true};
+    ghost use Rattle.aat_font.specs.Entries.{goes_on};
+    ghost use Rattle.aat_kinds.specs.Rearrangement as rearrangement;
+    ghost use Rattle.aat_kinds.specs.facts.RearrangementLaws as laws;
+    ghost use Rattle.aat_kinds.specs.facts.RearrangementKeeps as keeps;
+
+    ghost fits = { rearrangement.IsFit };
+
+    ghost stays_in_place = { true };
+
+    ghost advances = { goes_on };
+
+    ghost actionable = { rearrangement.actionable };
+
+    ghost act = { rearrangement.act LONGEST };
+
+    fn in_place(&self) -> bool {
+        true
+    }
+
+    fn can_advance(&self, entry: &GenericStateEntry<()>) -> bool {
+        entry.has_advance()
+    }
+
+    fn is_actionable<A: Allocator + Copy>(
+        &self,
+        entry: &GenericStateEntry<()>,
+        _buffer: &hb_buffer_t<A>,
+    ) -> bool {
+        entry.flags & 0x000F != 0 && self.start < self.end
+    }
+
+    /// Does what the entry says. The glyph ids are permuted. Never refused.
+    fn transition<A: Allocator + Copy>(
+        &mut self,
+        entry: &GenericStateEntry<()>,
+        buffer: &mut hb_buffer_t<A>,
+    ) -> Result<(), AatError>
+        requires fit { IsFit self.old buffer.old.cursor (length buffer.old.line) }
+        requires ids { IsSmall buffer.old }
+        ensures taken { IsOk result }
+        ensures act { OnOk result (record { regs = self.new; buffer = buffer.new } ≡ act LONGEST entry.now self.old buffer.old) }
+        ensures ids { OnOk result (IsSmall buffer.new) }
+        ensures successful { OnOk result (buffer.new.successful ≡ buffer.old.successful) }
+        ensures reason { IfErr result (IsRefusal buffer.old (act LONGEST entry.now self.old buffer.old).buffer) }
+        ensures refused { OnErr result (IsRefused buffer.old buffer.new) }
+        ensures permutes { IsPermutation (ids buffer.old.line) (ids buffer.new.line) }
+    {
+        self.act(entry, buffer);
+        Ok(())
+    }
+
+    ghost keeps_fit = { laws.keeps_fit LONGEST };
+
+    ghost passes_fit = { laws.passes_fit };
+
+    ghost pays = { laws.pays LONGEST };
+
+    ghost bounded = { laws.bounded LONGEST };
+
+    ghost lengthens = { laws.lengthens LONGEST };
+
+    ghost makes_no_positions = { keeps.makes_no_positions LONGEST };
+
+    ghost keeps_settings = { laws.keeps_settings LONGEST };
+
+    ghost keeps_place = { λ yes. keeps.keeps_place LONGEST };
+
+    ghost keeps_order = { keeps.keeps_order LONGEST };
+}

@@ -1,0 +1,17 @@
+pub use Rattle.aat_font.specs.Face
+pub use Rattle.aat_font.specs.FeatureNames
+pub use Rattle.aat_run.specs.Ranges
+pub use Rattle.aat_run.specs.Switches
+pub mod Adding
+pub mod Builder
+pub mod ChainFlags
+pub mod Compiled
+pub mod Examples
+pub mod Live
+pub mod Map
+pub mod Mappings
+pub mod Requests
+pub mod Spans
+pub mod SwitchedChains
+pub mod facts
+pub mod inside

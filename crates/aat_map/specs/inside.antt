@@ -1,0 +1,5 @@
+pub mod AdditionInside
+pub mod BuilderInside
+pub mod Collected
+pub mod CompiledSpans
+pub mod MapLists

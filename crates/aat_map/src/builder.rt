@@ -1,0 +1,129 @@
+//! The map builder: it gathers requests and compiles them.
+ghost use Rattle.std.specs.Prelude.{◌≡◌, ◌≤◌, IfOk, IfErr, OnOk, OnErr, is_some, false};
+ghost use Rattle.aat_font.specs.Face.{tables_of};
+ghost use Rattle.aat_map.specs.Requests.{addition, is_too_large, request_of};
+ghost use Rattle.aat_map.specs.Adding.{RefusesFeature};
+ghost use Rattle.aat_map.specs.Builder.{empty_builder, with_request};
+
+use crate::addition::addition_of;
+use crate::feature::{feature_info_t, feature_range_t};
+use aat_font::{Feature, hb_font_t};
+use aat_run::AatError;
+use std::alloc::{Allocator, Global};
+use std::marker::Model;
+
+/// Gathers requests for features, and compiles them into the flags of each chain.
+///
+/// A contract sees it as the record `Builder`: the requests so far, and the range that is compiled
+/// with the settings that are kept there.
+#[derive(Drop)]
+pub struct hb_aat_map_builder_t<A: Allocator + Copy = Global> {
+    features: Vec<feature_range_t, A>,
+    current_features: Vec<feature_info_t, A>,
+    range_first: u32,
+    range_last: u32,
+}
+
+impl<A: Allocator + Copy> Model for hb_aat_map_builder_t<A> {
+    ghost use Rattle.std.specs.Prelude.{◌≤◌};
+    ghost use Rattle.aat_map.specs.Builder.{Builder};
+
+    ghost Value = { Builder };
+
+    ghost use Rattle.aat_map.specs.inside.BuilderInside.{builder_of};
+
+    ghost view = { builder_of };
+
+    ghost invariant = { λ a. a.range_first ≤ a.range_last };
+}
+
+impl<A: Allocator + Copy> hb_aat_map_builder_t<A> {
+    /// A builder without requests, whose range is the whole text. Takes no memory.
+    pub fn default(alloc: A) -> hb_aat_map_builder_t<A>
+        ensures { result ≡ empty_builder }
+    {
+        hb_aat_map_builder_t {
+            features: Vec::new(alloc),
+            current_features: Vec::new(alloc),
+            range_first: 0,
+            range_last: u32::MAX,
+        }
+    }
+
+    /// Adds the request that a feature of the user makes, by the names of the font's features.
+    ///
+    /// Answers whether the feature is known: `None` for a font without feature names, for a tag that
+    /// no row of [`feature_mappings`](crate::feature_mappings) has, and for alternates that are
+    /// appended. A feature that the font does not have with settings appends nothing.
+    ///
+    /// Refused as 1, `AaltValue`, where the font has character alternatives and the value of `aalt`
+    /// is above 65535, and else as 3, `OutOfMemory`, where the request gets no memory. After a
+    /// refusal the builder is as it was. Where nothing is appended no memory is taken.
+    ///
+    /// Apple's TrueType Reference Manual, "The 'feat' table" and its font feature registry.
+    pub fn add_feature(
+        &mut self,
+        face: &hb_font_t,
+        feature: &Feature,
+    ) -> Result<Option<()>, AatError>
+        ensures ok { OnOk result (self.new
+            ≡ with_request self.old (request_of (tables_of face.now).feat feature.now)) }
+        ensures known { IfOk result (λ answer. is_some answer
+            ≡ (addition (tables_of face.now).feat feature.now).is_known) }
+        ensures refused { IfErr result (RefusesFeature (tables_of face.now).feat feature.now) }
+        ensures fits { OnOk result (is_too_large (tables_of face.now).feat feature.now ≡ false) }
+        ensures unchanged { OnErr result (self.new ≡ self.old) }
+    {
+        let added = addition_of(face, feature)?;
+        if let Some(info) = added.appended {
+            self.features.push(feature_range_t {
+                info,
+                start: feature.start,
+                end: feature.end,
+            })?;
+        }
+        Ok(if added.is_known { Some(()) } else { None })
+    }
+
+    /// The requests so far, in the order of adding.
+    pub fn features(&self) -> &[feature_range_t]
+        ensures { result.now ≡ self.now.features }
+    {
+        &self.features
+    }
+
+    /// The settings that are kept in the range, strictly rising by
+    /// [`feature_order`](crate::feature_order).
+    pub fn current_features(&self) -> &[feature_info_t]
+        ensures { result.now ≡ self.now.current_features }
+    {
+        &self.current_features
+    }
+
+    /// Sets the range and the settings that are kept in it.
+    pub(crate) fn set_range(&mut self, range: (u32, u32), settings: Vec<feature_info_t, A>)
+        requires { range.0 ≤ range.1 }
+        ensures { self.new ≡ record self.old {
+          current_features = settings.items;
+          range_first = range.0;
+          range_last = range.1;
+        } }
+    {
+        self.current_features = settings;
+        self.range_first = range.0;
+        self.range_last = range.1;
+    }
+
+    /// The allocator of the requests.
+    pub(crate) fn allocator(&self) -> A {
+        *self.features.allocator()
+    }
+
+    /// The first and the last cluster of the range.
+    pub fn range(&self) -> (u32, u32)
+        ensures range { result ≡ (self.now.range_first, self.now.range_last) }
+        ensures ordered { result.0 ≤ result.1 }
+    {
+        (self.range_first, self.range_last)
+    }
+}

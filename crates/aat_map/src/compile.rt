@@ -1,0 +1,153 @@
+//! Compiling requests into the flags of each chain, range by range.
+ghost use Rattle.std.specs.Prelude.{◌≡◌, ◌<◌, ◌≤◌, ℕ, [], length, slice_get, slice_index_or, All, IsTrue, Some};
+ghost use Rattle.std.specs.Prelude.{IfErr, OnOk, OnErr};
+ghost use Rattle.std.specs.List.{list_all};
+ghost use Rattle.aat_font.specs.Face.{tables_of, chains_in};
+ghost use Rattle.aat_run.specs.Ranges.{last_cluster, is_whole_list, next_start};
+ghost use Rattle.aat_map.specs.Builder.{AreKeptAt};
+ghost use Rattle.aat_map.specs.Compiled.{HaveFlags, IsLastStart};
+ghost use Rattle.aat_map.specs.Live.{by_start};
+ghost use Rattle.aat_map.specs.Map.{AreStarts, range_starts, with_ranges, list_at};
+ghost use Rattle.aat_map.specs.Spans.{spans};
+ghost use Rattle.aat_map.specs.SwitchedChains.{switched_by, by_requests};
+ghost use Rattle.aat_map.specs.inside.CompiledSpans.{ranges_over, compiled_lists};
+ghost use Rattle.aat_map.specs.inside.CompiledSpans.{RiseFromZero, IsLastSpan, IsCompiled};
+
+use crate::builder::hb_aat_map_builder_t;
+use crate::chain_flags::push_ranges;
+use crate::feature::feature_range_t;
+use crate::gather::{by_start, kept_of, live_at};
+use crate::map::hb_aat_map_t;
+use crate::starts::starts_of;
+use aat_font::{Chain, hb_font_t};
+use aat_run::AatError;
+use std::alloc::Allocator;
+
+impl<A: Allocator + Copy> hb_aat_map_builder_t<A> {
+    /// Compiles the requests into the flags of each chain of the font at each cluster.
+    ///
+    /// The map gets a list for each chain. Its ranges begin at 0 and at each cluster within the text
+    /// at which a request starts or ends, and the last one ends at `u32::MAX`; equal neighbours are not
+    /// joined. Requests whose start is not below their end are dropped. Afterwards the builder tells of
+    /// the last range.
+    ///
+    /// Refused as 3, `OutOfMemory`. The map is then empty, the requests are as they were, and of the
+    /// builder's range nothing is known.
+    ///
+    /// Apple's TrueType Reference Manual, "The 'morx' table", feature subtables.
+    pub fn compile(&mut self, face: &hb_font_t, map: &mut hb_aat_map_t<A>) -> Result<(), AatError>
+        ensures lists { OnOk result (length map.new ≡ length (chains_in (tables_of face.now).morx)) }
+        ensures flags { OnOk result (HaveFlags self.old.features (chains_in (tables_of face.now).morx) map.new) }
+        ensures starts { OnOk result (All (λ ranges. AreStarts self.old.features (range_starts ranges)) map.new) }
+        ensures whole { OnOk result (IsTrue (list_all is_whole_list map.new)) }
+        ensures switches { OnOk result (switched_by (chains_in (tables_of face.now).morx) map.new
+            ≡ by_requests self.old.features (chains_in (tables_of face.now).morx)) }
+        ensures range { OnOk result (IsLastStart self.old.features self.new.range_first) }
+        ensures last { OnOk result (self.new.range_last ≡ last_cluster) }
+        ensures current { OnOk result (AreKeptAt self.new.range_first self.old.features self.new.current_features) }
+        ensures requests { self.new.features ≡ self.old.features }
+        ensures err { IfErr result (λ e. e ≡ AatError.OutOfMemory) }
+        ensures empty { OnErr result (map.new ≡ []) }
+    {
+        map.clear();
+        let answer = compile_ranges(self, font_chains(face), map);
+        map.empty_on_err(answer)
+    }
+}
+
+/// The font's chains, none where it has no table.
+fn font_chains(face: &hb_font_t) -> &[Chain]
+    ensures { result.now ≡ chains_in (tables_of face.now).morx }
+{
+    match &face.tables().morx {
+        Some(morx) => morx.chains(),
+        None => &[],
+    }
+}
+
+/// Compiles range by range, over an empty map.
+fn compile_ranges<A: Allocator + Copy>(
+    builder: &mut hb_aat_map_builder_t<A>,
+    chains: &[Chain],
+    map: &mut hb_aat_map_t<A>,
+) -> Result<(), AatError>
+    requires { map.old ≡ [] }
+    ensures ok { OnOk result (IsCompiled builder.old.features chains.now map.new builder.new) }
+    ensures requests { builder.new.features ≡ builder.old.features }
+    ensures err { IfErr result (λ e. e ≡ AatError.OutOfMemory) }
+{
+    let alloc = builder.allocator();
+    let ordered = by_start(alloc, builder.features())?;
+    let starts = starts_of(alloc, builder.features())?;
+    map.resize(chains.len())?;
+    compile_spans(builder, chains, map, &ordered, &starts)
+}
+
+/// Compiles the range of each start in turn.
+///
+/// Neighbours with equal flags are not joined. A chain of one range switches a subtable once, for the
+/// whole text, and leaves one that is off out of the run; with more ranges each turn asks the range of
+/// its cluster. So what is requested over a part of the text alone always makes more ranges than one,
+/// whatever its flags are, and the ranges of all chains begin at the same clusters.
+fn compile_spans<A: Allocator + Copy>(
+    builder: &mut hb_aat_map_builder_t<A>,
+    chains: &[Chain],
+    map: &mut hb_aat_map_t<A>,
+    ordered: &[feature_range_t],
+    starts: &[u32],
+) -> Result<(), AatError>
+    requires ordered { ordered.now ≡ by_start builder.old.features }
+    requires starts { RiseFromZero starts.now }
+    requires lists { map.old ≡ compiled_lists builder.old.features chains.now [] }
+    ensures lists { OnOk result (map.new ≡ compiled_lists builder.old.features chains.now (spans starts.now)) }
+    ensures range { OnOk result (IsLastSpan starts.now builder.new) }
+    ensures current { OnOk result (AreKeptAt builder.new.range_first builder.old.features
+        builder.new.current_features) }
+    ensures requests { builder.new.features ≡ builder.old.features }
+    ensures err { IfErr result (λ e. e ≡ AatError.OutOfMemory) }
+{
+    for i in 0..starts.len() {
+        compile_span(builder, chains, map, ordered, span_at(starts, i))?;
+    }
+    Ok(())
+}
+
+/// The first and the last cluster of a range, from where they begin.
+fn span_at(starts: &[u32], i: usize) -> (u32, u32)
+    requires exists { i < length starts.now }
+    requires rising { RiseFromZero starts.now }
+    ensures span { slice_get (spans starts.now) i ≡ Some result }
+    ensures first { result.0 ≡ slice_index_or starts.now i 0 }
+    ensures ordered { result.0 ≤ result.1 }
+{
+    if i + 1 < starts.len() {
+        (starts[i], starts[i + 1] - 1)
+    } else {
+        (starts[i], u32::MAX)
+    }
+}
+
+/// Compiles one range, which follows the others.
+fn compile_span<A: Allocator + Copy>(
+    builder: &mut hb_aat_map_builder_t<A>,
+    chains: &[Chain],
+    map: &mut hb_aat_map_t<A>,
+    ordered: &[feature_range_t],
+    span: (u32, u32),
+) -> Result<(), AatError>
+    requires ordered { ordered.now ≡ by_start builder.old.features }
+    requires span { span.0 ≤ span.1 }
+    requires follows { (k : ℕ) → k < length chains.now → next_start (list_at map.old k) ≡ span.0 }
+    requires lists { length map.old ≡ length chains.now }
+    ensures ok { OnOk result (map.new ≡ with_ranges (ranges_over builder.old.features chains.now span) map.old) }
+    ensures current { OnOk result (AreKeptAt span.0 builder.old.features builder.new.current_features) }
+    ensures range { OnOk result ((builder.new.range_first ≡ span.0) × (builder.new.range_last ≡ span.1)) }
+    ensures requests { builder.new.features ≡ builder.old.features }
+    ensures err { IfErr result (λ e. e ≡ AatError.OutOfMemory) }
+{
+    let alloc = builder.allocator();
+    let live = live_at(alloc, ordered, span.0)?;
+    let kept = kept_of(alloc, &live)?;
+    builder.set_range(span, kept);
+    push_ranges(chains, builder, map)
+}

@@ -1,0 +1,20 @@
+//! From feature requests over ranges of clusters to the flags of each chain at each cluster.
+#![tactic(auto)]
+
+mod addition;
+mod builder;
+mod chain_flags;
+mod compile;
+mod feature;
+mod gather;
+mod map;
+mod mapping;
+mod starts;
+#[doc(hidden)]
+pub mod worked;
+
+pub use builder::hb_aat_map_builder_t;
+pub use chain_flags::compile_flags;
+pub use feature::{feature_info_t, feature_order, feature_range_t};
+pub use map::hb_aat_map_t;
+pub use mapping::{feature_mappings, hb_aat_feature_mapping_t};

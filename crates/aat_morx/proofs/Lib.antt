@@ -1,0 +1,5 @@
+pub mod LawsHold
+pub mod OrderOfRuns
+pub mod Prepared
+pub mod Refused
+pub mod Rows

@@ -1,0 +1,17 @@
+pub use Rattle.aat_buffer.specs.Clusters
+pub use Rattle.aat_font.specs.Chains
+pub use Rattle.aat_font.specs.Face
+pub use Rattle.aat_run.specs.Driven
+pub use Rattle.aat_run.specs.Outcome
+pub use Rattle.aat_run.specs.Ranges
+pub use Rattle.aat_map.specs.SwitchedChains
+pub use Rattle.aat_kinds.specs.Kinds
+pub mod Applying
+pub mod ContextualRows
+pub mod Examples
+pub mod InsertionRows
+pub mod Lawful
+pub mod LigatureRows
+pub mod RearrangementRows
+pub mod Rows
+pub mod Substitution

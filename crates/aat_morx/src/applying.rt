@@ -1,0 +1,114 @@
+//! Running the table under a map.
+ghost use Rattle.std.specs.Prelude.{◌≡◌, ◌+◌, ◌-◌, ◌*◌, ◌^◌, ◌≤◌, ◌↔◌, IfOk, IfErr, IfSome, IsErrOf, IsTrue, None, OnErr, OnOk, MatchOption, false, is_none, true};
+ghost use Rattle.std.specs.List.{list_all};
+ghost use Rattle.aat_buffer.specs.Clusters.{IsSmall};
+ghost use Rattle.aat_font.specs.Chains.{subtable_count};
+ghost use Rattle.aat_font.specs.Face.{chains_in, tables_of};
+ghost use Rattle.aat_kinds.specs.Kinds.{sizes_for};
+ghost use Rattle.aat_map.specs.SwitchedChains.{switched_by};
+ghost use Rattle.aat_morx.specs.Applying.{RefusesRun};
+ghost use Rattle.aat_morx.specs.Substitution.{prepared, substituted};
+ghost use Rattle.aat_run.specs.Driven.{IsRefusal, IsRefused, StaysWithin};
+ghost use Rattle.aat_run.specs.Outcome.{Outcome};
+ghost use Rattle.aat_run.specs.Ranges.{is_whole_list};
+
+use crate::chains::run_chains;
+use aat_buffer::hb_buffer_t;
+use aat_font::hb_font_t;
+use aat_map::hb_aat_map_t;
+use aat_run::{AatError, hb_aat_apply_context_t};
+use std::alloc::Allocator;
+
+/// Runs the extended glyph metamorphosis table over the buffer of a run, under the flags of a map.
+///
+/// The positions are dropped, and the whole line gets the mark against joining, where the buffer asks for it. Then all
+/// chains run in their order, each under its list of the map: a chain without a list, or with an empty one, has each
+/// of its subtables on, and lists past the chains are not read. The turns are added to those of the run. Answers `None`
+/// for a font without the table, and then nothing but the positions and the mark changes; else the run has no ranges
+/// and no feature flags afterwards.
+///
+/// Each glyph id has to be at most 0xFFFF, which `all_glyphs_16` tells, the map has to be whole, which `is_whole`
+/// tells, and the turns of the run at most 2^61.
+///
+/// Refused as 4, `BufferFailed`, where a call of the buffer was refused before, and nothing changes then. Else as 2,
+/// `TooLong`, only where substitution leaves a line longer than the buffer's `max_len`, and as 3, `OutOfMemory`, only
+/// where it leaves a longer line than it found; then the buffer has failed, its line is some line of 16-bit glyphs that
+/// has at most its greatest length, the run has no ranges and no feature flags, and of its turns nothing is known.
+///
+/// Apple's TrueType Reference Manual, "The 'morx' table".
+pub fn apply<A: Allocator + Copy, M: Allocator + Copy>(
+    c: &mut hb_aat_apply_context_t<A>,
+    map: &hb_aat_map_t<M>,
+) -> Result<Option<()>, AatError>
+    requires ids { IsSmall c.old.buffer.now }
+    requires whole { IsTrue (list_all is_whole_list map.now) }
+    requires turns { c.old.turns ≤ 2 ^ 61 }
+    ensures reason { IfErr result (RefusesRun c.old.buffer.now (substituted (sizes_for c.old.face.now) (switched_by (chains_in (tables_of c.old.face.now).morx) map.now) c.old.buffer.now).buffer) }
+    ensures failed { IsErrOf result AatError.BufferFailed ↔ (c.old.buffer.now.successful ≡ false) }
+    ensures unchanged { IsErrOf result AatError.BufferFailed → (c.new.buffer.now ≡ c.old.buffer.now) × (c.new.turns ≡ c.old.turns) × (c.new.range_flags ≡ c.old.range_flags) × (c.new.subtable_flags ≡ c.old.subtable_flags) }
+    ensures refused { c.old.buffer.now.successful ≡ true → OnErr result (IsRefused c.old.buffer.now c.new.buffer.now) }
+    ensures known { IfOk result (λ answer. is_none answer ≡ is_none (tables_of c.old.face.now).morx) }
+    ensures without_table { IfOk result (λ answer. answer ≡ None → (c.new.buffer.now ≡ prepared c.old.buffer.now) × (c.new.turns ≡ c.old.turns) × (c.new.range_flags ≡ c.old.range_flags) × (c.new.subtable_flags ≡ c.old.subtable_flags)) }
+    ensures substituted { OnOk result (record { buffer = c.new.buffer.now; turns = c.new.turns - c.old.turns } ≡ substituted (sizes_for c.old.face.now) (switched_by (chains_in (tables_of c.old.face.now).morx) map.now) c.old.buffer.now) }
+    ensures counted { OnOk result (c.old.turns ≤ c.new.turns) }
+    ensures within { OnOk result (StaysWithin (subtable_count (chains_in (tables_of c.old.face.now).morx)) c.old.buffer.now c.new.buffer.now (c.new.turns - c.old.turns)) }
+    ensures after { (IfOk result (λ answer. IfSome answer (λ _. (c.new.range_flags ≡ None) × (c.new.subtable_flags ≡ 0)))) × (c.old.buffer.now.successful ≡ true → OnErr result ((c.new.range_flags ≡ None) × (c.new.subtable_flags ≡ 0))) }
+    ensures face { c.new.face ≡ c.old.face }
+    ensures same { c.new.buffer.ghost_name ≡ c.old.buffer.ghost_name }
+{
+    if !c.buffer.is_successful() {
+        return Err(AatError::BufferFailed);
+    }
+    let face = c.face;
+    let buffer = &mut *c.buffer;
+    match run_table(face, map, buffer) {
+        Ok(Some(turns)) => {
+            c.turns += turns;
+            c.range_flags = None;
+            c.subtable_flags = 0;
+            Ok(Some(()))
+        }
+        Ok(None) => Ok(None),
+        Err(error) => {
+            c.range_flags = None;
+            c.subtable_flags = 0;
+            Err(error)
+        }
+    }
+}
+
+/// Drops the positions, and marks the whole line against joining, where the buffer asks for it.
+fn prepare<A: Allocator + Copy>(buffer: &mut hb_buffer_t<A>)
+    ensures { buffer.new ≡ prepared buffer.old }
+{
+    buffer.drop_positions();
+    buffer.unsafe_to_concat(None, None);
+}
+
+/// Prepares the line, runs the table under a map, and answers the turns, or none without the table.
+///
+/// Each glyph id has to be at most 0xFFFF, and the map whole. A buffer that had failed is run as any other; else
+/// refused as `apply` is.
+pub fn run_table<A: Allocator + Copy, M: Allocator + Copy>(
+    face: &hb_font_t,
+    map: &hb_aat_map_t<M>,
+    buffer: &mut hb_buffer_t<A>,
+) -> Result<Option<u64>, AatError>
+    requires whole { IsTrue (list_all is_whole_list map.now) }
+    requires ids { IsSmall buffer.old }
+    ensures known { IfOk result (λ answer. is_none answer ≡ is_none (tables_of face.now).morx) }
+    ensures run { IfOk result (λ answer. MatchOption answer (buffer.new ≡ prepared buffer.old) (λ turns. record { buffer = buffer.new; turns = turns } ≡ substituted (sizes_for face.now) (switched_by (chains_in (tables_of face.now).morx) map.now) buffer.old)) }
+    ensures within { IfOk result (λ answer. MatchOption answer (StaysWithin 0 buffer.old buffer.new 0) (λ turns. StaysWithin (subtable_count (chains_in (tables_of face.now).morx)) buffer.old buffer.new turns)) }
+    ensures few { IfOk result (λ answer. IfSome answer (λ turns. turns ≤ 2 ^ 62)) }
+    ensures reason { IfErr result (IsRefusal buffer.old (substituted (sizes_for face.now) (switched_by (chains_in (tables_of face.now).morx) map.now) buffer.old).buffer) }
+    ensures refused { OnErr result (IsRefused buffer.old buffer.new) }
+{
+    // how long the line is and how large the budget, so that the count of turns fits
+    let _length = buffer.len();
+    let _budget = buffer.max_ops();
+    prepare(buffer);
+    match &face.tables().morx {
+        Some(morx) => Ok(Some(run_chains(face, morx.chains(), map, buffer)?)),
+        None => Ok(None),
+    }
+}

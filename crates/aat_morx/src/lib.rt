@@ -1,0 +1,13 @@
+//! Substitution: the subtables of all chains in their order.
+#![tactic(auto)]
+
+mod applying;
+mod chains;
+#[doc(hidden)]
+pub mod laws;
+mod subtable;
+
+pub use applying::{apply, run_table};
+
+#[doc(hidden)]
+pub mod worked;

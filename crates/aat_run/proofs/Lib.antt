@@ -1,0 +1,5 @@
+pub mod Coming
+pub mod FewTurns
+pub mod FloorUnseen
+pub mod FoundRanges
+pub mod Ran

@@ -1,0 +1,20 @@
+use Rattle.aat_buffer.specs.Clusters.{IsSmall}
+use Rattle.aat_run.specs.Budget.{potential}
+use Rattle.aat_run.specs.Context.{machine_with}
+use Rattle.aat_run.specs.Ranges.{is_driven_on}
+use Rattle.aat_run.specs.inside.Places.{config, first, IsFound}
+use Rattle.aat_run.specs.inside.Standing.{HasCome}
+use Rattle.aat_run.proofs.driver.run_turns.Given as goal
+
+abbrev pub invariant-loop : goal.invariant-loop
+invariant-loop g l =
+    let context = g.C.driver_context_t in
+    let m = machine_with (is_driven_on l.fn.ranges l.fn.feature_flags) l.fn.machine context.advances context.actionable context.act in
+    record {
+      come : HasCome m context.fits (first l.fn.buffer l.fn.context) (config l.buffer l.context l.place);
+      ids : IsSmall l.buffer;
+      found : IsFound l.fn.ranges l.found;
+    }
+
+abbrev pub decreases-loop : goal.decreases-loop
+decreases-loop g l = potential l.buffer

@@ -1,0 +1,7 @@
+use Rattle.std.proofs.Common.{◌≡◌, drop}
+use Rattle.std.specs.List.{find}
+use Rattle.aat_run.specs.Ranges.{holds}
+use Rattle.aat_run.proofs.ranges.range_with.Given as goal
+
+abbrev pub invariant-loop-range : goal.invariant-loop-range
+invariant-loop-range l = find (holds l.fn.cluster) (drop l.range-index l.fn.ranges) ≡ find (holds l.fn.cluster) l.fn.ranges

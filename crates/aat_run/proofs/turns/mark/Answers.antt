@@ -1,0 +1,9 @@
+use Rattle.std.specs.Prelude.{Some}
+use Rattle.std.proofs.Common.{◌-◌, ◌+◌}
+use Rattle.aat_buffer.specs.facts.Ids.{small_of_unsafe}
+use Rattle.aat_run.proofs.turns.mark.Goals as goal
+
+pub returns-then-not-is_safe-clause-ids : goal.returns-then-not-is_safe-clause-ids
+returns-then-not-is_safe-clause-ids g c =
+    let p = c.backtrack_len-p.result in
+    rw c.unsafe_to_break.ensures.after (small_of_unsafe c.args.buffer.now (Some (p - 1)) (Some (p + 1)) c.requires.ids)

@@ -1,0 +1,70 @@
+-- The run of a context over a state table, and what a refusal leaves. TrueType Reference Manual: The 'morx' table,
+-- and State tables.
+use Rattle.std.specs.Prelude.{◌≡◌, ℕ, ◌+◌, ◌*◌, ◌<◌, ◌≤◌, Bool, false, List, length, Option, None, if◌then◌else◌}
+use Rattle.aat_buffer.specs.Buffer.{Buffer, with_cursor}
+use Rattle.aat_buffer.specs.Clusters.{IsSmall}
+use Rattle.aat_glyph.specs.declared.glyph.GlyphPosition.{GlyphPosition}
+use Rattle.aat_font.specs.Table.{TableValue}
+use Rattle.aat_font.specs.declared.state_table.GenericStateEntry.{GenericStateEntry}
+use Rattle.aat_run.specs.Budget.{extent}
+use Rattle.aat_run.specs.Context.{Context, Config, Moved, machine_of, start}
+use Rattle.aat_run.specs.Machine.{whole}
+use Rattle.aat_run.specs.Outcome.{Outcome}
+use Rattle.aat_run.specs.declared.error.AatError.{AatError}
+use Rattle.aat_run.specs.declared.error.AatError.TheVariants.{AaltValue, TooLong, OutOfMemory, BufferFailed}
+
+-- what a run leaves, with the cursor back at the front
+abbrev pub outcome_of : {R : Type 0} → Config R → Outcome
+outcome_of d = record { buffer = with_cursor d.buffer 0; turns = d.turns }
+
+-- a context by what it says of itself, with fresh registers
+abbrev pub context_from : {R E : Type 0} → Bool → (E → Bool) → (E → R → ℕ → ℕ → Bool) → (E → R → Buffer → Moved R) → R
+    → Context R E
+context_from in_place advances actionable act fresh = record {
+  fresh = fresh;
+  in_place = in_place;
+  advances = advances;
+  actionable = actionable;
+  act = act;
+}
+
+-- the run of a context over a state table, from fresh registers
+unfoldable pub machine_run : {T R : Type 0} → (ℕ → Bool) → TableValue (GenericStateEntry T)
+    → Context R (GenericStateEntry T) → Buffer → Outcome
+machine_run on table context b =
+    outcome_of (whole (machine_of on table context) (start context.in_place b context.fresh))
+
+-- the registers that the same run leaves
+unfoldable pub registers_behind : {T R : Type 0} → (ℕ → Bool) → TableValue (GenericStateEntry T)
+    → Context R (GenericStateEntry T) → Buffer → R
+registers_behind on table context b =
+    (whole (machine_of on table context) (start context.in_place b context.fresh)).regs
+
+-- the positions that a run leaves: those that stood before it, and none where the context is not in place
+abbrev pub positions_behind : Bool → Buffer → Option (List GlyphPosition)
+positions_behind in_place b = if in_place then b.positions else None
+
+-- why an act or a run is refused over a buffer, given the buffer that it would leave: as too long only where the
+-- line would pass the longest one, and for want of memory only where the line would get longer
+abbrev pub IsRefusal : Buffer → Buffer → AatError → Type 0
+IsRefusal old whole (AaltValue value) = ⊥
+IsRefusal old whole TooLong = old.max_len < length whole.line
+IsRefusal old whole OutOfMemory = length old.line < length whole.line
+IsRefusal old whole BufferFailed = ⊥
+
+-- what a refusal leaves of a buffer: it has failed, and its line is some line of 16-bit glyphs that is at most as
+-- long as the longest one
+pub record IsRefused (old new : Buffer) : Type 0 where
+  pub failed : new.successful ≡ false
+  pub ids : IsSmall new
+  pub length : length new.line ≤ old.max_len
+
+-- what the runs of so many subtables keep: 16-bit ids; at most n + M + 1 turns for each; length and budget together
+-- do not grow;
+-- the longest length stays, and the buffer has not newly failed
+pub record StaysWithin (count : ℕ) (old new : Buffer) (turns : ℕ) : Type 0 where
+  pub ids : IsSmall new
+  pub counted : turns ≤ count * (extent old + 1)
+  pub extent : extent new ≤ extent old
+  pub max_len : new.max_len ≡ old.max_len
+  pub successful : new.successful ≡ old.successful

@@ -1,0 +1,137 @@
+-- The laws of an act, which a run asks for, and what a run keeps.
+use Rattle.std.specs.Prelude.{◌≡◌, ℕ, ◌+◌, ◌<◌, ◌≤◌, Bool, true, length, None}
+use Rattle.aat_buffer.specs.Buffer.{Buffer}
+use Rattle.aat_run.specs.Budget.{potential, extent}
+use Rattle.aat_run.specs.Context.{Moved, Context, Machine, Config}
+use Rattle.aat_run.specs.Machine.{IsWholeRun, turn}
+use Rattle.aat_run.specs.Outcome.{Outcome}
+use Rattle.aat_buffer.specs.Clusters.{ClustersMerge, IsRisingLine, IsFallingLine, HasSmallClusters, ComesFrom}
+
+-- what no act touches
+pub record SameSettings (old new : Buffer) : Type 0 where
+  pub direction : new.direction ≡ old.direction
+  pub cluster_level : new.cluster_level ≡ old.cluster_level
+  pub flags : new.flags ≡ old.flags
+  pub scratch_flags : new.scratch_flags ≡ old.scratch_flags
+  pub max_len : new.max_len ≡ old.max_len
+  pub successful : new.successful ≡ old.successful
+
+-- passing a glyph keeps the fit
+abbrev pub PassesFit : {R : Type 0} → (R → ℕ → ℕ → Type 0) → Type 0
+PassesFit {R} fits = (r : R) (p n : ℕ) → fits r p n → p < n → fits r (p + 1) n
+
+-- fresh registers fit at the front
+abbrev pub FitsFresh : {R : Type 0} → (R → ℕ → ℕ → Type 0) → R → Type 0
+FitsFresh fits fresh = (n : ℕ) → fits fresh 0 n
+
+module _ {R E : Type 0} (act : E → R → Buffer → Moved R) (fits : R → ℕ → ℕ → Type 0) where
+  -- an act that leaves the cursor below the length keeps the fit
+  abbrev pub KeepsFit : Type 0
+  KeepsFit =
+      (e : E) (r : R) (b : Buffer) → fits r b.cursor (length b.line)
+      → (act e r b).buffer.cursor < length (act e r b).buffer.line
+      → fits (act e r b).regs (act e r b).buffer.cursor (length (act e r b).buffer.line)
+
+  -- no act adds to the potential
+  abbrev pub Pays : Type 0
+  Pays = (e : E) (r : R) (b : Buffer) → fits r b.cursor (length b.line) → potential (act e r b).buffer ≤ potential b
+
+  -- nor to length and budget
+  abbrev pub Bounded : Type 0
+  Bounded = (e : E) (r : R) (b : Buffer) → fits r b.cursor (length b.line) → extent (act e r b).buffer ≤ extent b
+
+  -- no act shortens the line
+  abbrev pub Lengthens : Type 0
+  Lengthens =
+      (e : E) (r : R) (b : Buffer) → fits r b.cursor (length b.line) → length b.line ≤ length (act e r b).buffer.line
+
+  -- an act in place keeps the length, the cursor and the positions
+  abbrev pub KeepsLength : Type 0
+  KeepsLength =
+      (e : E) (r : R) (b : Buffer) → fits r b.cursor (length b.line) → length (act e r b).buffer.line ≡ length b.line
+
+  abbrev pub KeepsCursor : Type 0
+  KeepsCursor = (e : E) (r : R) (b : Buffer) → fits r b.cursor (length b.line) → (act e r b).buffer.cursor ≡ b.cursor
+
+  abbrev pub KeepsPositions : Type 0
+  KeepsPositions =
+      (e : E) (r : R) (b : Buffer) → fits r b.cursor (length b.line) → (act e r b).buffer.positions ≡ b.positions
+
+  pub record KeepsPlace : Type 0 where
+    pub length : KeepsLength
+    pub cursor : KeepsCursor
+    pub positions : KeepsPositions
+
+  -- the same, where the context is in place
+  abbrev pub KeepsPlaceWhere : Bool → Type 0
+  KeepsPlaceWhere in_place = in_place ≡ true → KeepsPlace
+
+  -- no act makes positions where none stand
+  abbrev pub MakesNoPositions : Type 0
+  MakesNoPositions =
+      (e : E) (r : R) (b : Buffer) → fits r b.cursor (length b.line)
+      → b.positions ≡ None → (act e r b).buffer.positions ≡ None
+
+  -- an act changes line, cursor, positions and budget alone
+  abbrev pub KeepsSettings : Type 0
+  KeepsSettings = (e : E) (r : R) (b : Buffer) → fits r b.cursor (length b.line) → SameSettings b (act e r b).buffer
+
+  -- unless clusters stay apart, an act keeps an order of the clusters along the line
+  abbrev pub KeepsRising : Type 0
+  KeepsRising =
+      (e : E) (r : R) (b : Buffer) → fits r b.cursor (length b.line)
+      → ClustersMerge b.cluster_level → HasSmallClusters b.line
+      → IsRisingLine b.line → IsRisingLine (act e r b).buffer.line
+
+  abbrev pub KeepsFalling : Type 0
+  KeepsFalling =
+      (e : E) (r : R) (b : Buffer) → fits r b.cursor (length b.line)
+      → ClustersMerge b.cluster_level → HasSmallClusters b.line
+      → IsFallingLine b.line → IsFallingLine (act e r b).buffer.line
+
+  -- each cluster behind an act stood on the line before it
+  abbrev pub KeepsClusters : Type 0
+  KeepsClusters =
+      (e : E) (r : R) (b : Buffer) → fits r b.cursor (length b.line)
+      → HasSmallClusters b.line → ComesFrom b.line (act e r b).buffer.line
+
+-- what a run asks of every context
+pub record IsLawful {R E : Type 0} (context : Context R E) (fits : R → ℕ → ℕ → Type 0) : Type 0 where
+  pub fresh : FitsFresh fits context.fresh
+  pub passes_fit : PassesFit fits
+  pub keeps_fit : KeepsFit context.act fits
+  pub pays : Pays context.act fits
+  pub bounded : Bounded context.act fits
+  pub lengthens : Lengthens context.act fits
+  pub makes_no_positions : MakesNoPositions context.act fits
+  pub keeps_settings : KeepsSettings context.act fits
+
+-- what a context in place keeps besides
+abbrev pub StaysInPlace : {R E : Type 0} → Context R E → (R → ℕ → ℕ → Type 0) → Type 0
+StaysInPlace context fits = KeepsPlace context.act fits
+
+-- a run's turns are at most n + M + 1; length and budget together do not grow, and the line does not get shorter
+pub record IsBounded (b : Buffer) (o : Outcome) : Type 0 where
+  pub turns : o.turns ≤ extent b + 1
+  pub extent : extent o.buffer ≤ extent b
+  pub length : length b.line ≤ length o.buffer.line
+
+-- each run from registers that fit ends by itself, in no more turns than it is given: the potential and one more
+abbrev pub RunsEnd : {R E : Type 0} → Machine R E → (R → ℕ → ℕ → Type 0) → Type 0
+RunsEnd {R} m fits =
+    (c : Config R) → fits c.regs c.buffer.cursor (length c.buffer.line)
+    → IsWholeRun (turn m) (potential c.buffer + 1) c
+
+-- what an act leaves of the clusters, unless clusters stay apart: those that never fall along the line never fall
+-- behind it, and those that never rise never rise; at every level each of them stood on the line before
+pub record KeepsClusterOrder {R E : Type 0} (act : E → R → Buffer → Moved R) (fits : R → ℕ → ℕ → Type 0) : Type 0 where
+  pub rising : KeepsRising act fits
+  pub falling : KeepsFalling act fits
+  pub clusters : KeepsClusters act fits
+
+-- what a run leaves of the clusters: an order along the line, unless they stay apart, and each of them stood on the
+-- line
+pub record HasOrderOf (old new : Buffer) : Type 0 where
+  pub rising : ClustersMerge old.cluster_level → IsRisingLine old.line → IsRisingLine new.line
+  pub falling : ClustersMerge old.cluster_level → IsFallingLine old.line → IsFallingLine new.line
+  pub clusters : ComesFrom old.line new.line

@@ -1,0 +1,17 @@
+pub use Rattle.aat_buffer.specs.Buffer
+pub use Rattle.aat_buffer.specs.Clusters
+pub use Rattle.aat_font.specs.Table
+pub mod Budget
+pub mod Context
+pub mod Driven
+pub mod LayoutErrors
+pub mod Laws
+pub mod Machine
+pub mod Outcome
+pub mod Ranges
+pub mod Rows
+pub mod Safe
+pub mod Switches
+pub mod Truth
+pub mod facts
+pub mod inside

@@ -1,0 +1,10 @@
+pub mod DrivenRuns
+pub mod InOrder
+pub mod InPlace
+pub mod MachineRuns
+pub mod OrderedRuns
+pub mod Runs
+pub mod SafeBranches
+pub mod Switched
+pub mod Turns
+pub mod Views

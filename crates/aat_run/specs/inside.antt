@@ -1,0 +1,3 @@
+pub mod Branches
+pub mod Places
+pub mod Standing

@@ -1,0 +1,32 @@
+-- Where a run stands, and the range that was found last.
+use Rattle.std.specs.Prelude.{◌≡◌, ℕ, Bool, true, false, List, Option, Some, None, find}
+use Rattle.aat_buffer.specs.Buffer.{Buffer}
+use Rattle.aat_run.specs.Context.{Config}
+use Rattle.aat_run.specs.Machine.{Turn, Ends, Goes}
+use Rattle.aat_run.specs.Ranges.{holds}
+use Rattle.aat_run.specs.declared.place.Place.{Place}
+use Rattle.aat_run.specs.declared.ranges.range_flags_t.{range_flags_t}
+
+-- a buffer, registers and a place make up where a run stands
+abbrev pub config : {R : Type 0} → Buffer → R → Place → Config R
+config b r place = record { buffer = b; regs = r; state = place.state; last = place.last; turns = place.turns }
+
+-- a turn leaves this: the run goes on from there, or ends there
+abbrev pub turn_of : {C : Type 0} → Bool → C → Turn C
+turn_of true d = Goes d
+turn_of false d = Ends d
+
+-- a range that was found is the one that is found for each cluster that it holds
+abbrev pub IsFound : List range_flags_t → Option range_flags_t → Type 0
+IsFound ranges None = Unit {0}
+IsFound ranges (Some r) = (x : ℕ) → holds x r ≡ true → find (holds x) ranges ≡ Some r
+
+-- a run begins in state 0, with no glyph looked at and no turn taken
+abbrev pub first : {R : Type 0} → Buffer → R → Config R
+first b r = record { buffer = b; regs = r; state = 0; last = 0; turns = 0 }
+
+-- what a run leaves of a buffer and registers, in how many turns
+pub record IsRun {R : Type 0} (d : Config R) (b : Buffer) (r : R) (turns : ℕ) : Type 0 where
+  pub buffer : b ≡ d.buffer
+  pub registers : r ≡ d.regs
+  pub counted : turns ≡ d.turns

@@ -1,0 +1,173 @@
+//! The driver: runs a state table over a line, in any context.
+ghost use Rattle.std.specs.Prelude.{◌≡◌, ◌+◌, ◌-◌, ◌<◌, ◌≤◌, ◌^◌, if◌then◌else◌, true, length, IsOk, OnOk, OnErr, IfOk, IfErr};
+ghost use Rattle.aat_buffer.specs.Buffer.{with_cursor, without_positions};
+ghost use Rattle.aat_buffer.specs.Clusters.{IsSmall};
+ghost use Rattle.aat_run.specs.Budget.{potential};
+ghost use Rattle.aat_run.specs.Context.{machine_with};
+ghost use Rattle.aat_run.specs.Driven.{IsRefusal, IsRefused, context_from, machine_run, registers_behind, positions_behind};
+ghost use Rattle.aat_run.specs.Laws.{IsBounded, SameSettings};
+ghost use Rattle.aat_run.specs.Machine.{whole};
+ghost use Rattle.aat_run.specs.Ranges.{IsGapless, is_driven_on, ranges_of};
+ghost use Rattle.aat_run.specs.inside.Places.{first, IsRun};
+
+use crate::aat_layout_common::hb_aat_apply_context_t;
+use crate::driver_context::driver_context_t;
+use crate::error::AatError;
+use crate::place::Place;
+use crate::ranges::range_flags_t;
+use crate::turns::turn_once;
+use aat_buffer::{hb_buffer_t, hb_mask_t};
+use aat_font::ExtendedStateTable;
+use std::alloc::Allocator;
+
+/// Takes turns until one ends, and answers their number.
+fn run_turns<T: Copy, C: driver_context_t<T>, A: Allocator + Copy>(
+    machine: &ExtendedStateTable<T>,
+    context: &mut C,
+    buffer: &mut hb_buffer_t<A>,
+    ranges: &[range_flags_t],
+    feature_flags: hb_mask_t,
+) -> Result<u64, AatError>
+    requires fit { C.fits context.old buffer.old.cursor (length buffer.old.line) }
+    requires ids { IsSmall buffer.old }
+    requires gapless { IsGapless ranges.now }
+    ensures run { IfOk result (IsRun (whole (machine_with (is_driven_on ranges.now feature_flags) machine.now C.advances C.actionable C.act) (first buffer.old context.old)) buffer.new context.new) }
+    ensures few { IfOk result (λ turns. turns ≤ potential buffer.old + 1) }
+    ensures ids { OnOk result (IsSmall buffer.new) }
+    ensures reason { IfErr result (IsRefusal buffer.old (whole (machine_with (is_driven_on ranges.now feature_flags) machine.now C.advances C.actionable C.act) (first buffer.old context.old)).buffer) }
+    ensures refused { OnErr result (IsRefused buffer.old buffer.new) }
+{
+    // how long the line is and how large the budget, so that the count of turns fits
+    let _length = buffer.len();
+    let _budget = buffer.max_ops();
+    let mut found = None;
+    let mut place = Place {
+        state: 0,
+        last: 0,
+        turns: 0,
+    };
+    while turn_once(
+        machine,
+        context,
+        buffer,
+        ranges,
+        feature_flags,
+        &mut found,
+        &mut place,
+    )? {}
+    Ok(place.turns)
+}
+
+/// Puts the cursor at the front. A context that is not in place drops the positions.
+fn begin<A: Allocator + Copy>(buffer: &mut hb_buffer_t<A>, in_place: bool)
+    ensures { buffer.new ≡ with_cursor (if in_place then buffer.old else without_positions buffer.old) 0 }
+{
+    if !in_place {
+        buffer.drop_positions();
+    }
+    buffer.sync();
+}
+
+/// Runs a state table over a line in a context, from the front, and answers the number of turns. `drive` has the
+/// rules.
+///
+/// The ranges have to follow one another from 0 without a gap. With fewer than two of them the machine is on at each
+/// cluster.
+#[tactic(auto, unfolding(crate::specs::Driven::machine_run, crate::specs::Driven::registers_behind))]
+pub fn run_machine<T: Copy, C: driver_context_t<T>, A: Allocator + Copy>(
+    machine: &ExtendedStateTable<T>,
+    context: &mut C,
+    buffer: &mut hb_buffer_t<A>,
+    ranges: &[range_flags_t],
+    feature_flags: hb_mask_t,
+) -> Result<u64, AatError>
+    requires fit { C.fits context.old 0 (length buffer.old.line) }
+    requires ids { IsSmall buffer.old }
+    requires gapless { IsGapless ranges.now }
+    ensures run { IfOk result (λ turns. record { buffer = buffer.new; turns = turns } ≡ machine_run (is_driven_on ranges.now feature_flags) machine.now (context_from C.stays_in_place C.advances C.actionable C.act context.old) buffer.old) }
+    ensures registers { OnOk result (context.new ≡ registers_behind (is_driven_on ranges.now feature_flags) machine.now (context_from C.stays_in_place C.advances C.actionable C.act context.old) buffer.old) }
+    ensures bounded { IfOk result (λ turns. IsBounded buffer.old (record { buffer = buffer.new; turns = turns })) }
+    ensures few { IfOk result (λ turns. turns < 2 ^ 62) }
+    ensures ids { OnOk result (IsSmall buffer.new) }
+    ensures successful { OnOk result (buffer.new.successful ≡ buffer.old.successful) }
+    ensures settings { OnOk result (SameSettings buffer.old buffer.new) }
+    ensures positions { OnOk result (buffer.new.positions ≡ positions_behind C.stays_in_place buffer.old) }
+    ensures longer { OnErr result (length buffer.old.line < length (machine_run (is_driven_on ranges.now feature_flags) machine.now (context_from C.stays_in_place C.advances C.actionable C.act context.old) buffer.old).buffer.line) }
+    ensures reason { IfErr result (IsRefusal buffer.old (machine_run (is_driven_on ranges.now feature_flags) machine.now (context_from C.stays_in_place C.advances C.actionable C.act context.old) buffer.old).buffer) }
+    ensures refused { OnErr result (IsRefused buffer.old buffer.new) }
+    ensures in_place { C.stays_in_place ≡ true → IsOk result }
+{
+    // how long the line may be and how large the budget is, so that the count of turns fits
+    let _most = buffer.max_len();
+    let _budget = buffer.max_ops();
+    begin(buffer, context.in_place());
+    let turns = run_turns(machine, context, buffer, ranges, feature_flags)?;
+    buffer.sync();
+    Ok(turns)
+}
+
+/// Runs a state table over the line of `c` in a context, from the front, in state 0 and with the registers that it
+/// is handed, and adds the number of turns to those of `c`.
+///
+/// Each turn looks at the glyph at the cursor, or at the end of the text. Where the subtable is off at its cluster,
+/// the cursor passes it in state 0, and registers and budget stay; at the end the run ends. Else the entry at the
+/// state and the glyph's class is taken: the line gets the break marks before the cursor where it may not be broken
+/// there, the context does its act, and the entry's state is the new one. At the end of the line the run ends then;
+/// else the cursor moves on where the entry advances, and where it stays one operation is paid for, and the cursor
+/// moves on in spite of it once the budget is used up. A missing entry ends the run. The cursor is at the front
+/// afterwards.
+///
+/// The subtable is on where its feature flags share a bit with those of the range that holds the cluster; with
+/// fewer than two ranges, or with none, it is on everywhere. At the end of the text the cluster is that of the last
+/// glyph that was looked at, 0 where there was none.
+///
+/// The context has to fit at the front, each glyph id has to be at most 0xFFFF, which `all_glyphs_16` tells, the
+/// ranges have to follow one another from 0 without a gap, and the turns so far have to be at most 2^62.
+///
+/// A context in place keeps the positions and is never refused; another drops them. Refused as 2, `TooLong`, only
+/// where the run would leave a line longer than the buffer's `max_len`, and else as 3, `OutOfMemory`, only where it
+/// would leave a longer line than it found. After a refusal the buffer has failed, its line is some line of 16-bit
+/// glyphs that has at most its greatest length, the registers are any, and no turns are added. A buffer that had
+/// failed before is run as any other.
+///
+/// A turn takes a bounded number of steps but for its act, the searches in the table, which bisect it, and the walk
+/// to the range of a cluster that lies outside the range that was found last. No memory is taken but by the act.
+///
+/// Apple's TrueType Reference Manual, "The 'morx' table", and the section on state tables in "Font Tables".
+pub fn drive<T: Copy, C: driver_context_t<T>, A: Allocator + Copy>(
+    machine: &ExtendedStateTable<T>,
+    context: &mut C,
+    c: &mut hb_aat_apply_context_t<A>,
+) -> Result<(), AatError>
+    requires fit { C.fits context.old 0 (length c.old.buffer.now.line) }
+    requires ids { IsSmall c.old.buffer.now }
+    requires gapless { IsGapless (ranges_of c.old.range_flags) }
+    requires turns { c.old.turns ≤ 2 ^ 62 }
+    ensures run { OnOk result (record { buffer = c.new.buffer.now; turns = c.new.turns - c.old.turns } ≡ machine_run (is_driven_on (ranges_of c.old.range_flags) c.old.subtable_flags) machine.now (context_from C.stays_in_place C.advances C.actionable C.act context.old) c.old.buffer.now) }
+    ensures registers { OnOk result (context.new ≡ registers_behind (is_driven_on (ranges_of c.old.range_flags) c.old.subtable_flags) machine.now (context_from C.stays_in_place C.advances C.actionable C.act context.old) c.old.buffer.now) }
+    ensures bounded { OnOk result (IsBounded c.old.buffer.now (record { buffer = c.new.buffer.now; turns = c.new.turns - c.old.turns })) }
+    ensures counted { c.old.turns ≤ c.new.turns }
+    ensures ids { OnOk result (IsSmall c.new.buffer.now) }
+    ensures successful { OnOk result (c.new.buffer.now.successful ≡ c.old.buffer.now.successful) }
+    ensures settings { OnOk result (SameSettings c.old.buffer.now c.new.buffer.now) }
+    ensures positions { OnOk result (c.new.buffer.now.positions ≡ positions_behind C.stays_in_place c.old.buffer.now) }
+    ensures longer { OnErr result (length c.old.buffer.now.line < length (machine_run (is_driven_on (ranges_of c.old.range_flags) c.old.subtable_flags) machine.now (context_from C.stays_in_place C.advances C.actionable C.act context.old) c.old.buffer.now).buffer.line) }
+    ensures reason { IfErr result (IsRefusal c.old.buffer.now (machine_run (is_driven_on (ranges_of c.old.range_flags) c.old.subtable_flags) machine.now (context_from C.stays_in_place C.advances C.actionable C.act context.old) c.old.buffer.now).buffer) }
+    ensures refused { OnErr result (IsRefused c.old.buffer.now c.new.buffer.now) }
+    ensures uncounted { OnErr result (c.new.turns ≡ c.old.turns) }
+    ensures in_place { C.stays_in_place ≡ true → IsOk result }
+    ensures ranges { c.new.range_flags ≡ c.old.range_flags }
+    ensures flags { c.new.subtable_flags ≡ c.old.subtable_flags }
+    ensures face { c.new.face ≡ c.old.face }
+    ensures same { c.new.buffer.ghost_name ≡ c.old.buffer.ghost_name }
+{
+    let feature_flags = c.subtable_flags;
+    let ranges = match c.range_flags {
+        Some(ranges) => ranges,
+        None => &[],
+    };
+    let buffer = &mut *c.buffer;
+    let turns = run_machine(machine, context, buffer, ranges, feature_flags)?;
+    c.turns += turns;
+    Ok(())
+}

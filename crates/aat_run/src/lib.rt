@@ -1,0 +1,19 @@
+//! What every run over a buffer shares: errors, ranges with flags, the context of a run, and the rewriting machine
+//! with its driver.
+#![tactic(auto)]
+
+mod aat_layout_common;
+mod driver;
+mod driver_context;
+mod error;
+#[doc(hidden)]
+pub mod laws;
+mod place;
+mod ranges;
+mod turns;
+
+pub use aat_layout_common::hb_aat_apply_context_t;
+pub use driver::{drive, run_machine};
+pub use driver_context::driver_context_t;
+pub use error::AatError;
+pub use ranges::{flags_in, is_on, range_flags_t};

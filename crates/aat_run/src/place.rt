@@ -1,0 +1,9 @@
+//! Where a run stands, beside its buffer and its registers.
+
+/// The state, the last cluster that was looked at, and the turns so far.
+#[derive(Clone, Copy)]
+pub(crate) struct Place {
+    pub state: u16,
+    pub last: u32,
+    pub turns: u64,
+}

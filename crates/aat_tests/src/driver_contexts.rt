@@ -1,0 +1,162 @@
+//! Contexts of the tests' own for the driver: one in place that counts, and one that puts glyphs in.
+ghost use Rattle.std.specs.Prelude.{◌≡◌, ◌<◌, length, OnOk, OnErr, IfErr};
+ghost use Rattle.aat_buffer.specs.Buffer.{output};
+ghost use Rattle.aat_buffer.specs.Clusters.{IsSmall};
+ghost use Rattle.aat_run.specs.Driven.{IsRefusal, IsRefused};
+
+use aat_buffer::hb_buffer_t;
+use aat_font::GenericStateEntry;
+use aat_run::{AatError, driver_context_t};
+use std::alloc::Allocator;
+
+/// Counts the entries that act.
+#[derive(Drop)]
+pub struct CountingCtx {
+    pub count: u32,
+}
+
+impl driver_context_t<u16> for CountingCtx {
+    ghost use Rattle.std.specs.Prelude.{true};
+    ghost use Rattle.aat_font.specs.Entries.{goes_on};
+    ghost use Rattle.aat_tests.specs.Counting as c;
+
+    ghost fits = { c.IsFit };
+
+    ghost stays_in_place = { true };
+
+    ghost advances = { goes_on };
+
+    ghost actionable = { c.actionable };
+
+    ghost act = { c.act };
+
+    fn in_place(&self) -> bool {
+        true
+    }
+
+    fn can_advance(&self, entry: &GenericStateEntry<u16>) -> bool {
+        entry.has_advance()
+    }
+
+    fn is_actionable<A: Allocator + Copy>(
+        &self,
+        entry: &GenericStateEntry<u16>,
+        buffer: &hb_buffer_t<A>,
+    ) -> bool {
+        entry.extra != 0xFFFF && buffer.backtrack_len() < buffer.len()
+    }
+
+    fn transition<A: Allocator + Copy>(
+        &mut self,
+        entry: &GenericStateEntry<u16>,
+        buffer: &mut hb_buffer_t<A>,
+    ) -> Result<(), AatError> {
+        if entry.extra != 0xFFFF && buffer.backtrack_len() < buffer.len() {
+            self.count = self.count.saturating_add(1);
+            buffer.cur_mut().mask |= 256;
+        }
+        Ok(())
+    }
+
+    ghost keeps_fit = { c.keeps_fit };
+
+    ghost passes_fit = { c.passes_fit };
+
+    ghost pays = { c.pays };
+
+    ghost bounded = { c.bounded };
+
+    ghost lengthens = { c.lengthens };
+
+    ghost makes_no_positions = { c.makes_no_positions };
+
+    ghost keeps_settings = { c.keeps_settings };
+
+    ghost keeps_place = { c.keeps_place };
+
+    ghost keeps_order = { c.keeps_order };
+}
+
+/// Puts a glyph like the one at the cursor before it.
+fn put<A: Allocator + Copy>(buffer: &mut hb_buffer_t<A>, glyph: u16) -> Result<(), AatError>
+    requires inside { buffer.old.cursor < length buffer.old.line }
+    requires ids { IsSmall buffer.old }
+    ensures put { OnOk result (buffer.new ≡ output buffer.old glyph) }
+    ensures ids { OnOk result (IsSmall buffer.new) }
+    ensures reason { IfErr result (IsRefusal buffer.old (output buffer.old glyph)) }
+    ensures refused { OnErr result (IsRefused buffer.old buffer.new) }
+{
+    let _length = buffer.len();
+    buffer.output_glyph(glyph as u32)?;
+    Ok(())
+}
+
+/// Puts in glyphs like the one at the cursor, before it.
+#[derive(Drop)]
+pub struct PuttingCtx {
+    pub seen: u32,
+}
+
+impl driver_context_t<u16> for PuttingCtx {
+    ghost use Rattle.std.specs.Prelude.{false};
+    ghost use Rattle.aat_font.specs.Entries.{goes_on};
+    ghost use Rattle.aat_tests.specs.Putting as p;
+
+    ghost fits = { p.IsFit };
+
+    ghost stays_in_place = { false };
+
+    ghost advances = { goes_on };
+
+    ghost actionable = { p.actionable };
+
+    ghost act = { p.act };
+
+    fn in_place(&self) -> bool {
+        false
+    }
+
+    fn can_advance(&self, entry: &GenericStateEntry<u16>) -> bool {
+        entry.has_advance()
+    }
+
+    fn is_actionable<A: Allocator + Copy>(
+        &self,
+        entry: &GenericStateEntry<u16>,
+        buffer: &hb_buffer_t<A>,
+    ) -> bool {
+        entry.extra != 0xFFFF && buffer.backtrack_len() < buffer.len()
+    }
+
+    fn transition<A: Allocator + Copy>(
+        &mut self,
+        entry: &GenericStateEntry<u16>,
+        buffer: &mut hb_buffer_t<A>,
+    ) -> Result<(), AatError> {
+        if entry.extra != 0xFFFF && buffer.backtrack_len() < buffer.len() {
+            buffer.set_max_ops(buffer.max_ops().saturating_sub(1));
+            if buffer.max_ops() >= 0 {
+                put(buffer, entry.extra)?;
+            }
+        }
+        Ok(())
+    }
+
+    ghost keeps_fit = { p.keeps_fit };
+
+    ghost passes_fit = { p.passes_fit };
+
+    ghost pays = { p.pays };
+
+    ghost bounded = { p.bounded };
+
+    ghost lengthens = { p.lengthens };
+
+    ghost makes_no_positions = { p.makes_no_positions };
+
+    ghost keeps_settings = { p.keeps_settings };
+
+    ghost keeps_place = { p.keeps_place };
+
+    ghost keeps_order = { p.keeps_order };
+}

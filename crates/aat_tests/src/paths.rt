@@ -1,0 +1,21 @@
+//! The public paths of the layer, named once, but for its theorems: this file compiles only while each of them stands.
+
+pub use aat_layout::buffer::{
+    BufferError, BufferFlags, Direction, GlyphPosition, HB_BUFFER_CLUSTER_LEVEL_CHARACTERS,
+    HB_BUFFER_CLUSTER_LEVEL_MONOTONE_CHARACTERS, HB_BUFFER_CLUSTER_LEVEL_MONOTONE_GRAPHEMES,
+    ScratchFlags, UnicodeProps, glyph_flag, hb_buffer_t, hb_glyph_info_t, hb_mask_t,
+};
+pub use aat_layout::font::{
+    Chain, ChainFeature, ContextualEntryData, ContextualSubtable, Coverage, EntryData,
+    ExtendedStateTable, FaceTables, Feat, Feature, FeatureName, GenericStateEntry, GlyphId,
+    InsertionEntryData, InsertionSubtable, KernEntryData, LigatureSubtable, Lookup, Morx, Point,
+    Subtable, SubtableKind, TableError, hb_font_t, hb_ot_shape_plan_t, hb_tag_t,
+};
+pub use aat_layout::{
+    AatError, ContextualCtx, DELETED_GLYPH, InsertionCtx, LIGATURE_SLOTS, LigatureCtx,
+    MAX_CONTEXT_LENGTH, RearrangementCtx, Turns, apply, compile_flags, constants, drive,
+    driver_context_t, feature_info_t, feature_mappings, feature_order, feature_range_t,
+    hb_aat_apply_context_t, hb_aat_feature_mapping_t, hb_aat_layout_remove_deleted_glyphs,
+    hb_aat_layout_substitute, hb_aat_layout_zero_width_deleted_glyphs, hb_aat_map_builder_t,
+    hb_aat_map_t, range_flags_t,
+};

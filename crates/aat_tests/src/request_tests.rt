@@ -1,0 +1,314 @@
+//! Requests over ranges, each call once with ample memory, and refused memory.
+use aat_layout::buffer::{hb_buffer_t, hb_glyph_info_t};
+use aat_layout::font::{
+    Chain, ChainFeature, Coverage, FaceTables, Feat, Feature, FeatureName, Lookup, Morx, Subtable,
+    SubtableKind, TableError, hb_font_t, hb_ot_shape_plan_t, hb_tag_t,
+};
+use aat_layout::{
+    AatError, apply, compile_flags, feature_info_t, feature_mappings, feature_order,
+    hb_aat_apply_context_t, hb_aat_layout_substitute, hb_aat_map_builder_t, hb_aat_map_t,
+};
+use linked_list_allocator::LocalHeap;
+use std::alloc::{Allocator, Global};
+use std::cmp::Ordering;
+use std::process::Abort;
+use std::test::Fail;
+
+/// The common ligatures on or off over clusters.
+fn liga(value: u32, start: u32, end: u32) -> Feature {
+    Feature {
+        tag: hb_tag_t::from_bytes(b"liga"),
+        value,
+        start,
+        end,
+    }
+}
+
+/// An alternate over the whole text.
+fn aalt(value: u32) -> Feature {
+    Feature {
+        tag: hb_tag_t::from_bytes(b"aalt"),
+        value,
+        start: 0,
+        end: u32::MAX,
+    }
+}
+
+/// The name of a feature type with one setting.
+fn name(kind: u16) -> FeatureName {
+    FeatureName {
+        kind,
+        settings: 1,
+        exclusive: false,
+    }
+}
+
+/// A chain feature of the common ligatures.
+fn ligatures(setting: u16, enable_flags: u32, disable_flags: u32) -> ChainFeature {
+    ChainFeature {
+        kind: 1,
+        setting,
+        enable_flags,
+        disable_flags,
+    }
+}
+
+/// A font with one setting of ligatures, and one chain with these features that turns 5 into 9.
+fn face(alloc: Global, features: &[ChainFeature]) -> Result<hb_font_t, Fail> {
+    let subtable = Subtable {
+        kind: SubtableKind::NonContextual(Lookup::new(alloc, &[(5, 9)])?),
+        coverage: Coverage::ALL_DIRECTIONS,
+        feature_flags: 1,
+    };
+    let chain = Chain {
+        default_flags: 1,
+        features: Vec::from_slice(alloc, features)?,
+        subtables: vec![in alloc; subtable]?,
+    };
+    Ok(hb_font_t::new(
+        FaceTables {
+            morx: Some(Morx::new(vec![in alloc; chain]?)?),
+            feat: Some(Feat::new(alloc, &[name(1)])?),
+        },
+        None,
+        None,
+    ))
+}
+
+/// A font with one setting of character alternatives alone.
+fn alternates_face(alloc: Global) -> Result<hb_font_t, Fail> {
+    Ok(hb_font_t::new(
+        FaceTables {
+            morx: None,
+            feat: Some(Feat::new(alloc, &[name(17)])?),
+        },
+        None,
+        None,
+    ))
+}
+
+/// The line 5 at 0, 5 at 1, 5 at 2.
+fn buffer_of_fives(alloc: Global) -> Result<hb_buffer_t, Fail> {
+    let mut buffer = hb_buffer_t::new(alloc, 100, 16384);
+    for cluster in 0..3u32 {
+        buffer.add(hb_glyph_info_t {
+            glyph_id: 5,
+            cluster,
+            ..hb_glyph_info_t::default()
+        })?;
+    }
+    Ok(buffer)
+}
+
+/// Whether the line is these glyphs at 0, 1, 2.
+fn is_line(buffer: &hb_buffer_t, wanted: [u32; 3]) -> bool {
+    if buffer.len() != 3 {
+        return false;
+    }
+    for i in 0..3usize {
+        if i < buffer.len() {
+            let found = buffer.info(i);
+            if found.glyph_id != wanted[i] || found.cluster != i as u32 {
+                return false;
+            }
+        }
+    }
+    true
+}
+
+/// A map with the ranges of one request over 3 to 4.
+#[test]
+fn a_request_has_its_own_range(rt: HostRuntime) -> Result<(), Fail> {
+    let alloc = rt.alloc();
+    let face = face(alloc, &[ligatures(2, 2, u32::MAX)])?;
+    let mut builder = hb_aat_map_builder_t::default(alloc);
+    assert!(rt; builder.range() == (0, u32::MAX) && builder.features().is_empty());
+    assert!(rt; builder.add_feature(&face, &liga(1, 3, 5)) == Ok(Some(())));
+    assert_eq!(rt; builder.features().len(), 1);
+    let mut map = hb_aat_map_t::default(alloc);
+    assert!(rt; map.is_whole() && map.chain_flags().is_empty());
+    assert!(rt; builder.compile(&face, &mut map) == Ok(()));
+    assert!(rt; builder.range() == (5, 4294967295) && builder.current_features().is_empty());
+    let wanted = [(0, 1), (2, 1), (3, 3), (4, 3), (5, 1), (u32::MAX, 1)];
+    for (cluster, flags) in wanted {
+        assert_eq!(rt; map.flags_at(0, cluster), Some(flags), "at {cluster}");
+    }
+    assert!(rt; map.flags_at(1, 0).is_none() && map.is_whole());
+    assert!(rt; map.chain_flags().len() == 1 && map.chain_flags()[0].len() == 3);
+    Ok(())
+}
+
+#[test]
+fn a_range_of_a_builder_is_compiled(rt: HostRuntime) -> Result<(), Fail> {
+    let alloc = rt.alloc();
+    let builder = hb_aat_map_builder_t::default(alloc);
+    let mut map = hb_aat_map_t::default(alloc);
+    let without = alternates_face(alloc)?;
+    assert!(rt; compile_flags(&without, &builder, &mut map) == Ok(None));
+    assert!(rt; map.chain_flags().is_empty());
+    let face = face(alloc, &[ligatures(2, 2, u32::MAX)])?;
+    assert!(rt; compile_flags(&face, &builder, &mut map) == Ok(Some(())) && map.is_whole());
+    assert!(rt; map.flags_at(0, 7) == Some(1));
+    Ok(())
+}
+
+#[test]
+fn an_empty_map_has_each_subtable_on(rt: HostRuntime) -> Result<(), Fail> {
+    let alloc = rt.alloc();
+    let face = face(alloc, &[ligatures(3, 0, 0)])?;
+    let map = hb_aat_map_t::default(alloc);
+    let mut buffer = buffer_of_fives(alloc)?;
+    assert!(rt; buffer.all_glyphs_16() && map.is_whole());
+    let mut context = hb_aat_apply_context_t::new(&face, &mut buffer);
+    assert!(rt; context.turns == 0 && context.subtable_flags == 0 && context.range_flags.is_none());
+    let answer = apply(&mut context, &map);
+    assert!(rt; answer == Ok(Some(())) && context.turns == 3);
+    assert!(rt; is_line(&buffer, [9, 9, 9]));
+    Ok(())
+}
+
+#[test]
+fn a_font_without_the_table_answers_none(rt: HostRuntime) -> Result<(), Fail> {
+    let alloc = rt.alloc();
+    let face = alternates_face(alloc)?;
+    let map = hb_aat_map_t::default(alloc);
+    let mut buffer = buffer_of_fives(alloc)?;
+    assert!(rt; buffer.all_glyphs_16() && map.is_whole());
+    let mut context = hb_aat_apply_context_t::new(&face, &mut buffer);
+    let answer = apply(&mut context, &map);
+    assert!(rt; answer == Ok(None) && context.turns == 0);
+    Ok(())
+}
+
+#[test]
+fn a_feature_acts_where_it_was_asked_for(rt: HostRuntime) -> Result<(), Fail> {
+    let alloc = rt.alloc();
+    let face = face(alloc, &[ligatures(3, 0, 0)])?;
+    let plan = hb_ot_shape_plan_t {
+        user_features: vec![in alloc; liga(0, 1, 2)]?,
+        apply_morx: true,
+        requested_kerning: false,
+        kern_mask: 0,
+    };
+    let mut buffer = buffer_of_fives(alloc)?;
+    assert!(rt; buffer.all_glyphs_16());
+    let answer = hb_aat_layout_substitute(alloc, &plan, &face, &mut buffer);
+    assert!(rt; answer == Ok(3) && is_line(&buffer, [9, 5, 9]));
+    Ok(())
+}
+
+#[test]
+fn alternates(rt: HostRuntime) -> Result<(), Fail> {
+    let alloc = rt.alloc();
+    let face = alternates_face(alloc)?;
+    let mut builder = hb_aat_map_builder_t::default(alloc);
+    let refused = builder.add_feature(&face, &aalt(65536));
+    assert!(rt; refused == Err(AatError::AaltValue(65536)) && builder.features().is_empty());
+    assert!(rt; AatError::AaltValue(65536).number() == 1);
+    assert!(rt; builder.add_feature(&face, &aalt(65535)) == Ok(None));
+    assert!(rt; builder.features().len() == 1);
+    let info = builder.features()[0].info;
+    assert!(rt; info.kind == 17 && info.setting == 65535 && info.is_exclusive);
+    Ok(())
+}
+
+#[test]
+fn groups(rt: HostRuntime) {
+    let on = feature_info_t {
+        kind: 1,
+        setting: 2,
+        is_exclusive: false,
+    };
+    let off = feature_info_t { setting: 3, ..on };
+    let other = feature_info_t { setting: 4, ..on };
+    let exclusive = feature_info_t {
+        is_exclusive: true,
+        ..on
+    };
+    assert!(rt; feature_order(&on, &off) == Ordering::Equal);
+    assert!(rt; feature_order(&on, &other) == Ordering::Less);
+    assert!(rt; feature_order(&exclusive, &off) == Ordering::Greater);
+    assert!(rt; feature_order(&feature_info_t { kind: 2, ..on }, &on) == Ordering::Greater);
+}
+
+#[test]
+fn names(rt: HostRuntime) -> Result<(), Fail> {
+    let feat = Feat::new(rt.alloc(), &[name(1), name(3), name(37)])?;
+    assert!(rt; feat.find(3) == Some(name(3)) && feat.find(2).is_none());
+    let falls = Feat::new(rt.alloc(), &[name(1), name(3), name(3)]).err();
+    assert!(rt; falls == Some(TableError::NotRising(2)));
+    assert_eq!(rt; feature_mappings.len(), 78);
+    let first = feature_mappings[0];
+    assert!(rt; first.ot_feature_tag == hb_tag_t::from_bytes(b"afrc"));
+    assert!(rt; (first.aat_feature_type, first.selector_to_enable) == (11, 1));
+    Ok(())
+}
+
+/// Adds an alternate over a heap, and says whether it was appended. A refusal leaves the builder as
+/// it was, and the call made again is refused again.
+fn adds_over<A: Allocator + Copy>(rt: &impl Abort, alloc: A, face: &hb_font_t) -> bool {
+    let mut builder = hb_aat_map_builder_t::default(alloc);
+    let answer = builder.add_feature(face, &aalt(65535));
+    if answer == Ok(None) {
+        assert_eq!(rt; builder.features().len(), 1);
+        return true;
+    }
+    assert!(rt; answer == Err(AatError::OutOfMemory) && AatError::OutOfMemory.number() == 3);
+    assert!(rt; builder.features().is_empty() && builder.current_features().is_empty());
+    assert!(rt; builder.range() == (0, u32::MAX));
+    assert!(rt; builder.add_feature(face, &aalt(65535)) == Err(AatError::OutOfMemory));
+    false
+}
+
+/// Compiles three requests over a heap, and says whether that was not refused: nothing where a request
+/// is refused. A refusal of compiling leaves the requests and empties the map, and the call made again
+/// is refused again.
+fn compiles_over<A: Allocator + Copy>(rt: &impl Abort, alloc: A, face: &hb_font_t) -> Option<bool> {
+    let mut builder = hb_aat_map_builder_t::default(alloc);
+    for feature in [liga(1, 0, 10), liga(0, 1, 10), liga(1, 2, 5)] {
+        if builder.add_feature(face, &feature).is_err() {
+            return None;
+        }
+    }
+    let mut map = hb_aat_map_t::default(alloc);
+    let answer = builder.compile(face, &mut map);
+    assert_eq!(rt; builder.features().len(), 3);
+    if answer == Ok(()) {
+        assert!(rt; map.flags_at(0, 4) == Some(3) && map.flags_at(0, 5) == Some(5));
+        return Some(true);
+    }
+    assert!(rt; answer == Err(AatError::OutOfMemory) && map.chain_flags().is_empty());
+    assert!(rt; builder.compile(face, &mut map) == Err(AatError::OutOfMemory));
+    assert!(rt; map.chain_flags().is_empty() && builder.features().len() == 3);
+    Some(false)
+}
+
+/// Each growth is refused in turn, by a heap that is too small for it.
+#[test]
+fn refused_memory_of_requests(rt: HostRuntime) -> Result<(), Fail> {
+    let alternates = alternates_face(rt.alloc())?;
+    let face = face(
+        rt.alloc(),
+        &[ligatures(2, 2, u32::MAX), ligatures(3, 4, u32::MAX)],
+    )?;
+    let mut appended = 0;
+    let mut refused = 0;
+    let mut compiled = 0;
+    let mut uncompiled = 0;
+    for step in 0..128usize {
+        let heap = LocalHeap::new(rt.alloc(), step * 16)?;
+        if adds_over(&rt, &heap, &alternates) {
+            appended = 1;
+        } else {
+            refused = 1;
+        }
+        let other = LocalHeap::new(rt.alloc(), step * 16)?;
+        match compiles_over(&rt, &other, &face) {
+            Some(true) => compiled = 1,
+            Some(false) => uncompiled = 1,
+            None => {}
+        }
+    }
+    assert_eq!(rt; (appended, refused, compiled, uncompiled), (1, 1, 1, 1));
+    Ok(())
+}
