@@ -19,6 +19,10 @@ carried_left xs i j p le leq within = same_lists _ _ (search (rules, places)) (�
 pub put_in_gap : {X : Type 0} (xs : List X) (i j : ℕ) (x : X) → i < j → j ≤ length xs → around_gap (set xs i x) (i + 1) j ≡ insert (around_gap xs i j) i x
 put_in_gap xs i j x lt within = same_lists _ _ (search (rules, places)) (λ k d h. grind (arith, places, get_or-set_same, cases_eq k i))
 
+-- glyphs go into the gap
+pub all_put_in_gap : {X : Type 0} (xs gs : List X) (i j : ℕ) → i + length gs ≤ j → j ≤ length xs → around_gap (take i xs ++ (gs ++ drop (length gs) (drop i xs))) (i + length gs) j ≡ take i (around_gap xs i j) ++ (gs ++ drop i (around_gap xs i j))
+all_put_in_gap xs gs i j room within = same_lists _ _ (search (rules, places)) (λ k d h. grind (arith, places))
+
 -- the gap takes the glyph behind it
 pub taken_by_gap : {X : Type 0} (xs : List X) (i j : ℕ) → i ≤ j → j < length xs → around_gap xs i (j + 1) ≡ remove (around_gap xs i j) i
 taken_by_gap xs i j le within =

@@ -1,5 +1,5 @@
 -- What a buffer is to its callers, and what each plain call leaves of it.
-use Rattle.std.specs.Prelude.{min, option_map, pos, reverse, replicate, unwrap_or, ◌+◌, remove, insert, ◌-◌, nat_lt, if◌then◌else◌, ℕ, ℤ, ◌≤◌, Bool, true, false, List, [], ◌∷◌, ◌++◌, Option, Some, None, length, slice_index_or, slice_set}
+use Rattle.std.specs.Prelude.{min, option_map, pos, reverse, replicate, unwrap_or, ◌+◌, remove, insert, ◌-◌, nat_lt, if◌then◌else◌, ℕ, ℤ, ◌≤◌, Bool, true, false, List, [], ◌∷◌, ◌++◌, Option, Some, None, length, take, drop, slice_index_or, slice_set}
 use Rattle.aat_glyph.specs.declared.glyph.hb_glyph_info_t.{hb_glyph_info_t}
 use Rattle.aat_glyph.specs.declared.glyph.GlyphPosition.{GlyphPosition}
 use Rattle.aat_glyph.specs.declared.glyph.Direction.{Direction}
@@ -119,6 +119,14 @@ output b g =
       positions = None;
     })
     else record b { positions = None }
+
+-- the glyphs gs go in at the cursor, which moves past them; the positions are dropped
+abbrev pub with_glyphs_in : Buffer → List hb_glyph_info_t → Buffer
+with_glyphs_in b gs = record b {
+  line = take b.cursor b.line ++ (gs ++ drop b.cursor b.line);
+  cursor = b.cursor + length gs;
+  positions = None;
+}
 
 -- the glyph at the cursor gets the glyph id g, and the cursor moves on
 abbrev pub replaced : Buffer → ℕ → Buffer

@@ -2,7 +2,7 @@
 ghost use Rattle.std.specs.Prelude.{◌≡◌, ◌+◌, ◌-◌, ◌<◌, ◌≤◌, ◌↔◌, length, slice_get, is_some, IsTrue, IsOk, OnOk, OnErr, IfErr, IfSome, IsErrOf, All, vec_len};
 ghost use Rattle.std.specs.Bool.{OnTrue};
 ghost use Rattle.std.specs.Borrow.{sem};
-ghost use Rattle.aat_buffer.specs.Buffer.{Buffer, empty_buffer, added, failed, with_cursor, with_line, without_positions, skipped, replaced, reversed, with_zero_positions, position_list, position_at, output, model_at, glyph_at, with_info, Is16Bit, with_direction, with_cluster_level, with_flags, with_scratch_flags, with_max_ops, with_positions};
+ghost use Rattle.aat_buffer.specs.Buffer.{Buffer, empty_buffer, added, failed, with_cursor, with_line, without_positions, skipped, replaced, reversed, with_zero_positions, position_list, position_at, output, model_at, glyph_at, with_info, Is16Bit, with_direction, with_cluster_level, with_flags, with_scratch_flags, with_max_ops, with_positions, with_glyphs_in};
 ghost use Rattle.aat_buffer.specs.inside.Carried.{items_of};
 ghost use Rattle.aat_buffer.specs.inside.Lending.{LendsInfo, LendsCur, LendsPosition};
 
@@ -356,6 +356,27 @@ impl<A: Allocator + Copy> hb_buffer_t<A> {
         let model = self.model();
         let copy = hb_glyph_info_t { glyph_id, ..model };
         if self.line.insert(copy).is_err() {
+            return Err(self.refuse(BufferError::OutOfMemory));
+        }
+        self.have_positions = false;
+        Ok(())
+    }
+
+    /// Puts glyphs in at the cursor, which moves past them, and drops the positions. O(their number), amortised.
+    ///
+    /// Refused as 1, `TooLong`, where the line with them would be longer than its greatest length, and else as 2,
+    /// `OutOfMemory`, where it gets no memory for them; without a glyph never. The buffer has failed then, and all else
+    /// is as before: all of them go in, or none.
+    pub fn insert_glyphs(&mut self, glyphs: &[hb_glyph_info_t]) -> Result<(), BufferError>
+        ensures ok { OnOk result (self.new ≡ with_glyphs_in self.old glyphs.now) }
+        ensures too_long { IsErrOf result BufferError.TooLong ↔ (self.old.max_len < length self.old.line + length glyphs.now) }
+        ensures none { length glyphs.now ≡ 0 → IsOk result }
+        ensures err { OnErr result (self.new ≡ failed self.old) }
+    {
+        if glyphs.len() > self.max_len - self.len() {
+            return Err(self.refuse(BufferError::TooLong));
+        }
+        if !glyphs.is_empty() && self.line.insert_all(glyphs).is_err() {
             return Err(self.refuse(BufferError::OutOfMemory));
         }
         self.have_positions = false;

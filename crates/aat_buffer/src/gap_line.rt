@@ -1,9 +1,9 @@
 //! How a line of glyphs is kept: in one vector, whose unused cells stand at the cursor.
-ghost use Rattle.std.specs.Prelude.{◌≡◌, ◌+◌, ◌-◌, ◌<◌, ◌≤◌, ◌^◌, ◌↔◌, ◌++◌, All, Some, IfOk, IsTrue, OnOk, OnErr, length, reverse, slice_get, vec_len};
+ghost use Rattle.std.specs.Prelude.{◌≡◌, ◌+◌, ◌-◌, ◌<◌, ◌≤◌, ◌^◌, ◌↔◌, ◌++◌, All, Some, IfOk, IsTrue, OnOk, OnErr, drop, length, reverse, slice_get, take, vec_len};
 ghost use Rattle.std.specs.Borrow.{sem};
 ghost use Rattle.aat_buffer.specs.Buffer.{Is16Bit};
 ghost use Rattle.aat_buffer.specs.inside.Gap.{around_gap};
-ghost use Rattle.aat_buffer.specs.inside.Line.{Line, empty_line, moved_to, turned_line, with_inserted, with_last, without_current};
+ghost use Rattle.aat_buffer.specs.inside.Line.{Line, empty_line, moved_to, turned_line, with_all_inserted, with_inserted, with_last, without_current};
 ghost use Rattle.aat_buffer.specs.inside.LineLending.{LendsGlyph};
 
 use aat_glyph::hb_glyph_info_t;
@@ -125,10 +125,31 @@ impl<A: Allocator + Copy> GapLine<A> {
         ensures err { OnErr result (self.new ≡ self.old) }
     {
         if self.gap_start == self.gap_end {
-            self.gap_end = grow_gap(&mut self.cells, self.gap_start)?;
+            self.gap_end = grow_gap(&mut self.cells, self.gap_start, self.gap_end, 1)?;
         }
         self.cells[self.gap_start] = glyph;
         self.gap_start += 1;
+        Ok(())
+    }
+
+    /// Puts glyphs in at the cursor, which moves past them. O(their number), amortised.
+    pub(crate) fn insert_all(&mut self, glyphs: &[hb_glyph_info_t]) -> Result<(), AllocError>
+        requires line { length self.old.glyphs < 2 ^ 32 }
+        requires glyphs { length glyphs.now < 2 ^ 32 }
+        ensures ok { OnOk result (self.new ≡ with_all_inserted self.old glyphs.now) }
+        ensures err { OnErr result (self.new ≡ self.old) }
+    {
+        let count = glyphs.len();
+        if self.gap_end - self.gap_start < count {
+            self.gap_end = grow_gap(&mut self.cells, self.gap_start, self.gap_end, count)?;
+        }
+        fill_gap(
+            self.cells.as_mut_slice(),
+            self.gap_start,
+            self.gap_end,
+            glyphs,
+        );
+        self.gap_start += count;
         Ok(())
     }
 
@@ -180,22 +201,36 @@ fn carry_gap(cells: &mut [hb_glyph_info_t], start: usize, end: usize, place: usi
     }
 }
 
-/// Makes an empty gap as large as the line and larger, and gives its new end.
+/// Makes a gap larger, by as many cells as there are and at least as many as are wanted, and gives its new end.
 fn grow_gap<A: Allocator>(
     cells: &mut Vec<hb_glyph_info_t, A>,
-    place: usize,
+    start: usize,
+    end: usize,
+    count: usize,
 ) -> Result<usize, AllocError>
-    requires in_cells { place ≤ vec_len cells.old }
-    requires small { vec_len cells.old < 2 ^ 32 }
-    ensures wider { IfOk result (λ e. (place < e) × (e ≤ vec_len cells.new)) }
-    ensures line { IfOk result (λ e. around_gap cells.new.items place e ≡ cells.old.items) }
+    requires ordered { start ≤ end }
+    requires in_cells { end ≤ vec_len cells.old }
+    requires small { vec_len cells.old < 2 ^ 33 }
+    requires few { count < 2 ^ 32 }
+    ensures wider { IfOk result (λ e. (start + count ≤ e) × (e ≤ vec_len cells.new)) }
+    ensures line { IfOk result (λ e. around_gap cells.new.items start e ≡ around_gap cells.old.items start end) }
     ensures err { OnErr result ((cells.new.items ≡ cells.old.items) × (vec_len cells.new ≡ vec_len cells.old)) }
 {
     let len = cells.len();
-    let more = len + 16;
+    let more = len + count.max(16);
     cells.resize(len + more, hb_glyph_info_t::default())?;
-    cells.copy_within(place..len, place + more);
-    Ok(place + more)
+    cells.copy_within(end..len, end + more);
+    Ok(end + more)
+}
+
+/// Writes glyphs to the first cells of a gap, which begins behind them afterwards.
+fn fill_gap(cells: &mut [hb_glyph_info_t], start: usize, end: usize, glyphs: &[hb_glyph_info_t])
+    requires room { start + length glyphs.now ≤ end }
+    requires in_cells { end ≤ length cells.old }
+    ensures line { around_gap cells.new (start + length glyphs.now) end ≡ take start (around_gap cells.old start end) ++ (glyphs.now ++ drop start (around_gap cells.old start end)) }
+    ensures len { length cells.new ≡ length cells.old }
+{
+    cells[start..start + glyphs.len()].copy_from_slice(glyphs);
 }
 
 /// Puts the glyphs of a line that stands before the gap as a whole in the opposite order.

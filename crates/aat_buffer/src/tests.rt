@@ -194,6 +194,21 @@ fn glyphs_put_out(rt: HostRuntime) -> Result<(), Fail> {
     buffer.output_glyph(7)?;
     assert!(rt; line_is(&buffer, &[(2, 1, 0), (7, 2, 8), (3, 2, 8), (9, 2, 8)]));
     assert!(rt; buffer.backtrack_len() == 2);
+    buffer.insert_glyphs(&[record((4, 5, 1)), record((6, 0, 0))])?;
+    assert!(rt;
+        line_is(
+            &buffer,
+            &[
+                (2, 1, 0),
+                (7, 2, 8),
+                (4, 5, 1),
+                (6, 0, 0),
+                (3, 2, 8),
+                (9, 2, 8)
+            ]
+        )
+    );
+    assert!(rt; buffer.backtrack_len() == 4);
     Ok(())
 }
 
@@ -223,7 +238,7 @@ fn numbered(rt: &impl Abort, alloc: Global) -> Result<hb_buffer_t, BufferError> 
 
 #[test]
 fn positions_dropped(rt: HostRuntime) -> Result<(), Fail> {
-    for call in 0..6u32 {
+    for call in 0..7u32 {
         let mut buffer = numbered(&rt, rt.alloc())?;
         assert!(rt; buffer.has_positions() && buffer.backtrack_len() < buffer.len());
         match call {
@@ -232,6 +247,7 @@ fn positions_dropped(rt: HostRuntime) -> Result<(), Fail> {
             2 => buffer.output_glyph(4)?,
             3 => buffer.copy_glyph()?,
             4 => buffer.clear_output()?,
+            5 => buffer.insert_glyphs(&[])?,
             _ => buffer.drop_positions(),
         }
         assert!(rt; !buffer.has_positions(), "call {call}");
@@ -376,7 +392,7 @@ fn filter_asked_once(rt: HostRuntime) -> Result<(), Fail> {
 
 #[test]
 fn too_long(rt: HostRuntime) -> Result<(), Fail> {
-    for call in 0..3u32 {
+    for call in 0..4u32 {
         let mut buffer = hb_buffer_t::new(rt.alloc(), 2, 0);
         buffer.add(record((1, 0, 0)))?;
         buffer.add(record((2, 1, 0)))?;
@@ -386,7 +402,8 @@ fn too_long(rt: HostRuntime) -> Result<(), Fail> {
         let refused = match call {
             0 => buffer.add(record((3, 2, 0))),
             1 => buffer.output_glyph(3),
-            _ => buffer.copy_glyph(),
+            2 => buffer.copy_glyph(),
+            _ => buffer.insert_glyphs(&[record((3, 2, 0))]),
         };
         assert!(rt; refused == Err(BufferError::TooLong), "call {call}");
         assert!(rt; !buffer.is_successful() && buffer.backtrack_len() == 1);
@@ -396,6 +413,21 @@ fn too_long(rt: HostRuntime) -> Result<(), Fail> {
         buffer.add(record((3, 2, 0)))?;
         assert!(rt; !buffer.is_successful() && line_is(&buffer, &[(1, 0, 0), (3, 2, 0)]));
     }
+    Ok(())
+}
+
+/// A run that would pass the longest length by one glyph goes in by none, and one glyph fewer fits.
+#[test]
+fn run_too_long(rt: HostRuntime) -> Result<(), Fail> {
+    let mut buffer = hb_buffer_t::new(rt.alloc(), 3, 0);
+    buffer.add(record((1, 0, 0)))?;
+    let run = [record((2, 1, 0)), record((3, 1, 0)), record((4, 1, 0))];
+    assert!(rt; buffer.insert_glyphs(&run) == Err(BufferError::TooLong));
+    assert!(rt; !buffer.is_successful() && line_is(&buffer, &[(1, 0, 0)]));
+    buffer.insert_glyphs(&run[..2])?;
+    assert!(rt;
+        line_is(&buffer, &[(2, 1, 0), (3, 1, 0), (1, 0, 0)]) && buffer.backtrack_len() == 2
+    );
     Ok(())
 }
 
@@ -442,7 +474,7 @@ fn full_line<'a>(
 /// What takes memory is refused without it, and leaves the line, the cursor and the positions as they were.
 #[test]
 fn out_of_memory(rt: HostRuntime) -> Result<(), Fail> {
-    for call in 0..4u32 {
+    for call in 0..5u32 {
         let heap = LocalHeap::new(rt.alloc(), 4096)?;
         let mut buffer = full_line(&rt, rt.alloc(), &heap)?;
         let len = buffer.len();
@@ -457,6 +489,7 @@ fn out_of_memory(rt: HostRuntime) -> Result<(), Fail> {
             0 => buffer.add(record((6, 0, 0))),
             1 => buffer.output_glyph(6),
             2 => buffer.copy_glyph(),
+            4 => buffer.insert_glyphs(&[record((6, 0, 0)), record((7, 0, 0))]),
             _ => buffer.clear_positions(),
         };
         assert!(rt; refused == Err(BufferError::OutOfMemory), "call {call}");
@@ -481,7 +514,7 @@ fn each_growth_refused(rt: HostRuntime) -> Result<(), Fail> {
         let mut buffer = hb_buffer_t::new(&heap, 100, 0);
         match grow(&mut buffer) {
             Ok(()) => {
-                assert!(rt; refused && buffer.is_successful() && buffer.len() == 12);
+                assert!(rt; refused && buffer.is_successful() && buffer.len() == 14);
                 return Ok(());
             }
             Err(error) => {
@@ -502,6 +535,7 @@ fn grow<A: Allocator + Copy>(buffer: &mut hb_buffer_t<A>) -> Result<(), BufferEr
     if buffer.backtrack_len() < buffer.len() {
         buffer.copy_glyph()?;
     }
+    buffer.insert_glyphs(&[record((7, 0, 0)), record((8, 0, 0))])?;
     buffer.clear_output()?;
     buffer.clear_positions()
 }
@@ -546,6 +580,7 @@ fn without_memory(rt: HostRuntime) -> Result<(), Fail> {
     buffer.skip_glyph();
     buffer.move_to(buffer.len());
     assert!(rt; buffer.clear_output() == Ok(()) && buffer.backtrack_len() == 0);
+    assert!(rt; buffer.insert_glyphs(&[]) == Ok(()));
     assert!(rt; clusters_are(&buffer, &[0, 0, 0, 0]) && buffer.all_glyphs_16());
     assert!(rt; buffer.is_successful() && hoard.len() > 0);
     Ok(())

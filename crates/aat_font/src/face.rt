@@ -1,5 +1,5 @@
 //! A font: its optional tables, and the classes and advances of its glyphs.
-ghost use Rattle.std.specs.Prelude.{◌≡◌};
+ghost use Rattle.std.specs.Prelude.{◌≡◌, None, Some};
 ghost use Rattle.aat_font.specs.Face.{tables_of, glyph_classes_of, advances_of, has_classes, props_of, advance_of};
 ghost use Rattle.aat_font.specs.Face.{value_or_zero};
 
@@ -8,11 +8,33 @@ use crate::lookup::Lookup;
 use crate::morx::Morx;
 use crate::plan::GlyphId;
 
-/// The tables of a font, each of which may be missing.
-#[derive(Drop)]
+/// The tables of a font, each of which may be missing. By default all are.
+#[derive(Drop, Default)]
 pub struct FaceTables {
     pub morx: Option<Morx>,
     pub feat: Option<Feat>,
+}
+
+impl FaceTables {
+    /// The same tables with this extended glyph metamorphosis table.
+    pub fn with_morx(self, morx: Morx) -> FaceTables
+        ensures { result ≡ record self { morx = Some morx } }
+    {
+        FaceTables {
+            morx: Some(morx),
+            ..self
+        }
+    }
+
+    /// The same tables with this feature name table.
+    pub fn with_feat(self, feat: Feat) -> FaceTables
+        ensures { result ≡ record self { feat = Some feat } }
+    {
+        FaceTables {
+            feat: Some(feat),
+            ..self
+        }
+    }
 }
 
 /// A font.
@@ -40,6 +62,15 @@ impl hb_font_t {
             glyph_classes,
             advances,
         }
+    }
+
+    /// A font of these tables, without classes and advances of its glyphs.
+    pub fn from_tables(tables: FaceTables) -> hb_font_t
+        ensures tables { tables_of result ≡ tables }
+        ensures glyph_classes { glyph_classes_of result ≡ None }
+        ensures advances { advances_of result ≡ None }
+    {
+        hb_font_t::new(tables, None, None)
     }
 
     /// The font's optional tables.

@@ -20,6 +20,19 @@ pub struct FeatureName {
     pub exclusive: bool,
 }
 
+impl FeatureName {
+    /// A feature type with so many setting names, which exclude one another or do not.
+    pub fn new(kind: u16, settings: u16, exclusive: bool) -> FeatureName
+        ensures { result ≡ record { kind = kind; settings = settings; exclusive = exclusive } }
+    {
+        FeatureName {
+            kind,
+            settings,
+            exclusive,
+        }
+    }
+}
+
 /// The features of a font, strictly rising by type. A contract sees it as the list of its names.
 ///
 /// Apple's TrueType Reference Manual, "The 'feat' table".

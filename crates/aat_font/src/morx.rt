@@ -120,6 +120,19 @@ pub struct Subtable {
     pub feature_flags: hb_mask_t,
 }
 
+impl Subtable {
+    /// A subtable that does this for text of this coverage, on where the chain's flags share a bit with these.
+    pub fn new(kind: SubtableKind, coverage: Coverage, feature_flags: hb_mask_t) -> Subtable
+        ensures { result ≡ record { kind = kind; coverage = coverage; feature_flags = feature_flags } }
+    {
+        Subtable {
+            kind,
+            coverage,
+            feature_flags,
+        }
+    }
+}
+
 /// What a feature setting does to a chain's flags: they become
 /// `(flags & disable_flags) | enable_flags`.
 ///
@@ -136,6 +149,25 @@ pub struct ChainFeature {
     pub disable_flags: hb_mask_t,
 }
 
+impl ChainFeature {
+    /// What a selector of a feature type does to the flags: the bits that it sets, and those that it keeps.
+    pub fn new(
+        kind: u16,
+        setting: u16,
+        enable_flags: hb_mask_t,
+        disable_flags: hb_mask_t,
+    ) -> ChainFeature
+        ensures { result ≡ record { kind = kind; setting = setting; enable_flags = enable_flags; disable_flags = disable_flags } }
+    {
+        ChainFeature {
+            kind,
+            setting,
+            enable_flags,
+            disable_flags,
+        }
+    }
+}
+
 /// Subtables that are run in their order, with the flags that switch them.
 ///
 /// Apple's TrueType Reference Manual, "The 'morx' table", chain header.
@@ -147,6 +179,23 @@ pub struct Chain {
     pub features: Vec<ChainFeature>,
     /// The subtables in their order.
     pub subtables: Vec<Subtable>,
+}
+
+impl Chain {
+    /// A chain of its flags where nothing is asked for, of what settings do to them, and of its subtables.
+    pub fn new(
+        default_flags: hb_mask_t,
+        features: Vec<ChainFeature>,
+        subtables: Vec<Subtable>,
+    ) -> Chain
+        ensures { result ≡ record { default_flags = default_flags; features = features; subtables = subtables } }
+    {
+        Chain {
+            default_flags,
+            features,
+            subtables,
+        }
+    }
 }
 
 /// The extended glyph metamorphosis table: chains that are run in their order.

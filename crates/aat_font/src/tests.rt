@@ -317,10 +317,9 @@ fn many_subtables(rt: HostRuntime) -> Result<(), Fail> {
 fn fonts(rt: HostRuntime) -> Result<(), Fail> {
     let alloc = rt.alloc();
     let font = hb_font_t::new(
-        FaceTables {
-            morx: Some(Morx::new(vec![in alloc; chain_of(alloc, 3)?]?)?),
-            feat: Some(Feat::new(alloc, &[name(1, 1)])?),
-        },
+        FaceTables::default()
+            .with_morx(Morx::new(vec![in alloc; chain_of(alloc, 3)?]?)?)
+            .with_feat(Feat::new(alloc, &[name(1, 1)])?),
         Some(Lookup::new(alloc, &[(0, 8), (65535, 2)])?),
         Some(Lookup::new(alloc, &[(0, 500), (65535, 65535)])?),
     );
@@ -331,12 +330,9 @@ fn fonts(rt: HostRuntime) -> Result<(), Fail> {
         assert_eq!(rt; font.glyph_props(GlyphId(glyph)), props, "at {glyph}");
         assert_eq!(rt; font.glyph_advance(GlyphId(glyph)), advance, "at {glyph}");
     }
-    let bare = FaceTables {
-        morx: None,
-        feat: None,
-    };
-    let bare = hb_font_t::new(bare, None, None);
-    assert!(rt; bare.tables().morx.is_none() && !bare.has_glyph_classes());
+    let bare = hb_font_t::from_tables(FaceTables::default());
+    assert!(rt; bare.tables().morx.is_none() && bare.tables().feat.is_none());
+    assert!(rt; !bare.has_glyph_classes());
     assert!(rt; bare.glyph_props(GlyphId(0)) == 0 && bare.glyph_advance(GlyphId(65535)) == 0);
     Ok(())
 }

@@ -94,6 +94,19 @@ pub struct hb_glyph_info_t {
     pub unicode_props: u16,
 }
 
+impl hb_glyph_info_t {
+    /// A glyph that came from the character `cluster`. All else of it is zero.
+    pub fn new(glyph_id: u32, cluster: u32) -> hb_glyph_info_t
+        ensures { result ≡ record { glyph_id = glyph_id; mask = 0; cluster = cluster; glyph_props = 0; unicode_props = 0 } }
+    {
+        hb_glyph_info_t {
+            glyph_id,
+            cluster,
+            ..hb_glyph_info_t::default()
+        }
+    }
+}
+
 /// Where a glyph is drawn, in units of the font. The default is all zero.
 #[derive(Clone, Copy, PartialEq, Eq, Debug, Default)]
 pub struct GlyphPosition {

@@ -1,4 +1,5 @@
 pub mod KindsKeep
+pub mod LaterDeleted
 pub mod LawsHold
 pub mod Ligating
 pub mod Lists

@@ -1,5 +1,5 @@
 -- The insertion act. TrueType Reference Manual: The 'morx' table, glyph insertion.
-use Rattle.std.specs.Prelude.{ℕ, ◌+◌, ◌/◌, ◌&&◌, ◌||◌, ◌≤◌, not, Bool, false, nat_lt, nat_le, min, bit_and, List, [], ◌++◌, length, map, take, drop, slice_range, Some, None, if◌then◌else◌}
+use Rattle.std.specs.Prelude.{ℕ, ◌≡◌, ◌⊎◌, ◌+◌, ◌/◌, ◌&&◌, ◌||◌, ◌≤◌, not, IsTrue, Bool, false, nat_lt, nat_le, min, bit_and, List, [], ◌++◌, length, map, take, drop, slice_range, Some, None, if◌then◌else◌}
 use Rattle.aat_buffer.specs.Buffer.{Buffer, model_at}
 use Rattle.aat_buffer.specs.Marks.{unsafe_to_break}
 use Rattle.aat_glyph.specs.declared.glyph.hb_glyph_info_t.{hb_glyph_info_t}
@@ -109,3 +109,14 @@ held_act e h b =
 
 abbrev pub held_fit : Held → ℕ → ℕ → Type 0
 held_fit h p n = IsFit h.registers p n
+
+-- the act of an entry puts its marked run in: it has an index, and leaves a budget once it is paid for
+abbrev pub puts_marked : Entry → Buffer → Bool
+puts_marked e b = is_present e.extra.marked_insert_index && has_operations (paid (marked_count e) b)
+
+-- the line that a refused act leaves has no part of a run: it is the one from before the act or, where the act puts the
+-- marked run in, the one with that run
+abbrev pub IsLineOfWholeRuns : Entry → Held → Buffer → List hb_glyph_info_t → Type 0
+IsLineOfWholeRuns e h b line =
+    (line ≡ b.line)
+    ⊎ (IsTrue (puts_marked e b) × (line ≡ (at_mark h.glyphs e h.registers (paid (marked_count e) b)).line))

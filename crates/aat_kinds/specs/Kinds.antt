@@ -1,6 +1,6 @@
 -- The run of a subtable, by its kind, and on the line in the opposite order. Apple's TrueType Reference Manual, "The
 -- 'morx' table", chains and the coverage of subtables.
-use Rattle.std.specs.Prelude.{ℕ, not, Bool, List, length, Option, if◌then◌else◌, ◌||◌}
+use Rattle.std.specs.Prelude.{ℕ, not, Bool, true, false, List, length, Option, if◌then◌else◌, ◌||◌}
 use Rattle.aat_buffer.specs.Buffer.{Buffer, with_line, reversed}
 use Rattle.aat_glyph.specs.declared.glyph.Direction.{Direction}
 use Rattle.aat_font.specs.Coverage.{is_backwards, is_logical, is_vertical_coverage, is_all_directions}
@@ -66,9 +66,13 @@ pub record Sizes : Type 0 where
   pub slots : ℕ
   pub classes : Option (List (ℕ × ℕ))
 
--- what a run in a font is given: spans of at most 64 glyphs, 64 slots, and the font's classes
+-- what a run in a font is given: so many slots, spans of at most so many glyphs, and the font's classes
+abbrev pub sizes_of : ℕ → ℕ → hb_font_t → Sizes
+sizes_of slots bound face = record { bound = bound; slots = slots; classes = glyph_classes_of face }
+
+-- the same with 64 slots, and spans of at most 64 glyphs
 abbrev pub sizes_for : hb_font_t → Sizes
-sizes_for face = record { bound = 64; slots = 64; classes = glyph_classes_of face }
+sizes_for face = sizes_of 64 64 face
 
 -- the run of a subtable by its kind, where `on` tells at which clusters it is on
 abbrev pub kind_run : Sizes → (ℕ → Bool) → SubtableKind → Buffer → Outcome
@@ -77,6 +81,14 @@ kind_run z on (Contextual s) b = contextual_run on z.classes s.state s.lookups b
 kind_run z on (Ligature s) b = ligature_run z.slots on s.state s.actions s.components s.ligatures b
 kind_run z on (NonContextual lookup) b = noncontextual_run on z.classes lookup b
 kind_run z on (Insertion s) b = insertion_run on s.state s.glyphs b
+
+-- a subtable is one of insertion, the only kind that changes the number of glyphs
+abbrev pub is_insertion : SubtableKind → Bool
+is_insertion (Rearrangement table) = false
+is_insertion (Contextual s) = false
+is_insertion (Ligature s) = false
+is_insertion (NonContextual lookup) = false
+is_insertion (Insertion s) = true
 
 -- a subtable is for text of this direction
 abbrev pub is_for : Direction → Coverage → Bool

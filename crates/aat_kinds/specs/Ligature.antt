@@ -1,5 +1,5 @@
 -- The ligature act. TrueType Reference Manual: The 'morx' table, ligatures.
-use Rattle.std.specs.Prelude.{◌≡◌, ◌≤◌, zero, suc, ℕ, ◌+◌, ◌-◌, ◌%◌, ◌==◌, ◌&&◌, ◌<◌, not, Bool, false, nat_lt, bit_and, bit_or, ℤ, pos, negsuc, ◌+ℤ◌, ◌-ℤ◌, List, length, replicate, slice_get, slice_set, slice_index, Option, Some, None, if◌then◌else◌}
+use Rattle.std.specs.Prelude.{◌≡◌, ◌≢◌, ◌≤◌, zero, suc, ℕ, ◌+◌, ◌-◌, ◌%◌, ◌==◌, ◌&&◌, ◌<◌, not, Bool, false, nat_lt, bit_and, bit_or, ℤ, pos, negsuc, ◌+ℤ◌, ◌-ℤ◌, List, length, replicate, slice_get, slice_set, slice_index, Option, Some, None, if◌then◌else◌}
 use Rattle.aat_buffer.specs.Buffer.{Buffer, glyph_at}
 use Rattle.aat_buffer.specs.Marks.{merge_out_clusters, with_line}
 use Rattle.aat_glyph.specs.declared.glyph.hb_glyph_info_t.{hb_glyph_info_t}
@@ -114,6 +114,13 @@ module _ (actions : List ℕ) (values : List ℕ) (ligatures : List GlyphId) whe
   ligated (suc c) a sum n =
       elim (component_step (slice_get actions a) c sum n) [ Stops d ↦ d | GoesOn more d ↦ ligated c (a + 1) more d ]
 
+  -- how many components there are through the one that becomes the last ligature; all of them, where none does
+  unfoldable pub through_last : ℕ → ℕ → ℕ → Moved Registers → ℕ
+  through_last zero a sum n = n.regs.count
+  through_last (suc c) a sum n =
+      let t = component_step (slice_get actions a) c sum n in
+      elim t [ Stops d ↦ d.regs.count | GoesOn more d ↦ through_last c (a + 1) more d ]
+
   -- the act of an entry: 0x8000 holds the cursor as a component, 0x2000 takes the components in
   unfoldable pub act : GenericStateEntry ℕ → Registers → Buffer → Moved Registers
   act e r b =
@@ -121,6 +128,14 @@ module _ (actions : List ℕ) (values : List ℕ) (ligatures : List GlyphId) whe
       if has_flag e 0x2000 && nat_lt b.cursor (length b.line)
       then ligated s.count e.extra 0 (record { regs = s; buffer = b })
       else record { regs = s; buffer = b }
+
+  -- the same of the act of an entry
+  abbrev pub through_last_of : GenericStateEntry ℕ → Registers → Buffer → ℕ
+  through_last_of e r b =
+      let s = with_component e r b.cursor in
+      if has_flag e 0x2000 && nat_lt b.cursor (length b.line)
+      then through_last s.count e.extra 0 (record { regs = s; buffer = b })
+      else s.count
 
   abbrev pub context : ℕ → Context Registers (GenericStateEntry ℕ)
   context size = record { fresh = fresh size; in_place = false; advances = goes_on; actionable = actionable; act = act }
@@ -140,6 +155,15 @@ abbrev pub held_act : GenericStateEntry ℕ → Held → Buffer → Moved Held
 held_act e h b =
     let n = act h.actions h.components h.ligatures e h.registers b in
     record { regs = record h { registers = n.regs }; buffer = n.buffer }
+
+-- each component behind the last ligature of an act is the deleted glyph on a line, unless it has the same place as the
+-- component that became that ligature
+abbrev pub DeletesLater : GenericStateEntry ℕ → Held → Buffer → List hb_glyph_info_t → Type 0
+DeletesLater e h b line =
+    let s = with_component e h.registers b.cursor in
+    let n = through_last_of h.actions h.components h.ligatures e h.registers b in
+    (j : ℕ) → n ≤ j → j < s.count → component s j ≢ component s (n - 1)
+    → (glyph_at line (component s j)).glyph_id ≡ 0xFFFF
 
 -- what a context holds fits where its registers do, no more components are held than glyphs stand before the cursor and
 -- one at it, and where there are as many, the newest is the cursor

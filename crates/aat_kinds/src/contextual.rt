@@ -151,6 +151,8 @@ impl<'a> driver_context_t<ContextualEntryData> for ContextualCtx<'a> {
 
     ghost stays_in_place = { true };
 
+    ghost keeps_length = { true };
+
     ghost advances = { goes_on };
 
     ghost actionable = { contextual.held_actionable };
@@ -174,7 +176,8 @@ impl<'a> driver_context_t<ContextualEntryData> for ContextualCtx<'a> {
             && (entry.extra.mark_index != NO_LOOKUP || entry.extra.current_index != NO_LOOKUP)
     }
 
-    /// Does what the entry says. The number of glyphs stays. Never refused.
+    /// Does what the entry says. The number of glyphs stays. Never refused. The registers have to fit, and each glyph id has
+    /// to be at most 0xFFFF, and is so again.
     fn transition<A: Allocator + Copy>(
         &mut self,
         entry: &GenericStateEntry<ContextualEntryData>,
@@ -209,6 +212,8 @@ impl<'a> driver_context_t<ContextualEntryData> for ContextualCtx<'a> {
     ghost keeps_settings = { laws.keeps_settings };
 
     ghost keeps_place = { λ yes. laws.keeps_place };
+
+    ghost keeps_count = { λ yes. laws.keeps_place.length };
 
     ghost keeps_order = { laws.keeps_order };
 }

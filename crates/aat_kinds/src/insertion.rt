@@ -1,14 +1,14 @@
 //! Insertion subtables: runs of glyphs go in at the marked place and at the cursor.
-ghost use Rattle.std.specs.Prelude.{◌≡◌, ℕ, ◌+◌, ◌-◌, ◌<◌, ◌≤◌, length, map, not, Bool, false, true, IfErr, OnErr, OnOk};
-ghost use Rattle.aat_buffer.specs.Buffer.{Buffer, glyph_at, model_at, output, with_cursor};
+ghost use Rattle.std.specs.Prelude.{◌≡◌, ℕ, ◌+◌, ◌-◌, ◌<◌, ◌≤◌, ◌&&◌, if◌then◌else◌, nat_lt, length, map, not, All, Bool, take, false, true, IfErr, OnErr, OnOk};
+ghost use Rattle.aat_buffer.specs.Buffer.{Buffer, Is16Bit, model_at};
 ghost use Rattle.aat_buffer.specs.Clusters.{IsSmall};
 ghost use Rattle.aat_run.specs.Budget.{paid};
 ghost use Rattle.aat_run.specs.Driven.{IsRefusal, IsRefused};
-ghost use Rattle.aat_run.specs.Laws.{FitsFresh};
-ghost use Rattle.aat_kinds.specs.Insertion.{at_cursor, at_mark, current_part, fresh, held_act, held_fit, inserted, run_for, with_mark};
-ghost use Rattle.aat_kinds.specs.inside.Run.{IsGrowthRefusal, copies, put_in, with_run};
+ghost use Rattle.aat_run.specs.Laws.{FitsFresh, SameSettings};
+ghost use Rattle.aat_kinds.specs.Insertion.{IsLineOfWholeRuns, at_cursor, at_mark, current_part, fresh, held_act, held_fit, inserted, run_for, with_mark};
+ghost use Rattle.aat_kinds.specs.inside.Run.{IsGrowthRefusal, IsRefusedRun, copies, put_at};
 
-use aat_buffer::{BufferError, hb_buffer_t};
+use aat_buffer::{BufferError, hb_buffer_t, hb_glyph_info_t};
 use aat_font::{GenericStateEntry, GlyphId, InsertionEntryData};
 use aat_run::{AatError, driver_context_t};
 use std::alloc::Allocator;
@@ -26,6 +26,9 @@ const CURRENT_BEFORE: u16 = 0x0800;
 /// The flag of an entry whose glyphs at the mark go in before the glyph there.
 const MARKED_BEFORE: u16 = 0x0400;
 
+/// How many glyphs a run has at most.
+const LONGEST_RUN: usize = 31;
+
 /// The index of no glyphs.
 const NO_GLYPHS: u16 = 0xFFFF;
 
@@ -33,10 +36,10 @@ const NO_GLYPHS: u16 = 0xFFFF;
 ///
 /// An entry may put a run of at most 31 of those glyphs in at the mark, and another one at the cursor, before or behind
 /// the glyph there, and may mark the cursor. Each glyph that goes in is a copy of the one at its place, or of the last
-/// one at the end of the text, with another id. A run that would leave the list is one of no glyphs. The number that
-/// the entry counts for a run is paid out of the budget where the run has an index and the act comes to it, whatever
-/// goes in: a marked run that leaves no budget does not go in, and
-/// ends the act, and a current one that leaves a debt does not go in.
+/// one at the end of the text, with another id. A run that would leave the list, or go into an empty line, is one of no
+/// glyphs. The number that the entry counts for a run is paid out of the budget where the run has an index and the act
+/// comes to it, whatever goes in: a marked run that leaves no budget does not go in, and ends the act, and a current one
+/// that leaves a debt does not go in.
 ///
 /// A contract sees it as the record `Held`.
 ///
@@ -77,9 +80,9 @@ impl<'a> InsertionCtx<'a> {
         ensures ids { OnOk result (IsSmall buffer.new) }
         ensures successful { OnOk result (buffer.new.successful ≡ buffer.old.successful) }
         ensures longer { OnOk result (length buffer.old.line ≤ length buffer.new.line) }
-        ensures most { OnOk result (buffer.new.max_len ≡ buffer.old.max_len) }
+        ensures settings { OnOk result (SameSettings buffer.old buffer.new) }
         ensures reason { IfErr result (IsRefusal buffer.old (at_mark self.now.glyphs entry.now self.now.registers buffer.old)) }
-        ensures refused { OnErr result (IsRefused buffer.old buffer.new) }
+        ensures refused { OnErr result (IsRefusedRun buffer.old buffer.new) }
     {
         let run = run_for(
             self.glyphs,
@@ -115,7 +118,7 @@ impl<'a> InsertionCtx<'a> {
         ensures ids { OnOk result (IsSmall buffer.new) }
         ensures successful { OnOk result (buffer.new.successful ≡ buffer.old.successful) }
         ensures reason { IfErr result (IsRefusal buffer.old (current_part self.old.glyphs entry.now self.new.registers buffer.old).buffer) }
-        ensures refused { OnErr result (IsRefused buffer.old buffer.new) }
+        ensures refused { OnErr result (IsRefusedRun buffer.old buffer.new) }
     {
         if entry.has_mark() {
             self.mark = place;
@@ -136,6 +139,8 @@ impl<'a> driver_context_t<InsertionEntryData> for InsertionCtx<'a> {
     ghost fits = { insertion.held_fit };
 
     ghost stays_in_place = { false };
+
+    ghost keeps_length = { false };
 
     ghost advances = { goes_on };
 
@@ -164,15 +169,27 @@ impl<'a> driver_context_t<InsertionEntryData> for InsertionCtx<'a> {
     /// Does what the entry says. A run of r glyphs is O(r and the distance that the cursor moves), amortised.
     ///
     /// Refused as 2, `TooLong`, only where the act would leave a line longer than the buffer's `max_len`, and else as
-    /// 3,
-    /// `OutOfMemory`, only where it would leave a longer line than it found. After a refusal the buffer has failed, its
-    /// line is some line of 16-bit glyphs that has at most its greatest length, and the registers are any.
-    #[tactic(auto, unfolding(crate::specs::Insertion::act))]
+    /// 3, `OutOfMemory`, only where it would leave a longer line than it found. A run goes in whole or not at all, and
+    /// the length is looked at before memory is asked for. After a refusal the buffer has failed, its line is of 16-bit
+    /// glyphs, at most its greatest length long, and that from before the act or, where the act puts a marked run in, the
+    /// one with that run; all but line, cursor, positions and budget is as before, and the registers are any.
+    ///
+    /// The registers have to fit, and each glyph id has to be at most 0xFFFF, and is so again.
+    #[tactic(auto, using(crate::proofs::Refusals::refused_for_run), unfolding(crate::specs::Insertion::act))]
     fn transition<A: Allocator + Copy>(
         &mut self,
         entry: &GenericStateEntry<InsertionEntryData>,
         buffer: &mut hb_buffer_t<A>,
-    ) -> Result<(), AatError> {
+    ) -> Result<(), AatError>
+        requires fit { held_fit self.old buffer.old.cursor (length buffer.old.line) }
+        requires ids { IsSmall buffer.old }
+        ensures act { OnOk result (record { regs = self.new; buffer = buffer.new } ≡ held_act entry.now self.old buffer.old) }
+        ensures ids { OnOk result (IsSmall buffer.new) }
+        ensures successful { OnOk result (buffer.new.successful ≡ buffer.old.successful) }
+        ensures reason { IfErr result (IsRefusal buffer.old (held_act entry.now self.old buffer.old).buffer) }
+        ensures refused { OnErr result (IsRefused buffer.old buffer.new) }
+        ensures whole { OnErr result (IsLineOfWholeRuns entry.now self.old buffer.old buffer.new.line) }
+    {
         let place = buffer.backtrack_len();
         if entry.extra.marked_insert_index == NO_GLYPHS {
             return self.mark_and_insert(entry, place, buffer);
@@ -201,6 +218,8 @@ impl<'a> driver_context_t<InsertionEntryData> for InsertionCtx<'a> {
 
     ghost keeps_place = { laws.keeps_place };
 
+    ghost keeps_count = { laws.keeps_count };
+
     ghost keeps_order = { laws.keeps_order };
 }
 
@@ -217,7 +236,7 @@ fn insert_current<A: Allocator + Copy>(
     ensures ids { OnOk result (IsSmall buffer.new) }
     ensures successful { OnOk result (buffer.new.successful ≡ buffer.old.successful) }
     ensures reason { IfErr result (IsRefusal buffer.old (at_cursor glyphs.now entry.now buffer.old)) }
-    ensures refused { OnErr result (IsRefused buffer.old buffer.new) }
+    ensures refused { OnErr result (IsRefusedRun buffer.old buffer.new) }
 {
     let count = (entry.flags & CURRENT_COUNT) / 32;
     pay(buffer, count);
@@ -262,107 +281,50 @@ fn run_for<'a, A: Allocator + Copy>(
     }
 }
 
-/// Puts a copy of the glyph at the cursor, or of the last one, with another id in at the cursor, and moves over it.
-#[tactic(auto, using(crate::proofs::Putting::small_of_output))]
-fn put_glyph<A: Allocator + Copy>(
-    buffer: &mut hb_buffer_t<A>,
-    glyph: GlyphId,
-) -> Result<(), AatError>
-    requires some { 0 < length buffer.old.line }
-    requires ids { IsSmall buffer.old }
-    ensures ok { OnOk result (buffer.new ≡ output buffer.old glyph.0) }
-    ensures ids { OnOk result (IsSmall buffer.new) }
-    ensures too_long { IfErr result (λ e. e ≡ AatError.TooLong → buffer.old.max_len ≤ length buffer.old.line) }
-    ensures known { IfErr result IsGrowthRefusal }
-    ensures refused { OnErr result (IsRefused buffer.old buffer.new) }
+/// The record that glyphs at a place are copies of: that of the glyph there, or of the last one at the end.
+fn model_of<A: Allocator + Copy>(buffer: &hb_buffer_t<A>, place: usize) -> hb_glyph_info_t
+    requires some { 0 < length buffer.now.line }
+    ensures { result ≡ model_at buffer.now.line place }
 {
-    let _length = buffer.len();
-    match buffer.output_glyph(u32::from(glyph.0)) {
-        Ok(()) => Ok(()),
-        Err(error) => Err(refusal(error)),
+    *buffer.info(place.min(buffer.len() - 1))
+}
+
+/// A run as records: copies of one, each with its own id.
+fn records_of(model: hb_glyph_info_t, run: &[GlyphId]) -> [hb_glyph_info_t; LONGEST_RUN]
+    requires few { length run.now ≤ 31 }
+    ensures copies { take (length run.now) result ≡ copies model run.now }
+    ensures ids { All Is16Bit (take (length run.now) result) }
+    ensures long { length result ≡ 31 }
+{
+    let mut records = [model; LONGEST_RUN];
+    for i in 0..run.len() {
+        records[i] = hb_glyph_info_t {
+            glyph_id: u32::from(run[i].0),
+            ..model
+        };
+    }
+    records
+}
+
+/// Where a run goes in: before the place, or behind the glyph there, if there is one.
+fn start_of(place: usize, behind: bool, len: usize) -> usize
+    requires low { place ≤ len }
+    ensures start { result ≡ (if behind && nat_lt place len then place + 1 else place) }
+    ensures within { result ≤ len }
+{
+    if behind && place < len {
+        place + 1
+    } else {
+        place
     }
 }
 
-/// Puts a run in at the cursor, glyph by glyph, and moves over it. Each is a copy of the glyph at the cursor, or of the
-/// last one where the cursor is at the end, with its own id.
-fn put_before<A: Allocator + Copy>(
-    buffer: &mut hb_buffer_t<A>,
-    run: &[GlyphId],
-) -> Result<(), AatError>
-    requires some { 0 < length buffer.old.line }
-    requires ids { IsSmall buffer.old }
-    ensures ok { OnOk result (buffer.new ≡ with_run (copies (model_at buffer.old.line buffer.old.cursor) run.now) buffer.old) }
-    ensures ids { OnOk result (IsSmall buffer.new) }
-    ensures count { OnOk result (length buffer.new.line ≡ length buffer.old.line + length run.now) }
-    ensures too_long { IfErr result (λ e. e ≡ AatError.TooLong → buffer.old.max_len < length buffer.old.line + length run.now) }
-    ensures known { IfErr result IsGrowthRefusal }
-    ensures some { OnErr result (0 < length run.now) }
-    ensures refused { OnErr result (IsRefused buffer.old buffer.new) }
-{
-    let _cursor = buffer.backtrack_len();
-    buffer.drop_positions();
-    for glyph in run {
-        put_glyph(buffer, *glyph)?;
-    }
-    Ok(())
-}
-
-/// Puts a run in behind the glyph at the cursor, each a copy of it with its own id: a copy of the glyph itself goes in
-/// before it, and the glyphs of the run but the last one, and then the glyph becomes the last one.
-fn put_behind<A: Allocator + Copy>(
-    buffer: &mut hb_buffer_t<A>,
-    run: &[GlyphId],
-) -> Result<(), AatError>
-    requires inside { buffer.old.cursor < length buffer.old.line }
-    requires some { 0 < length run.now }
-    requires ids { IsSmall buffer.old }
-    ensures ok { OnOk result (with_cursor buffer.new 0 ≡ put_in run.now buffer.old.cursor true 0 buffer.old) }
-    ensures ids { OnOk result (IsSmall buffer.new) }
-    ensures too_long { IfErr result (λ e. e ≡ AatError.TooLong → buffer.old.max_len < length buffer.old.line + length run.now) }
-    ensures known { IfErr result IsGrowthRefusal }
-    ensures refused { OnErr result (IsRefused buffer.old buffer.new) }
-{
-    let place = buffer.backtrack_len();
-    let last = run.len() - 1;
-    let glyph = GlyphId(buffer.cur().glyph_id as u16);
-    put_glyph(buffer, glyph)?;
-    put_before(buffer, &run[..last])?;
-    buffer.replace_glyph(u32::from(run[last].0));
-    Ok(())
-}
-
-/// Puts a run in at a place, or behind the glyph there.
-#[tactic(auto, unfolding(crate::specs::Insertion::inserted))]
-fn put_at<A: Allocator + Copy>(
-    buffer: &mut hb_buffer_t<A>,
-    run: &[GlyphId],
-    place: usize,
-    behind: bool,
-) -> Result<(), AatError>
-    requires place { place ≤ length buffer.old.line }
-    requires room { 0 < length run.now → 0 < length buffer.old.line }
-    requires ids { IsSmall buffer.old }
-    ensures ok { OnOk result (with_cursor buffer.new 0 ≡ put_in run.now place behind 0 buffer.old) }
-    ensures ids { OnOk result (IsSmall buffer.new) }
-    ensures reason { IfErr result (IsRefusal buffer.old (put_in run.now place behind 0 buffer.old)) }
-    ensures refused { OnErr result (IsRefused buffer.old buffer.new) }
-{
-    buffer.drop_positions();
-    if run.len() == 0 {
-        return Ok(());
-    }
-    buffer.move_to(place);
-    if behind && place < buffer.len() {
-        return put_behind(buffer, run);
-    }
-    put_before(buffer, run)
-}
-
-/// Puts a run in at a place, or behind the glyph there, and the cursor at another. In as many steps as the run is long,
-/// and the cursor moves.
+/// Puts a run in at a place, or behind the glyph there, each a copy of that glyph, or of the last one, with its own id,
+/// and the cursor at another place. In as many steps as the run is long, and the cursor moves, amortised.
 ///
-/// Refused as 2, `TooLong`, only where the line would be too long, and else as 3, `OutOfMemory`, only where the run has
-/// glyphs. The buffer has failed then.
+/// Refused as 2, `TooLong`, where the line would be too long, and else as 3, `OutOfMemory`, where it gets no memory for
+/// the run, which has glyphs then. The buffer has failed, and the line is as before.
+#[tactic(auto, using(crate::proofs::Putting::small_of_made, crate::specs::facts::InsertionLaws::length_inserted), unfolding(crate::specs::Insertion::inserted))]
 fn put_in<A: Allocator + Copy>(
     buffer: &mut hb_buffer_t<A>,
     run: &[GlyphId],
@@ -373,14 +335,24 @@ fn put_in<A: Allocator + Copy>(
     requires place { place ≤ length buffer.old.line }
     requires cursor { cursor ≤ length buffer.old.line + length run.now }
     requires room { 0 < length run.now → 0 < length buffer.old.line }
+    requires few { length run.now ≤ 31 }
     requires ids { IsSmall buffer.old }
-    ensures ok { OnOk result (buffer.new ≡ put_in run.now place behind cursor buffer.old) }
+    ensures ok { OnOk result (buffer.new ≡ put_at run.now place behind cursor buffer.old) }
     ensures ids { OnOk result (IsSmall buffer.new) }
     ensures count { OnOk result (length buffer.new.line ≡ length buffer.old.line + length run.now) }
-    ensures reason { IfErr result (IsRefusal buffer.old (put_in run.now place behind cursor buffer.old)) }
-    ensures refused { OnErr result (IsRefused buffer.old buffer.new) }
+    ensures reason { IfErr result (IsRefusal buffer.old (put_at run.now place behind cursor buffer.old)) }
+    ensures refused { OnErr result (IsRefusedRun buffer.old buffer.new) }
 {
-    put_at(buffer, run, place, behind)?;
+    if run.len() == 0 {
+        buffer.drop_positions();
+        buffer.move_to(cursor);
+        return Ok(());
+    }
+    let records = records_of(model_of(buffer, place), run);
+    buffer.move_to(start_of(place, behind, buffer.len()));
+    if let Err(error) = buffer.insert_glyphs(&records[..run.len()]) {
+        return Err(refusal(error));
+    }
     buffer.move_to(cursor);
     Ok(())
 }

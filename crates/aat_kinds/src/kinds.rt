@@ -1,7 +1,7 @@
 //! The run of a subtable by its kind.
-ghost use Rattle.std.specs.Prelude.{◌≡◌, IfOk, IfErr, OnErr, IsTrue, length, true};
+ghost use Rattle.std.specs.Prelude.{◌≡◌, ◌^◌, ◌<◌, ◌≤◌, IfOk, IfErr, IsOk, OnErr, IsTrue, false, length, true};
 ghost use Rattle.aat_buffer.specs.Clusters.{IsSmall};
-ghost use Rattle.aat_kinds.specs.Kinds.{kind_run, sizes_for, noncontextual_run};
+ghost use Rattle.aat_kinds.specs.Kinds.{is_insertion, kind_run, sizes_of, noncontextual_run};
 ghost use Rattle.aat_run.specs.Driven.{IsRefusal, IsRefused, StaysWithin};
 ghost use Rattle.aat_run.specs.Outcome.{Outcome};
 ghost use Rattle.aat_run.specs.Ranges.{IsGapless, is_whole_list, switch_for};
@@ -14,34 +14,41 @@ use aat_font::SubtableKind;
 use aat_run::AatError;
 use std::alloc::Allocator;
 
-/// Runs a subtable by its kind, and answers the turns. Each glyph id has to be at most 0xFFFF, the ranges begin at 0,
-/// follow without a gap and end at the last cluster, if there are any, and where there is one alone the subtable is on
-/// there.
+/// Runs a subtable by its kind, and answers the turns. A ligature machine gets `SLOTS` slots, and a span of
+/// rearrangement has at most `LONGEST` glyphs.
 ///
-/// Refused as 2, `TooLong`, only where the run would leave a line longer than the buffer's `max_len`, and else as 3,
-/// `OutOfMemory`, only where it would leave a longer line than it found. After a refusal the buffer has failed, and its
-/// line is some line of 16-bit glyphs that has at most its greatest length.
+/// There has to be a slot, and at most 2^59 of them, which already are more bytes than memory has. Each glyph id has
+/// to be at most 0xFFFF, the ranges begin at 0, follow without a gap and end at the last cluster, if there are any,
+/// and where there is one alone the subtable is on there.
+///
+/// Only an insertion subtable is refused: as 2, `TooLong`, only where the run would leave a line longer than the
+/// buffer's `max_len`, and else as 3, `OutOfMemory`, only where it would leave a longer line than it found. After a
+/// refusal the buffer has failed, its line is some line of 16-bit glyphs that has at most its greatest length, and all
+/// but line, cursor, positions and budget is as before.
 ///
 /// Apple's TrueType Reference Manual, "The 'morx' table", metamorphosis subtables.
 #[tactic(auto, unfolding(crate::specs::Kinds::noncontextual_run))]
-pub fn run_kind<A: Allocator + Copy>(
+pub fn run_kind<const SLOTS: usize, const LONGEST: usize, A: Allocator + Copy>(
     run: &SubtableRun,
     kind: &SubtableKind,
     buffer: &mut hb_buffer_t<A>,
 ) -> Result<u64, AatError>
+    requires slots { 0 < SLOTS }
+    requires memory { SLOTS ≤ 2 ^ 59 }
     requires gapless { IsGapless run.now.ranges.now }
     requires whole { IsTrue (is_whole_list run.now.ranges.now) }
     requires on { length run.now.ranges.now ≡ 1 → (switch_for run.now.ranges.now).is_on run.now.feature_flags 0 ≡ true }
     requires ids { IsSmall buffer.old }
-    ensures run { IfOk result (λ turns. record { buffer = buffer.new; turns = turns } ≡ kind_run (sizes_for run.now.face.now) ((switch_for run.now.ranges.now).is_on run.now.feature_flags) kind.now buffer.old) }
+    ensures run { IfOk result (λ turns. record { buffer = buffer.new; turns = turns } ≡ kind_run (sizes_of SLOTS LONGEST run.now.face.now) ((switch_for run.now.ranges.now).is_on run.now.feature_flags) kind.now buffer.old) }
     ensures within { IfOk result (StaysWithin 1 buffer.old buffer.new) }
-    ensures reason { IfErr result (IsRefusal buffer.old (kind_run (sizes_for run.now.face.now) ((switch_for run.now.ranges.now).is_on run.now.feature_flags) kind.now buffer.old).buffer) }
+    ensures reason { IfErr result (IsRefusal buffer.old (kind_run (sizes_of SLOTS LONGEST run.now.face.now) ((switch_for run.now.ranges.now).is_on run.now.feature_flags) kind.now buffer.old).buffer) }
     ensures refused { OnErr result (IsRefused buffer.old buffer.new) }
+    ensures kept { is_insertion kind.now ≡ false → IsOk result }
 {
     match kind {
-        SubtableKind::Rearrangement(table) => run_rearrangement(run, table, buffer),
+        SubtableKind::Rearrangement(table) => run_rearrangement::<LONGEST, A>(run, table, buffer),
         SubtableKind::Contextual(subtable) => run_contextual(run, subtable, buffer),
-        SubtableKind::Ligature(subtable) => run_ligature(run, subtable, buffer),
+        SubtableKind::Ligature(subtable) => run_ligature::<SLOTS, A>(run, subtable, buffer),
         SubtableKind::NonContextual(lookup) => {
             let turns = buffer.len() as u64;
             replace_all(run, lookup, buffer);

@@ -5,7 +5,7 @@ ghost use Rattle.aat_buffer.specs.Clusters.{IsSmall};
 ghost use Rattle.aat_buffer.specs.Marks.{merge_out_clusters};
 ghost use Rattle.aat_run.specs.Driven.{IsRefusal, IsRefused};
 ghost use Rattle.aat_run.specs.Laws.{FitsFresh};
-ghost use Rattle.aat_kinds.specs.Ligature.{GoesOn, IsFit, IsHeldFit, Stops, component, deleted, element_at, fresh};
+ghost use Rattle.aat_kinds.specs.Ligature.{DeletesLater, GoesOn, IsFit, IsHeldFit, Stops, component, deleted, element_at, fresh};
 ghost use Rattle.aat_kinds.specs.Ligature.{held_act, later_deleted, offset_of, stored, with_place_held};
 ghost use Rattle.aat_kinds.specs.inside.Taken.{all_taken, moved, step_of};
 
@@ -16,7 +16,7 @@ use bitflags::Flags;
 use std::alloc::Allocator;
 use std::marker::Model;
 
-/// The number of slots in the run of a ligature subtable: of how many of the newest components it keeps the places.
+/// Of how many of the newest components the places are kept, in a context by `LigatureCtx::new`.
 pub const LIGATURE_SLOTS: usize = 64;
 
 /// The flag of an entry that takes the held components in.
@@ -223,8 +223,9 @@ impl<const SLOTS: usize> Components<SLOTS> {
 /// with the property IGNORABLE. Components are counted from the oldest, 0; component j stands in slot j mod `SLOTS`, so
 /// that more components than slots write over the oldest places.
 ///
-/// A contract sees it as the record `Held`. It takes no memory, and no act changes the number of glyphs, so that a run
-/// over it is never refused.
+/// A contract sees it as the record `Held`. It fits where there is a slot and the held places lie on the line, no more
+/// components are held than glyphs stand before the cursor and one at it, and where there are as many, the newest is the
+/// cursor. It takes no memory, and no act changes the number of glyphs, so that a run over it is never refused.
 ///
 /// Apple's TrueType Reference Manual, "The 'morx' table", ligature substitution.
 #[derive(Drop)]
@@ -246,10 +247,26 @@ impl<'a, const SLOTS: usize> Model for LigatureCtx<'a, SLOTS> {
     } };
 }
 
+impl<'a> LigatureCtx<'a, LIGATURE_SLOTS> {
+    /// No component, over the lists of a subtable, in `LIGATURE_SLOTS` slots. It fits at the front of each line.
+    pub fn new(subtable: &'a LigatureSubtable) -> Self
+        ensures value { result ≡ record {
+          actions = subtable.now.actions;
+          components = subtable.now.components;
+          ligatures = subtable.now.ligatures;
+          registers = fresh 64;
+        } }
+        ensures fits { FitsFresh IsHeldFit result }
+    {
+        LigatureCtx::with_slots(subtable)
+    }
+}
+
 impl<'a, const SLOTS: usize> LigatureCtx<'a, SLOTS> {
-    /// No component, over the lists of a subtable. There has to be a slot. It fits at the front of each line.
+    /// No component, over the lists of a subtable, in `SLOTS` slots, of which there has to be one. It fits at the front
+    /// of each line.
     #[tactic(auto, using(crate::specs::facts::LigatureHeld::fits_fresh))]
-    pub fn new(subtable: &'a LigatureSubtable) -> LigatureCtx<'a, SLOTS>
+    pub fn with_slots(subtable: &'a LigatureSubtable) -> Self
         requires { 0 < SLOTS }
         ensures value { result ≡ record {
           actions = subtable.now.actions;
@@ -264,10 +281,34 @@ impl<'a, const SLOTS: usize> LigatureCtx<'a, SLOTS> {
             held: Components::new(),
         }
     }
+
+    /// Does what an entry says.
+    #[tactic(auto, unfolding(crate::specs::Ligature::act))]
+    fn act<A: Allocator + Copy>(
+        &mut self,
+        entry: &GenericStateEntry<u16>,
+        buffer: &mut hb_buffer_t<A>,
+    )
+        requires fit { IsHeldFit self.old buffer.old.cursor (length buffer.old.line) }
+        requires ids { IsSmall buffer.old }
+        ensures act { record { regs = self.new; buffer = buffer.new } ≡ held_act entry.now self.old buffer.old }
+        ensures ids { IsSmall buffer.new }
+        ensures successful { buffer.new.successful ≡ buffer.old.successful }
+        ensures count { length buffer.new.line ≡ length buffer.old.line }
+    {
+        let cursor = buffer.backtrack_len();
+        let length = buffer.len();
+        if entry.has_push() {
+            self.held.push(cursor);
+        }
+        if entry.flags & PERFORM_ACTION != 0 && cursor < length {
+            self.held.ligate(self.subtable, entry.extra, buffer);
+        }
+    }
 }
 
 impl<'a, const SLOTS: usize> driver_context_t<u16> for LigatureCtx<'a, SLOTS> {
-    ghost use Rattle.std.specs.Prelude.{false};
+    ghost use Rattle.std.specs.Prelude.{false, true};
     ghost use Rattle.aat_font.specs.Entries.{goes_on};
     ghost use Rattle.aat_kinds.specs.Ligature as ligature;
     ghost use Rattle.aat_kinds.specs.facts.LigatureHeld as laws;
@@ -275,6 +316,8 @@ impl<'a, const SLOTS: usize> driver_context_t<u16> for LigatureCtx<'a, SLOTS> {
     ghost fits = { ligature.IsHeldFit };
 
     ghost stays_in_place = { false };
+
+    ghost keeps_length = { true };
 
     ghost advances = { goes_on };
 
@@ -298,11 +341,12 @@ impl<'a, const SLOTS: usize> driver_context_t<u16> for LigatureCtx<'a, SLOTS> {
         entry.flags & PERFORM_ACTION != 0
     }
 
-    /// Does what the entry says. The number of glyphs stays. Never refused.
+    /// Does what the entry says. The number of glyphs stays, and each component behind the last ligature that the entry
+    /// makes is the deleted glyph, unless it has the same place as that ligature. Never refused.
+    /// What is held has to fit, and each glyph id has to be at most 0xFFFF, and is so again.
     ///
     /// Holding a component is O(1); taking components in is O(of their number, and of the glyphs that become one
     /// cluster).
-    #[tactic(auto, unfolding(crate::specs::Ligature::act))]
     fn transition<A: Allocator + Copy>(
         &mut self,
         entry: &GenericStateEntry<u16>,
@@ -317,15 +361,9 @@ impl<'a, const SLOTS: usize> driver_context_t<u16> for LigatureCtx<'a, SLOTS> {
         ensures reason { IfErr result (IsRefusal buffer.old (held_act entry.now self.old buffer.old).buffer) }
         ensures refused { OnErr result (IsRefused buffer.old buffer.new) }
         ensures count { length buffer.new.line ≡ length buffer.old.line }
+        ensures deleted { DeletesLater entry.now self.old buffer.old buffer.new.line }
     {
-        let cursor = buffer.backtrack_len();
-        let length = buffer.len();
-        if entry.has_push() {
-            self.held.push(cursor);
-        }
-        if entry.flags & PERFORM_ACTION != 0 && cursor < length {
-            self.held.ligate(self.subtable, entry.extra, buffer);
-        }
+        self.act(entry, buffer);
         Ok(())
     }
 
@@ -344,6 +382,8 @@ impl<'a, const SLOTS: usize> driver_context_t<u16> for LigatureCtx<'a, SLOTS> {
     ghost keeps_settings = { laws.keeps_settings };
 
     ghost keeps_place = { laws.keeps_place };
+
+    ghost keeps_count = { λ yes. laws.keeps_length };
 
     ghost keeps_order = { laws.keeps_order };
 }

@@ -1,5 +1,5 @@
 //! The runs of the kinds that are state machines, each from fresh registers.
-ghost use Rattle.std.specs.Prelude.{◌≡◌, IfOk, IfErr, IsOk, IsTrue, OnErr, length, true};
+ghost use Rattle.std.specs.Prelude.{◌≡◌, ◌^◌, ◌<◌, ◌≤◌, IfOk, IfErr, IsOk, IsTrue, OnErr, length, true};
 ghost use Rattle.aat_buffer.specs.Clusters.{IsSmall};
 ghost use Rattle.aat_font.specs.Face.{glyph_classes_of};
 ghost use Rattle.aat_kinds.specs.Kinds.{contextual_run, insertion_run, ligature_run, rearrangement_run};
@@ -9,7 +9,7 @@ ghost use Rattle.aat_run.specs.Ranges.{IsGapless, is_whole_list, switch_for};
 
 use crate::contextual::ContextualCtx;
 use crate::insertion::InsertionCtx;
-use crate::ligature::{LIGATURE_SLOTS, LigatureCtx};
+use crate::ligature::LigatureCtx;
 use crate::rearrangement::RearrangementCtx;
 use crate::run::SubtableRun;
 use aat_buffer::hb_buffer_t;
@@ -17,8 +17,9 @@ use aat_font::{ContextualSubtable, ExtendedStateTable, InsertionSubtable, Ligatu
 use aat_run::{AatError, run_machine};
 use std::alloc::Allocator;
 
-/// Runs a rearrangement subtable, and answers the turns. It takes no memory, and is never refused.
-pub(crate) fn run_rearrangement<A: Allocator + Copy>(
+/// Runs a rearrangement subtable whose spans have at most `LONGEST` glyphs, and answers the turns. It takes no memory,
+/// and is never refused.
+pub(crate) fn run_rearrangement<const LONGEST: usize, A: Allocator + Copy>(
     run: &SubtableRun,
     table: &ExtendedStateTable<()>,
     buffer: &mut hb_buffer_t<A>,
@@ -27,11 +28,11 @@ pub(crate) fn run_rearrangement<A: Allocator + Copy>(
     requires whole { IsTrue (is_whole_list run.now.ranges.now) }
     requires on { length run.now.ranges.now ≡ 1 → (switch_for run.now.ranges.now).is_on run.now.feature_flags 0 ≡ true }
     requires ids { IsSmall buffer.old }
-    ensures run { IfOk result (λ turns. record { buffer = buffer.new; turns = turns } ≡ rearrangement_run 64 ((switch_for run.now.ranges.now).is_on run.now.feature_flags) table.now buffer.old) }
+    ensures run { IfOk result (λ turns. record { buffer = buffer.new; turns = turns } ≡ rearrangement_run LONGEST ((switch_for run.now.ranges.now).is_on run.now.feature_flags) table.now buffer.old) }
     ensures within { IfOk result (StaysWithin 1 buffer.old buffer.new) }
     ensures served { IsOk result }
 {
-    let mut context = RearrangementCtx::new();
+    let mut context: RearrangementCtx<LONGEST> = RearrangementCtx::with_longest();
     run_machine(table, &mut context, buffer, run.ranges, run.feature_flags)
 }
 
@@ -59,22 +60,25 @@ pub(crate) fn run_contextual<A: Allocator + Copy>(
     )
 }
 
-/// Runs a ligature subtable, and answers the turns. Its line keeps the number of glyphs.
-pub(crate) fn run_ligature<A: Allocator + Copy>(
+/// Runs a ligature subtable with `SLOTS` slots, and answers the turns. There has to be a slot, and at most 2^59 of
+/// them, which already are more bytes than memory has. The line keeps the number of glyphs. It takes no memory, and is
+/// never refused.
+pub(crate) fn run_ligature<const SLOTS: usize, A: Allocator + Copy>(
     run: &SubtableRun,
     subtable: &LigatureSubtable,
     buffer: &mut hb_buffer_t<A>,
 ) -> Result<u64, AatError>
+    requires slots { 0 < SLOTS }
+    requires memory { SLOTS ≤ 2 ^ 59 }
     requires gapless { IsGapless run.now.ranges.now }
     requires whole { IsTrue (is_whole_list run.now.ranges.now) }
     requires on { length run.now.ranges.now ≡ 1 → (switch_for run.now.ranges.now).is_on run.now.feature_flags 0 ≡ true }
     requires ids { IsSmall buffer.old }
-    ensures run { IfOk result (λ turns. record { buffer = buffer.new; turns = turns } ≡ ligature_run 64 ((switch_for run.now.ranges.now).is_on run.now.feature_flags) subtable.now.state subtable.now.actions subtable.now.components subtable.now.ligatures buffer.old) }
+    ensures run { IfOk result (λ turns. record { buffer = buffer.new; turns = turns } ≡ ligature_run SLOTS ((switch_for run.now.ranges.now).is_on run.now.feature_flags) subtable.now.state subtable.now.actions subtable.now.components subtable.now.ligatures buffer.old) }
     ensures within { IfOk result (StaysWithin 1 buffer.old buffer.new) }
-    ensures reason { IfErr result (IsRefusal buffer.old (ligature_run 64 ((switch_for run.now.ranges.now).is_on run.now.feature_flags) subtable.now.state subtable.now.actions subtable.now.components subtable.now.ligatures buffer.old).buffer) }
-    ensures refused { OnErr result (IsRefused buffer.old buffer.new) }
+    ensures served { IsOk result }
 {
-    let mut context = LigatureCtx::<LIGATURE_SLOTS>::new(subtable);
+    let mut context: LigatureCtx<SLOTS> = LigatureCtx::with_slots(subtable);
     run_machine(
         &subtable.state,
         &mut context,

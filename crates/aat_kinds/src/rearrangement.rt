@@ -116,6 +116,8 @@ impl<const LONGEST: usize> driver_context_t<()> for RearrangementCtx<LONGEST> {
 
     ghost stays_in_place = { true };
 
+    ghost keeps_length = { true };
+
     ghost advances = { goes_on };
 
     ghost actionable = { rearrangement.actionable };
@@ -138,7 +140,8 @@ impl<const LONGEST: usize> driver_context_t<()> for RearrangementCtx<LONGEST> {
         entry.flags & 0x000F != 0 && self.start < self.end
     }
 
-    /// Does what the entry says. The glyph ids are permuted. Never refused.
+    /// Does what the entry says. The glyph ids are permuted. Never refused. The registers have to fit, and each glyph id has
+    /// to be at most 0xFFFF, and is so again.
     fn transition<A: Allocator + Copy>(
         &mut self,
         entry: &GenericStateEntry<()>,
@@ -173,6 +176,8 @@ impl<const LONGEST: usize> driver_context_t<()> for RearrangementCtx<LONGEST> {
     ghost keeps_settings = { laws.keeps_settings LONGEST };
 
     ghost keeps_place = { λ yes. keeps.keeps_place LONGEST };
+
+    ghost keeps_count = { λ yes. laws.keeps_length LONGEST };
 
     ghost keeps_order = { keeps.keeps_order LONGEST };
 }

@@ -6,9 +6,12 @@ pub use Rattle.aat_font.specs.Chains
 pub use Rattle.aat_font.specs.Face
 pub use Rattle.aat_run.specs.Budget
 pub use Rattle.aat_run.specs.Driven
+pub use Rattle.aat_run.specs.Laws
 pub use Rattle.aat_run.specs.Outcome
 pub use Rattle.aat_map.specs.Requests
 pub use Rattle.aat_map.specs.SwitchedChains
+pub use Rattle.aat_morx.specs.Isolation
+pub use Rattle.aat_morx.specs.Kept
 pub use Rattle.aat_morx.specs.Substitution
 pub use Rattle.aat_kerning.specs.Zeroing
 pub mod Planned

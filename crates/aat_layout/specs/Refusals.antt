@@ -1,5 +1,5 @@
 -- Why a substitution is refused, and what it leaves then.
-use Rattle.std.specs.Prelude.{◌≡◌, ◌⊎◌, ℕ, ◌<◌, ◌||◌, ◌&&◌, not, nat_lt, is_some, is_none, take_while, Bool, true, false, List, Option, Some, None, find, length, option_map, IsTrue}
+use Rattle.std.specs.Prelude.{◌≡◌, ◌⊎◌, ℕ, ◌||◌, ◌&&◌, not, nat_lt, is_some, is_none, take_while, Bool, true, false, List, Option, Some, None, find, length, option_map, IsTrue}
 use Rattle.std.specs.List.{list_any}
 use Rattle.aat_buffer.specs.Buffer.{Buffer}
 use Rattle.aat_font.specs.Face.{tables_of}
@@ -10,8 +10,9 @@ use Rattle.aat_font.specs.declared.plan.hb_ot_shape_plan_t.{hb_ot_shape_plan_t}
 use Rattle.aat_run.specs.Driven.{IsRefused}
 use Rattle.aat_run.specs.declared.error.AatError.{AatError}
 use Rattle.aat_run.specs.declared.error.AatError.TheVariants.{AaltValue, TooLong, OutOfMemory, BufferFailed}
+use Rattle.aat_kinds.specs.Kinds.{Sizes, sizes_for}
 use Rattle.aat_map.specs.Requests.{is_too_large, request_of}
-use Rattle.aat_layout.specs.Planned.{substitution}
+use Rattle.aat_layout.specs.Planned.{substitution_with}
 
 -- the value of the first feature that asks for alternates with a value that is no setting
 abbrev pub first_too_large : hb_ot_shape_plan_t → hb_font_t → Option ℕ
@@ -44,24 +45,40 @@ RefusesPlan plan face TooLong = ⊥
 RefusesPlan plan face OutOfMemory = IsTrue (wants_memory plan face)
 RefusesPlan plan face BufferFailed = ⊥
 
--- the line that substitution leaves is longer than a number
-abbrev pub passes : hb_ot_shape_plan_t → hb_font_t → Buffer → ℕ → Bool
-passes plan face b n = nat_lt n (length (substitution plan face b).buffer.line)
+-- why a substitution is refused before any subtable runs: a buffer that had failed, or the plan
+abbrev pub RefusesBeforeRuns : hb_ot_shape_plan_t → hb_font_t → Buffer → AatError → Type 0
+RefusesBeforeRuns plan face b (AaltValue value) = first_too_large plan face ≡ Some value
+RefusesBeforeRuns plan face b TooLong = ⊥
+RefusesBeforeRuns plan face b OutOfMemory = IsTrue (wants_memory plan face)
+RefusesBeforeRuns plan face b BufferFailed = b.successful ≡ false
 
--- why a substitution is refused: first a buffer that had failed; then the plan; then a line that would pass the
--- longest one, or want of memory where the line would get longer
+-- the line that substitution leaves, with sizes, is longer than a number
+abbrev pub passes_with : Sizes → hb_ot_shape_plan_t → hb_font_t → Buffer → ℕ → Bool
+passes_with z plan face b n = nat_lt n (length (substitution_with z plan face b).buffer.line)
+
+-- why a substitution with sizes is refused: first a buffer that had failed; then the plan; then a line that would pass
+-- the longest one, or want of memory where the line would get longer
+abbrev pub RefusesSubstitutionWith : Sizes → hb_ot_shape_plan_t → hb_font_t → Buffer → AatError → Type 0
+RefusesSubstitutionWith z plan face b (AaltValue value) = (b.successful ≡ true) × (first_too_large plan face ≡ Some value)
+RefusesSubstitutionWith z plan face b TooLong =
+    (b.successful ≡ true) × (first_too_large plan face ≡ None) × IsTrue (passes_with z plan face b b.max_len)
+RefusesSubstitutionWith z plan face b OutOfMemory =
+    (b.successful ≡ true) × IsTrue (wants_memory plan face || passes_with z plan face b (length b.line))
+RefusesSubstitutionWith z plan face b BufferFailed = b.successful ≡ false
+
+-- the same with the usual sizes
 abbrev pub RefusesSubstitution : hb_ot_shape_plan_t → hb_font_t → Buffer → AatError → Type 0
-RefusesSubstitution plan face b (AaltValue value) = (b.successful ≡ true) × (first_too_large plan face ≡ Some value)
-RefusesSubstitution plan face b TooLong =
-    (b.successful ≡ true) × (first_too_large plan face ≡ None) × IsTrue (passes plan face b b.max_len)
-RefusesSubstitution plan face b OutOfMemory =
-    (b.successful ≡ true) × IsTrue (wants_memory plan face || passes plan face b (length b.line))
-RefusesSubstitution plan face b BufferFailed = b.successful ≡ false
+RefusesSubstitution plan face b error = RefusesSubstitutionWith (sizes_for face) plan face b error
 
--- what a refused substitution leaves: nothing changed, unless it was refused in the middle of a run that makes the
--- line longer
+-- what a refused substitution with sizes leaves: nothing changed, unless it was refused in the middle of a run that
+-- makes the line longer
+abbrev pub LeavesBehindWith : Sizes → hb_ot_shape_plan_t → hb_font_t → Buffer → Buffer → AatError → Type 0
+LeavesBehindWith z plan face old new (AaltValue value) = new ≡ old
+LeavesBehindWith z plan face old new TooLong = IsRefused old new
+LeavesBehindWith z plan face old new OutOfMemory =
+    (new ≡ old) ⊎ (IsRefused old new × IsTrue (passes_with z plan face old (length old.line)))
+LeavesBehindWith z plan face old new BufferFailed = new ≡ old
+
+-- the same with the usual sizes
 abbrev pub LeavesBehind : hb_ot_shape_plan_t → hb_font_t → Buffer → Buffer → AatError → Type 0
-LeavesBehind plan face old new (AaltValue value) = new ≡ old
-LeavesBehind plan face old new TooLong = IsRefused old new
-LeavesBehind plan face old new OutOfMemory = (new ≡ old) ⊎ (IsRefused old new × IsTrue (passes plan face old (length old.line)))
-LeavesBehind plan face old new BufferFailed = new ≡ old
+LeavesBehind plan face old new error = LeavesBehindWith (sizes_for face) plan face old new error

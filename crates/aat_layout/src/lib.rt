@@ -15,12 +15,12 @@ pub use aat_kerning::{
 pub use aat_kinds::{
     ContextualCtx, InsertionCtx, LIGATURE_SLOTS, LigatureCtx, MAX_CONTEXT_LENGTH, RearrangementCtx,
 };
-pub use aat_layout::{Turns, hb_aat_layout_substitute};
+pub use aat_layout::{Turns, hb_aat_layout_substitute, hb_aat_layout_substitute_with};
 pub use aat_map::{
     compile_flags, feature_info_t, feature_mappings, feature_order, feature_range_t,
     hb_aat_feature_mapping_t, hb_aat_map_builder_t, hb_aat_map_t,
 };
-pub use aat_morx::apply;
+pub use aat_morx::{apply, apply_with};
 pub use aat_run::{AatError, drive, driver_context_t, hb_aat_apply_context_t, range_flags_t};
 
 /// The laws of the definitions as theorems.
@@ -31,7 +31,9 @@ pub mod laws {
         acts_keep_order, acts_keep_small, contexts_are_lawful, glyphs_are_kept,
         later_components_are_deleted,
     };
-    pub use aat_morx::laws::{clusters_keep_their_order, runs_are_bounded};
+    pub use aat_morx::laws::{
+        bounds_are_met, clusters_keep_their_order, requests_are_isolated, runs_are_bounded,
+    };
     pub use aat_run::laws::{floor_is_unseen, runs_end, runs_keep_order};
 }
 

@@ -13,9 +13,9 @@ use Rattle.aat_map.specs.inside.CompiledSpans.{EndsWithinText}
 use Rattle.aat_map.proofs.Truth.{true_not_false, or_false}
 
 -- x and y lie on one side of where a request begins, and of where it ends
-record SameSide (x y : ℕ) (r : feature_range_t) : Type 0 where
-  begun : has_begun x r ≡ has_begun y r
-  ended : has_ended x r ≡ has_ended y r
+pub record SameSide (x y : ℕ) (r : feature_range_t) : Type 0 where
+  pub begun : has_begun x r ≡ has_begun y r
+  pub ended : has_ended x r ≡ has_ended y r
 
 filter_same :
     (p q : feature_range_t → Bool) (rs : List feature_range_t) → AllByRecursion (λ r. p r ≡ q r) rs
@@ -35,7 +35,7 @@ ended_same :
 ended_same x y [] h = tt
 ended_same x y (r ∷ rs) h = (h.0.ended, ended_same x y rs h.1)
 
-live_same : (x y : ℕ) (rs : List feature_range_t) → AllByRecursion (SameSide x y) (by_start rs) → live x rs ≡ live y rs
+pub live_same : (x y : ℕ) (rs : List feature_range_t) → AllByRecursion (SameSide x y) (by_start rs) → live x rs ≡ live y rs
 live_same x y rs h =
     ap (λ fs. fold without_earliest (infos fs) (infos (filter (has_ended x) (by_start rs)))) (filter_same _ _ _ (begun_same x y _ h))
     ∙ ap (λ fs. fold without_earliest (infos (filter (has_begun y) (by_start rs))) (infos fs)) (filter_same _ _ _ (ended_same x y _ h))
@@ -53,7 +53,7 @@ placed_all :
 placed_all P [] r h p = (p, tt)
 placed_all P (q ∷ qs) r h p = placed_step_all P (nat_le q.start r.start) q r qs (placed_by_start qs r) h.0 p h.1 (placed_all P qs r h.1 p)
 
-ordered_all :
+pub ordered_all :
     (P : feature_range_t → Type 0) (qs rs : List feature_range_t) → AllByRecursion P qs → AllByRecursion P rs
     → AllByRecursion P (fold placed_by_start qs rs)
 ordered_all P qs [] h k = h

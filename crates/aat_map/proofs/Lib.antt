@@ -3,6 +3,7 @@ pub mod CompiledLemmas
 pub mod CutLemmas
 pub mod GatherLemmas
 pub mod MapLemmas
+pub mod OneRange
 pub mod SpanLemmas
 pub mod StartLemmas
 pub mod Truth

@@ -3,7 +3,6 @@ use Rattle.std.proofs.Common.{◌≡◌, ℕ, ◌+◌, ◌*◌, ◌<◌, ◌≤�
 use Rattle.std.proofs.lemmas.List.Sums.{sum_by-cons}
 use Rattle.std.specs.Prelude.{fold}
 use Rattle.aat_buffer.specs.Buffer.{Buffer, without_positions}
-use Rattle.aat_buffer.specs.Marks.{unsafe_to_concat}
 use Rattle.aat_buffer.specs.facts.Cases.{chosen}
 use Rattle.aat_buffer.specs.facts.Lines.{length_concat, of_concat}
 use Rattle.aat_font.specs.declared.morx.Subtable.{Subtable}

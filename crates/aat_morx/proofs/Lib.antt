@@ -1,5 +1,10 @@
+pub mod Alike
+pub mod BestBounds
+pub mod ComingClusters
+pub mod Isolated
 pub mod LawsHold
 pub mod OrderOfRuns
 pub mod Prepared
 pub mod Refused
+pub mod Room
 pub mod Rows

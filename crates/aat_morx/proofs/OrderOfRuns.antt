@@ -17,7 +17,8 @@ use Rattle.aat_run.specs.Switches.{Switch}
 use Rattle.aat_map.specs.SwitchedChains.{SwitchedChain}
 use Rattle.aat_morx.specs.Substitution.{is_skipped, subtable_run, chain_run, substituted, prepared}
 use Rattle.aat_kinds.proofs.OrderOfKinds.{Rising, Falling, le_same, ge_same, kept_kind, kept_concat}
-use Rattle.aat_kinds.specs.Contextual as c
+use Rattle.aat_morx.specs.Kept.{KeepsOrder}
+use Rattle.aat_morx.proofs.ComingClusters.{substitution_comes}
 
 -- a line in one order, read backwards, is in the other
 order_of_reverse : (R : ℕ → ℕ → Type 0) (gs : List hb_glyph_info_t) → IsOrdered R gs → IsOrdered (λ x y. R y x) (reverse gs)
@@ -82,4 +83,16 @@ substitution_in_order R same flipped z chains b some level small ordered =
     (λ c d k. in_order_of_all b.cluster_level level R (subtable_run z c.switch) c.subtables (untouched d) (λ s x h. in_order_of_subtable b.cluster_level level R same flipped z c.switch s x some h) k) begun).ordered
 
 pub clusters_keep_their_order : ClustersKeepTheirOrder
-clusters_keep_their_order = record { rising = substitution_in_order Rising le_same ge_same; falling = substitution_in_order Falling ge_same le_same }
+clusters_keep_their_order = record {
+  rising = substitution_in_order Rising le_same ge_same;
+  falling = substitution_in_order Falling ge_same le_same;
+  clusters = substitution_comes;
+}
+
+-- the same of a line and the one that substitution leaves
+pub substitution_keeps_order : (z : Sizes) (chains : List SwitchedChain) (b : Buffer) → 0 < z.slots → KeepsOrder b (substituted z chains b).buffer
+substitution_keeps_order z chains b some small = record {
+  rising = λ merges ordered. substitution_in_order Rising le_same ge_same z chains b some merges small ordered;
+  falling = λ merges ordered. substitution_in_order Falling ge_same le_same z chains b some merges small ordered;
+  clusters = substitution_comes z chains b some small;
+}

@@ -1,9 +1,9 @@
 -- Why a run is refused, and what it stays within, carried up to what it is a part of.
-use Rattle.std.proofs.Common.{◌≡◌, ℕ, ◌+◌, ◌*◌, ◌<◌, ◌≤◌, List, ◌++◌, [], ◌∷◌, take, length, get_or, ap, sym, ◌∙◌, refl, arith}
+use Rattle.std.proofs.Common.{◌≡◌, ℕ, ◌+◌, ◌<◌, ◌≤◌, List, take, length, get_or, ap, sym, ◌∙◌, arith}
 use Rattle.std.proofs.lemmas.List.{length-reverse}
 use Rattle.aat_buffer.specs.Buffer.{Buffer, reversed}
 use Rattle.aat_run.specs.Driven.{IsRefusal}
-use Rattle.aat_run.specs.Outcome.{Outcome, then_run, in_order}
+use Rattle.aat_run.specs.Outcome.{Outcome, in_order}
 use Rattle.aat_run.specs.declared.error.AatError.{AatError}
 use Rattle.aat_run.specs.declared.error.AatError.TheVariants.{AaltValue, TooLong, OutOfMemory, BufferFailed}
 use Rattle.aat_run.specs.facts.InOrder.{in_order_more, in_order_part, in_order_lengthens}

@@ -1,5 +1,5 @@
 -- Why a run of the table is refused.
-use Rattle.std.specs.Prelude.{◌≡◌, ℕ, ◌<◌, true, false, length}
+use Rattle.std.specs.Prelude.{◌≡◌, ◌<◌, true, false, length}
 use Rattle.aat_buffer.specs.Buffer.{Buffer}
 use Rattle.aat_run.specs.declared.error.AatError.{AatError}
 use Rattle.aat_run.specs.declared.error.AatError.TheVariants.{AaltValue, TooLong, OutOfMemory, BufferFailed}

@@ -5,7 +5,7 @@ use Rattle.aat_font.specs.declared.state_table.GenericStateEntry.{GenericStateEn
 use Rattle.aat_font.specs.declared.entries.ContextualEntryData.{ContextualEntryData}
 use Rattle.aat_font.specs.declared.morx.SubtableKind.{SubtableKind}
 use Rattle.aat_morx.specs.Rows.{row_on, row_of_sizes, row, sizes}
-use Rattle.aat_run.specs.Rows.{shows, Printed, glyph, rising_from, table, entry, many}
+use Rattle.aat_run.specs.Rows.{shows, Printed, glyph, rising_from, table, entry}
 
 abbrev pub with_indexes : ℕ → ℕ → ContextualEntryData
 with_indexes mark current = record { mark_index = mark; current_index = current }

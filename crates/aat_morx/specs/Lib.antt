@@ -7,9 +7,12 @@ pub use Rattle.aat_run.specs.Ranges
 pub use Rattle.aat_map.specs.SwitchedChains
 pub use Rattle.aat_kinds.specs.Kinds
 pub mod Applying
+pub mod BestBounds
 pub mod ContextualRows
 pub mod Examples
 pub mod InsertionRows
+pub mod Isolation
+pub mod Kept
 pub mod Lawful
 pub mod LigatureRows
 pub mod RearrangementRows

@@ -1,9 +1,9 @@
 //! Subtables and chains in their order.
-ghost use Rattle.std.specs.Prelude.{◌≡◌, ◌≤◌, IfOk, IfErr, OnErr, IsTrue, length};
+ghost use Rattle.std.specs.Prelude.{◌≡◌, ◌^◌, ◌<◌, ◌≤◌, IfOk, IfErr, OnErr, IsTrue, length};
 ghost use Rattle.std.specs.List.{list_all};
 ghost use Rattle.aat_buffer.specs.Clusters.{IsSmall};
 ghost use Rattle.aat_font.specs.Chains.{subtable_count};
-ghost use Rattle.aat_kinds.specs.Kinds.{sizes_for};
+ghost use Rattle.aat_kinds.specs.Kinds.{sizes_of};
 ghost use Rattle.aat_map.specs.SwitchedChains.{SwitchedChain, switched_by};
 ghost use Rattle.aat_morx.specs.Substitution.{chain_run};
 ghost use Rattle.aat_run.specs.Driven.{IsRefusal, IsRefused, StaysWithin};
@@ -19,19 +19,22 @@ use aat_run::{AatError, range_flags_t};
 use std::alloc::Allocator;
 
 /// Runs the subtables of a chain in their order, and answers the turns.
-fn run_chain<A: Allocator + Copy>(
+#[tactic(auto, using(aat_run::specs::facts::Settings::refused_behind))]
+fn run_chain<const SLOTS: usize, const LONGEST: usize, A: Allocator + Copy>(
     face: &hb_font_t,
     ranges: &[range_flags_t],
     subtables: &[Subtable],
     buffer: &mut hb_buffer_t<A>,
 ) -> Result<u64, AatError>
+    requires slots { 0 < SLOTS }
+    requires memory { SLOTS ≤ 2 ^ 59 }
     requires few { length subtables.now ≤ 65535 }
     requires gapless { IsGapless ranges.now }
     requires whole { IsTrue (is_whole_list ranges.now) }
     requires ids { IsSmall buffer.old }
-    ensures run { IfOk result (λ turns. record { buffer = buffer.new; turns = turns } ≡ chain_run (sizes_for face.now) (record { switch = switch_for ranges.now; subtables = subtables.now }) buffer.old) }
+    ensures run { IfOk result (λ turns. record { buffer = buffer.new; turns = turns } ≡ chain_run (sizes_of SLOTS LONGEST face.now) (record { switch = switch_for ranges.now; subtables = subtables.now }) buffer.old) }
     ensures within { IfOk result (StaysWithin (length subtables.now) buffer.old buffer.new) }
-    ensures reason { IfErr result (IsRefusal buffer.old (chain_run (sizes_for face.now) (record { switch = switch_for ranges.now; subtables = subtables.now }) buffer.old).buffer) }
+    ensures reason { IfErr result (IsRefusal buffer.old (chain_run (sizes_of SLOTS LONGEST face.now) (record { switch = switch_for ranges.now; subtables = subtables.now }) buffer.old).buffer) }
     ensures refused { OnErr result (IsRefused buffer.old buffer.new) }
 {
     // how long the line is and how large the budget, so that the count of turns fits
@@ -44,24 +47,32 @@ fn run_chain<A: Allocator + Copy>(
             ranges,
             feature_flags: subtable.feature_flags,
         };
-        turns += run_subtable(&run, subtable, buffer)?;
+        turns += run_subtable::<SLOTS, LONGEST, A>(&run, subtable, buffer)?;
     }
     Ok(turns)
 }
 
 /// Runs all chains in their order, each under its list of the map, and answers the turns.
-pub(crate) fn run_chains<A: Allocator + Copy, M: Allocator + Copy>(
+#[tactic(auto, using(aat_run::specs::facts::Settings::refused_behind))]
+pub(crate) fn run_chains<
+    const SLOTS: usize,
+    const LONGEST: usize,
+    A: Allocator + Copy,
+    M: Allocator + Copy,
+>(
     face: &hb_font_t,
     chains: &[Chain],
     map: &hb_aat_map_t<M>,
     buffer: &mut hb_buffer_t<A>,
 ) -> Result<u64, AatError>
+    requires slots { 0 < SLOTS }
+    requires memory { SLOTS ≤ 2 ^ 59 }
     requires few { subtable_count chains.now ≤ 65535 }
     requires whole { IsTrue (list_all is_whole_list map.now) }
     requires ids { IsSmall buffer.old }
-    ensures run { IfOk result (λ turns. record { buffer = buffer.new; turns = turns } ≡ in_order (chain_run (sizes_for face.now)) (switched_by chains.now map.now) buffer.old) }
+    ensures run { IfOk result (λ turns. record { buffer = buffer.new; turns = turns } ≡ in_order (chain_run (sizes_of SLOTS LONGEST face.now)) (switched_by chains.now map.now) buffer.old) }
     ensures within { IfOk result (StaysWithin (subtable_count chains.now) buffer.old buffer.new) }
-    ensures reason { IfErr result (IsRefusal buffer.old (in_order (chain_run (sizes_for face.now)) (switched_by chains.now map.now) buffer.old).buffer) }
+    ensures reason { IfErr result (IsRefusal buffer.old (in_order (chain_run (sizes_of SLOTS LONGEST face.now)) (switched_by chains.now map.now) buffer.old).buffer) }
     ensures refused { OnErr result (IsRefused buffer.old buffer.new) }
 {
     // how long the line is and how large the budget, so that the count of turns fits
@@ -69,7 +80,7 @@ pub(crate) fn run_chains<A: Allocator + Copy, M: Allocator + Copy>(
     let _budget = buffer.max_ops();
     let mut turns = 0;
     for (i, chain) in chains.iter().enumerate() {
-        turns += run_chain(face, map.ranges(i), &chain.subtables, buffer)?;
+        turns += run_chain::<SLOTS, LONGEST, A>(face, map.ranges(i), &chain.subtables, buffer)?;
     }
     Ok(turns)
 }

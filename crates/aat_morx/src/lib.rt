@@ -7,7 +7,7 @@ mod chains;
 pub mod laws;
 mod subtable;
 
-pub use applying::{apply, run_table};
+pub use applying::{apply, apply_with, run_table};
 
 #[doc(hidden)]
 pub mod worked;

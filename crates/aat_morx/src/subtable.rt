@@ -1,7 +1,7 @@
 //! A subtable in its chain: whether it runs, and in which order of the line.
-ghost use Rattle.std.specs.Prelude.{◌≡◌, IfOk, IfErr, OnErr, IsTrue, false, length, true};
+ghost use Rattle.std.specs.Prelude.{◌≡◌, ◌^◌, ◌<◌, ◌≤◌, IfOk, IfErr, OnErr, IsTrue, false, length, true};
 ghost use Rattle.aat_buffer.specs.Clusters.{IsSmall};
-ghost use Rattle.aat_kinds.specs.Kinds.{is_for, is_reversed, kind_run, reversed_run, sizes_for};
+ghost use Rattle.aat_kinds.specs.Kinds.{is_for, is_reversed, kind_run, reversed_run, sizes_of};
 ghost use Rattle.aat_morx.specs.Substitution.{is_skipped, subtable_run};
 ghost use Rattle.aat_run.specs.Driven.{IsRefusal, IsRefused, StaysWithin};
 ghost use Rattle.aat_run.specs.Outcome.{Outcome};
@@ -46,23 +46,25 @@ fn is_reversed(coverage: Coverage, direction: Direction) -> bool
 }
 
 /// Runs a subtable on the line in the opposite order, and turns the line back.
-#[tactic(auto, using(crate::proofs::Refused::refusal_turned))]
-fn run_reversed<A: Allocator + Copy>(
+#[tactic(auto, using(crate::proofs::Refused::refusal_turned, aat_run::specs::facts::Settings::refused_behind))]
+fn run_reversed<const SLOTS: usize, const LONGEST: usize, A: Allocator + Copy>(
     run: &SubtableRun,
     subtable: &Subtable,
     buffer: &mut hb_buffer_t<A>,
 ) -> Result<u64, AatError>
+    requires slots { 0 < SLOTS }
+    requires memory { SLOTS ≤ 2 ^ 59 }
     requires gapless { IsGapless run.now.ranges.now }
     requires whole { IsTrue (is_whole_list run.now.ranges.now) }
     requires on { length run.now.ranges.now ≡ 1 → (switch_for run.now.ranges.now).is_on run.now.feature_flags 0 ≡ true }
     requires ids { IsSmall buffer.old }
-    ensures run { IfOk result (λ turns. record { buffer = buffer.new; turns = turns } ≡ reversed_run (kind_run (sizes_for run.now.face.now) ((switch_for run.now.ranges.now).is_on run.now.feature_flags) subtable.now.kind) buffer.old) }
+    ensures run { IfOk result (λ turns. record { buffer = buffer.new; turns = turns } ≡ reversed_run (kind_run (sizes_of SLOTS LONGEST run.now.face.now) ((switch_for run.now.ranges.now).is_on run.now.feature_flags) subtable.now.kind) buffer.old) }
     ensures within { IfOk result (StaysWithin 1 buffer.old buffer.new) }
-    ensures reason { IfErr result (IsRefusal buffer.old (reversed_run (kind_run (sizes_for run.now.face.now) ((switch_for run.now.ranges.now).is_on run.now.feature_flags) subtable.now.kind) buffer.old).buffer) }
+    ensures reason { IfErr result (IsRefusal buffer.old (reversed_run (kind_run (sizes_of SLOTS LONGEST run.now.face.now) ((switch_for run.now.ranges.now).is_on run.now.feature_flags) subtable.now.kind) buffer.old).buffer) }
     ensures refused { OnErr result (IsRefused buffer.old buffer.new) }
 {
     buffer.reverse();
-    let turns = run_kind(run, &subtable.kind, buffer)?;
+    let turns = run_kind::<SLOTS, LONGEST, A>(run, &subtable.kind, buffer)?;
     buffer.reverse();
     Ok(turns)
 }
@@ -70,26 +72,28 @@ fn run_reversed<A: Allocator + Copy>(
 /// Runs a subtable under the ranges of its chain, and answers the turns: by its kind, in the order of its coverage. One
 /// that is left out takes none.
 #[tactic(auto, unfolding(crate::specs::Substitution::subtable_run))]
-pub(crate) fn run_subtable<A: Allocator + Copy>(
+pub(crate) fn run_subtable<const SLOTS: usize, const LONGEST: usize, A: Allocator + Copy>(
     run: &SubtableRun,
     subtable: &Subtable,
     buffer: &mut hb_buffer_t<A>,
 ) -> Result<u64, AatError>
+    requires slots { 0 < SLOTS }
+    requires memory { SLOTS ≤ 2 ^ 59 }
     requires flags { run.now.feature_flags ≡ subtable.now.feature_flags }
     requires gapless { IsGapless run.now.ranges.now }
     requires whole { IsTrue (is_whole_list run.now.ranges.now) }
     requires ids { IsSmall buffer.old }
-    ensures run { IfOk result (λ turns. record { buffer = buffer.new; turns = turns } ≡ subtable_run (sizes_for run.now.face.now) (switch_for run.now.ranges.now) subtable.now buffer.old) }
+    ensures run { IfOk result (λ turns. record { buffer = buffer.new; turns = turns } ≡ subtable_run (sizes_of SLOTS LONGEST run.now.face.now) (switch_for run.now.ranges.now) subtable.now buffer.old) }
     ensures within { IfOk result (StaysWithin 1 buffer.old buffer.new) }
-    ensures reason { IfErr result (IsRefusal buffer.old (subtable_run (sizes_for run.now.face.now) (switch_for run.now.ranges.now) subtable.now buffer.old).buffer) }
+    ensures reason { IfErr result (IsRefusal buffer.old (subtable_run (sizes_of SLOTS LONGEST run.now.face.now) (switch_for run.now.ranges.now) subtable.now buffer.old).buffer) }
     ensures refused { OnErr result (IsRefused buffer.old buffer.new) }
 {
     if is_skipped(run, subtable, buffer.direction()) {
         return Ok(0);
     }
     if is_reversed(subtable.coverage, buffer.direction()) {
-        run_reversed(run, subtable, buffer)
+        run_reversed::<SLOTS, LONGEST, A>(run, subtable, buffer)
     } else {
-        run_kind(run, &subtable.kind, buffer)
+        run_kind::<SLOTS, LONGEST, A>(run, &subtable.kind, buffer)
     }
 }

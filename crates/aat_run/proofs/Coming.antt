@@ -5,7 +5,8 @@ use Rattle.aat_run.specs.Context.{Machine, Config}
 use Rattle.aat_run.specs.Driven.{IsRefusal}
 use Rattle.aat_run.specs.Laws.{KeepsFit, PassesFit, Pays, Lengthens, KeepsSettings}
 use Rattle.aat_run.specs.Machine.{Goes, Ends, left_by, turn, whole}
-use Rattle.aat_run.specs.facts.MachineRuns.{turn_falls, turn_counts, turn_keeps_most, turn_longer, whole_step, longer_after}
+use Rattle.aat_run.specs.facts.MachineRuns.{turn_falls, turn_counts, turn_settings, turn_longer, whole_step, longer_after}
+use Rattle.aat_run.specs.facts.Settings.{settings_stay}
 use Rattle.aat_run.specs.inside.Standing.{HasCome}
 use Rattle.aat_run.specs.declared.error.AatError.{AatError}
 use Rattle.aat_run.specs.declared.error.AatError.TheVariants.{AaltValue, TooLong, OutOfMemory, BufferFailed}
@@ -15,7 +16,7 @@ module _ {R E : Type 0} (m : Machine R E) (fits : R → ℕ → ℕ → Type 0)
   where
     -- where a run begins
     pub has_begun : (c : Config R) → fits c.regs c.buffer.cursor (length c.buffer.line) → HasCome m fits c c
-    has_begun c fit = record { run = refl; fit = fit; counted = omega arith; most = refl; longer = omega arith }
+    has_begun c fit = record { run = refl; fit = fit; counted = omega arith; settings = settings_stay c.buffer; longer = omega arith }
 
     module _ (from to : Config R) (come : HasCome m fits from to) where
       -- behind a turn that goes on
@@ -24,9 +25,9 @@ module _ {R E : Type 0} (m : Machine R E) (fits : R → ℕ → ℕ → Type 0)
           let falls = rw goes at (turn_falls m fits keeps passes pays to come.fit) in
           let counts = rw goes at (turn_counts m to) in
           let step = rw goes at (whole_step m fits keeps passes pays to come.fit) in
-          let same = rw goes at (turn_keeps_most m fits keeps passes pays settings from.buffer.max_len to come.fit come.most) in
+          let same = rw goes at (turn_settings m fits keeps passes pays settings from.buffer to come.fit come.settings) in
           let more = rw goes at (turn_longer m fits keeps passes pays lengthens (length from.buffer.line) to come.fit come.longer) in
-          (falls.0, record { run = sym step ∙ come.run; fit = falls.1; counted = omega (arith, falls.0, counts, come.counted); most = same; longer = more })
+          (falls.0, record { run = sym step ∙ come.run; fit = falls.1; counted = omega (arith, falls.0, counts, come.counted); settings = same; longer = more })
 
       -- behind the one that ends
       pub ends : (d : Config R) → turn m to ≡ Ends d → (d ≡ whole m from) × (d.turns ≤ from.turns + potential from.buffer + 1)
@@ -40,7 +41,7 @@ module _ {R E : Type 0} (m : Machine R E) (fits : R → ℕ → ℕ → Type 0)
       refuses (AaltValue value) none = none
       refuses TooLong long =
           let more = longer_after m fits keeps passes pays lengthens (length (left_by (turn m to)).buffer.line) to come.fit (omega arith) in
-          omega (arith, long, come.most, rw come.run at more)
+          omega (arith, long, come.settings.max_len, rw come.run at more)
       refuses OutOfMemory long =
           let more = longer_after m fits keeps passes pays lengthens (length (left_by (turn m to)).buffer.line) to come.fit (omega arith) in
           omega (arith, long, come.longer, rw come.run at more)

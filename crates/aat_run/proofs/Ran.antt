@@ -1,11 +1,11 @@
 -- A run of the turns from the front is the run of the machine.
-use Rattle.std.proofs.Common.{◌≡◌, ℕ, ◌≤◌, Bool, true, cond, length, ap, ◌∙◌, arith}
+use Rattle.std.proofs.Common.{◌≡◌, ℕ, ◌≤◌, Bool, true, false, cond, length, ap, ◌∙◌, arith}
 use Rattle.aat_buffer.specs.Buffer.{Buffer, with_cursor, without_positions}
 use Rattle.aat_font.specs.Table.{TableValue}
 use Rattle.aat_font.specs.declared.state_table.GenericStateEntry.{GenericStateEntry}
 use Rattle.aat_run.specs.Context.{Context, Config, machine_of, start}
 use Rattle.aat_run.specs.Driven.{machine_run, IsRefusal}
-use Rattle.aat_run.specs.Laws.{KeepsFit, PassesFit, Pays, KeepsPlaceWhere}
+use Rattle.aat_run.specs.Laws.{KeepsFit, PassesFit, Pays, KeepsLength}
 use Rattle.aat_run.specs.Machine.{whole}
 use Rattle.aat_run.specs.declared.error.AatError.{AatError}
 use Rattle.aat_run.specs.declared.error.AatError.TheVariants.{AaltValue, TooLong, OutOfMemory, BufferFailed}
@@ -24,23 +24,18 @@ ran on table x b begun turned last r turns in_place place begins run ends =
     let count = run.counted ∙ ap (λ (c : Config _). c.turns) same in
     λ i. record { buffer = line i; turns = count i }
 
--- a context in place, whose line has at most its greatest length, is never refused
+-- a context that keeps the number of glyphs, over a line that has at most its greatest length, is never refused
 module _ {T R : Type 0} (on : ℕ → Bool) (table : TableValue (GenericStateEntry T)) (x : Context R (GenericStateEntry T)) (fits : R → ℕ → ℕ → Type 0)
-    (keeps : KeepsFit x.act fits) (passes : PassesFit fits) (pays : Pays x.act fits) (place : KeepsPlaceWhere x.act fits x.in_place) (stays : x.in_place ≡ true)
+    (keeps : KeepsFit x.act fits) (passes : PassesFit fits) (pays : Pays x.act fits) (count : KeepsLength x.act fits)
     (b : Buffer) (fit : fits x.fresh 0 (length b.line)) (within : length b.line ≤ b.max_len)
   where
-    never : (d : Buffer) → d ≡ with_cursor b 0 → (e : AatError) → IsRefusal d (whole (machine_of on table x) (first d x.fresh)).buffer e → ⊥
-    never d begins e refusal = by_error e (rw begins at refusal)
-      where
-        same : length (whole (machine_of on table x) (first (with_cursor b 0) x.fresh)).buffer.line ≡ length b.line
-        same = whole_in_place (machine_of on table x) fits keeps passes pays (place stays).length (first (with_cursor b 0) x.fresh) fit
+    by_error : (d : Buffer) → length d.line ≤ d.max_len → fits x.fresh d.cursor (length d.line) → (e : AatError) → IsRefusal d (whole (machine_of on table x) (first d x.fresh)).buffer e → ⊥
+    by_error d short stands (AaltValue value) none = none
+    by_error d short stands TooLong long = omega (arith, long, short, whole_in_place (machine_of on table x) fits keeps passes pays count (first d x.fresh) stands)
+    by_error d short stands OutOfMemory long = omega (arith, long, whole_in_place (machine_of on table x) fits keeps passes pays count (first d x.fresh) stands)
+    by_error d short stands BufferFailed none = none
 
-        by_error : (e : AatError) → IsRefusal (with_cursor b 0) (whole (machine_of on table x) (first (with_cursor b 0) x.fresh)).buffer e → ⊥
-        by_error (AaltValue value) none = none
-        by_error TooLong long = omega (arith, long, same, within)
-        by_error OutOfMemory long = omega (arith, long, same)
-        by_error BufferFailed none = none
-
-    pub never_refused : (d : Buffer) (in_place : Bool) → in_place ≡ x.in_place → d ≡ with_cursor (cond in_place b (without_positions b)) 0
+    pub never_refused : (d : Buffer) (in_place : Bool) → d ≡ with_cursor (cond in_place b (without_positions b)) 0
         → (e : AatError) → IsRefusal d (whole (machine_of on table x) (first d x.fresh)).buffer e → ⊥
-    never_refused d in_place is_place begins e refusal = never d (begins ∙ ap (λ p. with_cursor (cond p b (without_positions b)) 0) (is_place ∙ stays)) e refusal
+    never_refused d true begins e refusal = by_error (with_cursor b 0) within fit e (rw begins at refusal)
+    never_refused d false begins e refusal = by_error (with_cursor (without_positions b) 0) within fit e (rw begins at refusal)

@@ -1,13 +1,14 @@
 -- The run of a context over a state table, and what a refusal leaves. TrueType Reference Manual: The 'morx' table,
 -- and State tables.
 use Rattle.std.specs.Prelude.{◌≡◌, ℕ, ◌+◌, ◌*◌, ◌<◌, ◌≤◌, Bool, false, List, length, Option, None, if◌then◌else◌}
-use Rattle.aat_buffer.specs.Buffer.{Buffer, with_cursor}
+use Rattle.aat_buffer.specs.Buffer.{Buffer, failed, with_cursor}
 use Rattle.aat_buffer.specs.Clusters.{IsSmall}
 use Rattle.aat_glyph.specs.declared.glyph.GlyphPosition.{GlyphPosition}
 use Rattle.aat_font.specs.Table.{TableValue}
 use Rattle.aat_font.specs.declared.state_table.GenericStateEntry.{GenericStateEntry}
 use Rattle.aat_run.specs.Budget.{extent}
 use Rattle.aat_run.specs.Context.{Context, Config, Moved, machine_of, start}
+use Rattle.aat_run.specs.Laws.{SameSettings}
 use Rattle.aat_run.specs.Machine.{whole}
 use Rattle.aat_run.specs.Outcome.{Outcome}
 use Rattle.aat_run.specs.declared.error.AatError.{AatError}
@@ -52,19 +53,22 @@ IsRefusal old whole TooLong = old.max_len < length whole.line
 IsRefusal old whole OutOfMemory = length old.line < length whole.line
 IsRefusal old whole BufferFailed = ⊥
 
--- what a refusal leaves of a buffer: it has failed, and its line is some line of 16-bit glyphs that is at most as
--- long as the longest one
+-- a buffer that has failed, and but for line, cursor, positions and budget is as before
+abbrev pub SameButFailed : Buffer → Buffer → Type 0
+SameButFailed old new = SameSettings (failed old) new
+
+-- what a refusal leaves of a buffer: it has failed, its line is some line of 16-bit glyphs that is at most as long as
+-- the longest one, and but for line, cursor, positions and budget all is as before
 pub record IsRefused (old new : Buffer) : Type 0 where
   pub failed : new.successful ≡ false
   pub ids : IsSmall new
   pub length : length new.line ≤ old.max_len
+  pub settings : SameButFailed old new
 
 -- what the runs of so many subtables keep: 16-bit ids; at most n + M + 1 turns for each; length and budget together
--- do not grow;
--- the longest length stays, and the buffer has not newly failed
+-- do not grow; and but for line, cursor, positions and budget all stays
 pub record StaysWithin (count : ℕ) (old new : Buffer) (turns : ℕ) : Type 0 where
   pub ids : IsSmall new
   pub counted : turns ≤ count * (extent old + 1)
   pub extent : extent new ≤ extent old
-  pub max_len : new.max_len ≡ old.max_len
-  pub successful : new.successful ≡ old.successful
+  pub settings : SameSettings old new

@@ -66,6 +66,10 @@ module _ {R E : Type 0} (act : E → R → Buffer → Moved R) (fits : R → ℕ
   abbrev pub KeepsPlaceWhere : Bool → Type 0
   KeepsPlaceWhere in_place = in_place ≡ true → KeepsPlace
 
+  -- an act keeps the number of glyphs, where the context does
+  abbrev pub KeepsLengthWhere : Bool → Type 0
+  KeepsLengthWhere keeps_length = keeps_length ≡ true → KeepsLength
+
   -- no act makes positions where none stand
   abbrev pub MakesNoPositions : Type 0
   MakesNoPositions =

@@ -5,6 +5,7 @@ pub mod MachineRuns
 pub mod OrderedRuns
 pub mod Runs
 pub mod SafeBranches
+pub mod Settings
 pub mod Switched
 pub mod Turns
 pub mod Views

@@ -21,6 +21,7 @@ use aat_font::ExtendedStateTable;
 use std::alloc::Allocator;
 
 /// Takes turns until one ends, and answers their number.
+#[tactic(auto, using(crate::specs::facts::Settings::refused_behind))]
 fn run_turns<T: Copy, C: driver_context_t<T>, A: Allocator + Copy>(
     machine: &ExtendedStateTable<T>,
     context: &mut C,
@@ -96,6 +97,7 @@ pub fn run_machine<T: Copy, C: driver_context_t<T>, A: Allocator + Copy>(
     ensures reason { IfErr result (IsRefusal buffer.old (machine_run (is_driven_on ranges.now feature_flags) machine.now (context_from C.stays_in_place C.advances C.actionable C.act context.old) buffer.old).buffer) }
     ensures refused { OnErr result (IsRefused buffer.old buffer.new) }
     ensures in_place { C.stays_in_place ≡ true → IsOk result }
+    ensures kept { C.keeps_length ≡ true → IsOk result }
 {
     // how long the line may be and how large the budget is, so that the count of turns fits
     let _most = buffer.max_len();
@@ -124,10 +126,11 @@ pub fn run_machine<T: Copy, C: driver_context_t<T>, A: Allocator + Copy>(
 /// The context has to fit at the front, each glyph id has to be at most 0xFFFF, which `all_glyphs_16` tells, the
 /// ranges have to follow one another from 0 without a gap, and the turns so far have to be at most 2^62.
 ///
-/// A context in place keeps the positions and is never refused; another drops them. Refused as 2, `TooLong`, only
-/// where the run would leave a line longer than the buffer's `max_len`, and else as 3, `OutOfMemory`, only where it
-/// would leave a longer line than it found. After a refusal the buffer has failed, its line is some line of 16-bit
-/// glyphs that has at most its greatest length, the registers are any, and no turns are added. A buffer that had
+/// A context in place keeps the positions; another drops them. A context that is in place, or that keeps the number of
+/// glyphs, is never refused. Another is refused as 2, `TooLong`, only where the run would leave a line longer than the
+/// buffer's `max_len`, and else as 3, `OutOfMemory`, only where it would leave a longer line than it found. After a
+/// refusal the buffer has failed, its line is some line of 16-bit glyphs that has at most its greatest length, all but
+/// line, cursor, positions and budget is as before, the registers are any, and no turns are added. A buffer that had
 /// failed before is run as any other.
 ///
 /// A turn takes a bounded number of steps but for its act, the searches in the table, which bisect it, and the walk
@@ -156,6 +159,7 @@ pub fn drive<T: Copy, C: driver_context_t<T>, A: Allocator + Copy>(
     ensures refused { OnErr result (IsRefused c.old.buffer.now c.new.buffer.now) }
     ensures uncounted { OnErr result (c.new.turns ≡ c.old.turns) }
     ensures in_place { C.stays_in_place ≡ true → IsOk result }
+    ensures kept { C.keeps_length ≡ true → IsOk result }
     ensures ranges { c.new.range_flags ≡ c.old.range_flags }
     ensures flags { c.new.subtable_flags ≡ c.old.subtable_flags }
     ensures face { c.new.face ≡ c.old.face }

@@ -25,6 +25,8 @@ use std::alloc::Allocator;
 /// - `lengthens`, `makes_no_positions`, `keeps_settings`: no act takes a glyph away, makes positions where none
 ///   stand, or changes anything but line, cursor, positions and budget;
 /// - `keeps_place`: an act in place keeps the length, the cursor and the positions;
+/// - `keeps_count`: an act of a context that says `keeps_length` keeps the number of glyphs, so that no run of it is
+///   refused;
 /// - `keeps_order`: clusters that never fall along the line never fall behind an act, and those that never rise
 ///   never rise, unless clusters stay apart (`HB_BUFFER_CLUSTER_LEVEL_CHARACTERS`); and no act makes a new cluster.
 ///
@@ -36,7 +38,7 @@ pub trait driver_context_t<T: Copy> {
     ghost use Rattle.aat_font.specs.declared.state_table.GenericStateEntry.{GenericStateEntry};
     ghost use Rattle.aat_run.specs.Context.{Moved};
     ghost use Rattle.aat_run.specs.Driven.{IsRefusal, IsRefused};
-    ghost use Rattle.aat_run.specs.Laws.{KeepsFit, PassesFit, Pays, Bounded, Lengthens, MakesNoPositions, KeepsSettings, KeepsPlaceWhere, KeepsClusterOrder};
+    ghost use Rattle.aat_run.specs.Laws.{KeepsFit, PassesFit, Pays, Bounded, Lengthens, MakesNoPositions, KeepsSettings, KeepsPlaceWhere, KeepsLengthWhere, KeepsClusterOrder};
 
     /// The registers fit a cursor and a length: the places that they name lie on the line, and their numbers in their
     /// types. Choose it so that the registers that a run starts with fit at cursor 0.
@@ -44,6 +46,9 @@ pub trait driver_context_t<T: Copy> {
 
     /// What `in_place` answers.
     ghost stays_in_place: { Bool };
+
+    /// Whether the context says that no act changes the number of glyphs.
+    ghost keeps_length: { Bool };
 
     /// What `can_advance` answers of an entry.
     ghost advances: { GenericStateEntry T → Bool };
@@ -78,7 +83,8 @@ pub trait driver_context_t<T: Copy> {
     ///
     /// Refused as 2, `TooLong`, only where the act would leave a line longer than the buffer's `max_len`, and else as
     /// 3, `OutOfMemory`, only where it would leave a longer line than it found. After a refusal the buffer has failed,
-    /// its line is some line of 16-bit glyphs that has at most its greatest length, and the registers are any.
+    /// its line is some line of 16-bit glyphs that has at most its greatest length, all but line, cursor, positions and
+    /// budget is as before, and the registers are any.
     fn transition<A: Allocator + Copy>(
         &mut self,
         entry: &GenericStateEntry<T>,
@@ -107,6 +113,8 @@ pub trait driver_context_t<T: Copy> {
     ghost keeps_settings: { KeepsSettings act fits };
 
     ghost keeps_place: { KeepsPlaceWhere act fits stays_in_place };
+
+    ghost keeps_count: { KeepsLengthWhere act fits keeps_length };
 
     ghost keeps_order: { KeepsClusterOrder act fits };
 }

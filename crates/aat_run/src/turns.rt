@@ -6,6 +6,7 @@ ghost use Rattle.aat_font.specs.Table.{TableValue, class_of, entry_of};
 ghost use Rattle.aat_font.specs.declared.state_table.GenericStateEntry.{GenericStateEntry};
 ghost use Rattle.aat_run.specs.Context.{Machine, machine_with, is_at_end, class_at, cluster_seen};
 ghost use Rattle.aat_run.specs.Driven.{IsRefusal, IsRefused};
+ghost use Rattle.aat_run.specs.Laws.{SameSettings};
 ghost use Rattle.aat_run.specs.Machine.{left_by, stepped, marked, acted, by_entry, off, turn};
 ghost use Rattle.aat_run.specs.Ranges.{IsGapless, is_driven_on};
 ghost use Rattle.aat_run.specs.Safe.{is_safe};
@@ -144,7 +145,7 @@ fn mark<T: Copy, C: driver_context_t<T>, A: Allocator + Copy>(
     ensures ids { IsSmall buffer.new }
     ensures cursor { buffer.new.cursor ≡ buffer.old.cursor }
     ensures length { length buffer.new.line ≡ length buffer.old.line }
-    ensures most { buffer.new.max_len ≡ buffer.old.max_len }
+    ensures settings { SameSettings buffer.old buffer.new }
 {
     let p = buffer.backtrack_len();
     if 0 < p && p < buffer.len() {
@@ -176,7 +177,7 @@ fn settle<A: Allocator + Copy>(buffer: &mut hb_buffer_t<A>, does_advance: bool) 
 }
 
 /// The mark, the act and the new state of an entry: whether the run goes on.
-#[tactic(auto, unfolding(crate::specs::Machine::acted, crate::specs::Machine::settled))]
+#[tactic(auto, using(crate::specs::facts::Settings::refused_behind), unfolding(crate::specs::Machine::acted, crate::specs::Machine::settled))]
 fn act<T: Copy, C: driver_context_t<T>, A: Allocator + Copy>(
     machine: &ExtendedStateTable<T>,
     context: &mut C,

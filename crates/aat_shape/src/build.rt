@@ -25,11 +25,9 @@ const FEATURE_FLAGS: u32 = 1;
 /// The font of a description.
 pub(crate) fn face_of(alloc: Global, font: &FontData) -> Result<hb_font_t, Stop> {
     let chain = chain_of(alloc, font)?;
-    let tables = FaceTables {
-        morx: Some(Morx::new(vec![in alloc; chain]?)?),
-        feat: feat_of(alloc, font.names)?,
-    };
-    Ok(hb_font_t::new(tables, None, None))
+    let mut tables = FaceTables::default().with_morx(Morx::new(vec![in alloc; chain]?)?);
+    tables.feat = feat_of(alloc, font.names)?;
+    Ok(hb_font_t::from_tables(tables))
 }
 
 /// The one chain of a font.
@@ -77,11 +75,8 @@ fn noncontextual_of(
     values: &[(u16, u16)],
     coverage: Coverage,
 ) -> Result<Subtable, Stop> {
-    Ok(Subtable {
-        kind: SubtableKind::NonContextual(Lookup::new(alloc, values)?),
-        coverage,
-        feature_flags: FEATURE_FLAGS,
-    })
+    let kind = SubtableKind::NonContextual(Lookup::new(alloc, values)?);
+    Ok(Subtable::new(kind, coverage, FEATURE_FLAGS))
 }
 
 /// A rearrangement subtable.
@@ -90,11 +85,8 @@ fn rearrangement_of(
     table: &TableData<()>,
     coverage: Coverage,
 ) -> Result<Subtable, Stop> {
-    Ok(Subtable {
-        kind: SubtableKind::Rearrangement(table_of(alloc, table)?),
-        coverage,
-        feature_flags: FEATURE_FLAGS,
-    })
+    let kind = SubtableKind::Rearrangement(table_of(alloc, table)?);
+    Ok(Subtable::new(kind, coverage, FEATURE_FLAGS))
 }
 
 /// A contextual subtable.
@@ -108,11 +100,8 @@ fn contextual_of(
         state: table_of(alloc, state)?,
         lookups: lookups_of(alloc, lookups)?,
     };
-    Ok(Subtable {
-        kind: SubtableKind::Contextual(tables),
-        coverage,
-        feature_flags: FEATURE_FLAGS,
-    })
+    let kind = SubtableKind::Contextual(tables);
+    Ok(Subtable::new(kind, coverage, FEATURE_FLAGS))
 }
 
 /// A ligature subtable.
@@ -127,11 +116,8 @@ fn ligature_of(
         components: Vec::from_slice(alloc, ligature.components)?,
         ligatures: Vec::from_slice(alloc, ligature.ligatures)?,
     };
-    Ok(Subtable {
-        kind: SubtableKind::Ligature(tables),
-        coverage,
-        feature_flags: FEATURE_FLAGS,
-    })
+    let kind = SubtableKind::Ligature(tables);
+    Ok(Subtable::new(kind, coverage, FEATURE_FLAGS))
 }
 
 /// Actions in their order, each as often as it is said to stand there.
@@ -162,11 +148,8 @@ fn insertion_of(
         state: table_of(alloc, state)?,
         glyphs: Vec::from_slice(alloc, glyphs)?,
     };
-    Ok(Subtable {
-        kind: SubtableKind::Insertion(tables),
-        coverage,
-        feature_flags: FEATURE_FLAGS,
-    })
+    let kind = SubtableKind::Insertion(tables);
+    Ok(Subtable::new(kind, coverage, FEATURE_FLAGS))
 }
 
 /// Lookups in their order.
@@ -224,12 +207,11 @@ fn feat_of(alloc: Global, names: Option<&[FeatureName]>) -> Result<Option<Feat>,
 
 /// What a request asks.
 pub(crate) fn feature_of(request: &Request) -> Feature {
-    Feature {
-        tag: hb_tag_t::from_bytes(request.tag),
-        value: request.value,
-        start: request.start,
-        end: request.end,
-    }
+    Feature::new(
+        hb_tag_t::from_bytes(request.tag),
+        request.value,
+        request.start..request.end,
+    )
 }
 
 /// A builder to which requests are added in their order.
@@ -251,12 +233,7 @@ pub(crate) fn plan_of(alloc: Global, requests: &[Request]) -> Result<hb_ot_shape
     for request in requests {
         user_features.push(feature_of(request))?;
     }
-    Ok(hb_ot_shape_plan_t {
-        user_features,
-        apply_morx: true,
-        requested_kerning: false,
-        kern_mask: 0,
-    })
+    Ok(hb_ot_shape_plan_t::new(user_features))
 }
 
 /// A buffer with a line and a budget.
@@ -276,11 +253,16 @@ fn add_run(buffer: &mut hb_buffer_t, run: &Run) -> Result<(), Stop>
     ensures { IsSmall buffer.new }
 {
     for cluster in run.first..=run.last {
-        buffer.add(hb_glyph_info_t {
-            glyph_id: run.glyph as u32,
-            cluster,
-            ..hb_glyph_info_t::default()
-        })?;
+        buffer.add(hb_glyph_info_t::new(run.glyph as u32, cluster))?;
+    }
+    Ok(())
+}
+
+/// Gives each glyph a position with this horizontal advance, and else zeros.
+pub(crate) fn set_advances(buffer: &mut hb_buffer_t, x_advance: i32) -> Result<(), Stop> {
+    buffer.clear_positions()?;
+    for i in 0..buffer.len() {
+        buffer.pos_mut(i).x_advance = x_advance;
     }
     Ok(())
 }

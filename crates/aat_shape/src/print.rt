@@ -1,15 +1,19 @@
 //! Shaping the worked rows and printing what comes out.
-ghost use Rattle.std.specs.Prelude.{◌≤◌};
+ghost use Rattle.std.specs.Prelude.{◌<◌, ◌≤◌, length};
+ghost use Rattle.aat_layout.specs.Clusters.{IsSmall};
 
-use crate::build::{buffer_of, builder_of, face_of, feature_of, plan_of};
+use crate::build::{buffer_of, builder_of, face_of, feature_of, plan_of, set_advances};
 use crate::rows::{
-    Addition, After, Compilation, FROM_7, FROM_13, FROM_26, Part, Row, Shown, Substitution, TO_6,
+    Addition, After, Compilation, FROM_7, FROM_13, FROM_19, FROM_25, FROM_31, MAX_OPS, Part, Row,
+    Run, Shown, Sizes, Substitution, TO_6, Zeroing,
 };
 use crate::stop::Stop;
 use aat_layout::buffer::{glyph_flag, hb_buffer_t};
+use aat_layout::font::{hb_font_t, hb_ot_shape_plan_t};
 use aat_layout::{
-    AatError, Turns, hb_aat_layout_remove_deleted_glyphs, hb_aat_layout_substitute,
-    hb_aat_map_builder_t, hb_aat_map_t, range_flags_t,
+    AatError, LIGATURE_SLOTS, MAX_CONTEXT_LENGTH, Turns, hb_aat_layout_remove_deleted_glyphs,
+    hb_aat_layout_substitute, hb_aat_layout_substitute_with,
+    hb_aat_layout_zero_width_deleted_glyphs, hb_aat_map_builder_t, hb_aat_map_t, range_flags_t,
 };
 use std::alloc::Global;
 use std::io::Write;
@@ -46,7 +50,9 @@ fn print_chosen<W: Write>(alloc: Global, words: &[String], out: &mut W) -> Resul
     is_known |= print_those(alloc, words, &TO_6, out)?;
     is_known |= print_those(alloc, words, &FROM_7, out)?;
     is_known |= print_those(alloc, words, &FROM_13, out)?;
-    is_known |= print_those(alloc, words, &FROM_26, out)?;
+    is_known |= print_those(alloc, words, &FROM_19, out)?;
+    is_known |= print_those(alloc, words, &FROM_25, out)?;
+    is_known |= print_those(alloc, words, &FROM_31, out)?;
     Ok(is_known)
 }
 
@@ -87,6 +93,8 @@ fn print_part<W: Write>(alloc: Global, part: &Part, out: &mut W) -> Result<(), S
         Shown::Substitution(shown) => print_substitution(alloc, shown, out),
         Shown::Compilation(shown) => print_compilation(alloc, shown, out),
         Shown::Addition(shown) => print_addition(alloc, shown, out),
+        Shown::Zeroing(shown) => print_zeroing(alloc, shown, out),
+        Shown::Removal(line) => print_removal(alloc, line, out),
     }
 }
 
@@ -100,12 +108,39 @@ fn print_substitution<W: Write>(
     let mut buffer = buffer_of(alloc, shown.line, shown.max_ops)?;
     buffer.set_direction(shown.direction);
     let plan = plan_of(alloc, shown.requests)?;
-    let turns = hb_aat_layout_substitute(alloc, &plan, &face, &mut buffer)?;
+    let turns = substitute(alloc, &plan, &face, &shown.sizes, &mut buffer)?;
     match shown.after {
         After::Nothing => (),
         After::Removal => hb_aat_layout_remove_deleted_glyphs(&mut buffer),
     }
     print_buffer(&buffer, turns, out)
+}
+
+/// Substitutes a line by a plan with sizes, and answers the turns.
+fn substitute(
+    alloc: Global,
+    plan: &hb_ot_shape_plan_t,
+    face: &hb_font_t,
+    sizes: &Sizes,
+    buffer: &mut hb_buffer_t,
+) -> Result<Turns, AatError>
+    requires { IsSmall buffer.old }
+{
+    match sizes {
+        Sizes::Usual => hb_aat_layout_substitute(alloc, plan, face, buffer),
+        Sizes::SpansOfThree => hb_aat_layout_substitute_with::<LIGATURE_SLOTS, 3>(
+            alloc, plan, face, buffer,
+        ),
+        Sizes::SpansOfTwo => hb_aat_layout_substitute_with::<LIGATURE_SLOTS, 2>(
+            alloc, plan, face, buffer,
+        ),
+        Sizes::OneSlot => hb_aat_layout_substitute_with::<1, MAX_CONTEXT_LENGTH>(
+            alloc, plan, face, buffer,
+        ),
+        Sizes::TwoSlots => hb_aat_layout_substitute_with::<2, MAX_CONTEXT_LENGTH>(
+            alloc, plan, face, buffer,
+        ),
+    }
 }
 
 /// Compiles requests and prints the ranges of each chain.
@@ -145,15 +180,49 @@ fn print_addition<W: Write>(alloc: Global, shown: &Addition, out: &mut W) -> Res
     Ok(())
 }
 
+/// Gives the glyphs of a line positions, takes the room from its deleted glyphs, and prints it.
+fn print_zeroing<W: Write>(alloc: Global, shown: &Zeroing, out: &mut W) -> Result<(), Stop> {
+    let mut buffer = buffer_of(alloc, shown.line, MAX_OPS)?;
+    set_advances(&mut buffer, shown.x_advance)?;
+    hb_aat_layout_zero_width_deleted_glyphs(&mut buffer);
+    print_buffer(&buffer, 0, out)
+}
+
+/// Removes the deleted glyphs of a line, and prints it.
+fn print_removal<W: Write>(alloc: Global, line: &[Run], out: &mut W) -> Result<(), Stop> {
+    let mut buffer = buffer_of(alloc, line, MAX_OPS)?;
+    hb_aat_layout_remove_deleted_glyphs(&mut buffer);
+    print_buffer(&buffer, 0, out)
+}
+
 /// Prints a line, a glyph to a line of text, and then the turns and the budget that is left.
 fn print_buffer<W: Write>(buffer: &hb_buffer_t, turns: Turns, out: &mut W) -> Result<(), Stop> {
     for i in 0..buffer.len() {
-        let glyph = buffer.info(i);
-        let flags = glyph.mask & glyph_flag::DEFINED;
-        writeln!(out, "{} {} {flags}", glyph.glyph_id, glyph.cluster)?;
+        print_glyph(buffer, i, out)?;
     }
     let budget = buffer.max_ops();
     writeln!(out, "turns {turns} budget {budget}")?;
+    Ok(())
+}
+
+/// Prints a glyph of a line: its id, its cluster and its flags, and where positions stand its advances and offsets.
+fn print_glyph<W: Write>(buffer: &hb_buffer_t, i: usize, out: &mut W) -> Result<(), Stop>
+    requires { i < length buffer.now.line }
+{
+    let glyph = buffer.info(i);
+    let (id, cluster) = (glyph.glyph_id, glyph.cluster);
+    let flags = glyph.mask & glyph_flag::DEFINED;
+    if !buffer.has_positions() {
+        writeln!(out, "{id} {cluster} {flags}")?;
+        return Ok(());
+    }
+    let position = buffer.pos(i);
+    let (x_advance, y_advance) = (position.x_advance, position.y_advance);
+    let (x_offset, y_offset) = (position.x_offset, position.y_offset);
+    writeln!(
+        out,
+        "{id} {cluster} {flags} {x_advance} {y_advance} {x_offset} {y_offset}"
+    )?;
     Ok(())
 }
 

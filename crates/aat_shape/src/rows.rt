@@ -6,19 +6,22 @@ use aat_layout::font::{
 };
 
 /// A part that shows a line that is substituted by the one subtable of a font, without requests: its name, the kind
-/// of the subtable and the line, and if not the usual budget, the budget, or if not for all directions and left to
-/// right, the coverage and the direction.
+/// of the subtable and the line, and if not the usual budget, the budget, or if not the usual sizes, the sizes, or if
+/// not for all directions and left to right, the coverage and the direction.
 macro_rules! substituted {
     ($name:literal, $kind:expr, $line:expr) => {
-        substituted!($name, $kind, $line, AllDirections, LeftToRight, MAX_OPS)
+        substituted!($name, $kind, $line, AllDirections, LeftToRight, MAX_OPS, Usual)
     };
     ($name:literal, $kind:expr, $line:expr, $max_ops:literal) => {
-        substituted!($name, $kind, $line, AllDirections, LeftToRight, $max_ops)
+        substituted!($name, $kind, $line, AllDirections, LeftToRight, $max_ops, Usual)
+    };
+    ($name:literal, $kind:expr, $line:expr, $sizes:ident) => {
+        substituted!($name, $kind, $line, AllDirections, LeftToRight, MAX_OPS, $sizes)
     };
     ($name:literal, $kind:expr, $line:expr, $coverage:ident, $direction:ident) => {
-        substituted!($name, $kind, $line, $coverage, $direction, MAX_OPS)
+        substituted!($name, $kind, $line, $coverage, $direction, MAX_OPS, Usual)
     };
-    ($name:literal, $kind:expr, $line:expr, $coverage:ident, $direction:ident, $max_ops:expr) => {
+    ($name:literal, $kind:expr, $line:expr, $coverage:ident, $direction:ident, $max_ops:expr, $sizes:ident) => {
         Part {
             name: $name,
             shown: Shown::Substitution(Substitution {
@@ -35,6 +38,7 @@ macro_rules! substituted {
                 line: $line,
                 direction: Direction::$direction,
                 max_ops: $max_ops,
+                sizes: Sizes::$sizes,
                 after: After::Nothing,
             }),
         }
@@ -87,15 +91,17 @@ macro_rules! request {
 }
 
 mod contextual;
+mod deleted;
 mod insertion;
 mod ligature;
 mod rearrangement;
 mod requests;
 
 use contextual::{ROW_10, ROW_35};
+use deleted::ROW_19;
 use insertion::{ROW_13, ROW_14, ROW_25, ROW_27, ROW_33};
-use ligature::{ROW_11, ROW_12, ROW_24, ROW_31, ROW_32};
-use rearrangement::{ROW_8, ROW_9, ROW_22, ROW_23, ROW_26};
+use ligature::{ROW_11, ROW_12, ROW_24, ROW_31, ROW_32, ROW_37};
+use rearrangement::{ROW_8, ROW_9, ROW_22, ROW_23, ROW_26, ROW_36};
 use requests::{ROW_1, ROW_2, ROW_3, ROW_4, ROW_5, ROW_6, ROW_7};
 
 /// A worked row: its number, and its parts in their order.
@@ -118,6 +124,10 @@ pub(crate) enum Shown {
     Compilation(Compilation),
     /// A request that is added to a new builder.
     Addition(Addition),
+    /// A line whose deleted glyphs take no room.
+    Zeroing(Zeroing),
+    /// A line whose deleted glyphs are removed, run by run.
+    Removal(&'static [Run]),
 }
 
 /// A line that is substituted under requests.
@@ -131,7 +141,22 @@ pub(crate) struct Substitution {
     pub(crate) direction: Direction,
     /// The budget of the buffer.
     pub(crate) max_ops: i32,
+    pub(crate) sizes: Sizes,
     pub(crate) after: After,
+}
+
+/// With how many slots for a ligature's components, and with spans of at most how many glyphs, a line is substituted.
+pub(crate) enum Sizes {
+    /// With 64 slots, and spans of at most 64 glyphs.
+    Usual,
+    /// With spans of at most three glyphs.
+    SpansOfThree,
+    /// With spans of at most two glyphs.
+    SpansOfTwo,
+    /// With one slot.
+    OneSlot,
+    /// With two slots.
+    TwoSlots,
 }
 
 /// What is done with the line after it is substituted.
@@ -160,6 +185,14 @@ pub(crate) struct Compilation {
 pub(crate) struct Addition {
     pub(crate) font: FontData,
     pub(crate) request: Request,
+}
+
+/// A line with positions whose deleted glyphs take no room.
+pub(crate) struct Zeroing {
+    /// The line, run by run.
+    pub(crate) line: &'static [Run],
+    /// The horizontal advance of each glyph, in font units.
+    pub(crate) x_advance: i32,
 }
 
 /// A font with one chain, and perhaps with feature names.
@@ -238,7 +271,7 @@ pub(crate) struct Request {
 }
 
 /// The usual budget of a row.
-const MAX_OPS: i32 = 16384;
+pub(crate) const MAX_OPS: i32 = 16384;
 
 /// The name of ligatures, whose settings do not exclude one another.
 const LIGATURES: &[FeatureName] = &[FeatureName {
@@ -253,8 +286,14 @@ pub(crate) static TO_6: [Row; 6] = [ROW_1, ROW_2, ROW_3, ROW_4, ROW_5, ROW_6];
 /// The rows from 7 to 12.
 pub(crate) static FROM_7: [Row; 6] = [ROW_7, ROW_8, ROW_9, ROW_10, ROW_11, ROW_12];
 
-/// The rows from 13 to 25.
-pub(crate) static FROM_13: [Row; 6] = [ROW_13, ROW_14, ROW_22, ROW_23, ROW_24, ROW_25];
+/// The rows from 13 to 18.
+pub(crate) static FROM_13: [Row; 2] = [ROW_13, ROW_14];
 
-/// The rows from 26 on.
-pub(crate) static FROM_26: [Row; 6] = [ROW_26, ROW_27, ROW_31, ROW_32, ROW_33, ROW_35];
+/// The rows from 19 to 24.
+pub(crate) static FROM_19: [Row; 4] = [ROW_19, ROW_22, ROW_23, ROW_24];
+
+/// The rows from 25 to 30.
+pub(crate) static FROM_25: [Row; 3] = [ROW_25, ROW_26, ROW_27];
+
+/// The rows from 31 on.
+pub(crate) static FROM_31: [Row; 6] = [ROW_31, ROW_32, ROW_33, ROW_35, ROW_36, ROW_37];

@@ -294,6 +294,22 @@ const ROW_14: &str = "\
     5 0 0\n\
     turns 5 budget -5\n";
 
+/// The text of row 19.
+const ROW_19: &str = "\
+    row 19a\n\
+    5 0 0 300 0 0 0\n\
+    65535 1 0 0 0 0 0\n\
+    turns 0 budget 16384\n\
+    row 19b\n\
+    5 0 0\n\
+    turns 0 budget 16384\n\
+    row 19c\n\
+    5 0 0\n\
+    turns 0 budget 16384\n\
+    row 19d\n\
+    5 0 0\n\
+    turns 0 budget 16384\n";
+
 /// The text of row 22.
 const ROW_22: &str = "\
     row 22\n\
@@ -507,8 +523,32 @@ const ROW_35: &str = "\
     65535 0 0\n\
     turns 2 budget 16384\n";
 
+/// The text of row 36.
+const ROW_36: &str = "\
+    row 36a\n\
+    11 0 0\n\
+    12 0 0\n\
+    10 0 0\n\
+    turns 4 budget 16384\n\
+    row 36b\n\
+    10 0 0\n\
+    11 1 0\n\
+    12 2 0\n\
+    turns 4 budget 16384\n";
+
+/// The text of row 37.
+const ROW_37: &str = "\
+    row 37a\n\
+    10 0 0\n\
+    65535 1 3\n\
+    turns 3 budget 16384\n\
+    row 37b\n\
+    20 0 0\n\
+    65535 0 0\n\
+    turns 3 budget 16384\n";
+
 /// The rows that are built, in their order, each with its number and its text.
-const ROWS: [(&str, &str); 24] = [
+const ROWS: [(&str, &str); 27] = [
     ("1", ROW_1),
     ("2", ROW_2),
     ("3", ROW_3),
@@ -523,6 +563,7 @@ const ROWS: [(&str, &str); 24] = [
     ("12", ROW_12),
     ("13", ROW_13),
     ("14", ROW_14),
+    ("19", ROW_19),
     ("22", ROW_22),
     ("23", ROW_23),
     ("24", ROW_24),
@@ -533,6 +574,8 @@ const ROWS: [(&str, &str); 24] = [
     ("32", ROW_32),
     ("33", ROW_33),
     ("35", ROW_35),
+    ("36", ROW_36),
+    ("37", ROW_37),
 ];
 
 /// A writer that keeps what it is given, up to a number of writes, and refuses those after it.

@@ -7,7 +7,7 @@ use Rattle.aat_buffer.specs.facts.Order.{Kept, kept_refl, kept_set}
 use Rattle.aat_font.specs.Entries.{is_present}
 use Rattle.aat_font.specs.declared.state_table.GenericStateEntry.{GenericStateEntry}
 use Rattle.aat_run.specs.Context.{Moved}
-use Rattle.aat_run.specs.Laws.{KeepsFit, PassesFit, Pays, Bounded, Lengthens, KeepsPlaceWhere, MakesNoPositions, KeepsSettings, SameSettings, KeepsClusterOrder}
+use Rattle.aat_run.specs.Laws.{KeepsFit, PassesFit, Pays, Bounded, Lengthens, KeepsPlaceWhere, KeepsLengthWhere, MakesNoPositions, KeepsSettings, SameSettings, KeepsClusterOrder}
 use Rattle.aat_run.specs.facts.InPlace.{Keeps, KeepsAll, pays_in_place, bounded_in_place, lengthens_in_place}
 use Rattle.aat_tests.specs.declared.driver_contexts.CountingCtx.{CountingCtx}
 
@@ -52,6 +52,9 @@ positions e r b = of_act (λ d. d.positions ≡ b.positions) e r b refl refl
 
 pub keeps_place : KeepsPlaceWhere act IsFit true
 keeps_place _ = record { length = λ e r b fit. (keeps e r b fit).length; cursor = λ e r b fit. (keeps e r b fit).cursor; positions = λ e r b fit. positions e r b }
+
+pub keeps_count : KeepsLengthWhere act IsFit true
+keeps_count _ e r b fit = (keeps e r b fit).length
 
 pub makes_no_positions : MakesNoPositions act IsFit
 makes_no_positions e r b fit none = positions e r b ∙ none

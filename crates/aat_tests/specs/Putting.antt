@@ -18,7 +18,7 @@ use Rattle.aat_font.specs.Entries.{is_present}
 use Rattle.aat_font.specs.declared.state_table.GenericStateEntry.{GenericStateEntry}
 use Rattle.aat_run.specs.Budget.{paid, has_overspent, operations_left, potential, extent}
 use Rattle.aat_run.specs.Context.{Moved}
-use Rattle.aat_run.specs.Laws.{KeepsFit, PassesFit, Pays, Bounded, Lengthens, KeepsPlaceWhere, MakesNoPositions, KeepsSettings, SameSettings, KeepsClusterOrder}
+use Rattle.aat_run.specs.Laws.{KeepsFit, PassesFit, Pays, Bounded, Lengthens, KeepsPlaceWhere, KeepsLengthWhere, MakesNoPositions, KeepsSettings, SameSettings, KeepsClusterOrder}
 use Rattle.aat_tests.specs.declared.driver_contexts.PuttingCtx.{PuttingCtx}
 
 abbrev pub Entry : Type 0
@@ -95,6 +95,9 @@ lengthens e r b fit = of_act (λ d. length b.line ≤ length d.line) e r b (omeg
 
 pub keeps_place : KeepsPlaceWhere act IsFit false
 keeps_place is_so = absurd (grind (arith, is_so))
+
+pub keeps_count : KeepsLengthWhere act IsFit false
+keeps_count is_so = absurd (grind (arith, is_so))
 
 pub makes_no_positions : MakesNoPositions act IsFit
 makes_no_positions e r b fit none = of_act (λ d. d.positions ≡ None) e r b none none (λ below enough. refl)

@@ -12,11 +12,7 @@ use std::test::Fail;
 fn line_of(alloc: Global, glyphs: &[(u32, u32)]) -> Result<hb_buffer_t, BufferError> {
     let mut buffer = hb_buffer_t::new(alloc, 16384, 16384);
     for (glyph_id, cluster) in glyphs {
-        buffer.add(hb_glyph_info_t {
-            glyph_id: *glyph_id,
-            cluster: *cluster,
-            ..hb_glyph_info_t::default()
-        })?;
+        buffer.add(hb_glyph_info_t::new(*glyph_id, *cluster))?;
     }
     Ok(buffer)
 }
@@ -136,11 +132,7 @@ fn nothing_left(rt: HostRuntime) -> Result<(), Fail> {
 fn ten_thousand_glyphs(rt: HostRuntime) -> Result<(), Fail> {
     let mut buffer = hb_buffer_t::new(rt.alloc(), 16384, 16384);
     for i in 0..10_000u32 {
-        buffer.add(hb_glyph_info_t {
-            glyph_id: if i % 2 == 0 { i } else { DELETED_GLYPH },
-            cluster: 9_999 - i,
-            ..hb_glyph_info_t::default()
-        })?;
+        buffer.add(hb_glyph_info_t::new(if i % 2 == 0 { i } else { DELETED_GLYPH }, 9_999 - i))?;
     }
     place_all(&rt, &mut buffer, position(7, 0, 0, 0))?;
     hb_aat_layout_zero_width_deleted_glyphs(&mut buffer);

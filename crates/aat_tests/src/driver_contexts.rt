@@ -24,6 +24,8 @@ impl driver_context_t<u16> for CountingCtx {
 
     ghost stays_in_place = { true };
 
+    ghost keeps_length = { true };
+
     ghost advances = { goes_on };
 
     ghost actionable = { c.actionable };
@@ -74,6 +76,8 @@ impl driver_context_t<u16> for CountingCtx {
 
     ghost keeps_place = { c.keeps_place };
 
+    ghost keeps_count = { c.keeps_count };
+
     ghost keeps_order = { c.keeps_order };
 }
 
@@ -105,6 +109,8 @@ impl driver_context_t<u16> for PuttingCtx {
     ghost fits = { p.IsFit };
 
     ghost stays_in_place = { false };
+
+    ghost keeps_length = { false };
 
     ghost advances = { goes_on };
 
@@ -157,6 +163,8 @@ impl driver_context_t<u16> for PuttingCtx {
     ghost keeps_settings = { p.keeps_settings };
 
     ghost keeps_place = { p.keeps_place };
+
+    ghost keeps_count = { p.keeps_count };
 
     ghost keeps_order = { p.keeps_order };
 }

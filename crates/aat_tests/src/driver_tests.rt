@@ -8,6 +8,7 @@ use aat_font::{ExtendedStateTable, FaceTables, GenericStateEntry, TableError, hb
 use aat_run::{AatError, drive, hb_aat_apply_context_t, range_flags_t, run_machine};
 use linked_list_allocator::LocalHeap;
 use std::alloc::{Allocator, Global};
+use std::process::Abort;
 use std::test::Fail;
 
 /// No act.
@@ -59,11 +60,7 @@ fn line_of<A: Allocator + Copy>(
 {
     let mut buffer = hb_buffer_t::new(alloc, max_len, max_ops);
     for (glyph_id, cluster) in glyphs {
-        buffer.add(hb_glyph_info_t {
-            glyph_id: *glyph_id as u32,
-            cluster: *cluster,
-            ..hb_glyph_info_t::default()
-        })?;
+        buffer.add(hb_glyph_info_t::new(*glyph_id as u32, *cluster))?;
     }
     Ok(buffer)
 }
@@ -96,14 +93,7 @@ fn is_line<A: Allocator + Copy>(buffer: &hb_buffer_t<A>, wanted: &[(u32, u32, u3
 
 /// A font without tables.
 fn face() -> hb_font_t {
-    hb_font_t::new(
-        FaceTables {
-            morx: None,
-            feat: None,
-        },
-        None,
-        None,
-    )
+    hb_font_t::from_tables(FaceTables::default())
 }
 
 /// Runs the counting context over a line, and answers its count and the turns.
@@ -284,31 +274,39 @@ fn too_long(rt: HostRuntime) -> Result<(), Fail> {
     Ok(())
 }
 
+/// Puts in over a line of five glyphs in a heap, and says whether that was not refused: nothing where the line itself
+/// is.
+fn puts_over<A: Allocator + Copy>(
+    rt: &impl Abort,
+    alloc: A,
+    machine: &ExtendedStateTable<u16>,
+) -> Option<bool> {
+    let glyphs = [(5, 0), (5, 1), (5, 2), (5, 3), (5, 4)];
+    let mut buffer = line_of(alloc, 100, 16384, &glyphs).ok()?;
+    let answer = put_over(machine, &mut buffer);
+    if answer == Some(Ok(6)) {
+        assert!(rt; buffer.len() == 10 && buffer.is_successful());
+        return Some(true);
+    }
+    assert!(rt; answer == Some(Err(AatError::OutOfMemory)) && !buffer.is_successful());
+    assert!(rt; buffer.len() < 10 && buffer.all_glyphs_16());
+    Some(false)
+}
+
 /// Each growth is refused in turn, by a heap that is too small for it.
 #[test]
 fn refused_memory(rt: HostRuntime) -> Result<(), Fail> {
     let machine = acting(rt.alloc(), 0, 7)?;
-    let mut refused = 0;
-    let mut grown = 0;
+    let mut found = (0, 0);
     for step in 0..64usize {
         let heap = LocalHeap::new(rt.alloc(), step * 32)?;
-        let glyphs = [(5, 0), (5, 1), (5, 2), (5, 3), (5, 4)];
-        if let Ok(mut buffer) = line_of(&heap, 100, 16384, &glyphs) {
-            match put_over(&machine, &mut buffer) {
-                Some(Ok(turns)) => {
-                    assert!(rt; turns == 6 && buffer.len() == 10 && buffer.is_successful());
-                    grown = 1;
-                }
-                Some(Err(error)) => {
-                    assert!(rt; error == AatError::OutOfMemory && !buffer.is_successful());
-                    assert!(rt; buffer.len() < 10 && buffer.all_glyphs_16());
-                    refused = 1;
-                }
-                None => assert!(rt; false),
-            }
+        match puts_over(&rt, &heap, &machine) {
+            Some(true) => found.0 = 1,
+            Some(false) => found.1 = 1,
+            None => {}
         }
     }
-    assert_eq!(rt; (refused, grown), (1, 1));
+    assert_eq!(rt; found, (1, 1));
     Ok(())
 }
 
@@ -318,11 +316,7 @@ fn long_line(rt: HostRuntime) -> Result<(), Fail> {
     let machine = acting(rt.alloc(), 0, 7)?;
     let mut buffer = hb_buffer_t::new(rt.alloc(), 0x3FFFFFFF, 0);
     for cluster in 0..10000u32 {
-        buffer.add(hb_glyph_info_t {
-            glyph_id: 5,
-            cluster,
-            ..hb_glyph_info_t::default()
-        })?;
+        buffer.add(hb_glyph_info_t::new(5, cluster))?;
     }
     let ranges = [range(1, 0, 4999), range(2, 5000, u32::MAX)];
     assert!(rt; count_over(&machine, &mut buffer, &ranges) == Some((5005, 10001)));

@@ -7,8 +7,8 @@ use aat_font::{
     Lookup, TableError, hb_font_t,
 };
 use aat_kinds::{ContextualCtx, MAX_CONTEXT_LENGTH, RearrangementCtx};
-use aat_run::run_machine;
-use std::alloc::{Allocator, Global};
+use aat_run::{AatError, run_machine};
+use std::alloc::{AllocError, Global};
 use std::process::Abort;
 use std::test::Fail;
 
@@ -26,14 +26,6 @@ const NONE: u16 = 0xFFFF;
 /// The classes that the tables of these tests have.
 const CLASS_COUNT: u16 = 6;
 
-fn glyph(glyph_id: u32, cluster: u32) -> hb_glyph_info_t {
-    hb_glyph_info_t {
-        glyph_id,
-        cluster,
-        ..hb_glyph_info_t::default()
-    }
-}
-
 /// A line of `count` glyphs, each with its place as its cluster: `first` and `second` by turns.
 fn line_by_turns(
     alloc: Global,
@@ -43,7 +35,7 @@ fn line_by_turns(
 ) -> Result<hb_buffer_t, BufferError> {
     let mut buffer = hb_buffer_t::new(alloc, 100_000, 16384);
     for i in 0..count {
-        buffer.add(glyph(if i % 2 == 0 { first } else { second }, i))?;
+        buffer.add(hb_glyph_info_t::new(if i % 2 == 0 { first } else { second }, i))?;
     }
     Ok(buffer)
 }
@@ -53,17 +45,34 @@ fn line_of(alloc: Global, ids: &[u32]) -> Result<hb_buffer_t, BufferError> {
     let mut buffer = hb_buffer_t::new(alloc, 100, 16384);
     let mut cluster = 0;
     for id in ids {
-        buffer.add(glyph(*id, cluster))?;
+        buffer.add(hb_glyph_info_t::new(*id, cluster))?;
         cluster = cluster.wrapping_add(1);
     }
     Ok(buffer)
 }
 
-/// The glyph id, the cluster and the mask at a place.
-fn at<A: Allocator + Copy>(rt: &impl Abort, buffer: &hb_buffer_t<A>, i: usize) -> (u32, u32, u32) {
-    assert!(rt; i < buffer.len());
-    let glyph = buffer.info(i);
-    (glyph.glyph_id, glyph.cluster, glyph.mask)
+/// A glyph as it is compared: its id, its cluster and its mask.
+type Seen = (u32, u32, u32);
+
+/// The glyphs of a line.
+fn seen(alloc: Global, buffer: &hb_buffer_t) -> Result<Vec<Seen>, AllocError> {
+    let mut glyphs = Vec::new(alloc);
+    for i in 0..buffer.len() {
+        let glyph = buffer.info(i);
+        glyphs.push((glyph.glyph_id, glyph.cluster, glyph.mask))?;
+    }
+    Ok(glyphs)
+}
+
+/// Asserts the last glyphs of a line.
+fn assert_ends_with(
+    rt: &impl Abort,
+    alloc: Global,
+    buffer: &hb_buffer_t,
+    wanted: &[Seen],
+) -> Result<(), Fail> {
+    assert!(rt; seen(alloc, buffer)?.as_slice().ends_with(wanted));
+    Ok(())
 }
 
 fn rearrangement(new_state: u16, flags: u16) -> GenericStateEntry<()> {
@@ -110,212 +119,241 @@ fn span_table(
     )
 }
 
-#[test]
-fn verbs_move_their_spans(rt: HostRuntime) -> Result<(), Fail> {
-    let moved: [[u32; 6]; 16] = [
-        [10, 11, 12, 13, 14, 15],
-        [11, 12, 13, 14, 15, 10],
-        [15, 10, 11, 12, 13, 14],
-        [15, 11, 12, 13, 14, 10],
-        [12, 13, 14, 15, 10, 11],
-        [12, 13, 14, 15, 11, 10],
-        [14, 15, 10, 11, 12, 13],
-        [15, 14, 10, 11, 12, 13],
-        [14, 15, 11, 12, 13, 10],
-        [15, 14, 11, 12, 13, 10],
-        [15, 12, 13, 14, 10, 11],
-        [15, 12, 13, 14, 11, 10],
-        [14, 15, 12, 13, 10, 11],
-        [14, 15, 12, 13, 11, 10],
-        [15, 14, 12, 13, 10, 11],
-        [15, 14, 12, 13, 11, 10],
-    ];
-    for verb in 0..16 {
-        let table = span_table(rt.alloc(), 10, 15, verb as u16)?;
-        let mut buffer = line_of(rt.alloc(), &[1, 2, 10, 11, 12, 13, 14, 15, 3, 4])?;
-        assert!(rt; buffer.all_glyphs_16());
-        let turns = run_machine(&table, &mut RearrangementCtx::new(), &mut buffer, &[], 1)?;
-        assert_eq!(rt; turns, 11);
-        for i in 0..6 {
-            let (id, cluster, _) = at(&rt, &buffer, 2 + i);
-            assert_eq!(rt; id, moved[verb][i], "verb {verb}, place {i}");
-            assert!(rt; verb == 0 || cluster == 2);
-        }
-        assert!(rt; at(&rt, &buffer, 1) == (2, 1, 0) && at(&rt, &buffer, 8) == (3, 8, 0));
+/// Runs a rearrangement table over a line.
+fn rearrange(
+    table: &ExtendedStateTable<()>,
+    buffer: &mut hb_buffer_t,
+) -> Option<Result<u64, AatError>> {
+    if !buffer.all_glyphs_16() {
+        return None;
     }
+    Some(run_machine(table, &mut RearrangementCtx::new(), buffer, &[], 1))
+}
+
+/// Runs a rearrangement table over a line, with spans of up to 65 glyphs.
+fn rearrange_up_to_65(
+    table: &ExtendedStateTable<()>,
+    buffer: &mut hb_buffer_t,
+) -> Option<Result<u64, AatError>> {
+    if !buffer.all_glyphs_16() {
+        return None;
+    }
+    let mut context = RearrangementCtx::<65>::with_longest();
+    Some(run_machine(table, &mut context, buffer, &[], 1))
+}
+
+/// Runs a contextual subtable over a line, with a font that has no classes of glyphs.
+fn substitute(
+    subtable: &ContextualSubtable,
+    buffer: &mut hb_buffer_t,
+) -> Option<Result<u64, AatError>> {
+    if !buffer.all_glyphs_16() {
+        return None;
+    }
+    let face = hb_font_t::from_tables(FaceTables::default());
+    let mut context = ContextualCtx::new(&face, subtable);
+    Some(run_machine(&subtable.state, &mut context, buffer, &[], 1))
+}
+
+/// The order of the span 10 to 15 behind each verb.
+const MOVED: [[u32; 6]; 16] = [
+    [10, 11, 12, 13, 14, 15],
+    [11, 12, 13, 14, 15, 10],
+    [15, 10, 11, 12, 13, 14],
+    [15, 11, 12, 13, 14, 10],
+    [12, 13, 14, 15, 10, 11],
+    [12, 13, 14, 15, 11, 10],
+    [14, 15, 10, 11, 12, 13],
+    [15, 14, 10, 11, 12, 13],
+    [14, 15, 11, 12, 13, 10],
+    [15, 14, 11, 12, 13, 10],
+    [15, 12, 13, 14, 10, 11],
+    [15, 12, 13, 14, 11, 10],
+    [14, 15, 12, 13, 10, 11],
+    [14, 15, 12, 13, 11, 10],
+    [15, 14, 12, 13, 10, 11],
+    [15, 14, 12, 13, 11, 10],
+];
+
+/// What a verb makes of a line longer than its span: its glyphs, and those beside them as they were. The clusters of
+/// what moves become one, the mask stays.
+fn moved_line(alloc: Global, verb: u16, moved: &[u32]) -> Result<Vec<Seen>, AllocError> {
+    let mut line = vec![in alloc; (1, 0, 0), (2, 1, 0)]?;
+    let mut place = 2u32;
+    for id in moved {
+        line.push((*id, if verb == 0 { place } else { 2 }, 0))?;
+        place = place.wrapping_add(1);
+    }
+    line.push((3, 8, 0))?;
+    line.push((4, 9, 0))?;
+    Ok(line)
+}
+
+/// Asserts what a verb makes of a line longer than its span.
+fn assert_moves(rt: &impl Abort, alloc: Global, verb: u16, moved: &[u32]) -> Result<(), Fail> {
+    let table = span_table(alloc, 10, 15, verb)?;
+    let mut buffer = line_of(alloc, &[1, 2, 10, 11, 12, 13, 14, 15, 3, 4])?;
+    assert!(rt; rearrange(&table, &mut buffer) == Some(Ok(11)));
+    let line = moved_line(alloc, verb, moved)?;
+    assert!(rt; seen(alloc, &buffer)? == line, "verb {verb}");
     Ok(())
 }
 
 #[test]
-fn only_short_spans_move(rt: HostRuntime) -> Result<(), Fail> {
-    let table = span_table(rt.alloc(), 10, 15, 3)?;
-    assert!(rt; MAX_CONTEXT_LENGTH == 64);
-    for len in 64..66 {
-        let mut buffer = hb_buffer_t::new(rt.alloc(), 100, 16384);
-        for i in 0..len {
-            let id = if i == 0 {
-                10
-            } else if i + 1 == len {
-                15
-            } else {
-                1
-            };
-            buffer.add(glyph(id, i as u32))?;
-        }
-        assert!(rt; buffer.all_glyphs_16());
-        let mut again = RearrangementCtx::<65>::with_longest();
-        run_machine(&table, &mut RearrangementCtx::new(), &mut buffer, &[], 1)?;
-        let (first, cluster, _) = at(&rt, &buffer, len - 1);
-        assert!(rt; (first, cluster) == if len == 64 { (10, 0) } else { (15, 64) });
-        assert!(rt; buffer.all_glyphs_16());
-        // a span of 65 glyphs moves where it may have 65
-        run_machine(&table, &mut again, &mut buffer, &[], 1)?;
-        assert!(rt; at(&rt, &buffer, len - 1).0 == 10);
+fn verbs_move_their_spans(rt: HostRuntime) -> Result<(), Fail> {
+    let mut verb = 0u16;
+    for moved in &MOVED {
+        assert_moves(&rt, rt.alloc(), verb, moved)?;
+        verb = verb.wrapping_add(1);
     }
     Ok(())
+}
+
+/// A span of so many glyphs, from 10 to 15.
+fn span_of(alloc: Global, len: u32) -> Result<hb_buffer_t, BufferError> {
+    let mut buffer = line_of(alloc, &[10])?;
+    for cluster in 1..len.saturating_sub(1) {
+        buffer.add(hb_glyph_info_t::new(1, cluster))?;
+    }
+    buffer.add(hb_glyph_info_t::new(15, len.saturating_sub(1)))?;
+    Ok(buffer)
+}
+
+#[test]
+fn only_short_spans_move(rt: HostRuntime) -> Result<(), Fail> {
+    let alloc = rt.alloc();
+    let table = span_table(alloc, 10, 15, 3)?;
+    assert!(rt; MAX_CONTEXT_LENGTH == 64);
+    for (len, last) in [(64, (10, 0, 0)), (65, (15, 64, 0))] {
+        let mut buffer = span_of(alloc, len)?;
+        assert!(rt; rearrange(&table, &mut buffer) == Some(Ok(u64::from(len) + 1)));
+        assert_ends_with(&rt, alloc, &buffer, &[last])?;
+    }
+    // a span of 65 glyphs moves where it may have 65
+    let mut buffer = span_of(alloc, 65)?;
+    assert!(rt; rearrange_up_to_65(&table, &mut buffer) == Some(Ok(66)));
+    assert_ends_with(&rt, alloc, &buffer, &[(10, 0, 0)])
 }
 
 /// A line of 65,537 glyphs, of which 7, at place 65,535, and 8 are the last.
 fn line_past_16_bits(alloc: Global) -> Result<hb_buffer_t, BufferError> {
     let mut buffer = hb_buffer_t::new(alloc, 100_000, 16384);
     for cluster in 0..65_536u32 {
-        buffer.add(glyph(if cluster == 65_535 { 7 } else { 1 }, cluster))?;
+        buffer.add(hb_glyph_info_t::new(if cluster == 65_535 { 7 } else { 1 }, cluster))?;
     }
-    buffer.add(glyph(8, 65_536))?;
+    buffer.add(hb_glyph_info_t::new(8, 65_536))?;
     Ok(buffer)
+}
+
+/// A table whose last state holds a span from the glyph 7 to the glyph 8.
+fn table_with_last_state(alloc: Global) -> Result<ExtendedStateTable<()>, TableError> {
+    let rules = [
+        (0, 0, rearrangement(0, 0)),
+        (0, 1, rearrangement(0, 0)),
+        (0, 4, rearrangement(65_535, START)),
+        (65_535, 0, rearrangement(0, 0)),
+        (65_535, 5, rearrangement(65_535, END | 3)),
+    ];
+    ExtendedStateTable::new(alloc, CLASS_COUNT, &[(7, 4), (8, 5)], &rules)
 }
 
 #[test]
 fn a_span_at_65535(rt: HostRuntime) -> Result<(), Fail> {
-    let table = ExtendedStateTable::new(
-        rt.alloc(),
-        CLASS_COUNT,
-        &[(7, 4), (8, 5)],
-        &[
-            (0, 0, rearrangement(0, 0)),
-            (0, 1, rearrangement(0, 0)),
-            (0, 4, rearrangement(65_535, START)),
-            (65_535, 0, rearrangement(0, 0)),
-            (65_535, 5, rearrangement(65_535, END | 3)),
-        ],
-    )?;
+    let table = table_with_last_state(rt.alloc())?;
     let mut buffer = line_past_16_bits(rt.alloc())?;
-    assert!(rt; buffer.all_glyphs_16());
-    let turns = run_machine(&table, &mut RearrangementCtx::new(), &mut buffer, &[], 1)?;
-    assert_eq!(rt; turns, 65_538);
-    assert!(rt; at(&rt, &buffer, 65_534) == (1, 65_534, 0));
-    assert!(rt; at(&rt, &buffer, 65_535) == (8, 65_535, 0));
-    assert!(rt; at(&rt, &buffer, 65_536) == (7, 65_535, 0));
-    Ok(())
+    assert!(rt; rearrange(&table, &mut buffer) == Some(Ok(65_538)));
+    let wanted = [(1, 65_534, 0), (8, 65_535, 0), (7, 65_535, 0)];
+    assert_ends_with(&rt, rt.alloc(), &buffer, &wanted)
 }
 
-/// A font without classes of glyphs.
-fn plain_face() -> hb_font_t {
-    hb_font_t::new(
-        FaceTables {
-            morx: None,
-            feat: None,
-        },
-        None,
-        None,
-    )
+/// A subtable whose last state marks the glyph 7, turns that into 9 at the glyph 8, and this into the last glyph.
+fn subtable_with_last_state(alloc: Global) -> Result<ContextualSubtable, Fail> {
+    let rules = [
+        (0, 0, contextual(0, 0, NONE, NONE)),
+        (0, 1, contextual(0, 0, NONE, NONE)),
+        (0, 4, contextual(65_535, MARK, NONE, NONE)),
+        (65_535, 0, contextual(0, 0, NONE, NONE)),
+        (65_535, 5, contextual(65_535, 0, 0, 1)),
+    ];
+    Ok(ContextualSubtable {
+        state: ExtendedStateTable::new(alloc, CLASS_COUNT, &[(7, 4), (8, 5)], &rules)?,
+        lookups: two_lookups(alloc, (7, 9), (8, 65_535))?,
+    })
+}
+
+/// Two lookups of one glyph each.
+fn two_lookups(alloc: Global, first: (u16, u16), second: (u16, u16)) -> Result<Vec<Lookup>, Fail> {
+    Ok(vec![in alloc;
+        Lookup::new(alloc, &[first])?,
+        Lookup::new(alloc, &[second])?,
+    ]?)
 }
 
 #[test]
 fn a_mark_at_65535(rt: HostRuntime) -> Result<(), Fail> {
-    let state = ExtendedStateTable::new(
-        rt.alloc(),
-        CLASS_COUNT,
-        &[(7, 4), (8, 5)],
-        &[
-            (0, 0, contextual(0, 0, NONE, NONE)),
-            (0, 1, contextual(0, 0, NONE, NONE)),
-            (0, 4, contextual(65_535, MARK, NONE, NONE)),
-            (65_535, 0, contextual(0, 0, NONE, NONE)),
-            (65_535, 5, contextual(65_535, 0, 0, 1)),
-        ],
-    )?;
-    let lookups = vec![in rt.alloc();
-        Lookup::new(rt.alloc(), &[(7, 9)])?,
-        Lookup::new(rt.alloc(), &[(8, 65_535)])?,
-    ]?;
-    let subtable = ContextualSubtable { state, lookups };
-    let face = plain_face();
+    let subtable = subtable_with_last_state(rt.alloc())?;
     let mut buffer = line_past_16_bits(rt.alloc())?;
-    assert!(rt; buffer.all_glyphs_16());
-    let mut context = ContextualCtx::new(&face, &subtable);
-    let turns = run_machine(&subtable.state, &mut context, &mut buffer, &[], 1)?;
-    assert_eq!(rt; turns, 65_538);
-    assert!(rt; at(&rt, &buffer, 65_534) == (1, 65_534, 0));
-    assert!(rt; at(&rt, &buffer, 65_535) == (9, 65_535, 0));
-    assert!(rt; at(&rt, &buffer, 65_536) == (65_535, 65_536, 3));
-    Ok(())
+    assert!(rt; substitute(&subtable, &mut buffer) == Some(Ok(65_538)));
+    let wanted = [(1, 65_534, 0), (9, 65_535, 0), (65_535, 65_536, 3)];
+    assert_ends_with(&rt, rt.alloc(), &buffer, &wanted)
+}
+
+/// Asserts that a line has ten thousand glyphs with rising clusters by twos: the cluster of the first of two, with so
+/// much more, and the cluster of the second.
+fn assert_pairs(rt: &impl Abort, glyphs: &[Seen], first: Seen, second: Seen) {
+    assert!(rt; glyphs.len() == 10_000);
+    let mut place = 0u32;
+    for (id, cluster, mask) in glyphs {
+        let wanted = if place % 2 == 0 { first } else { second };
+        let from = place - place % 2;
+        assert!(rt;
+            (*id, cluster.wrapping_sub(from), *mask) == wanted,
+            "place {place}"
+        );
+        place = place.wrapping_add(1);
+    }
+}
+
+/// Ten thousand glyphs, 5 and 6 by turns, at a cluster level.
+fn long_line(alloc: Global, level: u8) -> Result<hb_buffer_t, BufferError> {
+    let mut buffer = line_by_turns(alloc, 10_000, 5, 6)?;
+    buffer.set_cluster_level(level);
+    Ok(buffer)
 }
 
 #[test]
 fn long_lines_are_rearranged(rt: HostRuntime) -> Result<(), Fail> {
     let table = span_table(rt.alloc(), 5, 6, 1)?;
-    for level in 0..3 {
-        let mut buffer = line_by_turns(rt.alloc(), 10_000, 5, 6)?;
-        buffer.set_cluster_level(level);
-        assert!(rt; buffer.all_glyphs_16());
-        let turns = run_machine(&table, &mut RearrangementCtx::new(), &mut buffer, &[], 1)?;
-        assert_eq!(rt; turns, 10_001);
-        for pair in 0..5_000 {
-            let (i, cluster) = (2 * pair, 2 * pair as u32);
-            // at level 2 the clusters stay apart, and the greater one is marked
-            let first = if level == 2 {
-                (6, cluster + 1, 3)
-            } else {
-                (6, cluster, 0)
-            };
-            assert!(rt; at(&rt, &buffer, i) == first, "level {level}, place {i}");
-            assert!(rt;
-                at(&rt, &buffer, i + 1) == (5, cluster, 0),
-                "level {level}, place {i}"
-            );
-        }
+    // at level 2 the clusters stay apart, and the greater one is marked
+    for (level, first) in [(0, (6, 0, 0)), (1, (6, 0, 0)), (2, (6, 1, 3))] {
+        let mut buffer = long_line(rt.alloc(), level)?;
+        assert!(rt; rearrange(&table, &mut buffer) == Some(Ok(10_001)));
+        assert_pairs(&rt, &seen(rt.alloc(), &buffer)?, first, (5, 0, 0));
     }
     Ok(())
 }
 
+/// A subtable that marks the glyph 5, turns that into 9 at the glyph 6, and this into 8.
+fn subtable_of_pairs(alloc: Global) -> Result<ContextualSubtable, Fail> {
+    let rules = [
+        (0, 0, contextual(0, 0, NONE, NONE)),
+        (0, 1, contextual(0, 0, NONE, NONE)),
+        (0, 4, contextual(0, MARK, NONE, NONE)),
+        (0, 5, contextual(0, 0, 0, 1)),
+    ];
+    Ok(ContextualSubtable {
+        state: ExtendedStateTable::new(alloc, CLASS_COUNT, &[(5, 4), (6, 5)], &rules)?,
+        lookups: two_lookups(alloc, (5, 9), (6, 8))?,
+    })
+}
+
 #[test]
 fn long_lines_are_substituted(rt: HostRuntime) -> Result<(), Fail> {
-    let state = ExtendedStateTable::new(
-        rt.alloc(),
-        CLASS_COUNT,
-        &[(5, 4), (6, 5)],
-        &[
-            (0, 0, contextual(0, 0, NONE, NONE)),
-            (0, 1, contextual(0, 0, NONE, NONE)),
-            (0, 4, contextual(0, MARK, NONE, NONE)),
-            (0, 5, contextual(0, 0, 0, 1)),
-        ],
-    )?;
-    let lookups = vec![in rt.alloc();
-        Lookup::new(rt.alloc(), &[(5, 9)])?,
-        Lookup::new(rt.alloc(), &[(6, 8)])?,
-    ]?;
-    let subtable = ContextualSubtable { state, lookups };
-    let face = plain_face();
-    for level in 0..3 {
-        let mut buffer = line_by_turns(rt.alloc(), 10_000, 5, 6)?;
-        buffer.set_cluster_level(level);
-        assert!(rt; buffer.all_glyphs_16());
-        let mut context = ContextualCtx::new(&face, &subtable);
-        let turns = run_machine(&subtable.state, &mut context, &mut buffer, &[], 1)?;
-        assert_eq!(rt; turns, 10_001);
-        for pair in 0..5_000 {
-            let (i, cluster) = (2 * pair, 2 * pair as u32);
-            assert!(rt;
-                at(&rt, &buffer, i) == (9, cluster, 0),
-                "level {level}, place {i}"
-            );
-            assert!(rt;
-                at(&rt, &buffer, i + 1) == (8, cluster + 1, 3),
-                "level {level}, place {i}"
-            );
-        }
+    let subtable = subtable_of_pairs(rt.alloc())?;
+    for level in 0..3u8 {
+        let mut buffer = long_line(rt.alloc(), level)?;
+        assert!(rt; substitute(&subtable, &mut buffer) == Some(Ok(10_001)));
+        assert_pairs(&rt, &seen(rt.alloc(), &buffer)?, (9, 0, 0), (8, 1, 3));
     }
     Ok(())
 }

@@ -11,8 +11,16 @@ mod growing_tests;
 #[cfg(test)]
 mod in_place_tests;
 #[cfg(test)]
+mod inserting;
+#[cfg(test)]
+mod longest_run_tests;
+#[cfg(test)]
 mod mapping_tests;
 pub mod paths;
+#[cfg(test)]
+mod promise_tests;
+#[cfg(test)]
+mod refused_insertion_tests;
 #[cfg(test)]
 mod request_tests;
 #[cfg(test)]

@@ -16,86 +16,47 @@ use std::test::Fail;
 
 /// The common ligatures on or off over clusters.
 fn liga(value: u32, start: u32, end: u32) -> Feature {
-    Feature {
-        tag: hb_tag_t::from_bytes(b"liga"),
-        value,
-        start,
-        end,
-    }
+    Feature::new(hb_tag_t::from_bytes(b"liga"), value, start..end)
 }
 
 /// An alternate over the whole text.
 fn aalt(value: u32) -> Feature {
-    Feature {
-        tag: hb_tag_t::from_bytes(b"aalt"),
-        value,
-        start: 0,
-        end: u32::MAX,
-    }
+    Feature::new(hb_tag_t::from_bytes(b"aalt"), value, 0..u32::MAX)
 }
 
 /// The name of a feature type with one setting.
 fn name(kind: u16) -> FeatureName {
-    FeatureName {
-        kind,
-        settings: 1,
-        exclusive: false,
-    }
+    FeatureName::new(kind, 1, false)
 }
 
 /// A chain feature of the common ligatures.
 fn ligatures(setting: u16, enable_flags: u32, disable_flags: u32) -> ChainFeature {
-    ChainFeature {
-        kind: 1,
-        setting,
-        enable_flags,
-        disable_flags,
-    }
+    ChainFeature::new(1, setting, enable_flags, disable_flags)
 }
 
 /// A font with one setting of ligatures, and one chain with these features that turns 5 into 9.
 fn face(alloc: Global, features: &[ChainFeature]) -> Result<hb_font_t, Fail> {
-    let subtable = Subtable {
-        kind: SubtableKind::NonContextual(Lookup::new(alloc, &[(5, 9)])?),
-        coverage: Coverage::ALL_DIRECTIONS,
-        feature_flags: 1,
-    };
-    let chain = Chain {
-        default_flags: 1,
-        features: Vec::from_slice(alloc, features)?,
-        subtables: vec![in alloc; subtable]?,
-    };
-    Ok(hb_font_t::new(
-        FaceTables {
-            morx: Some(Morx::new(vec![in alloc; chain]?)?),
-            feat: Some(Feat::new(alloc, &[name(1)])?),
-        },
-        None,
-        None,
-    ))
+    let kind = SubtableKind::NonContextual(Lookup::new(alloc, &[(5, 9)])?);
+    let subtable = Subtable::new(kind, Coverage::ALL_DIRECTIONS, 1);
+    let features = Vec::from_slice(alloc, features)?;
+    let chain = Chain::new(1, features, vec![in alloc; subtable]?);
+    let tables = FaceTables::default()
+        .with_morx(Morx::new(vec![in alloc; chain]?)?)
+        .with_feat(Feat::new(alloc, &[name(1)])?);
+    Ok(hb_font_t::from_tables(tables))
 }
 
 /// A font with one setting of character alternatives alone.
 fn alternates_face(alloc: Global) -> Result<hb_font_t, Fail> {
-    Ok(hb_font_t::new(
-        FaceTables {
-            morx: None,
-            feat: Some(Feat::new(alloc, &[name(17)])?),
-        },
-        None,
-        None,
-    ))
+    let tables = FaceTables::default().with_feat(Feat::new(alloc, &[name(17)])?);
+    Ok(hb_font_t::from_tables(tables))
 }
 
 /// The line 5 at 0, 5 at 1, 5 at 2.
 fn buffer_of_fives(alloc: Global) -> Result<hb_buffer_t, Fail> {
     let mut buffer = hb_buffer_t::new(alloc, 100, 16384);
     for cluster in 0..3u32 {
-        buffer.add(hb_glyph_info_t {
-            glyph_id: 5,
-            cluster,
-            ..hb_glyph_info_t::default()
-        })?;
+        buffer.add(hb_glyph_info_t::new(5, cluster))?;
     }
     Ok(buffer)
 }
@@ -184,12 +145,7 @@ fn a_font_without_the_table_answers_none(rt: HostRuntime) -> Result<(), Fail> {
 fn a_feature_acts_where_it_was_asked_for(rt: HostRuntime) -> Result<(), Fail> {
     let alloc = rt.alloc();
     let face = face(alloc, &[ligatures(3, 0, 0)])?;
-    let plan = hb_ot_shape_plan_t {
-        user_features: vec![in alloc; liga(0, 1, 2)]?,
-        apply_morx: true,
-        requested_kerning: false,
-        kern_mask: 0,
-    };
+    let plan = hb_ot_shape_plan_t::new(vec![in alloc; liga(0, 1, 2)]?);
     let mut buffer = buffer_of_fives(alloc)?;
     assert!(rt; buffer.all_glyphs_16());
     let answer = hb_aat_layout_substitute(alloc, &plan, &face, &mut buffer);
@@ -260,55 +216,87 @@ fn adds_over<A: Allocator + Copy>(rt: &impl Abort, alloc: A, face: &hb_font_t) -
     false
 }
 
-/// Compiles three requests over a heap, and says whether that was not refused: nothing where a request
-/// is refused. A refusal of compiling leaves the requests and empties the map, and the call made again
-/// is refused again.
-fn compiles_over<A: Allocator + Copy>(rt: &impl Abort, alloc: A, face: &hb_font_t) -> Option<bool> {
-    let mut builder = hb_aat_map_builder_t::default(alloc);
+/// Requests three ranges, and says whether none of them was refused.
+fn adds_three<A: Allocator + Copy>(
+    builder: &mut hb_aat_map_builder_t<A>,
+    face: &hb_font_t,
+) -> bool {
     for feature in [liga(1, 0, 10), liga(0, 1, 10), liga(1, 2, 5)] {
         if builder.add_feature(face, &feature).is_err() {
-            return None;
+            return false;
         }
     }
-    let mut map = hb_aat_map_t::default(alloc);
-    let answer = builder.compile(face, &mut map);
+    true
+}
+
+/// Compiles three requests into an empty map, and says whether that was not refused. A refusal leaves the requests and
+/// empties the map.
+fn compiles<A: Allocator + Copy>(
+    rt: &impl Abort,
+    builder: &mut hb_aat_map_builder_t<A>,
+    face: &hb_font_t,
+    map: &mut hb_aat_map_t<A>,
+) -> bool {
+    let answer = builder.compile(face, map);
     assert_eq!(rt; builder.features().len(), 3);
     if answer == Ok(()) {
         assert!(rt; map.flags_at(0, 4) == Some(3) && map.flags_at(0, 5) == Some(5));
-        return Some(true);
+        return true;
     }
     assert!(rt; answer == Err(AatError::OutOfMemory) && map.chain_flags().is_empty());
-    assert!(rt; builder.compile(face, &mut map) == Err(AatError::OutOfMemory));
-    assert!(rt; map.chain_flags().is_empty() && builder.features().len() == 3);
+    false
+}
+
+/// Compiles three requests over a heap, and says whether that was not refused: nothing where a request
+/// is refused. The call made again after a refusal is refused again.
+fn compiles_over<A: Allocator + Copy>(rt: &impl Abort, alloc: A, face: &hb_font_t) -> Option<bool> {
+    let mut builder = hb_aat_map_builder_t::default(alloc);
+    if !adds_three(&mut builder, face) {
+        return None;
+    }
+    let mut map = hb_aat_map_t::default(alloc);
+    if compiles(rt, &mut builder, face, &mut map) {
+        return Some(true);
+    }
+    assert!(rt; !compiles(rt, &mut builder, face, &mut map));
     Some(false)
 }
 
-/// Each growth is refused in turn, by a heap that is too small for it.
-#[test]
-fn refused_memory_of_requests(rt: HostRuntime) -> Result<(), Fail> {
-    let alternates = alternates_face(rt.alloc())?;
-    let face = face(
-        rt.alloc(),
-        &[ligatures(2, 2, u32::MAX), ligatures(3, 4, u32::MAX)],
-    )?;
-    let mut appended = 0;
-    let mut refused = 0;
-    let mut compiled = 0;
-    let mut uncompiled = 0;
+/// Each growth of a request is refused in turn, by a heap that is too small for it.
+fn assert_requests_refused(rt: &impl Abort, alloc: Global) -> Result<(), Fail> {
+    let face = alternates_face(alloc)?;
+    let mut found = (0, 0);
     for step in 0..128usize {
-        let heap = LocalHeap::new(rt.alloc(), step * 16)?;
-        if adds_over(&rt, &heap, &alternates) {
-            appended = 1;
+        let heap = LocalHeap::new(alloc, step * 16)?;
+        if adds_over(rt, &heap, &face) {
+            found.0 = 1;
         } else {
-            refused = 1;
+            found.1 = 1;
         }
-        let other = LocalHeap::new(rt.alloc(), step * 16)?;
-        match compiles_over(&rt, &other, &face) {
-            Some(true) => compiled = 1,
-            Some(false) => uncompiled = 1,
+    }
+    assert_eq!(rt; found, (1, 1));
+    Ok(())
+}
+
+/// Each growth of compiling is refused in turn.
+fn assert_compiling_refused(rt: &impl Abort, alloc: Global) -> Result<(), Fail> {
+    let features = [ligatures(2, 2, u32::MAX), ligatures(3, 4, u32::MAX)];
+    let face = face(alloc, &features)?;
+    let mut found = (0, 0);
+    for step in 0..128usize {
+        let heap = LocalHeap::new(alloc, step * 16)?;
+        match compiles_over(rt, &heap, &face) {
+            Some(true) => found.0 = 1,
+            Some(false) => found.1 = 1,
             None => {}
         }
     }
-    assert_eq!(rt; (appended, refused, compiled, uncompiled), (1, 1, 1, 1));
+    assert_eq!(rt; found, (1, 1));
     Ok(())
+}
+
+#[test]
+fn refused_memory_of_requests(rt: HostRuntime) -> Result<(), Fail> {
+    assert_requests_refused(&rt, rt.alloc())?;
+    assert_compiling_refused(&rt, rt.alloc())
 }

@@ -10,19 +10,11 @@ use std::alloc::{Allocator, Global};
 use std::process::Abort;
 use std::test::Fail;
 
-fn glyph(glyph_id: u32, cluster: u32) -> hb_glyph_info_t {
-    hb_glyph_info_t {
-        glyph_id,
-        cluster,
-        ..hb_glyph_info_t::default()
-    }
-}
-
 /// A buffer with the line 5 at 0, 6 at 1, 5 at 2.
 fn buffer_5_6_5(alloc: Global) -> Result<hb_buffer_t, BufferError> {
     let mut buffer = hb_buffer_t::new(alloc, 100, 16384);
     for (glyph_id, cluster) in [(5, 0), (6, 1), (5, 2)] {
-        buffer.add(glyph(glyph_id, cluster))?;
+        buffer.add(hb_glyph_info_t::new(glyph_id, cluster))?;
     }
     Ok(buffer)
 }
@@ -45,37 +37,21 @@ fn is_line<A: Allocator + Copy>(buffer: &hb_buffer_t<A>, wanted: &[(u32, u32, u3
 
 /// A subtable that turns 5 into 9.
 fn subtable(alloc: Global, coverage: Coverage, feature_flags: u32) -> Result<Subtable, Fail> {
-    Ok(Subtable {
-        kind: SubtableKind::NonContextual(Lookup::new(alloc, &[(5, 9)])?),
-        coverage,
-        feature_flags,
-    })
+    let kind = SubtableKind::NonContextual(Lookup::new(alloc, &[(5, 9)])?);
+    Ok(Subtable::new(kind, coverage, feature_flags))
 }
 
 /// A chain that begins with the lowest flag, over one such subtable.
 fn chain(alloc: Global, coverage: Coverage, feature_flags: u32) -> Result<Chain, Fail> {
-    Ok(Chain {
-        default_flags: 1,
-        features: vec![in alloc;
-            ChainFeature {
-                kind: 1,
-                setting: 2,
-                enable_flags: 2,
-                disable_flags: 0xFFFF_FFFF
-            },
-        ]?,
-        subtables: vec![in alloc; subtable(alloc, coverage, feature_flags)?]?,
-    })
+    let setting = ChainFeature::new(1, 2, 2, 0xFFFF_FFFF);
+    let subtable = subtable(alloc, coverage, feature_flags)?;
+    Ok(Chain::new(1, vec![in alloc; setting]?, vec![in alloc; subtable]?))
 }
 
 /// A font with one such chain.
 fn face(alloc: Global, coverage: Coverage, feature_flags: u32) -> Result<hb_font_t, Fail> {
     let morx = Morx::new(vec![in alloc; chain(alloc, coverage, feature_flags)?]?)?;
-    let tables = FaceTables {
-        morx: Some(morx),
-        feat: None,
-    };
-    Ok(hb_font_t::new(tables, None, None))
+    Ok(hb_font_t::from_tables(FaceTables::default().with_morx(morx)))
 }
 
 fn plan(alloc: Global, apply_morx: bool) -> hb_ot_shape_plan_t {
@@ -113,14 +89,7 @@ fn substitutes(rt: HostRuntime) -> Result<(), Fail> {
     let on = face(alloc, Coverage::ALL_DIRECTIONS, 1)?;
     let off = face(alloc, Coverage::ALL_DIRECTIONS, 2)?;
     let vertical = face(alloc, Coverage::VERTICAL, 1)?;
-    let empty = hb_font_t::new(
-        FaceTables {
-            morx: None,
-            feat: None,
-        },
-        None,
-        None,
-    );
+    let empty = hb_font_t::from_tables(FaceTables::default());
     assert_substitutes(&rt, alloc, &on, true, &changed, 3)?;
     assert_substitutes(&rt, alloc, &off, true, &same, 0)?;
     assert_substitutes(&rt, alloc, &off, false, &changed, 3)?;
@@ -135,8 +104,8 @@ fn a_failed_buffer_is_refused(rt: HostRuntime) -> Result<(), Fail> {
     let plan = plan(rt.alloc(), true);
     let mut buffer = hb_buffer_t::new(rt.alloc(), 1, 16384);
     assert!(rt; buffer.is_empty() && buffer.is_successful());
-    buffer.add(glyph(5, 0))?;
-    let refused = buffer.add(glyph(5, 1));
+    buffer.add(hb_glyph_info_t::new(5, 0))?;
+    let refused = buffer.add(hb_glyph_info_t::new(5, 1));
     assert!(rt; refused == Err(BufferError::TooLong) && BufferError::TooLong.number() == 1);
     assert!(rt; is_line(&buffer, &[(5, 0, 0)]) && !buffer.is_successful());
     assert!(rt; buffer.all_glyphs_16());
@@ -150,14 +119,7 @@ fn a_failed_buffer_is_refused(rt: HostRuntime) -> Result<(), Fail> {
 fn positions_are_dropped(rt: HostRuntime) -> Result<(), Fail> {
     let alloc = rt.alloc();
     let plan = plan(alloc, true);
-    let empty = hb_font_t::new(
-        FaceTables {
-            morx: None,
-            feat: None,
-        },
-        None,
-        None,
-    );
+    let empty = hb_font_t::from_tables(FaceTables::default());
     let mut buffer = buffer_5_6_5(alloc)?;
     buffer.clear_positions()?;
     assert!(rt; buffer.has_positions() && buffer.all_glyphs_16());
@@ -171,10 +133,7 @@ fn properties_follow_the_classes(rt: HostRuntime) -> Result<(), Fail> {
     let alloc = rt.alloc();
     let plan = plan(alloc, true);
     let morx = Morx::new(vec![in alloc; chain(alloc, Coverage::ALL_DIRECTIONS, 1)?]?)?;
-    let tables = FaceTables {
-        morx: Some(morx),
-        feat: None,
-    };
+    let tables = FaceTables::default().with_morx(morx);
     let face = hb_font_t::new(tables, Some(Lookup::new(alloc, &[(9, 8)])?), None);
     let mut buffer = buffer_5_6_5(alloc)?;
     assert!(rt; buffer.all_glyphs_16());

@@ -1,5 +1,5 @@
 -- Choices, by their cases.
-use Rattle.std.proofs.Common.{◌≡◌, ◌-◌, Bool, true, false, cond, refl}
+use Rattle.std.proofs.Common.{◌≡◌, Bool, true, false, cond, refl}
 
 -- a choice, by its cases
 pub chosen : {A : Type 0} (P : A → Type 0) (b : Bool) (x y : A) → (b ≡ true → P x) → (b ≡ false → P y) → P (cond b x y)

@@ -1,5 +1,5 @@
 -- What marks and merges keep of the glyph ids.
-use Rattle.std.proofs.Common.{◌≡◌, get_or, sym, ap, ◌+◌, ◌-◌, ◌<◌, ◌≤◌, ◌==◌, cond, min, List, length, refl, ◌∙◌, arith, nat_le}
+use Rattle.std.proofs.Common.{◌≡◌, get_or, sym, ap, ◌+◌, ◌<◌, ◌≤◌, ◌==◌, cond, min, List, length, refl, ◌∙◌, arith, nat_le}
 use Rattle.std.proofs.lemmas.List.{length-map, get_or-map}
 use Rattle.std.specs.Prelude.{slice_range, All, Option, ℕ}
 use Rattle.std.proofs.lemmas.Bool.Decides.{nat_tests}

@@ -1,5 +1,5 @@
 -- What a line of glyphs with a cursor is to the buffer that holds it.
-use Rattle.std.specs.Prelude.{ℕ, List, [], ◌∷◌, ◌++◌, ◌+◌, insert, remove, reverse, slice_set}
+use Rattle.std.specs.Prelude.{ℕ, List, [], ◌∷◌, ◌++◌, ◌+◌, drop, insert, length, remove, reverse, slice_set, take}
 use Rattle.aat_glyph.specs.declared.glyph.hb_glyph_info_t.{hb_glyph_info_t}
 
 -- the glyphs, and the place of the cursor
@@ -26,6 +26,13 @@ with_last l r = record l { glyphs = l.glyphs ++ r ∷ [] }
 -- r goes in at the cursor, which moves past it
 abbrev pub with_inserted : Line → hb_glyph_info_t → Line
 with_inserted l r = record { glyphs = insert l.glyphs l.cursor r; cursor = l.cursor + 1 }
+
+-- the glyphs gs go in at the cursor, which moves past them
+abbrev pub with_all_inserted : Line → List hb_glyph_info_t → Line
+with_all_inserted l gs = record {
+  glyphs = take l.cursor l.glyphs ++ (gs ++ drop l.cursor l.glyphs);
+  cursor = l.cursor + length gs;
+}
 
 -- the glyph at the cursor goes
 abbrev pub without_current : Line → Line

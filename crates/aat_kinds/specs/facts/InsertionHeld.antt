@@ -9,7 +9,7 @@ use Rattle.aat_font.specs.declared.plan.GlyphId.{GlyphId}
 use Rattle.aat_font.specs.declared.state_table.GenericStateEntry.{GenericStateEntry}
 use Rattle.aat_run.specs.Context.{start}
 use Rattle.aat_run.specs.Driven.{context_from, machine_run, outcome_of}
-use Rattle.aat_run.specs.Laws.{KeepsFit, PassesFit, Pays, Bounded, Lengthens, MakesNoPositions, KeepsSettings, KeepsPlaceWhere, KeepsClusterOrder, FitsFresh}
+use Rattle.aat_run.specs.Laws.{KeepsFit, PassesFit, Pays, Bounded, Lengthens, MakesNoPositions, KeepsSettings, KeepsPlaceWhere, KeepsLengthWhere, KeepsClusterOrder, FitsFresh}
 use Rattle.aat_run.specs.facts.Views.{whole_is_seen}
 use Rattle.aat_kinds.specs.Kinds.{insertion_run}
 use Rattle.aat_kinds.specs.Insertion.{Entry, Registers, Held, act, actionable, fresh, held_act, held_actionable, held_fit}
@@ -45,6 +45,9 @@ keeps_settings e h b fit = laws.keeps_settings h.glyphs e h.registers b fit
 
 pub keeps_place : KeepsPlaceWhere held_act held_fit false
 keeps_place e = absurd (false≢true e)
+
+pub keeps_count : KeepsLengthWhere held_act held_fit false
+keeps_count e = absurd (false≢true e)
 
 pub keeps_order : KeepsClusterOrder held_act held_fit
 keeps_order = record {

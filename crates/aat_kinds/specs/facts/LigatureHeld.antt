@@ -11,7 +11,7 @@ use Rattle.aat_font.specs.declared.plan.GlyphId.{GlyphId}
 use Rattle.aat_font.specs.declared.state_table.GenericStateEntry.{GenericStateEntry}
 use Rattle.aat_run.specs.Context.{start}
 use Rattle.aat_run.specs.Driven.{context_from, machine_run, outcome_of}
-use Rattle.aat_run.specs.Laws.{KeepsFit, PassesFit, Pays, Bounded, Lengthens, MakesNoPositions, KeepsSettings, KeepsPlaceWhere, KeepsClusterOrder, FitsFresh}
+use Rattle.aat_run.specs.Laws.{KeepsFit, PassesFit, Pays, Bounded, Lengthens, KeepsLength, MakesNoPositions, KeepsSettings, KeepsPlaceWhere, KeepsClusterOrder, FitsFresh}
 use Rattle.aat_run.specs.facts.Views.{whole_is_seen}
 use Rattle.aat_kinds.specs.Kinds.{ligature_run}
 use Rattle.aat_kinds.specs.Ligature.{Registers, Held, IsHeldFit, act, component, fresh, held_act, held_actionable, with_component, with_place_held}
@@ -89,6 +89,9 @@ bounded e s b fit = laws.bounded s.actions s.components s.ligatures e s.register
 
 pub lengthens : Lengthens held_act IsHeldFit
 lengthens e s b fit = laws.lengthens s.actions s.components s.ligatures e s.registers b fit.fit
+
+pub keeps_length : KeepsLength held_act IsHeldFit
+keeps_length e s b fit = laws.keeps_length s.actions s.components s.ligatures e s.registers b fit.fit
 
 pub makes_no_positions : MakesNoPositions held_act IsHeldFit
 makes_no_positions e s b fit none = laws.makes_no_positions s.actions s.components s.ligatures e s.registers b fit.fit none

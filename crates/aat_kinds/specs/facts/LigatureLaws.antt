@@ -21,7 +21,8 @@ use Rattle.aat_run.specs.facts.InPlace.{Keeps, KeepsAll, pays_in_place, bounded_
 use Rattle.aat_buffer.specs.facts.Cases.{chosen}
 use Rattle.aat_buffer.specs.facts.Lines.{length_merge_out, of_merge_out}
 
-OnStep : (Moved Registers → Type 0) → Step → Type 0
+-- what holds of what one component leaves
+unfoldable pub OnStep : (Moved Registers → Type 0) → Step → Type 0
 OnStep Q (Stops d) = Q d
 OnStep Q (GoesOn sum d) = Q d
 
@@ -53,12 +54,12 @@ fit_of_push r p n q m fit below =
       within = λ j le. rw (length-set r.slots (r.count % length r.slots) p) (component_of_push r.slots r.count j p n fit.some below (λ other. fit.within j (omega (arith, other, le))));
     })
 
-fit_of_component : (e : GenericStateEntry ℕ) (r : Registers) (p n q m : ℕ) → IsFit r q n → p < n → IsFit (with_component e r p) m n
+pub fit_of_component : (e : GenericStateEntry ℕ) (r : Registers) (p n q m : ℕ) → IsFit r q n → p < n → IsFit (with_component e r p) m n
 fit_of_component e r p n q m fit below =
     chosen (λ s. IsFit s m n) (has_flag e 0x8000) (with_place_held r p) r (λ _. fit_of_push r p n q m fit below) (λ _. record { some = fit.some; within = fit.within })
 
 -- fewer components in the same slots fit as well
-fit_of_fewer : (held : List ℕ) (most : ℕ) (r s : Registers) (p q n : ℕ) → IsFit r p n → r.slots ≡ held → r.count ≡ most → SameSlots held most s → IsFit s q n
+pub fit_of_fewer : (held : List ℕ) (most : ℕ) (r s : Registers) (p q n : ℕ) → IsFit r p n → r.slots ≡ held → r.count ≡ most → SameSlots held most s → IsFit s q n
 fit_of_fewer held most r s p q n fit is_held is_most same =
     let e : s.slots ≡ r.slots = same.slots ∙ sym is_held in
     record { some = rw e fit.some; within = λ j le. rw e (fit.within j (omega (arith, le, same.count, is_most))) }
@@ -140,6 +141,33 @@ stored_deletes c g r b p j fit low high =
     let is = later_are_deleted r c (r.count - 1 - c) j line low (omega (arith, low, high)) (λ i few. omega (arith, long, fit.within i (omega (arith, few, low, high)))) in
     chosen (λ (x : Buffer). (glyph_at x.line (component r j)).glyph_id ≡ 0xFFFF) (nat_lt u e) (merge_out_clusters d u e) d
     (λ _. id_of_ids d.line (merge_out_clusters d u e).line (ids_of_merge_out d u e) (component r j) no_glyph (omega (arith, long, later, length_merge_out d u e, fit.within j high)) ∙ is) (λ _. is)
+
+-- a deleted glyph stays deleted behind a store, unless the ligature is written there
+pub stored_keeps_deleted : (c g : ℕ) (r : Registers) (b : Buffer) (p : ℕ) → p < length b.line → p ≢ component r c → (glyph_at b.line p).glyph_id ≡ 0xFFFF → (glyph_at (stored c g r b).buffer.line p).glyph_id ≡ 0xFFFF
+unfolding stored
+stored_keeps_deleted c g r b p inside other is =
+    let u = component r c in
+    let e = component r (r.count - 1) + 1 in
+    let ligature = record (glyph_at b.line u) { glyph_id = g } in
+    let line = with_ligature u g b.line in
+    let d = with_line b (later_deleted r c (r.count - 1 - c) line) in
+    let long : length line ≡ length b.line = length-set b.line u ligature in
+    let later : length d.line ≡ length line = length_later r c (r.count - 1 - c) line in
+    let before : (glyph_at line p).glyph_id ≡ 0xFFFF = ap (λ (x : hb_glyph_info_t). x.glyph_id) (get_or-set_other b.line u p ligature no_glyph other) ∙ is in
+    let stays = kept_deleted r c (r.count - 1 - c) p line (omega (arith, inside, long)) before in
+    chosen (λ (x : Buffer). (glyph_at x.line p).glyph_id ≡ 0xFFFF) (nat_lt u e) (merge_out_clusters d u e) d
+    (λ _. id_of_ids d.line (merge_out_clusters d u e).line (ids_of_merge_out d u e) p no_glyph (omega (arith, long, later, length_merge_out d u e, inside)) ∙ stays) (λ _. stays)
+
+-- a store keeps the number of glyphs
+pub length_of_stored : (c g : ℕ) (r : Registers) (b : Buffer) → length (stored c g r b).buffer.line ≡ length b.line
+unfolding stored
+length_of_stored c g r b =
+    let u = component r c in
+    let e = component r (r.count - 1) + 1 in
+    let line = with_ligature u g b.line in
+    let d = with_line b (later_deleted r c (r.count - 1 - c) line) in
+    let same : length d.line ≡ length b.line = length_later r c (r.count - 1 - c) line ∙ length-set b.line u (record (glyph_at b.line u) { glyph_id = g }) in
+    chosen (λ (x : Buffer). length x.line ≡ length b.line) (nat_lt u e) (merge_out_clusters d u e) d (λ _. length_merge_out d u e ∙ same) (λ _. same)
 
 module _ (actions values : List ℕ) (ligatures : List GlyphId) where
   -- what stores of the list's ligatures and an emptied stack keep, the taking in of components keeps; c is below the

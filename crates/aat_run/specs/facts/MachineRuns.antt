@@ -7,6 +7,7 @@ use Rattle.std.proofs.lemmas.Int.{ints}
 use Rattle.aat_buffer.specs.Buffer.{Buffer}
 use Rattle.aat_run.specs.Budget.{paid, has_operations, operations_left, potential, extent}
 use Rattle.aat_run.specs.Context.{cluster_seen, Machine, Config, is_at_end, is_inside, class_at}
+use Rattle.aat_run.specs.facts.Settings.{settings_stay, settings_then}
 use Rattle.aat_run.specs.Laws.{KeepsFit, PassesFit, Pays, Bounded, Lengthens, KeepsLength, KeepsPositions, MakesNoPositions, KeepsSettings, SameSettings, RunsEnd}
 use Rattle.aat_run.specs.Machine.{Turn, Ends, Goes, left_by, passed, stepped, break_marked_at, marked, settled, acted, by_entry, off, counted, turn, whole}
 use Rattle.aat_run.specs.Safe.{is_safe}
@@ -244,10 +245,15 @@ module _ {R E : Type 0} (m : Machine R E) (Fits : R → ℕ → ℕ → Type 0)
         (λ e r b fit q. law e r b fit ∙ q)
         (λ b q. q) (λ b q. q) c stands refl
 
-    -- where acts keep the settings, a turn keeps the greatest length, and a run the settings
-    pub turn_keeps_most : KeepsSettings m.act Fits → (n : ℕ) (c : Config R) → Stands c → c.buffer.max_len ≡ n → (left_by (turn m c)).buffer.max_len ≡ n
-    turn_keeps_most law n c stands same =
-        turn_keeps (λ b. b.max_len ≡ n) (λ b q. q) (λ e r b fit q. (law e r b fit).max_len ∙ q) (λ b q. q) (λ b q. q) c stands same
+    -- where acts keep the settings, a turn does, and a run
+    pub turn_settings : KeepsSettings m.act Fits → (b : Buffer) (c : Config R) → Stands c → SameSettings b c.buffer → SameSettings b (left_by (turn m c)).buffer
+    turn_settings law b c stands same =
+        turn_keeps (SameSettings b)
+        (λ d q. settings_then b d _ q (record { direction = refl; cluster_level = refl; flags = refl; scratch_flags = refl; max_len = refl; successful = refl }))
+        (λ e r d fit q. settings_then b d _ q (law e r d fit))
+        (λ d q. settings_then b d _ q (record { direction = refl; cluster_level = refl; flags = refl; scratch_flags = refl; max_len = refl; successful = refl }))
+        (λ d q. settings_then b d _ q (record { direction = refl; cluster_level = refl; flags = refl; scratch_flags = refl; max_len = refl; successful = refl }))
+        c stands same
 
     pub turn_longer : Lengthens m.act Fits → (n : ℕ) (c : Config R) → Stands c → n ≤ length c.buffer.line → n ≤ length (left_by (turn m c)).buffer.line
     turn_longer law n c stands more =
@@ -259,21 +265,11 @@ module _ {R E : Type 0} (m : Machine R E) (Fits : R → ℕ → ℕ → Type 0)
     pub whole_settings : KeepsSettings m.act Fits → (c : Config R) → Stands c → SameSettings c.buffer (whole m c).buffer
     whole_settings law c stands =
         buffer_kept (SameSettings c.buffer)
-        (λ b q. with_same b _ (record { direction = refl; cluster_level = refl; flags = refl; scratch_flags = refl; max_len = refl; successful = refl }) q)
-        (λ e r b fit q. with_same b _ (law e r b fit) q)
-        (λ b q. with_same b _ (record { direction = refl; cluster_level = refl; flags = refl; scratch_flags = refl; max_len = refl; successful = refl }) q)
-        (λ b q. with_same b _ (record { direction = refl; cluster_level = refl; flags = refl; scratch_flags = refl; max_len = refl; successful = refl }) q)
-        c stands (record { direction = refl; cluster_level = refl; flags = refl; scratch_flags = refl; max_len = refl; successful = refl })
-      where
-        with_same : (b d : Buffer) → SameSettings b d → SameSettings c.buffer b → SameSettings c.buffer d
-        with_same b d s q = record {
-          direction = s.direction ∙ q.direction;
-          cluster_level = s.cluster_level ∙ q.cluster_level;
-          flags = s.flags ∙ q.flags;
-          scratch_flags = s.scratch_flags ∙ q.scratch_flags;
-          max_len = s.max_len ∙ q.max_len;
-          successful = s.successful ∙ q.successful;
-        }
+        (λ b q. settings_then c.buffer b _ q (record { direction = refl; cluster_level = refl; flags = refl; scratch_flags = refl; max_len = refl; successful = refl }))
+        (λ e r b fit q. settings_then c.buffer b _ q (law e r b fit))
+        (λ b q. settings_then c.buffer b _ q (record { direction = refl; cluster_level = refl; flags = refl; scratch_flags = refl; max_len = refl; successful = refl }))
+        (λ b q. settings_then c.buffer b _ q (record { direction = refl; cluster_level = refl; flags = refl; scratch_flags = refl; max_len = refl; successful = refl }))
+        c stands (settings_stay c.buffer)
 
     -- where acts keep the positions, a run does, and where they make none, it makes none
     pub whole_keeps_positions : KeepsPositions m.act Fits → (c : Config R) → Stands c → (whole m c).buffer.positions ≡ c.buffer.positions

@@ -1,7 +1,7 @@
 -- A chain of one range in which a subtable is on at the front has it on everywhere.
-use Rattle.std.proofs.Common.{◌≡◌, ◌∙◌, ap, sym, refl, ℕ, ◌+◌, ◌<◌, ◌≤◌, ◌&&◌, ◌||◌, ◌==◌, Bool, true, false, min, List, [], ◌∷◌, length, IsTrue, Option, Some, None, nat_lt, nat_le, arith}
+use Rattle.std.proofs.Common.{◌≡◌, ◌∙◌, ap, sym, refl, ℕ, ◌||◌, ◌==◌, Bool, true, false, min, List, [], ◌∷◌, length, IsTrue, nat_lt, arith}
 use Rattle.std.proofs.lemmas.Bool.Decides.{nat_tests}
-use Rattle.aat_run.specs.Ranges.{IsGapless, is_whole_list, is_driven_on, switch_for, flags_on, holds, last_cluster, next_start}
+use Rattle.aat_run.specs.Ranges.{IsGapless, is_whole_list, is_driven_on, switch_for, flags_on, holds, last_cluster}
 use Rattle.aat_run.specs.Switches.{meets}
 use Rattle.aat_run.specs.declared.ranges.range_flags_t.{range_flags_t}
 

@@ -2,6 +2,7 @@
 use Rattle.std.specs.Prelude.{◌≡◌, ℕ, ◌+◌, ◌≤◌, length}
 use Rattle.aat_run.specs.Budget.{potential}
 use Rattle.aat_run.specs.Context.{Machine, Config}
+use Rattle.aat_run.specs.Laws.{SameSettings}
 use Rattle.aat_run.specs.Machine.{whole}
 
 -- a run of a machine from one place has come to another: the rest of it is the whole run from there
@@ -9,5 +10,5 @@ pub record HasCome {R E : Type 0} (m : Machine R E) (fits : R → ℕ → ℕ �
   pub run : whole m to ≡ whole m from
   pub fit : fits to.regs to.buffer.cursor (length to.buffer.line)
   pub counted : to.turns + potential to.buffer ≤ from.turns + potential from.buffer
-  pub most : to.buffer.max_len ≡ from.buffer.max_len
+  pub settings : SameSettings from.buffer to.buffer
   pub longer : length from.buffer.line ≤ length to.buffer.line

@@ -1,7 +1,7 @@
 //! The rows of contextual substitution.
 
 use super::{
-    After, CoverageData, FontData, KindData, LIGATURES, MAX_OPS, Part, Row, Run, Shown,
+    After, CoverageData, FontData, KindData, LIGATURES, MAX_OPS, Part, Row, Run, Shown, Sizes,
     Substitution, SubtableData, TableData,
 };
 use aat_layout::buffer::Direction;

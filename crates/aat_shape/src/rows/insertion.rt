@@ -1,7 +1,7 @@
 //! The rows of insertion.
 
 use super::{
-    After, CoverageData, FontData, KindData, LIGATURES, MAX_OPS, Part, Row, Run, Shown,
+    After, CoverageData, FontData, KindData, LIGATURES, MAX_OPS, Part, Row, Run, Shown, Sizes,
     Substitution, SubtableData, TableData,
 };
 use aat_layout::buffer::Direction;
@@ -130,6 +130,7 @@ pub(super) const ROW_27: Row = Row {
             line: &[run!(5, 3)],
             direction: Direction::LeftToRight,
             max_ops: 3,
+            sizes: Sizes::Usual,
             after: After::Nothing,
         }),
     }],

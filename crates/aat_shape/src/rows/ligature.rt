@@ -2,7 +2,7 @@
 
 use super::{
     After, CoverageData, FontData, KindData, LIGATURES, LigatureData, MAX_OPS, Part, Request, Row,
-    Run, Shown, Substitution, SubtableData, TableData,
+    Run, Shown, Sizes, Substitution, SubtableData, TableData,
 };
 use aat_layout::buffer::Direction;
 use aat_layout::font::{ChainFeature, GenericStateEntry, GlyphId};
@@ -59,9 +59,12 @@ const PAIR_IN_BOTH: &[SubtableData] = &[SubtableData {
     coverage: CoverageData::AllDirections,
 }];
 
-/// The pair of 10 and 11, and what is done then.
+/// The pair of 10 and 11, with which sizes they are joined if not the usual ones, and what is done then.
 macro_rules! joined {
     ($name:literal, $after:ident) => {
+        joined!($name, Usual, $after)
+    };
+    ($name:literal, $sizes:ident, $after:ident) => {
         Part {
             name: $name,
             shown: Shown::Substitution(Substitution {
@@ -75,6 +78,7 @@ macro_rules! joined {
                 line: &[run!(10, 0), run!(11, 1)],
                 direction: Direction::LeftToRight,
                 max_ops: MAX_OPS,
+                sizes: Sizes::$sizes,
                 after: After::$after,
             }),
         }
@@ -108,6 +112,7 @@ pub(super) const ROW_12: Row = Row {
             line: &[run!(10, 0), run!(50, 1), run!(11, 2)],
             direction: Direction::LeftToRight,
             max_ops: MAX_OPS,
+            sizes: Sizes::Usual,
             after: After::Nothing,
         }),
     }],
@@ -174,4 +179,13 @@ pub(super) const ROW_32: Row = Row {
         many!(&[(TAKE, 2), (STORE, 1), (TAKE, 61), (0xBFFF_0001, 1)]),
         &[run!(10, 0, 64), run!(11, 65)]
     )],
+};
+
+/// One slot, in which the second of two glyphs is held in place of the first, and two slots.
+pub(super) const ROW_37: Row = Row {
+    number: "37",
+    parts: &[
+        joined!("37a", OneSlot, Nothing),
+        joined!("37b", TwoSlots, Nothing),
+    ],
 };

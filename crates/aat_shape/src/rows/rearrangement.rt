@@ -1,7 +1,7 @@
 //! The rows of rearrangement.
 
 use super::{
-    After, CoverageData, FontData, KindData, LIGATURES, MAX_OPS, Part, Row, Run, Shown,
+    After, CoverageData, FontData, KindData, LIGATURES, MAX_OPS, Part, Row, Run, Shown, Sizes,
     Substitution, SubtableData, TableData,
 };
 use aat_layout::buffer::Direction;
@@ -134,6 +134,25 @@ pub(super) const ROW_26: Row = Row {
             &[run!(1, 0), run!(3, 1)],
             Horizontal,
             TopToBottom
+        ),
+    ],
+};
+
+/// Spans of three glyphs, with which one of three is put in another order, and spans of two, with which it stays.
+pub(super) const ROW_36: Row = Row {
+    number: "36",
+    parts: &[
+        substituted!(
+            "36a",
+            moving!(10, 12, 1),
+            &[run!(10, 0), run!(11, 1), run!(12, 2)],
+            SpansOfThree
+        ),
+        substituted!(
+            "36b",
+            moving!(10, 12, 1),
+            &[run!(10, 0), run!(11, 1), run!(12, 2)],
+            SpansOfTwo
         ),
     ],
 };

@@ -2,7 +2,7 @@
 
 use super::{
     Addition, After, Compilation, CoverageData, FontData, KindData, LIGATURES, MAX_OPS, Part,
-    Request, Row, Run, Shown, Substitution, SubtableData,
+    Request, Row, Run, Shown, Sizes, Substitution, SubtableData,
 };
 use aat_layout::buffer::Direction;
 use aat_layout::font::{ChainFeature, FeatureName};
@@ -87,6 +87,7 @@ pub(super) const ROW_2: Row = Row {
             line: &[run!(5, 0), run!(5, 1), run!(5, 2)],
             direction: Direction::LeftToRight,
             max_ops: MAX_OPS,
+            sizes: Sizes::Usual,
             after: After::Nothing,
         }),
     }],
@@ -167,6 +168,7 @@ pub(super) const ROW_6: Row = Row {
             line: &[run!(5, u32::MAX)],
             direction: Direction::LeftToRight,
             max_ops: MAX_OPS,
+            sizes: Sizes::Usual,
             after: After::Nothing,
         }),
     }],

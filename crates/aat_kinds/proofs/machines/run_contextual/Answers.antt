@@ -1,14 +1,13 @@
-use Rattle.std.proofs.Common.{◌≡◌, ◌∙◌, ap, sym, ℕ, Bool, true}
+use Rattle.std.proofs.Common.{◌∙◌, ap, sym, ℕ, Bool, true}
 use Rattle.aat_font.specs.Entries.{goes_on}
 use Rattle.aat_font.specs.Face.{glyph_classes_of}
 use Rattle.aat_font.specs.Subtables.{ContextualTables}
 use Rattle.aat_run.specs.Driven.{context_from, machine_run}
 use Rattle.aat_run.specs.Ranges.{is_driven_on, switch_for}
 use Rattle.aat_run.specs.facts.Switched.{driven_is_switched}
-use Rattle.aat_kinds.specs.Kinds.{contextual_run}
 use Rattle.aat_kinds.specs.Contextual.{Held, held_actionable, held_act, fresh}
 use Rattle.aat_kinds.specs.facts.InPlaceRuns.{contextual_is_driven}
-use Rattle.aat_kinds.proofs.KindsKeep.{ok_map, within_by, contextual_most}
+use Rattle.aat_kinds.proofs.KindsKeep.{ok_map, within_by}
 use Rattle.aat_kinds.proofs.machines.run_contextual.Goals as goal
 
 pub returns-clause-run : goal.returns-clause-run
@@ -32,9 +31,4 @@ returns-clause-run g c =
 
 pub returns-clause-within : goal.returns-clause-within
 returns-clause-within g c =
-    let run = c.args.run.now in
-    let s = c.args.subtable.now in
-    let on = (switch_for run.ranges.now).is_on run.feature_flags in
-    let classes = glyph_classes_of run.face.now in
-    within_by c.run_machine.result c.args.buffer.now c.run_machine.new.buffer (contextual_run on classes s.state s.lookups c.args.buffer.now) c.run_machine.ensures.ids c.run_machine.ensures.bounded c.run_machine.ensures.successful
-    (returns-clause-run g c) (contextual_most on classes s.state s.lookups c.args.buffer.now)
+    within_by c.run_machine.result c.args.buffer.now c.run_machine.new.buffer c.run_machine.ensures.ids c.run_machine.ensures.bounded c.run_machine.ensures.settings

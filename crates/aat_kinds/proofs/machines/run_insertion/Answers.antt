@@ -1,14 +1,13 @@
-use Rattle.std.proofs.Common.{◌≡◌, ◌∙◌, ap, sym, ℕ, Bool, false, List}
+use Rattle.std.proofs.Common.{◌∙◌, ap, ℕ, Bool, false, List}
 use Rattle.aat_font.specs.Entries.{goes_on}
 use Rattle.aat_font.specs.declared.plan.GlyphId.{GlyphId}
 use Rattle.aat_run.specs.Driven.{context_from, machine_run, IsRefusal}
 use Rattle.aat_run.specs.Outcome.{Outcome}
 use Rattle.aat_run.specs.Ranges.{is_driven_on, switch_for}
 use Rattle.aat_run.specs.facts.Switched.{driven_is_switched}
-use Rattle.aat_kinds.specs.Kinds.{insertion_run}
 use Rattle.aat_kinds.specs.Insertion.{Held, held_actionable, held_act, fresh}
 use Rattle.aat_kinds.specs.facts.InsertionHeld.{held, insertion_is_driven}
-use Rattle.aat_kinds.proofs.KindsKeep.{ok_map, err_map, within_by, insertion_most}
+use Rattle.aat_kinds.proofs.KindsKeep.{ok_map, err_map, within_by}
 use Rattle.aat_kinds.proofs.machines.run_insertion.Goals as goal
 
 pub returns-clause-run : goal.returns-clause-run
@@ -28,12 +27,7 @@ returns-clause-run g c =
 
 pub returns-clause-within : goal.returns-clause-within
 returns-clause-within g c =
-    let run = c.args.run.now in
-    let s = c.args.subtable.now in
-    let on = (switch_for run.ranges.now).is_on run.feature_flags in
-    let b = c.args.buffer.now in
-    within_by c.run_machine.result b c.run_machine.new.buffer (insertion_run on s.state s.glyphs b) c.run_machine.ensures.ids c.run_machine.ensures.bounded c.run_machine.ensures.successful
-    (returns-clause-run g c) (insertion_most on s.state s.glyphs b)
+    within_by c.run_machine.result c.args.buffer.now c.run_machine.new.buffer c.run_machine.ensures.ids c.run_machine.ensures.bounded c.run_machine.ensures.settings
 
 pub returns-clause-reason : goal.returns-clause-reason
 returns-clause-reason g c =

@@ -2,12 +2,12 @@ use Rattle.std.proofs.Common.{◌≡◌, take}
 use Rattle.aat_run.specs.Driven.{StaysWithin}
 use Rattle.aat_run.specs.Outcome.{in_order}
 use Rattle.aat_run.specs.Ranges.{switch_for}
-use Rattle.aat_kinds.specs.Kinds.{sizes_for}
+use Rattle.aat_kinds.specs.Kinds.{sizes_of}
 use Rattle.aat_morx.specs.Substitution.{subtable_run}
 use Rattle.aat_morx.proofs.chains.run_chain.Given as goal
 
 abbrev pub invariant-loop-subtable : goal.invariant-loop-subtable
 invariant-loop-subtable g l = record {
-  same : record { buffer = l.buffer; turns = l.turns } ≡ in_order (subtable_run (sizes_for l.fn.face) (switch_for l.fn.ranges)) (take l.subtable-index l.fn.subtables) l.fn.buffer;
+  same : record { buffer = l.buffer; turns = l.turns } ≡ in_order (subtable_run (sizes_of g.row.SLOTS g.row.LONGEST l.fn.face) (switch_for l.fn.ranges)) (take l.subtable-index l.fn.subtables) l.fn.buffer;
   within : StaysWithin l.subtable-index l.fn.buffer l.buffer l.turns;
 }

@@ -1,21 +1,20 @@
-use Rattle.std.proofs.Common.{◌≡◌, ◌<◌, ◌≤◌, ◌∙◌, sym, arith, ap, ◌+◌, ◌*◌, length, vec_len, List, get_or}
+use Rattle.std.proofs.Common.{◌≡◌, ◌<◌, ◌≤◌, ◌∙◌, sym, arith, ap, ◌+◌, ◌*◌, length, vec_len, List}
 use Rattle.std.proofs.Math.Nat.{mul-le-mul_left}
-use Rattle.std.proofs.lemmas.Grind.{common_steps}
 use Rattle.std.proofs.lemmas.List.{take_all}
 use Rattle.std.proofs.lemmas.List.Sums.{sum_by_more}
 use Rattle.std.proofs.lemmas.Result.{err_from_is_err_and}
-use Rattle.aat_buffer.specs.Buffer.{Buffer}
 use Rattle.aat_font.specs.declared.morx.Chain.{Chain}
 use Rattle.aat_font.specs.declared.morx.Subtable.{Subtable}
 use Rattle.aat_run.specs.Budget.{extent}
 use Rattle.aat_run.specs.declared.ranges.range_flags_t.{range_flags_t}
 use Rattle.aat_run.specs.Outcome.{Outcome, then_run, in_order}
 use Rattle.aat_run.specs.Ranges.{switch_for}
-use Rattle.aat_run.specs.facts.InOrder.{in_order_more, in_order_lengthens}
+use Rattle.aat_run.specs.facts.InOrder.{in_order_more}
 use Rattle.aat_map.specs.Map.{list_at}
 use Rattle.aat_map.specs.SwitchedChains.{switched_by, with_switch}
 use Rattle.aat_map.specs.facts.Switched.{switched_by_at, length-switched_by}
-use Rattle.aat_kinds.specs.Kinds.{sizes_for}
+use Rattle.aat_run.specs.facts.Settings.{settings_then}
+use Rattle.aat_kinds.specs.Kinds.{sizes_of}
 use Rattle.aat_morx.specs.Substitution.{chain_run}
 use Rattle.aat_morx.proofs.LawsHold.{chain_lengthens}
 use Rattle.aat_morx.proofs.Refused.{refusal_within}
@@ -24,7 +23,7 @@ use Rattle.aat_morx.proofs.chains.run_chains.Goals as goal
 pub returns-in_err-turns-clause-reason : goal.returns-in_err-turns-clause-reason
 returns-in_err-turns-clause-reason g c =
     let p = err_from_is_err_and c.from_residual.result c.from_residual.ensures.1 in
-    let z = sizes_for c.args.face.now in
+    let z = sizes_of g.row.SLOTS g.row.LONGEST c.args.face.now in
     let chains = c.args.chains.now in
     let lists = c.args.map.now in
     let i = c.loop-i.i in
@@ -32,12 +31,12 @@ returns-in_err-turns-clause-reason g c =
     let x = with_switch (switch_for (list_at lists i)) chain in
     let below : i < length (switched_by chains lists) = omega (arith, c.loop-i-test.true, length-switched_by chains lists) in
     let reason = rw (c.ranges-in-loop-i.ensures.list, c.deref.ensures.value) at c.in_err-turns.ensures.reason in
-    rw (p.1, p.2) (refusal_within (chain_run z) (switched_by chains lists) i x c.args.buffer.now c.loop-i.buffer _ (λ y b. chain_lengthens z y b (omega arith)) below
-    (switched_by_at chains lists i chain x c.loop-i-test.true c.index-chains-i.is) (ap (λ (o : Outcome). o.buffer) c.loop-i.invariant.same) c.loop-i.invariant.within.max_len reason)
+    rw (p.1, p.2) (refusal_within (chain_run z) (switched_by chains lists) i x c.args.buffer.now c.loop-i.buffer _ (λ y b. chain_lengthens z y b c.requires.slots) below
+    (switched_by_at chains lists i chain x c.loop-i-test.true c.index-chains-i.is) (ap (λ (o : Outcome). o.buffer) c.loop-i.invariant.same) c.loop-i.invariant.within.settings.max_len reason)
 
 pub loop-i-preserved : goal.loop-i-preserved
 loop-i-preserved g c =
-    let z = sizes_for c.args.face.now in
+    let z = sizes_of g.row.SLOTS g.row.LONGEST c.args.face.now in
     let chains = c.args.chains.now in
     let lists = c.args.map.now in
     let i = c.loop-i.i in
@@ -66,12 +65,11 @@ loop-i-preserved g c =
         ids = own.ids;
         counted = rw (s, ← c.index-chains-i.is) (omega (arith, within, counted, before.counted));
         extent = omega (arith, own.extent, before.extent);
-        max_len = own.max_len ∙ before.max_len;
-        successful = own.successful ∙ before.successful;
+        settings = settings_then c.args.buffer.now c.loop-i.buffer _ before.settings own.settings;
       };
     }
 
 pub returns-clause-run : goal.returns-clause-run
 returns-clause-run g c =
     let whole : length (switched_by c.args.chains.now c.args.map.now) ≤ c.loop-i.i = omega (arith, length-switched_by c.args.chains.now c.args.map.now, c.loop-i-test.false) in
-    c.loop-i.invariant.same ∙ ap (λ cs. in_order (chain_run (sizes_for c.args.face.now)) cs c.args.buffer.now) (take_all c.loop-i.i (switched_by c.args.chains.now c.args.map.now) whole)
+    c.loop-i.invariant.same ∙ ap (λ cs. in_order (chain_run (sizes_of g.row.SLOTS g.row.LONGEST c.args.face.now)) cs c.args.buffer.now) (take_all c.loop-i.i (switched_by c.args.chains.now c.args.map.now) whole)

@@ -51,5 +51,14 @@ returns-in_err-turns-clause-in_place g c place =
     let laws = g.met.C.driver_context_t in
     let on = is_driven_on c.args.ranges.now c.args.feature_flags in
     let x = context_from context.stays_in_place context.advances context.actionable context.act c.args.context.now in
-    absurd (never_refused on c.args.machine.now x context.fits laws.keeps_fit laws.passes_fit laws.pays laws.keeps_place place c.args.buffer.now c.requires.fit
-    (omega (arith, c.max_len-most.ensures.most, c.max_len-most.ensures.within)) c.begin.new.buffer c.in_place.result c.in_place.ensures c.begin.ensures c.in_err-turns.field-0.0 c.in_err-turns.ensures.reason)
+    absurd (never_refused on c.args.machine.now x context.fits laws.keeps_fit laws.passes_fit laws.pays (laws.keeps_place place).length c.args.buffer.now c.requires.fit
+    (omega (arith, c.max_len-most.ensures.most, c.max_len-most.ensures.within)) c.begin.new.buffer c.in_place.result c.begin.ensures c.in_err-turns.field-0.0 c.in_err-turns.ensures.reason)
+
+pub returns-in_err-turns-clause-kept : goal.returns-in_err-turns-clause-kept
+returns-in_err-turns-clause-kept g c kept =
+    let context = g.C.driver_context_t in
+    let laws = g.met.C.driver_context_t in
+    let on = is_driven_on c.args.ranges.now c.args.feature_flags in
+    let x = context_from context.stays_in_place context.advances context.actionable context.act c.args.context.now in
+    absurd (never_refused on c.args.machine.now x context.fits laws.keeps_fit laws.passes_fit laws.pays (laws.keeps_count kept) c.args.buffer.now c.requires.fit
+    (omega (arith, c.max_len-most.ensures.most, c.max_len-most.ensures.within)) c.begin.new.buffer c.in_place.result c.begin.ensures c.in_err-turns.field-0.0 c.in_err-turns.ensures.reason)

@@ -1,0 +1,218 @@
+//! What the contract of substitution promises as a whole, on lines: requests act where they are made, each chain has its
+//! own ranges, orientation is asked for in each chain, and the bounds are met.
+
+use aat_layout::buffer::{BufferError, Direction, hb_buffer_t, hb_glyph_info_t};
+use aat_layout::font::{
+    Chain, ChainFeature, Coverage, ExtendedStateTable, FaceTables, Feat, Feature, FeatureName,
+    GenericStateEntry, GlyphId, InsertionEntryData, InsertionSubtable, Lookup, Morx, Subtable,
+    SubtableKind, hb_font_t, hb_ot_shape_plan_t, hb_tag_t,
+};
+use aat_layout::{apply_with, hb_aat_apply_context_t, hb_aat_layout_substitute, hb_aat_map_t};
+use std::alloc::Global;
+use std::test::Fail;
+
+/// A request for the common ligatures: value, start, end.
+type Request = (u32, u32, u32);
+
+/// A glyph: its id and its cluster.
+type Seen = (u32, u32);
+
+/// Common ligatures off clear the flags of a chain.
+const OFF_CLEARS: (u16, u32, u32) = (3, 0, 0);
+
+/// Common ligatures on clear them.
+const ON_CLEARS: (u16, u32, u32) = (2, 0, 0);
+
+/// Common ligatures on set the lowest flag.
+const ON_SETS: (u16, u32, u32) = (2, 1, u32::MAX);
+
+/// A chain whose only subtable turns one glyph into another where the lowest flag is set, with what a setting of the
+/// common ligatures does to its flags.
+fn chain_of(
+    alloc: Global,
+    default_flags: u32,
+    setting: (u16, u32, u32),
+    coverage: Coverage,
+    pair: (u16, u16),
+) -> Result<Chain, Fail> {
+    let kind = SubtableKind::NonContextual(Lookup::new(alloc, &[pair])?);
+    let subtable = Subtable::new(kind, coverage, 1);
+    let feature = ChainFeature::new(1, setting.0, setting.1, setting.2);
+    Ok(Chain::new(
+        default_flags,
+        vec![in alloc; feature]?,
+        vec![in alloc; subtable]?,
+    ))
+}
+
+/// A font of chains, with one setting of ligatures.
+fn font_of(alloc: Global, chains: Vec<Chain>) -> Result<hb_font_t, Fail> {
+    let names = Feat::new(alloc, &[FeatureName::new(1, 1, false)])?;
+    let tables = FaceTables::default()
+        .with_morx(Morx::new(chains)?)
+        .with_feat(names);
+    Ok(hb_font_t::from_tables(tables))
+}
+
+/// A plan of requests for the common ligatures.
+fn plan_of(alloc: Global, requests: &[Request]) -> Result<hb_ot_shape_plan_t, Fail> {
+    let mut features = Vec::new(alloc);
+    for (value, start, end) in requests {
+        features.push(Feature::new(hb_tag_t::from_bytes(b"liga"), *value, *start..*end))?;
+    }
+    Ok(hb_ot_shape_plan_t::new(features))
+}
+
+/// A line of glyphs with a budget.
+fn line_of(
+    alloc: Global,
+    direction: Direction,
+    budget: i32,
+    glyphs: &[Seen],
+) -> Result<hb_buffer_t, BufferError> {
+    let mut buffer = hb_buffer_t::new(alloc, 100, budget);
+    buffer.set_direction(direction);
+    for (glyph_id, cluster) in glyphs {
+        buffer.add(hb_glyph_info_t::new(*glyph_id, *cluster))?;
+    }
+    Ok(buffer)
+}
+
+/// The turns that substitution takes over a line, none where it is refused.
+fn turns_of(
+    alloc: Global,
+    font: &hb_font_t,
+    requests: &[Request],
+    buffer: &mut hb_buffer_t,
+) -> Result<Option<u64>, Fail> {
+    let plan = plan_of(alloc, requests)?;
+    if !buffer.all_glyphs_16() {
+        return Ok(None);
+    }
+    Ok(hb_aat_layout_substitute(alloc, &plan, font, buffer).ok())
+}
+
+/// Whether a line has these glyphs.
+fn is_line(buffer: &hb_buffer_t, wanted: &[Seen]) -> bool {
+    buffer.len() == wanted.len()
+        && (0..wanted.len()).all(|i| {
+            i < buffer.len() && (buffer.info(i).glyph_id, buffer.info(i).cluster) == wanted[i]
+        })
+}
+
+/// A request for a feature off over one cluster leaves that one glyph, on a line whose clusters rise, on one whose
+/// clusters fall, and beside a further request where no glyph is.
+#[test]
+fn requests_act_where_they_are_made(rt: HostRuntime) -> Result<(), Fail> {
+    let alloc = rt.alloc();
+    let chain = chain_of(alloc, 1, OFF_CLEARS, Coverage::ALL_DIRECTIONS, (5, 9))?;
+    let font = font_of(alloc, vec![in alloc; chain]?)?;
+    let here: [Request; 1] = [(0, 1, 2)];
+    let elsewhere: [Request; 2] = [(0, 1, 2), (0, 7, 9)];
+    let rising: [Seen; 3] = [(5, 0), (5, 1), (5, 2)];
+    let falling: [Seen; 3] = [(5, 2), (5, 1), (5, 0)];
+    let mut buffer = line_of(alloc, Direction::LeftToRight, 16384, &falling)?;
+    assert!(rt; turns_of(alloc, &font, &here, &mut buffer)? == Some(3));
+    assert!(rt; is_line(&buffer, &[(9, 2), (5, 1), (9, 0)]));
+    let mut buffer = line_of(alloc, Direction::LeftToRight, 16384, &rising)?;
+    assert!(rt; turns_of(alloc, &font, &elsewhere, &mut buffer)? == Some(3));
+    assert!(rt; is_line(&buffer, &[(9, 0), (5, 1), (9, 2)]) && buffer.max_ops() == 16384);
+    Ok(())
+}
+
+/// One request switches the first chain off and the second one on over the same range of falling clusters: there the
+/// second chain acts alone, elsewhere the first.
+#[test]
+fn each_chain_has_its_ranges(rt: HostRuntime) -> Result<(), Fail> {
+    let alloc = rt.alloc();
+    let mut chains = Vec::new(alloc);
+    let all = Coverage::ALL_DIRECTIONS;
+    chains.push(chain_of(alloc, 1, ON_CLEARS, all, (5, 9))?)?;
+    chains.push(chain_of(alloc, 0, ON_SETS, all, (5, 8))?)?;
+    let font = font_of(alloc, chains)?;
+    let line: [Seen; 4] = [(5, 3), (5, 2), (5, 1), (5, 0)];
+    let mut buffer = line_of(alloc, Direction::RightToLeft, 16384, &line)?;
+    assert!(rt; turns_of(alloc, &font, &[(1, 1, 3)], &mut buffer)? == Some(8));
+    assert!(rt; is_line(&buffer, &[(9, 3), (8, 2), (8, 1), (9, 0)]));
+    Ok(())
+}
+
+/// Of a subtable for vertical text and one for horizontal text the first alone acts on a vertical line, in the second
+/// chain too.
+#[test]
+fn orientation_is_asked_in_each_chain(rt: HostRuntime) -> Result<(), Fail> {
+    let alloc = rt.alloc();
+    let mut chains = Vec::new(alloc);
+    chains.push(chain_of(alloc, 1, OFF_CLEARS, Coverage::LOGICAL, (5, 7))?)?;
+    chains.push(chain_of(alloc, 1, OFF_CLEARS, Coverage::LOGICAL, (5, 8))?)?;
+    chains.push(chain_of(alloc, 1, OFF_CLEARS, Coverage::VERTICAL, (5, 9))?)?;
+    let font = font_of(alloc, chains)?;
+    let mut buffer = line_of(alloc, Direction::TopToBottom, 16384, &[(5, 0), (6, 1)])?;
+    assert!(rt; turns_of(alloc, &font, &[], &mut buffer)? == Some(2));
+    assert!(rt; is_line(&buffer, &[(9, 0), (6, 1)]));
+    Ok(())
+}
+
+/// An entry that goes to state 1: with two glyphs before the cursor, where it stays, or with none.
+fn entry_of(flags: u16, index: u16) -> GenericStateEntry<InsertionEntryData> {
+    GenericStateEntry {
+        new_state: 1,
+        flags,
+        extra: InsertionEntryData {
+            current_insert_index: index,
+            marked_insert_index: 0xFFFF,
+        },
+    }
+}
+
+/// A subtable that puts 5 5 in before a 6 in state 0 and stays, and passes each glyph in state 1.
+fn inserting(alloc: Global) -> Result<Subtable, Fail> {
+    let passing = entry_of(0, 0xFFFF);
+    let rules = [
+        (0, 1, passing),
+        (0, 4, entry_of(0x4840, 0)),
+        (1, 0, passing),
+        (1, 1, passing),
+        (1, 4, passing),
+    ];
+    let kind = SubtableKind::Insertion(InsertionSubtable {
+        state: ExtendedStateTable::new(alloc, 5, &[(6, 4)], &rules)?,
+        glyphs: Vec::from_slice(alloc, &[GlyphId(5), GlyphId(5)])?,
+    });
+    Ok(Subtable::new(kind, Coverage::ALL_DIRECTIONS, 1))
+}
+
+/// So many of those subtables take four turns each over a 6 with a budget of 2, and leave three glyphs: as many turns
+/// and as many glyphs as the bounds allow.
+#[test]
+fn bounds_are_met(rt: HostRuntime) -> Result<(), Fail> {
+    let alloc = rt.alloc();
+    for count in [1u64, 2, 5] {
+        let mut subtables = Vec::new(alloc);
+        for _ in 0..count {
+            subtables.push(inserting(alloc)?)?;
+        }
+        let chain = Chain::new(1, Vec::new(alloc), subtables);
+        let font = font_of(alloc, vec![in alloc; chain]?)?;
+        let mut buffer = line_of(alloc, Direction::LeftToRight, 2, &[(6, 0)])?;
+        assert!(rt; turns_of(alloc, &font, &[], &mut buffer)? == Some(4 * count));
+        assert!(rt; is_line(&buffer, &[(5, 0), (5, 0), (6, 0)]));
+    }
+    Ok(())
+}
+
+/// A run with one slot and spans of one glyph.
+#[test]
+fn sizes_are_named(rt: HostRuntime) -> Result<(), Fail> {
+    let alloc = rt.alloc();
+    let chain = chain_of(alloc, 1, OFF_CLEARS, Coverage::ALL_DIRECTIONS, (5, 9))?;
+    let font = font_of(alloc, vec![in alloc; chain]?)?;
+    let map = hb_aat_map_t::default(alloc);
+    let mut buffer = line_of(alloc, Direction::LeftToRight, 16384, &[(5, 0)])?;
+    assert!(rt; buffer.all_glyphs_16() && map.is_whole());
+    let mut context = hb_aat_apply_context_t::new(&font, &mut buffer);
+    let answer = apply_with::<1, 1>(&mut context, &map);
+    assert!(rt; answer == Ok(Some(())) && context.turns == 1);
+    assert!(rt; is_line(&buffer, &[(9, 0)]));
+    Ok(())
+}
