@@ -1,15 +1,8 @@
-//! The tests of the layer as a whole, through its public paths, and those of the driver and of its contexts.
+//! The tests of the layer as a whole, through its public paths.
 #![tactic(auto)]
 
 #[cfg(test)]
 mod deleted_tests;
-pub mod driver_contexts;
-#[cfg(test)]
-mod driver_tests;
-#[cfg(test)]
-mod growing_tests;
-#[cfg(test)]
-mod in_place_tests;
 #[cfg(test)]
 mod inserting;
 #[cfg(test)]

@@ -9,7 +9,7 @@ use Rattle.aat_font.specs.declared.state_table.GenericStateEntry.{GenericStateEn
 use Rattle.aat_run.specs.Context.{Moved}
 use Rattle.aat_run.specs.Laws.{KeepsFit, PassesFit, Pays, Bounded, Lengthens, KeepsPlaceWhere, KeepsLengthWhere, MakesNoPositions, KeepsSettings, SameSettings, KeepsClusterOrder}
 use Rattle.aat_run.specs.facts.InPlace.{Keeps, KeepsAll, pays_in_place, bounded_in_place, lengthens_in_place}
-use Rattle.aat_tests.specs.declared.driver_contexts.CountingCtx.{CountingCtx}
+use Rattle.aat_machine_tests.specs.declared.driver_contexts.CountingCtx.{CountingCtx}
 
 abbrev pub Entry : Type 0
 Entry = GenericStateEntry ℕ

@@ -19,7 +19,7 @@ use Rattle.aat_font.specs.declared.state_table.GenericStateEntry.{GenericStateEn
 use Rattle.aat_run.specs.Budget.{paid, has_overspent, operations_left, potential, extent}
 use Rattle.aat_run.specs.Context.{Moved}
 use Rattle.aat_run.specs.Laws.{KeepsFit, PassesFit, Pays, Bounded, Lengthens, KeepsPlaceWhere, KeepsLengthWhere, MakesNoPositions, KeepsSettings, SameSettings, KeepsClusterOrder}
-use Rattle.aat_tests.specs.declared.driver_contexts.PuttingCtx.{PuttingCtx}
+use Rattle.aat_machine_tests.specs.declared.driver_contexts.PuttingCtx.{PuttingCtx}
 
 abbrev pub Entry : Type 0
 Entry = GenericStateEntry ℕ

@@ -18,7 +18,7 @@ pub struct CountingCtx {
 impl driver_context_t<u16> for CountingCtx {
     ghost use Rattle.std.specs.Prelude.{true};
     ghost use Rattle.aat_font.specs.Entries.{goes_on};
-    ghost use Rattle.aat_tests.specs.Counting as c;
+    ghost use Rattle.aat_machine_tests.specs.Counting as c;
 
     ghost fits = { c.IsFit };
 
@@ -104,7 +104,7 @@ pub struct PuttingCtx {
 impl driver_context_t<u16> for PuttingCtx {
     ghost use Rattle.std.specs.Prelude.{false};
     ghost use Rattle.aat_font.specs.Entries.{goes_on};
-    ghost use Rattle.aat_tests.specs.Putting as p;
+    ghost use Rattle.aat_machine_tests.specs.Putting as p;
 
     ghost fits = { p.IsFit };
 
