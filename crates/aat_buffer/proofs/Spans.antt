@@ -1,11 +1,11 @@
 -- A span of a line that is written glyph by glyph.
-use Rattle.std.proofs.Common.{◌≡◌, ◌≤◌, ◌-◌, refl, sym, [], ◌∷◌, ◌∙◌, ap, ℕ, ◌<◌, ◌+◌, List, ◌++◌, map, take, drop, length, get_or, set, arith, min}
-use Rattle.std.proofs.lemmas.List.{take_more, length-take-le, length-drop, length-append, length-map, length-set, get_or-drop, get_or_at, set_at, take-append-drop, append_assoc, map-append, drop_more}
+use Rattle.std.proofs.Common.{◌≡◌, ◌≤◌, ◌-◌, refl, sym, [], ◌∷◌, ◌∙◌, ap, ℕ, ◌<◌, ◌+◌, List, ◌++◌, map, take, drop, length, get_or, set, arith, min, fold}
+use Rattle.std.proofs.lemmas.List.{take_more, length-take-le, length-drop, length-append, length-map, length-set, get_or-take, get_or-drop, get_or_at, set_at, take-append-drop, append_assoc, map-append, drop_more}
 use Rattle.std.proofs.lemmas.List.Sums.{fold-append}
 use Rattle.std.specs.Prelude.{slice_range}
 use Rattle.aat_glyph.specs.declared.glyph.hb_glyph_info_t.{hb_glyph_info_t}
 use Rattle.aat_buffer.specs.Buffer.{Buffer, no_glyph, glyph_at, with_info, with_line}
-use Rattle.aat_buffer.specs.Marks.{on_span, on_line_span, least_of}
+use Rattle.aat_buffer.specs.Marks.{on_span, on_line_span, cluster_at, least_of}
 
 -- a span with one glyph more
 pub range_more : {X : Type 0} (xs : List X) (s i : ℕ) (d : X) → s ≤ i → i < length xs → slice_range xs s (i + 1) ≡ slice_range xs s i ++ get_or xs i d ∷ []
@@ -50,8 +50,26 @@ written_more f b now new s i x z le lt was read made wrote =
       count = ap (λ (t : Buffer). length t.line) wrote ∙ length-set now.line i z ∙ was.count;
     }
 
+-- a span begins with the glyph at its first place
+first_of_span : (gs : List hb_glyph_info_t) (s i : ℕ) → s < i → cluster_at (slice_range gs s i) 0 ≡ cluster_at gs s
+first_of_span gs s i some =
+    let at : s + 0 ≡ s = omega arith in
+    ap (λ (g : hb_glyph_info_t). g.cluster) (get_or-take (i - s) (drop s gs) 0 no_glyph (omega (arith, some)) ∙ get_or-drop s gs 0 no_glyph) ∙ ap (cluster_at gs) at
+
+-- the least of a span from its first glyph on
+least_from : (gs : List hb_glyph_info_t) (s i : ℕ) → s < i → least_of (slice_range gs s i) ≡ fold (λ m g. min m g.cluster) (cluster_at gs s) (slice_range gs s i)
+least_from gs s i some = ap (λ c. fold (λ (m : ℕ) (g : hb_glyph_info_t). min m g.cluster) c (slice_range gs s i)) (first_of_span gs s i some)
+
+-- the least of a span of one glyph
+pub least_one : (gs : List hb_glyph_info_t) (s : ℕ) (x : hb_glyph_info_t) → s < length gs → x ≡ glyph_at gs s → x.cluster ≡ least_of (slice_range gs s (s + 1))
+least_one gs s x lt read =
+    let none : s - s ≡ 0 = omega arith in
+    let one : slice_range gs s (s + 1) ≡ glyph_at gs s ∷ [] = range_more gs s s no_glyph (omega arith) lt ∙ rw none refl in
+    rw (one, read) (omega arith)
+
 -- the least of a span with one glyph more
-pub least_more : (gs : List hb_glyph_info_t) (s i m : ℕ) (x : hb_glyph_info_t) → s ≤ i → i < length gs → m ≡ least_of (slice_range gs s i) → x ≡ glyph_at gs i → min m x.cluster ≡ least_of (slice_range gs s (i + 1))
-least_more gs s i m x le lt was read =
-    let least : List hb_glyph_info_t → ℕ = least_of in
-    rw (was, read) (sym (ap least (range_more gs s i no_glyph le lt) ∙ fold-append (λ a g. min a g.cluster) 0xFFFFFFFF (slice_range gs s i) (glyph_at gs i ∷ [])))
+pub least_more : (gs : List hb_glyph_info_t) (s i m : ℕ) (x : hb_glyph_info_t) → s < i → i < length gs → m ≡ least_of (slice_range gs s i) → x ≡ glyph_at gs i → min m x.cluster ≡ least_of (slice_range gs s (i + 1))
+least_more gs s i m x lt within was read =
+    let more = least_from gs s (i + 1) (omega (arith, lt)) ∙ (ap (fold (λ (a : ℕ) (g : hb_glyph_info_t). min a g.cluster) (cluster_at gs s)) (range_more gs s i no_glyph (omega (arith, lt)) within)
+    ∙ fold-append (λ a g. min a g.cluster) (cluster_at gs s) (slice_range gs s i) (glyph_at gs i ∷ [])) in
+    rw (was, read, least_from gs s i lt) (sym more)

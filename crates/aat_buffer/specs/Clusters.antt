@@ -18,10 +18,6 @@ IsRisingLine line = IsOrdered (λ x y. x ≤ y) line
 abbrev pub IsFallingLine : List hb_glyph_info_t → Type 0
 IsFallingLine line = IsOrdered (λ x y. y ≤ x) line
 
--- each cluster is a u32
-abbrev pub HasSmallClusters : List hb_glyph_info_t → Type 0
-HasSmallClusters line = All (λ g. g.cluster ≤ 0xFFFFFFFF) line
-
 -- each glyph id has 16 bits
 abbrev pub IsSmall : Buffer → Type 0
 IsSmall b = All Is16Bit b.line

@@ -19,13 +19,13 @@ on_long_span f i j gs = if nat_le (i + 2) j then on_span f i j gs else gs
 abbrev pub on_line_span : (List hb_glyph_info_t → List hb_glyph_info_t) → ℕ → ℕ → Buffer → Buffer
 on_line_span f i j b = with_line b (on_span f i j b.line)
 
--- the least cluster of a span, and the greatest 32-bit number of an empty one
-abbrev pub least_of : List hb_glyph_info_t → ℕ
-least_of gs = fold (λ m g. min m g.cluster) 0xFFFFFFFF gs
-
 -- the cluster of the glyph at place i
 abbrev pub cluster_at : List hb_glyph_info_t → ℕ → ℕ
 cluster_at gs i = (glyph_at gs i).cluster
+
+-- the least cluster of the glyphs of a span
+abbrev pub least_of : List hb_glyph_info_t → ℕ
+least_of gs = fold (λ m g. min m g.cluster) (cluster_at gs 0) gs
 
 -- Marks
 

@@ -1,5 +1,5 @@
 //! Marks and merges, written over the calls that read and write a glyph at a place.
-ghost use Rattle.std.specs.Prelude.{◌≡◌, ◌+◌, ◌-◌, ◌≤◌, map, length, slice_range};
+ghost use Rattle.std.specs.Prelude.{◌≡◌, ◌+◌, ◌-◌, ◌<◌, ◌≤◌, map, length, slice_range};
 ghost use Rattle.aat_buffer.specs.Buffer.{with_line};
 ghost use Rattle.aat_buffer.specs.Marks.{on_line_span, least_of, marked_above, with_mask_bits, break_marked, concat_marked, unsafe_to_break, unsafe_to_concat, with_cluster, run_after, run_before, merged, merged_out, merge_clusters, merge_out_clusters};
 
@@ -88,19 +88,19 @@ impl<A: Allocator + Copy> hb_buffer_t<A> {
     /// The least cluster of a span.
     #[tactic(auto, using(crate::proofs::Spans::least_more))]
     fn least_cluster(&self, start: usize, end: usize) -> u32
-        requires ordered { start ≤ end }
+        requires some { start < end }
         requires in_line { end ≤ length self.now.line }
         ensures { result ≡ least_of (slice_range self.now.line start end) }
     {
-        let mut least = u32::MAX;
-        for i in start..end {
+        let mut least = self.glyph(start).cluster;
+        for i in start + 1..end {
             least = least.min(self.glyph(i).cluster);
         }
         least
     }
 
     fn mark_break_span(&mut self, start: usize, end: usize)
-        requires ordered { start ≤ end }
+        requires some { start < end }
         requires in_line { end ≤ length self.old.line }
         ensures after { self.new ≡ on_line_span break_marked start end self.old }
         ensures count { length self.new.line ≡ length self.old.line }

@@ -2,6 +2,8 @@
 use Rattle.std.specs.Prelude.{ℕ, List, [], Option, Some, None, is_some, unwrap_or, Bool}
 use Rattle.aat_font.specs.Keys.{value_in}
 use Rattle.aat_font.specs.Morx.{chains_of}
+use Rattle.aat_font.specs.declared.kern.KernSubtable.{KernSubtable}
+use Rattle.aat_font.specs.declared.kerx.KerxSubtable.{KerxSubtable}
 use Rattle.aat_font.specs.declared.morx.Chain.{Chain}
 use Rattle.aat_font.specs.declared.morx.Morx.{Morx}
 use Rattle.aat_font.specs.declared.face.FaceTables.{FaceTables}
@@ -15,6 +17,16 @@ tables_of font = font.tables
 abbrev pub chains_in : Option Morx → List Chain
 chains_in None = []
 chains_in (Some m) = chains_of m
+
+-- the subtables of an extended kerning table, none where there is no table
+abbrev pub kerx_in : Option (List KerxSubtable) → List KerxSubtable
+kerx_in None = []
+kerx_in (Some subtables) = subtables
+
+-- the subtables of a kerning table, none where there is no table
+abbrev pub kern_in : Option (List KernSubtable) → List KernSubtable
+kern_in None = []
+kern_in (Some subtables) = subtables
 
 -- the classes of glyphs, if the font has them
 abbrev pub glyph_classes_of : hb_font_t → Option (List (ℕ × ℕ))

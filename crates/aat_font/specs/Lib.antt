@@ -4,8 +4,10 @@ pub mod Coverage
 pub mod Entries
 pub mod Face
 pub mod FeatureNames
+pub mod KerningTables
 pub mod Keys
 pub mod Morx
+pub mod Pairs
 pub mod Subtables
 pub mod Table
 pub mod TableErrors

@@ -28,6 +28,6 @@ RefusesFault fault (ClassOutOfRange place) = fault ≡ Some (ClassOutOfRange pla
 RefusesFault fault TooManySubtables = ⊥
 RefusesFault fault OutOfMemory = fault ≡ None
 
--- why no table of chains is made, given the number of their subtables: there are more than 65,535, and no other reason
+-- why no table of subtables is made, given their number: there are more than 65,535, and no other reason
 abbrev pub RefusesMany : ℕ → TableError → Type 0
 RefusesMany count e = (e ≡ TooManySubtables) × (65535 < count)

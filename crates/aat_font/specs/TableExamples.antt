@@ -1,6 +1,7 @@
 -- Worked examples of tables.
-use Rattle.std.specs.Prelude.{◌≡◌, ℕ, List, [], ◌∷◌, Some, None}
+use Rattle.std.specs.Prelude.{◌≡◌, ℕ, List, [], ◌∷◌, ℤ, pos, negsuc, Some, None}
 use Rattle.aat_font.specs.Keys.{first, first_fall}
+use Rattle.aat_font.specs.Pairs.{key_of_pair, kerning_of}
 use Rattle.aat_font.specs.Table.{Rule, TableValue, class_of, entry_of, table_fault}
 use Rattle.aat_font.specs.declared.error.TableError.TheVariants.{NotRising, FewClasses, ClassOutOfRange}
 
@@ -47,3 +48,17 @@ FaultsComeInOrder =
 -- of two pairs with one glyph the second is at fault
 abbrev pub EqualKeysFall : Type 0
 EqualKeysFall = first_fall first ((5, 1) ∷ (5, 2) ∷ []) ≡ Some 1
+
+-- kerning values of pairs
+abbrev pub example_pairs : List (ℕ × ℕ × ℤ)
+example_pairs = (1, 65535, negsuc 24) ∷ (2, 1, pos 7) ∷ []
+
+-- a pair has its value in the order of its glyphs alone, and rises by the left glyph before the right one
+abbrev pub PairsAreOrdered : Type 0
+PairsAreOrdered =
+    (kerning_of example_pairs 1 65535 ≡ Some (negsuc 24))
+    × (kerning_of example_pairs 2 1 ≡ Some (pos 7))
+    × (kerning_of example_pairs 1 2 ≡ None)
+    × (kerning_of example_pairs 2 0 ≡ None)
+    × (first_fall key_of_pair example_pairs ≡ None)
+    × (first_fall key_of_pair ((2, 1, pos 7) ∷ (2, 0, pos 7) ∷ []) ≡ Some 1)

@@ -4,6 +4,8 @@ ghost use Rattle.aat_font.specs.Face.{tables_of, glyph_classes_of, advances_of, 
 ghost use Rattle.aat_font.specs.Face.{value_or_zero};
 
 use crate::feat::Feat;
+use crate::kern::Kern;
+use crate::kerx::Kerx;
 use crate::lookup::Lookup;
 use crate::morx::Morx;
 use crate::plan::GlyphId;
@@ -12,6 +14,8 @@ use crate::plan::GlyphId;
 #[derive(Drop, Default)]
 pub struct FaceTables {
     pub morx: Option<Morx>,
+    pub kerx: Option<Kerx>,
+    pub kern: Option<Kern>,
     pub feat: Option<Feat>,
 }
 
@@ -22,6 +26,26 @@ impl FaceTables {
     {
         FaceTables {
             morx: Some(morx),
+            ..self
+        }
+    }
+
+    /// The same tables with this extended kerning table.
+    pub fn with_kerx(self, kerx: Kerx) -> FaceTables
+        ensures { result ≡ record self { kerx = Some kerx } }
+    {
+        FaceTables {
+            kerx: Some(kerx),
+            ..self
+        }
+    }
+
+    /// The same tables with this kerning table.
+    pub fn with_kern(self, kern: Kern) -> FaceTables
+        ensures { result ≡ record self { kern = Some kern } }
+    {
+        FaceTables {
+            kern: Some(kern),
             ..self
         }
     }

@@ -6,11 +6,8 @@ use crate::error::TableError;
 use crate::lookup::Lookup;
 use crate::plan::hb_mask_t;
 use crate::state_table::ExtendedStateTable;
-use crate::subtables::{ContextualSubtable, InsertionSubtable, LigatureSubtable};
+use crate::subtables::{ContextualSubtable, InsertionSubtable, LigatureSubtable, MAX_SUBTABLES};
 use bitflags::{Flag, Flags, bitflag_items};
-
-/// The largest number of subtables of a table, so that the turns of a run fit a number of 64 bits.
-const MAX_SUBTABLES: usize = 65535;
 
 /// For which text a subtable is, and in which order it takes the glyphs: the four highest bits of
 /// the manual's field, as a byte.

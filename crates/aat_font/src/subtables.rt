@@ -1,10 +1,13 @@
-//! The tables of the kinds of subtables that have more than one.
+//! The tables of the kinds of subtables that have more than one, and how many subtables a table may have.
 
 use crate::entries::{ContextualEntryData, InsertionEntryData};
 use crate::lookup::Lookup;
 use crate::plan::GlyphId;
 use crate::state_table::ExtendedStateTable;
 use std::marker::Model;
+
+/// The largest number of subtables of a table, so that the turns of a run fit a number of 64 bits.
+pub(crate) const MAX_SUBTABLES: usize = 65535;
 
 /// A machine that replaces the marked and the current glyph by lookups. A contract sees it as the
 /// record `ContextualTables`.

@@ -1,12 +1,13 @@
 //! Each call once with ample memory, at the ends of its range, and each refusal.
-ghost use Rattle.aat_font.specs.TableExamples.{ClassesAreAsListed, EntriesAreByRule, FaultsComeInOrder, EqualKeysFall};
+ghost use Rattle.aat_font.specs.TableExamples.{ClassesAreAsListed, EntriesAreByRule, FaultsComeInOrder, EqualKeysFall, PairsAreOrdered};
 
+mod kerning;
 mod numbers;
 
 use crate::{
     Chain, ChainFeature, ContextualEntryData, ContextualSubtable, Coverage, ExtendedStateTable,
     FaceTables, Feat, Feature, FeatureName, GenericStateEntry, GlyphId, InsertionEntryData,
-    InsertionSubtable, LigatureSubtable, Lookup, Morx, Subtable, SubtableKind, TableError,
+    InsertionSubtable, LigatureSubtable, Lookup, Morx, Pairs, Subtable, SubtableKind, TableError,
     hb_font_t, hb_ot_shape_plan_t, hb_tag_t,
 };
 use bitflags::Flags;
@@ -21,6 +22,7 @@ fn examples_by_definition()
     ensures entries { EntriesAreByRule }
     ensures faults { FaultsComeInOrder }
     ensures falls { EqualKeysFall }
+    ensures pairs { PairsAreOrdered }
 {}
 
 #[test]
@@ -353,17 +355,19 @@ fn is_made<T: Drop>(rt: &impl Abort, answer: Result<T, TableError>) -> bool {
 fn refused_memory(rt: HostRuntime) -> Result<(), Fail> {
     let pairs = [(1, 4), (2, 5), (3, 6), (4, 7), (5, 8), (6, 9)];
     let names = [name(1, 1), name(2, 2), name(3, 3), name(4, 4)];
+    let kerning = [(1, 2, -25), (1, 3, 4), (2, 1, 5), (2, 2, 6)];
     let rules = [(0, 0, entry(0)), (0, 1, entry(1)), (0, 2, entry(2))];
-    let mut refused = [0; 3];
-    let mut made = [0; 3];
+    let mut refused = [0; 4];
+    let mut made = [0; 4];
     for step in 0..40usize {
         let heap = LocalHeap::new(rt.alloc(), step * 8)?;
         let answers = [
             is_made(&rt, Lookup::new(&heap, &pairs)),
             is_made(&rt, Feat::new(&heap, &names)),
             is_made(&rt, ExtendedStateTable::new(&heap, 4, &pairs, &rules)),
+            is_made(&rt, Pairs::new(&heap, &kerning)),
         ];
-        for i in 0..3 {
+        for i in 0..4 {
             if answers[i] {
                 made[i] = step;
             } else {
@@ -371,7 +375,7 @@ fn refused_memory(rt: HostRuntime) -> Result<(), Fail> {
             }
         }
     }
-    for i in 0..3 {
+    for i in 0..4 {
         assert!(rt; refused[i] > 0 && made[i] > refused[i], "at {i}");
     }
     Ok(())

@@ -101,7 +101,7 @@ of_payment b = record {
   text = same_rest b (paid 1 b) refl refl refl refl refl refl refl;
 }
 
-of_pair :
+pub of_pair :
     (is_cross : Bool) (values : List (ℕ × ℕ × ℤ)) (p : Pair) (b : Buffer) → IsKernedFrom b (kerned is_cross values p b)
 unfolding kerned
 of_pair is_cross values p b =
@@ -114,7 +114,7 @@ of_pair is_cross values p b =
     chosen (IsKernedFrom b) (int_eq v (pos 0)) b (unsafe_to_break moved (Some p.left) (Some (p.right + 1))) (λ _. same b)
     (λ _. kerned_twice b moved _ (of_place b moved written) (of_break moved (Some p.left) (Some (p.right + 1))))
 
-of_pairs :
+pub of_pairs :
     (is_cross : Bool) (values : List (ℕ × ℕ × ℤ)) (ps : List Pair) (b : Buffer)
     → IsKernedFrom b (fold (λ x p. kerned is_cross values p x) b ps)
 of_pairs is_cross values [] b = same b

@@ -32,9 +32,9 @@ long : (b d : Buffer) → IsKernedFrom b d → length d.line ≡ length b.line
 long b d k = AllZip-long IsMarkedFrom b.line d.line k.line
 
 -- what a subtable leaves: its turns are paid for, but for n + 1 of them, and little is changed
-record IsPaid (b : Buffer) (o : Outcome) : Type 0 where
-  turns : o.turns + operations_left o.buffer.max_ops ≤ length b.line + 1 + operations_left b.max_ops
-  kept : IsKernedFrom b o.buffer
+pub record IsPaid (b : Buffer) (o : Outcome) : Type 0 where
+  pub turns : o.turns + operations_left o.buffer.max_ops ≤ length b.line + 1 + operations_left b.max_ops
+  pub kept : IsKernedFrom b o.buffer
 
 paid_without_turns : (b d : Buffer) → IsKernedFrom b d → IsPaid b (untouched d)
 paid_without_turns b d k = record { turns = omega (arith, k.budget); kept = k }
@@ -70,7 +70,7 @@ module _ {T R : Type 0} (pays_first : Bool) (x : Driver R (GenericStateEntry T))
   always_ends table =
       runs_end (kerning_machine_of pays_first table x) fits laws.keeps_place laws.keeps_fit laws.passes_fit
 
-kerx_is_paid :
+pub kerx_is_paid :
     (kern_mask : ℕ) (points : Option Points) (is_cross : Bool) (tuple_count : ℕ) (k : KerxKind) (b : Buffer)
     → IsPaid b (kerx_run kern_mask points is_cross tuple_count k b)
 kerx_is_paid kern_mask points is_cross tuple_count (KerxPairs asked values) b =
@@ -80,7 +80,7 @@ kerx_is_paid kern_mask points is_cross tuple_count (KerxStack table values) b =
 kerx_is_paid kern_mask points is_cross tuple_count (KerxAnchors table pairs) b =
     driver_is_paid false (anchor_driver points pairs) IsFit (anchors_are_lawful points pairs) table b
 
-kern_is_paid :
+pub kern_is_paid :
     (kern_mask : ℕ) (is_cross : Bool) (k : KernKind) (b : Buffer) → IsPaid b (kern_run kern_mask is_cross k b)
 kern_is_paid kern_mask is_cross (KernPairs values) b =
     paid_without_turns b _ (of_pair_kerning _ kern_mask is_cross values true b)
@@ -88,9 +88,9 @@ kern_is_paid kern_mask is_cross (KernMachine table values) b =
     driver_is_paid true (kern_driver is_cross kern_mask values) FitsAlways (kern_is_lawful is_cross kern_mask values) table b
 
 -- what the subtables so far leave of a line of n glyphs with the operations ops, in so many turns at most
-record IsPaidSoFar (b : Buffer) (most : ℕ) (s : Positioned) : Type 0 where
-  turns : s.turns + operations_left s.buffer.max_ops ≤ most
-  kept : IsKernedFrom b s.buffer
+pub record IsPaidSoFar (b : Buffer) (most : ℕ) (s : Positioned) : Type 0 where
+  pub turns : s.turns + operations_left s.buffer.max_ops ≤ most
+  pub kept : IsKernedFrom b s.buffer
 
 -- one subtable of any kind
 positioned_is_paid :
@@ -114,7 +114,7 @@ positioned_is_paid requested k b most s each so_far =
     (λ _. record { turns = omega (arith, so_far.turns); kept = so_far.kept })
 
 -- all of them
-all_are_paid :
+pub all_are_paid :
     {X : Type 0} (requested : Bool) (kerning : X → Kerning) (ks : List X) (b : Buffer) (most : ℕ) (s : Positioned)
     → ((x : X) (d : Buffer) → IsPaid d ((kerning x).run d))
     → IsPaidSoFar b most s → IsPaidSoFar b (most + length ks * (length b.line + 1)) (fold (λ s k. positioned requested k s) s (map kerning ks))

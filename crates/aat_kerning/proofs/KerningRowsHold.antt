@@ -1,12 +1,12 @@
 -- The worked rows and the examples of kerning, by computing.
-use Rattle.std.proofs.Common.{refl}
+use Rattle.std.proofs.Common.{refl, arith}
 use Rattle.std.specs.Int.{int_wrap}
 use Rattle.aat_buffer.specs.Marks.{merged}
 use Rattle.aat_buffer.specs.Removal.{removal, cluster_kept_line, lowered_run}
 use Rattle.aat_kerning.specs.Anchors.{anchor_act}
 use Rattle.aat_kerning.specs.KerningMachine.{kerning_marked, kerning_settled, kerning_acted, looked_ahead, kerning_by_entry, kerning_turn, kerning_whole}
 use Rattle.aat_kerning.specs.KerningRows.{KerningRows}
-use Rattle.aat_kerning.specs.KerningExamples.{PairExamples, MachineExamples, StackExamples, AnchorExamples, PositioningExamples, KerningExamples}
+use Rattle.aat_kerning.specs.KerningExamples.{PairExamples, CutExamples, MachineExamples, StackExamples, AnchorExamples, PositioningExamples, KerningExamples}
 use Rattle.aat_run.specs.Machine.{run}
 use Rattle.aat_kerning.specs.PairKerning.{kerned, pair_kerning}
 use Rattle.aat_kerning.specs.Pairs.{pairs_of}
@@ -50,6 +50,8 @@ pair_examples = record {
   vertical_pair_across = refl;
   attaches_nothing = refl;
   backward_cut = refl;
+  advances_added = refl;
+  values_added = refl;
 }
 
 machine_examples : MachineExamples
@@ -113,9 +115,36 @@ positioning_examples = record {
   kerx_marks = refl;
 }
 
+cut_examples : CutExamples
+unfolding int_wrap merged removal cluster_kept_line lowered_run anchor_act kerning_marked kerning_settled kerning_acted looked_ahead kerning_by_entry kerning_turn kerning_whole run kerned pair_kerning pairs_of driver_run positioned positioning kerx_positioning kern_positioning popped kerx_act kern_act
+cut_examples = record {
+  falling_place = record {
+    behind_first = omega arith;
+    before_end = omega arith;
+    solid = refl;
+    starts = λ e. absurd (omega (arith, e));
+  };
+  falling_parts = record {
+    front = record { line = refl; places = refl; direction = refl };
+    back = record { line = refl; places = refl; direction = refl };
+  };
+  falling_unflagged = refl;
+  falling_flagged = refl;
+  falling_cut = refl;
+  greater_flagged = refl;
+  one_glyph_stays = refl;
+  within_cluster = refl;
+  before_skipped = refl;
+  from_skipped = refl;
+  without_marks = refl;
+  with_marks = refl;
+  machine_alone = refl;
+}
+
 pub kerning_examples : KerningExamples
 kerning_examples = record {
   pairs = pair_examples;
+  cut = cut_examples;
   machines = machine_examples;
   stack = stack_examples;
   anchors = anchor_examples;

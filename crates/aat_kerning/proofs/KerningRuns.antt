@@ -101,11 +101,11 @@ module _ {R E : Type 0} (m : KerningMachine R E) (Fits : R → ℕ → ℕ → T
     acted_falls : (e : E) (c : Config R) → CanStand c → OnGoes (Falling (potential c.buffer)) (kerning_acted m e c)
     unfolding kerning_acted kerning_settled Settles CanStand Falling
     acted_falls e c stands =
-        let n = m.act e c.regs c.buffer in
-        let place = places e c.regs c.buffer stands in
-        settled_goes (kerning_stepped m e) (Falling (potential c.buffer)) (record c { buffer = n.buffer; regs = n.regs; state = m.next e }) (λ inside.
+        let n = m.act e c.registers c.buffer in
+        let place = places e c.registers c.buffer stands in
+        settled_goes (kerning_stepped m e) (Falling (potential c.buffer)) (record c { buffer = n.buffer; registers = n.registers; state = m.next e }) (λ inside.
         let below = below_end n.buffer inside in
-        let down = steps e n.regs n.buffer (keeps e c.regs c.buffer stands below) below in
+        let down = steps e n.registers n.buffer (keeps e c.registers c.buffer stands below) below in
         let same : potential n.buffer ≡ potential c.buffer = rw (place.line, place.cursor, place.budget) refl in
         (omega (arith, down.0, same), down.1))
 
@@ -175,7 +175,7 @@ module _ {R E : Type 0} (m : KerningMachine R E) (Fits : R → ℕ → ℕ → T
         acted_keeps : (e : E) (c : Config R) → CanStand c → Q c.buffer → Q (left_by (kerning_acted m e c)).buffer
         unfolding kerning_acted kerning_settled CanStand
         acted_keeps e c stands q =
-            settled_keeps (kerning_stepped m e) Q (stepped_keeps e) _ (on_act e c.regs c.buffer stands q)
+            settled_keeps (kerning_stepped m e) Q (stepped_keeps e) _ (on_act e c.registers c.buffer stands q)
 
         ahead_keeps :
             (e : E) (o : Option E) (c : Config R) → CanStand c → Q c.buffer → Q (left_by (looked_ahead m e o c)).buffer

@@ -1,6 +1,14 @@
 pub mod Changes
+pub mod CutAlike
+pub mod CutHolds
+pub mod CutMarks
+pub mod CutMoves
+pub mod CutPairs
+pub mod CutRuns
+pub mod CutStep
 pub mod KerningLawsHold
 pub mod KerningRowsHold
 pub mod KerningRuns
 pub mod Marked
+pub mod Summed
 pub mod Zeroed

@@ -1,5 +1,5 @@
 -- What marks leave of a line.
-use Rattle.std.proofs.Common.{◌≡◌, ℕ, ◌+◌, ◌-◌, ◌≤◌, ◌==◌, List, [], ◌∷◌, ◌++◌, length, take, drop, map, Option, refl, sym, ap, ◌∙◌, arith, nat_le, nat_lt, ◌&&◌, subst}
+use Rattle.std.proofs.Common.{◌≡◌, ℕ, zero, suc, ◌+◌, ◌-◌, ◌≤◌, ◌==◌, List, [], ◌∷◌, ◌++◌, length, take, drop, map, Option, refl, sym, ap, ◌∙◌, arith, nat_le, nat_lt, ◌&&◌, subst}
 use Rattle.std.specs.Prelude.{bit_or, reverse, slice_range}
 use Rattle.std.specs.List.{AllZip}
 use Rattle.std.specs.Int.Bits.{or_zero_r}
@@ -7,7 +7,7 @@ use Rattle.std.proofs.lemmas.Bool.Decides.{nat_tests}
 use Rattle.std.proofs.lemmas.Grind.{reverse_onto}
 use Rattle.std.proofs.lemmas.List.{take-append-drop, drop-drop}
 use Rattle.std.proofs.lemmas.List.Elements.{AllZip-push}
-use Rattle.aat_buffer.specs.Buffer.{Buffer}
+use Rattle.aat_buffer.specs.Buffer.{Buffer, glyph_at, no_glyph}
 use Rattle.aat_buffer.specs.Marks.{on_span, marked_above, with_mask_bits, least_of, break_marked, concat_marked, unsafe_to_break, unsafe_to_concat, start_place, end_place, produces_concat}
 use Rattle.aat_buffer.specs.facts.Cases.{chosen}
 use Rattle.aat_glyph.specs.declared.glyph.hb_glyph_info_t.{hb_glyph_info_t}
@@ -21,7 +21,7 @@ IsMarkedLine old new = AllZip IsMarkedFrom old new
 marked_as : (k : ℕ) (g : hb_glyph_info_t) → bit_or k 3 ≡ 3 → IsMarkedFrom g (with_mask_bits k g)
 marked_as k g inside = (k, inside, refl)
 
-unmarked : (g : hb_glyph_info_t) → IsMarkedFrom g g
+pub unmarked : (g : hb_glyph_info_t) → IsMarkedFrom g g
 unmarked g = (0, refl, ap (λ m. record g { mask = m }) (sym (or_zero_r g.mask)))
 
 marked_twice : (a b c : hb_glyph_info_t) → IsMarkedFrom a b → IsMarkedFrom b c → IsMarkedFrom a c
@@ -49,6 +49,15 @@ line_reversed [] (b ∷ hs) p = absurd p
 line_reversed (a ∷ gs) [] p = absurd p
 line_reversed (a ∷ gs) (b ∷ hs) p =
     rw (reverse_onto gs a [], reverse_onto hs b []) (AllZip-push IsMarkedFrom (reverse gs) (reverse hs) a b (line_reversed gs hs p.1) p.0)
+
+-- each glyph of it is as before but for marks
+pub marked_at :
+    (gs hs : List hb_glyph_info_t) → IsMarkedLine gs hs → (i : ℕ) → IsMarkedFrom (glyph_at gs i) (glyph_at hs i)
+marked_at [] [] p i = unmarked no_glyph
+marked_at [] (b ∷ hs) p i = absurd p
+marked_at (a ∷ gs) [] p i = absurd p
+marked_at (a ∷ gs) (b ∷ hs) p zero = p.0
+marked_at (a ∷ gs) (b ∷ hs) p (suc i) = marked_at gs hs p.1 i
 
 line_appended :
     (gs hs js ks : List hb_glyph_info_t) → IsMarkedLine gs hs → IsMarkedLine js ks → IsMarkedLine (gs ++ js) (hs ++ ks)

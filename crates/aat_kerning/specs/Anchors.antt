@@ -40,17 +40,17 @@ with_mark e mark p = if has_flag e 0x8000 then Some p else mark
 
 -- behind the anchors: a missing pair ends the act before the mark
 abbrev pub behind_anchors : GenericStateEntry EntryData → Option ℕ → ℕ → Buffer → Option Buffer → Moved (Option ℕ)
-behind_anchors e regs mark b None = record { regs = regs; buffer = b }
-behind_anchors e regs mark b (Some d) = record { regs = with_mark e regs b.cursor; buffer = attached_to_mark mark d }
+behind_anchors e registers mark b None = record { registers = registers; buffer = b }
+behind_anchors e registers mark b (Some d) = record { registers = with_mark e registers b.cursor; buffer = attached_to_mark mark d }
 
 -- where a mark is set, an index attaches the glyph at the cursor, if one stands there
 abbrev pub by_mark :
     Option Points → List (ℕ × ℕ) → GenericStateEntry EntryData → Option ℕ → Buffer → Moved (Option ℕ)
-by_mark points pairs e None b = record { regs = with_mark e None b.cursor; buffer = b }
+by_mark points pairs e None b = record { registers = with_mark e None b.cursor; buffer = b }
 by_mark points pairs e (Some mark) b =
     if is_present e.extra.action_index && nat_lt b.cursor (length b.line)
     then behind_anchors e (Some mark) mark b (anchored points pairs e.extra.action_index mark b)
-    else record { regs = with_mark e (Some mark) b.cursor; buffer = b }
+    else record { registers = with_mark e (Some mark) b.cursor; buffer = b }
 
 -- the act of an entry: the attachment, then the mark. TrueType Reference Manual: The 'kerx' table, format 4.
 unfoldable pub anchor_act :

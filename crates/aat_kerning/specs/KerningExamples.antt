@@ -1,18 +1,20 @@
 -- An example of each rule of kerning that no worked row shows.
-use Rattle.std.specs.Prelude.{◌≡◌, ℕ, ℤ, pos, negsuc, Bool, true, false, List, [], ◌∷◌, ◌++◌, Some, None}
-use Rattle.aat_buffer.specs.Buffer.{Buffer}
+use Rattle.std.specs.Prelude.{◌≡◌, bit_and, ℕ, ℤ, pos, negsuc, Bool, true, false, List, [], ◌∷◌, ◌++◌, Some, None}
+use Rattle.aat_buffer.specs.Buffer.{Buffer, glyph_at}
 use Rattle.aat_glyph.specs.declared.glyph.hb_glyph_info_t.{hb_glyph_info_t}
 use Rattle.aat_glyph.specs.declared.glyph.GlyphPosition.{GlyphPosition}
 use Rattle.aat_glyph.specs.declared.glyph.Direction.TheVariants.{LeftToRight, RightToLeft, TopToBottom}
 use Rattle.aat_font.specs.declared.entries.EntryData.{EntryData}
 use Rattle.aat_font.specs.declared.entries.KernEntryData.{KernEntryData}
 use Rattle.aat_font.specs.declared.state_table.GenericStateEntry.{GenericStateEntry}
-use Rattle.aat_run.specs.Outcome.{untouched}
+use Rattle.aat_run.specs.Outcome.{Outcome, untouched}
 use Rattle.aat_run.specs.Rows.{glyph, entry, many}
-use Rattle.aat_kerning.specs.KerningRows.{positions_of, skipped_mark, two_points}
+use Rattle.aat_kerning.specs.Advances.{all_advances, all_values}
+use Rattle.aat_kerning.specs.Cut.{ordered_line, IsCutPlace, IsUnflaggedAt, AreParts, IsKernedInParts}
+use Rattle.aat_kerning.specs.KerningRows.{positions_of, skipped_mark, kern_machine, three_values, two_points}
 use Rattle.aat_kerning.specs.PairKerning.{pair_kerning}
-use Rattle.aat_kerning.specs.Pairs.{kern_skips}
-use Rattle.aat_kerning.specs.Positioning.{KerxSubtable, KerxPairs, KerxStack, KerxAnchors, KernPairs, KernMachine, KernSubtable, kerx_run}
+use Rattle.aat_kerning.specs.Pairs.{kern_skips, pairs_of}
+use Rattle.aat_kerning.specs.Positioning.{KerxSubtable, KerxPairs, KerxStack, KerxAnchors, KernPairs, KernMachine, KernSubtable, kerx_run, kern_positioning}
 use Rattle.aat_kerning.specs.Positions.{attached_as}
 use Rattle.aat_kerning.specs.RowWords.{position, untouched_position, along_x, PrintedKerning, printed_kerning, shows_positions, shows_three_turns, asking_from, two_glyphs, two_glyphs_marked, buffer_with_advances, kern_subtable, kerx_subtable, by_kern, by_kerx, values_from, no_values, action_at, no_action, kern_rules, kerx_rules, kern_entries, kerx_entries, anchor_entries, kern_pairs}
 
@@ -47,6 +49,10 @@ one_pair v = (1, 2, v) ∷ []
 -- three glyphs, of which the one in the middle has props
 abbrev pub with_middle : hb_glyph_info_t → List hb_glyph_info_t
 with_middle g = glyph 1 0 8 ∷ g ∷ glyph 2 2 8 ∷ []
+
+-- the line of row 16
+abbrev pub four_glyphs : List hb_glyph_info_t
+four_glyphs = asking_from 0 (1 ∷ 2 ∷ 3 ∷ 4 ∷ [])
 
 -- a `kern` subtable of pairs across the stream
 abbrev pub kern_across : KernSubtable
@@ -102,6 +108,10 @@ pub record PairExamples : Type 0 where
       positions_of (kern_pairs RightToLeft ((2, 1, negsuc 19) ∷ []) (asking_from 0 (1 ∷ 2 ∷ 3 ∷ [])))
       ≡ positions_of (kern_pairs RightToLeft ((2, 1, negsuc 19) ∷ []) (asking_from 0 (1 ∷ 2 ∷ [])))
       ++ positions_of (kern_pairs RightToLeft ((2, 1, negsuc 19) ∷ []) (asking_from 2 (3 ∷ [])))
+  -- the pairs of row 16 have the values -20, 0 and 10, so four advances of 500 become 1990
+  pub advances_added :
+      all_advances true (positions_of (kern_pairs LeftToRight three_values four_glyphs)) ≡ pos 1990
+  pub values_added : all_values three_values four_glyphs (pairs_of kern_skips 8 four_glyphs) ≡ negsuc 9
 
 -- a `kern` machine with rules, values and glyphs
 abbrev pub kern_machine_of :
@@ -366,9 +376,61 @@ pub record PositioningExamples : Type 0 where
   -- positioning by `kerx` marks the whole line before any subtable
   pub kerx_marks : by_kerx None [] asking_for_concat ≡ shows_positions two_glyphs_apart two_untouched
 
+-- right to left, the pair of 2 and 1, of which 2 comes first in processing order
+abbrev pub backward_pair : Buffer → Outcome
+backward_pair b = kern_positioning true 8 (kern_subtable (KernPairs ((2, 1, negsuc 19) ∷ [])) ∷ []) b
+
+-- right to left, glyphs with clusters from one on, so that clusters fall in processing order
+abbrev pub backward_line : ℕ → List ℕ → Buffer
+backward_line c ids = buffer_with_advances RightToLeft many (asking_from c ids)
+
+-- the three glyphs of such a line
+abbrev pub three_backward : Buffer
+three_backward = backward_line 0 (1 ∷ 2 ∷ 3 ∷ [])
+
+-- what can be cut, and that each condition is needed. (Own.)
+pub record CutExamples : Type 0 where
+  -- cut between 3 and 2: of the two it is 3 whose cluster is greater and which has to be unflagged; 2 is flagged, as
+  -- it is kerned with 1
+  pub falling_place : IsCutPlace kern_skips 1 three_backward
+  pub falling_parts : AreParts 1 three_backward (backward_line 2 (3 ∷ [])) (backward_line 0 (1 ∷ 2 ∷ []))
+  pub falling_unflagged : IsUnflaggedAt 1 (ordered_line (backward_pair three_backward).buffer)
+  pub falling_flagged : bit_and (glyph_at (ordered_line (backward_pair three_backward).buffer) 1).mask 1 ≡ 1
+  pub falling_cut :
+      IsKernedInParts backward_pair three_backward (backward_line 2 (3 ∷ [])) (backward_line 0 (1 ∷ 2 ∷ []))
+  -- cut between 2 and 1 the parts, of one glyph each, stay: 1 is unflagged, but 2, of the greater cluster, is not
+  pub greater_flagged :
+      printed_kerning (backward_pair (backward_line 0 (1 ∷ 2 ∷ [])))
+      ≡ shows_positions two_glyphs_marked (along_x (pos 490) (negsuc 9) ∷ along_x (pos 490) (pos 0) ∷ [])
+  pub one_glyph_stays :
+      printed_kerning (backward_pair (backward_line 1 (2 ∷ [])))
+      ≡ shows_positions (glyph 2 1 8 ∷ []) (untouched_position ∷ [])
+  -- within a cluster no glyph is flagged
+  pub within_cluster :
+      kern_pairs LeftToRight (one_pair (negsuc 24)) (glyph 1 0 8 ∷ glyph 2 0 8 ∷ [])
+      ≡ shows_positions (glyph 1 0 8 ∷ glyph 2 0 8 ∷ []) (along_x (pos 487) (pos 0) ∷ along_x (pos 488) (negsuc 11) ∷ [])
+  -- a skipped glyph is the left one of a pair where it begins the line, and not where a solid one stands before it
+  pub before_skipped :
+      kern_pairs LeftToRight ((3, 2, negsuc 24) ∷ []) (with_middle (skipped_mark 3 1 8))
+      ≡ shows_positions (with_middle (skipped_mark 3 1 8)) (untouched_position ∷ two_untouched)
+  pub from_skipped :
+      kern_pairs LeftToRight ((3, 2, negsuc 24) ∷ []) (skipped_mark 3 1 8 ∷ glyph 2 2 8 ∷ [])
+      ≡ shows_positions (skipped_mark 3 1 8 ∷ glyph 2 2 11 ∷ [])
+      (along_x (pos 487) (pos 0) ∷ along_x (pos 488) (negsuc 11) ∷ [])
+  -- by a kern mask of UNSAFE_TO_CONCAT (2) a line pairs where its buffer asks for that mark, and else it does not
+  pub without_marks :
+      printed_kerning (kern_positioning true 2 (kern_subtable (KernPairs (one_pair (negsuc 24))) ∷ []) in_a_row)
+      ≡ shows_positions two_glyphs two_untouched
+  pub with_marks :
+      printed_kerning (kern_positioning true 2 (kern_subtable (KernPairs (one_pair (negsuc 24))) ∷ []) asking_for_concat)
+      ≡ shows_positions (glyph 1 0 10 ∷ glyph 2 1 11 ∷ []) (along_x (pos 487) (pos 0) ∷ along_x (pos 488) (negsuc 11) ∷ [])
+  -- a machine moves 1 where 2 stands behind it, and flags neither (row 18a); it leaves 1 alone where it is
+  pub machine_alone : positions_of (kern_machine many (1 ∷ [])) ≡ untouched_position ∷ []
+
 -- all of them
 pub record KerningExamples : Type 0 where
   pub pairs : PairExamples
+  pub cut : CutExamples
   pub machines : MachineExamples
   pub stack : StackExamples
   pub anchors : AnchorExamples

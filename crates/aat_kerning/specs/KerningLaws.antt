@@ -43,7 +43,7 @@ pub record IsLawfulDriver {R E : Type 0} (driver : Driver R E) (fits : R → ℕ
 -- each run from registers that fit ends by itself, in no more turns than it is given: the potential and one more
 abbrev pub KerningRunsEnd : {R E : Type 0} → KerningMachine R E → (R → ℕ → ℕ → Type 0) → Type 0
 KerningRunsEnd {R} m fits =
-    (c : Config R) → fits c.regs c.buffer.cursor (length c.buffer.line)
+    (c : Config R) → fits c.registers c.buffer.cursor (length c.buffer.line)
     → IsWholeRun (kerning_turn m) (potential c.buffer + 1) c
 
 -- a glyph that is as before, but for UNSAFE_TO_BREAK (1) and UNSAFE_TO_CONCAT (2), which its mask may have got

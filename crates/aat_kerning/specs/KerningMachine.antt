@@ -73,7 +73,7 @@ module _ {R E : Type 0} (m : KerningMachine R E) where
   unfoldable pub kerning_acted : E → Config R → Turn (Config R)
   kerning_acted e c =
       let n =
-      m.act e c.regs c.buffer in kerning_settled e (record c { buffer = n.buffer; regs = n.regs; state = m.next e })
+      m.act e c.registers c.buffer in kerning_settled e (record c { buffer = n.buffer; registers = n.registers; state = m.next e })
 
   -- Where two glyphs or more are left, the text could end behind this one. So the state needs an entry for the end of
   -- the text, and one that is actionable makes the line unsafe behind the cursor.

@@ -1,6 +1,8 @@
 pub use Rattle.aat_buffer.specs.Clusters
 pub use Rattle.aat_buffer.specs.Removal
+pub mod Advances
 pub mod Anchors
+pub mod Cut
 pub mod KerningExamples
 pub mod KerningLawful
 pub mod KerningLaws

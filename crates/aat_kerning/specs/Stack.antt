@@ -65,13 +65,13 @@ ends_list v i b = is_odd v && nat_lt i (length b.line)
 module _ (is_cross : Bool) (kern_mask : ℕ) (value : ℕ → Option ℤ) (step : ℕ) where
   -- what the places and values of a list leave. TrueType Reference Manual: The 'kern' table, format 1.
   unfoldable pub popped : List ℕ → ℕ → Buffer → Moved (List ℕ)
-  popped [] index b = record { regs = []; buffer = b }
+  popped [] index b = record { registers = []; buffer = b }
   popped (i ∷ stack) index b = elim (value index) [
-    | None ↦ record { regs = stack; buffer = b }
+    | None ↦ record { registers = stack; buffer = b }
     | Some v ↦
         let d = with_value_for is_cross kern_mask v i b in
         elim (ends_list v i b) [
-          | true ↦ record { regs = stack; buffer = d }
+          | true ↦ record { registers = stack; buffer = d }
           | false ↦ popped stack (index + step) d
         ]
   ]
@@ -89,7 +89,7 @@ kerx_act is_cross kern_mask tuple_count values e stack b =
     let step = max tuple_count 1 in
     if is_present e.extra.action_index && nat_le tuple_count 65535
     then popped is_cross kern_mask (kerx_value values step) step filled e.extra.action_index b
-    else record { regs = filled; buffer = b }
+    else record { registers = filled; buffer = b }
 
 -- the driver of a `kerx` stack subtable: an empty stack, and an entry is actionable that has an index
 abbrev pub kerx_driver : Bool → ℕ → ℕ → List ℤ → Driver (List ℕ) (GenericStateEntry EntryData)
@@ -109,9 +109,9 @@ unfoldable pub kern_act : Bool → ℕ → List ℤ → GenericStateEntry KernEn
 kern_act is_cross kern_mask values e stack b =
     let filled = pushed_by e b.cursor stack in
     let index = e.extra.value_index in
-    if not (is_present index) then record { regs = filled; buffer = b }
+    if not (is_present index) then record { registers = filled; buffer = b }
     else (if nat_lt index (length values) then popped is_cross kern_mask (kern_value values) 1 filled index b
-    else record { regs = []; buffer = b })
+    else record { registers = []; buffer = b })
 
 -- the driver of a `kern` machine: an empty stack, and an entry is actionable that has an index
 abbrev pub kern_driver : Bool → ℕ → List ℤ → Driver (List ℕ) (GenericStateEntry KernEntryData)

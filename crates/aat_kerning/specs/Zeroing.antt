@@ -17,6 +17,6 @@ zeroed_position g q = if is_deleted g then without_room q else q
 abbrev pub zeroed_positions : List hb_glyph_info_t → List GlyphPosition → List GlyphPosition
 zeroed_positions line qs = map (λ p. zeroed_position p.0 p.1) (zip line qs)
 
--- each deleted glyph gets a position of zeros
+-- the position of each deleted glyph takes no room
 abbrev pub zeroed : Buffer → Buffer
 zeroed b = record b { positions = option_map (zeroed_positions b.line) b.positions }

@@ -15,12 +15,12 @@ use Rattle.aat_kinds.specs.facts.LigatureLaws.{OnStep, fit_of_component, fit_of_
 
 module _ (actions values : List ℕ) (ligatures : List GlyphId) where
   -- what stands before one component, and behind each store at it, stands behind its step
-  module _ (Q : Moved Registers → Type 0) (c : ℕ) (n : Moved Registers) (before : Q n) (on_store : (g : ℕ) → Q (stored c g n.regs n.buffer)) where
+  module _ (Q : Moved Registers → Type 0) (c : ℕ) (n : Moved Registers) (before : Q n) (on_store : (g : ℕ) → Q (stored c g n.registers n.buffer)) where
     of_stored_by : (action sum : ℕ) (o : Option GlyphId) → OnStep Q (stored_by actions values ligatures action c sum o n)
     unfolding OnStep
     of_stored_by action sum None = before
     of_stored_by action sum (Some g) =
-        chosen (OnStep Q) (is_last action) (Stops (stored c g.0 n.regs n.buffer)) (GoesOn sum (stored c g.0 n.regs n.buffer)) (λ _. on_store g.0) (λ _. on_store g.0)
+        chosen (OnStep Q) (is_last action) (Stops (stored c g.0 n.registers n.buffer)) (GoesOn sum (stored c g.0 n.registers n.buffer)) (λ _. on_store g.0) (λ _. on_store g.0)
 
     of_summed : (action sum : ℕ) (o : Option ℕ) → OnStep Q (summed actions values ligatures action c sum o n)
     unfolding OnStep
@@ -32,7 +32,7 @@ module _ (actions values : List ℕ) (ligatures : List GlyphId) where
     of_component : (o : Option ℕ) (sum : ℕ) → OnStep Q (component_step actions values ligatures o c sum n)
     unfolding component_step OnStep
     of_component None sum = before
-    of_component (Some action) sum = of_summed action sum (element_at values (pos (glyph_at n.buffer.line (component n.regs c)).glyph_id +ℤ offset_of action))
+    of_component (Some action) sum = of_summed action sum (element_at values (pos (glyph_at n.buffer.line (component n.registers c)).glyph_id +ℤ offset_of action))
 
 -- the components from k on are deleted on a line, but for those at the place of the one before
 abbrev AreDeleted : Registers → ℕ → List hb_glyph_info_t → Type 0
@@ -42,55 +42,55 @@ AreDeleted s k line = (j : ℕ) → k ≤ j → j < s.count → component s j �
 module _ (s : Registers) (long p : ℕ) (fit : IsFit s p long) where
   -- between two components: those behind the last ligature are deleted
   record IsBetween (n : Moved Registers) : Type 0 where
-    slots : n.regs.slots ≡ s.slots
-    fewer : n.regs.count ≤ s.count
+    slots : n.registers.slots ≡ s.slots
+    fewer : n.registers.count ≤ s.count
     same_length : length n.buffer.line ≡ long
-    deleted : AreDeleted s n.regs.count n.buffer.line
+    deleted : AreDeleted s n.registers.count n.buffer.line
 
-  of_store : (c g : ℕ) (n : Moved Registers) → c < n.regs.count → IsBetween n → AreDeleted s (c + 1) (stored c g n.regs n.buffer).buffer.line
-  of_store c g n low l j from below other = by_place (cases_lt j n.regs.count)
+  of_store : (c g : ℕ) (n : Moved Registers) → c < n.registers.count → IsBetween n → AreDeleted s (c + 1) (stored c g n.registers n.buffer).buffer.line
+  of_store c g n low l j from below other = by_place (cases_lt j n.registers.count)
     where
-      at : (i : ℕ) → component n.regs i ≡ component s i
+      at : (i : ℕ) → component n.registers i ≡ component s i
       at i = ap (λ (slots : List ℕ). slice_index slots (i % length slots)) l.slots
 
-      fits : IsFit n.regs p (length n.buffer.line)
-      fits = rw l.same_length (fit_of_fewer s.slots s.count s n.regs p p long fit refl refl (record { slots = l.slots; count = l.fewer }))
+      fits : IsFit n.registers p (length n.buffer.line)
+      fits = rw l.same_length (fit_of_fewer s.slots s.count s n.registers p p long fit refl refl (record { slots = l.slots; count = l.fewer }))
 
-      deletes : (i : ℕ) → c < i → i < n.regs.count → (glyph_at (stored c g n.regs n.buffer).buffer.line (component s i)).glyph_id ≡ 0xFFFF
-      deletes i behind held = rw (← at i) (stored_deletes c g n.regs n.buffer p i fits behind held)
+      deletes : (i : ℕ) → c < i → i < n.registers.count → (glyph_at (stored c g n.registers n.buffer).buffer.line (component s i)).glyph_id ≡ 0xFFFF
+      deletes i behind held = rw (← at i) (stored_deletes c g n.registers n.buffer p i fits behind held)
 
       last_is : c + 1 - 1 ≡ c
       last_is = omega arith
 
-      elsewhere : component s j ≢ component n.regs c
+      elsewhere : component s j ≢ component n.registers c
       elsewhere same = other (same ∙ at c ∙ ap (component s) (sym last_is))
 
-      by_newest : (c ≡ n.regs.count - 1) ⊎ (c ≢ n.regs.count - 1) → component s j ≡ component s (n.regs.count - 1) → (glyph_at (stored c g n.regs n.buffer).buffer.line (component s j)).glyph_id ≡ 0xFFFF
+      by_newest : (c ≡ n.registers.count - 1) ⊎ (c ≢ n.registers.count - 1) → component s j ≡ component s (n.registers.count - 1) → (glyph_at (stored c g n.registers n.buffer).buffer.line (component s j)).glyph_id ≡ 0xFFFF
       by_newest (inl newest) same = absurd (other (same ∙ ap (component s) (sym newest ∙ sym last_is)))
-      by_newest (inr older) same = rw same (deletes (n.regs.count - 1) (omega (arith, low, older)) (omega (arith, low)))
+      by_newest (inr older) same = rw same (deletes (n.registers.count - 1) (omega (arith, low, older)) (omega (arith, low)))
 
-      by_other : n.regs.count ≤ j → (component s j ≡ component s (n.regs.count - 1)) ⊎ (component s j ≢ component s (n.regs.count - 1)) → (glyph_at (stored c g n.regs n.buffer).buffer.line (component s j)).glyph_id ≡ 0xFFFF
-      by_other high (inl same) = by_newest (cases_eq c (n.regs.count - 1)) same
-      by_other high (inr apart) = stored_keeps_deleted c g n.regs n.buffer (component s j) (omega (arith, l.same_length, fit.within j below)) elsewhere (l.deleted j high below apart)
+      by_other : n.registers.count ≤ j → (component s j ≡ component s (n.registers.count - 1)) ⊎ (component s j ≢ component s (n.registers.count - 1)) → (glyph_at (stored c g n.registers n.buffer).buffer.line (component s j)).glyph_id ≡ 0xFFFF
+      by_other high (inl same) = by_newest (cases_eq c (n.registers.count - 1)) same
+      by_other high (inr apart) = stored_keeps_deleted c g n.registers n.buffer (component s j) (omega (arith, l.same_length, fit.within j below)) elsewhere (l.deleted j high below apart)
 
-      by_place : (j < n.regs.count) ⊎ (n.regs.count ≤ j) → (glyph_at (stored c g n.regs n.buffer).buffer.line (component s j)).glyph_id ≡ 0xFFFF
+      by_place : (j < n.registers.count) ⊎ (n.registers.count ≤ j) → (glyph_at (stored c g n.registers n.buffer).buffer.line (component s j)).glyph_id ≡ 0xFFFF
       by_place (inl held) = deletes j (omega (arith, from)) held
-      by_place (inr high) = by_other high (cases_eq (component s j) (component s (n.regs.count - 1)))
+      by_place (inr high) = by_other high (cases_eq (component s j) (component s (n.registers.count - 1)))
 
-  behind_store : (c g : ℕ) (n : Moved Registers) → c < n.regs.count → IsBetween n → IsBetween (stored c g n.regs n.buffer)
+  behind_store : (c g : ℕ) (n : Moved Registers) → c < n.registers.count → IsBetween n → IsBetween (stored c g n.registers n.buffer)
   unfolding stored
   behind_store c g n low l = record {
     slots = l.slots;
     fewer = omega (arith, low, l.fewer);
-    same_length = length_of_stored c g n.regs n.buffer ∙ l.same_length;
+    same_length = length_of_stored c g n.registers n.buffer ∙ l.same_length;
     deleted = of_store c g n low l;
   }
 
   -- between two components, with so many still to come
   IsLeft : ℕ → Moved Registers → Type 0
-  IsLeft c n = IsBetween n × (c ≤ n.regs.count)
+  IsLeft c n = IsBetween n × (c ≤ n.registers.count)
 
-  left_behind_store : (c g : ℕ) (n : Moved Registers) → c < n.regs.count → IsBetween n → IsLeft c (stored c g n.regs n.buffer)
+  left_behind_store : (c g : ℕ) (n : Moved Registers) → c < n.registers.count → IsBetween n → IsLeft c (stored c g n.registers n.buffer)
   unfolding stored IsLeft
   left_behind_store c g n low l = (behind_store c g n low l, omega arith)
 
@@ -98,7 +98,7 @@ module _ (s : Registers) (long p : ℕ) (fit : IsFit s p long) where
     of_step : (c a : ℕ) (t : Step) → OnStep (IsLeft c) t
         → ((more : ℕ) (d : Moved Registers) → IsLeft c d → AreDeleted s (through_last actions values ligatures c (a + 1) more d) (ligated actions values ligatures c (a + 1) more d).buffer.line)
         → (let behind : Moved Registers = elim t [ Stops d ↦ d | GoesOn more d ↦ ligated actions values ligatures c (a + 1) more d ] in
-        AreDeleted s (elim t [ Stops d ↦ d.regs.count | GoesOn more d ↦ through_last actions values ligatures c (a + 1) more d ]) behind.buffer.line)
+        AreDeleted s (elim t [ Stops d ↦ d.registers.count | GoesOn more d ↦ through_last actions values ligatures c (a + 1) more d ]) behind.buffer.line)
     unfolding OnStep IsLeft
     of_step c a (Stops d) q go = q.0.deleted
     of_step c a (GoesOn more d) q go = go more d q
@@ -120,7 +120,7 @@ act_deletes_later e h b fit = by_test (has_flag e 0x2000 && nat_lt b.cursor (len
     s = with_component e h.registers b.cursor
 
     from : Moved Registers
-    from = record { regs = s; buffer = b }
+    from = record { registers = s; buffer = b }
 
     by_test : (t : Bool) → (t ≡ true → b.cursor < length b.line)
         → (j : ℕ) → (if t then through_last h.actions h.components h.ligatures s.count e.extra 0 from else s.count) ≤ j → j < s.count

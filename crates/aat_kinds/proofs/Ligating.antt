@@ -46,7 +46,7 @@ module _ (actions values : List ℕ) (ligatures : List GlyphId) where
   ligated_stops left rest a sum n d next stops = let e : left ≡ suc rest = omega arith in rw e (stops_from rest a sum n d stops)
 
   -- none is left
-  pub ligated_none : (left a sum : ℕ) (n : Moved Registers) → left ≡ 0 → ligated actions values ligatures left a sum n ≡ record { regs = record n.regs { count = 0 }; buffer = n.buffer }
+  pub ligated_none : (left a sum : ℕ) (n : Moved Registers) → left ≡ 0 → ligated actions values ligatures left a sum n ≡ record { registers = record n.registers { count = 0 }; buffer = n.buffer }
   unfolding ligated
   ligated_none zero a sum n none = refl
   ligated_none (suc left) a sum n none = absurd (omega arith)

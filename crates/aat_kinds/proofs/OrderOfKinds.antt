@@ -14,7 +14,7 @@ use Rattle.aat_font.specs.Keys.{value_in}
 use Rattle.aat_run.specs.Context.{Context, machine_of, start}
 use Rattle.aat_kinds.specs.Kinds.{Sizes, kind_run, rearrangement_run, contextual_run, ligature_run, insertion_run, noncontextual_run}
 use Rattle.aat_run.specs.Driven.{machine_run}
-use Rattle.aat_buffer.specs.Clusters.{HasSmallClusters, ids}
+use Rattle.aat_buffer.specs.Clusters.{ids}
 use Rattle.aat_run.specs.Laws.{IsLawful}
 use Rattle.aat_kinds.specs.Lawful.{ActsKeepOrder, GlyphsAreKept}
 use Rattle.aat_run.specs.Machine.{whole}
@@ -23,7 +23,7 @@ use Rattle.aat_buffer.specs.facts.Clusters.{length_on_span_of}
 use Rattle.aat_kinds.proofs.LawsHold.{contexts_are_lawful}
 use Rattle.aat_buffer.specs.facts.Cases.{chosen}
 use Rattle.aat_run.specs.facts.MachineRuns.{buffer_kept, whole_in_place}
-use Rattle.aat_buffer.specs.facts.Order.{Kept, kept_refl, kept_same, kept_unsafe, comes_trans, comes_small, same_on_span}
+use Rattle.aat_buffer.specs.facts.Order.{Kept, kept_refl, kept_same, kept_unsafe, comes_trans, same_on_span}
 use Rattle.aat_kinds.specs.facts.OrderHolds.{rearrangement_kept, contextual_kept, ligature_kept, insertion_kept}
 use Rattle.aat_kinds.specs.facts.Permutation.{act_permutes}
 use Rattle.aat_buffer.specs.facts.Ids.{ids_of_unsafe}
@@ -49,24 +49,24 @@ Falling x y = y ≤ x
 pub acts_keep_order : ActsKeepOrder
 acts_keep_order = record {
   rearrangement_keeps = λ bound. record {
-    rising = λ e s b fit level small ordered. (rearrangement_kept Rising le_same bound e s b fit small).ordered level ordered;
-    falling = λ e s b fit level small ordered. (rearrangement_kept Falling ge_same bound e s b fit small).ordered level ordered;
-    clusters = λ e s b fit small. (rearrangement_kept Rising le_same bound e s b fit small).from;
+    rising = λ e s b fit level ordered. (rearrangement_kept Rising le_same bound e s b fit).ordered level ordered;
+    falling = λ e s b fit level ordered. (rearrangement_kept Falling ge_same bound e s b fit).ordered level ordered;
+    clusters = λ e s b fit. (rearrangement_kept Rising le_same bound e s b fit).from;
   };
   contextual_keeps = λ classes lookups. record {
-    rising = λ e s b fit level small ordered. (contextual_kept Rising le_same classes lookups e s b).ordered level ordered;
-    falling = λ e s b fit level small ordered. (contextual_kept Falling ge_same classes lookups e s b).ordered level ordered;
-    clusters = λ e s b fit small. (contextual_kept Rising le_same classes lookups e s b).from;
+    rising = λ e s b fit level ordered. (contextual_kept Rising le_same classes lookups e s b).ordered level ordered;
+    falling = λ e s b fit level ordered. (contextual_kept Falling ge_same classes lookups e s b).ordered level ordered;
+    clusters = λ e s b fit. (contextual_kept Rising le_same classes lookups e s b).from;
   };
   ligature_keeps = λ actions values ligatures. record {
-    rising = λ e s b fit level small ordered. (ligature_kept Rising le_same actions values ligatures e s b small).ordered level ordered;
-    falling = λ e s b fit level small ordered. (ligature_kept Falling ge_same actions values ligatures e s b small).ordered level ordered;
-    clusters = λ e s b fit small. (ligature_kept Rising le_same actions values ligatures e s b small).from;
+    rising = λ e s b fit level ordered. (ligature_kept Rising le_same actions values ligatures e s b).ordered level ordered;
+    falling = λ e s b fit level ordered. (ligature_kept Falling ge_same actions values ligatures e s b).ordered level ordered;
+    clusters = λ e s b fit. (ligature_kept Rising le_same actions values ligatures e s b).from;
   };
   insertion_keeps = λ glyphs. record {
-    rising = λ e s b fit level small ordered. (insertion_kept Rising le_same glyphs e s b).ordered level ordered;
-    falling = λ e s b fit level small ordered. (insertion_kept Falling ge_same glyphs e s b).ordered level ordered;
-    clusters = λ e s b fit small. (insertion_kept Rising le_same glyphs e s b).from;
+    rising = λ e s b fit level ordered. (insertion_kept Rising le_same glyphs e s b).ordered level ordered;
+    falling = λ e s b fit level ordered. (insertion_kept Falling ge_same glyphs e s b).ordered level ordered;
+    clusters = λ e s b fit. (insertion_kept Rising le_same glyphs e s b).from;
   };
 }
 
@@ -83,31 +83,31 @@ module _ (R : ℕ → ℕ → Type 0) (same : (x y : ℕ) → x ≡ y → R x y)
   }
 
   -- a run of a lawful context whose acts keep the clusters
-  pub kept_machine : {T Q : Type 0} (on : ℕ → Bool) (table : TableValue (GenericStateEntry T)) (x : Context Q (GenericStateEntry T)) (fits : Q → ℕ → ℕ → Type 0) (b : Buffer) → IsLawful x fits → HasSmallClusters b.line
-      → ((e : GenericStateEntry T) (s : Q) (d : Buffer) → fits s d.cursor (length d.line) → HasSmallClusters d.line → Kept R same d (x.act e s d).buffer) → Kept R same b (machine_run on table x b).buffer
+  pub kept_machine : {T Q : Type 0} (on : ℕ → Bool) (table : TableValue (GenericStateEntry T)) (x : Context Q (GenericStateEntry T)) (fits : Q → ℕ → ℕ → Type 0) (b : Buffer) → IsLawful x fits
+      → ((e : GenericStateEntry T) (s : Q) (d : Buffer) → fits s d.cursor (length d.line) → Kept R same d (x.act e s d).buffer) → Kept R same b (machine_run on table x b).buffer
   unfolding machine_run
-  kept_machine on table x fits b law small each =
+  kept_machine on table x fits b law each =
       let m = machine_of on table x in
       let c = start x.in_place b x.fresh in
       let begun : Kept R same b c.buffer = chosen (λ (d : Buffer). Kept R same b (with_cursor d 0)) x.in_place b (without_positions b) (λ _. kept_same R same b b _ refl refl (λ k low. refl) (kept_refl R same b)) (λ _. kept_same R same b b _ refl refl (λ k low. refl) (kept_refl R same b)) in
       let done = buffer_kept m fits law.keeps_fit law.passes_fit law.pays (Kept R same b)
       (λ d k. kept_unsafe R same b d (Some (d.cursor - 1)) (Some (d.cursor + 1)) k)
-      (λ e s d fit k. kept_trans b d (x.act e s d).buffer k (each e s d fit (comes_small b.line d.line k.from small)))
+      (λ e s d fit k. kept_trans b d (x.act e s d).buffer k (each e s d fit))
       (λ d k. kept_same R same b d _ refl refl (λ n low. refl) k)
       (λ d k. kept_same R same b d _ refl refl (λ n low. refl) k) c (law.fresh (length c.buffer.line)) begun in
       kept_same R same b (whole m c).buffer _ refl refl (λ n low. refl) done
 
-  pub kept_kind : (z : Sizes) (on : ℕ → Bool) (k : SubtableKind) (b : Buffer) → 0 < z.slots → HasSmallClusters b.line → Kept R same b (kind_run z on k b).buffer
+  pub kept_kind : (z : Sizes) (on : ℕ → Bool) (k : SubtableKind) (b : Buffer) → 0 < z.slots → Kept R same b (kind_run z on k b).buffer
   unfolding rearrangement_run contextual_run ligature_run insertion_run noncontextual_run
-  kept_kind z on (Rearrangement table) b some small =
-      kept_machine on table (r.context z.bound) r.IsFit b (contexts_are_lawful.rearrangement_is_lawful z.bound) small (λ e s d fit d_small. rearrangement_kept R same z.bound e s d fit d_small)
-  kept_kind z on (Contextual s) b some small =
-      kept_machine on s.state (c.context z.classes s.lookups) c.IsFit b (contexts_are_lawful.contextual_is_lawful z.classes s.lookups) small (λ e r d fit d_small. contextual_kept R same z.classes s.lookups e r d)
-  kept_kind z on (Ligature s) b some small =
-      kept_machine on s.state (l.context s.actions s.components s.ligatures z.slots) l.IsFit b (contexts_are_lawful.ligature_is_lawful s.actions s.components s.ligatures z.slots some) small (λ e r d fit d_small. ligature_kept R same s.actions s.components s.ligatures e r d d_small)
-  kept_kind z on (Insertion s) b some small =
-      kept_machine on s.state (i.context s.glyphs) i.IsFit b (contexts_are_lawful.insertion_is_lawful s.glyphs) small (λ e r d fit d_small. insertion_kept R same s.glyphs e r d)
-  kept_kind z on (NonContextual lookup) b some small =
+  kept_kind z on (Rearrangement table) b some =
+      kept_machine on table (r.context z.bound) r.IsFit b (contexts_are_lawful.rearrangement_is_lawful z.bound) (λ e s d fit. rearrangement_kept R same z.bound e s d fit)
+  kept_kind z on (Contextual s) b some =
+      kept_machine on s.state (c.context z.classes s.lookups) c.IsFit b (contexts_are_lawful.contextual_is_lawful z.classes s.lookups) (λ e r d fit. contextual_kept R same z.classes s.lookups e r d)
+  kept_kind z on (Ligature s) b some =
+      kept_machine on s.state (l.context s.actions s.components s.ligatures z.slots) l.IsFit b (contexts_are_lawful.ligature_is_lawful s.actions s.components s.ligatures z.slots some) (λ e r d fit. ligature_kept R same s.actions s.components s.ligatures e r d)
+  kept_kind z on (Insertion s) b some =
+      kept_machine on s.state (i.context s.glyphs) i.IsFit b (contexts_are_lawful.insertion_is_lawful s.glyphs) (λ e r d fit. insertion_kept R same s.glyphs e r d)
+  kept_kind z on (NonContextual lookup) b some =
       let f = λ (g : hb_glyph_info_t). cond (on g.cluster) (with_answer z.classes (value_in lookup g.glyph_id) g) g in
       kept_same R same b b _ refl (length-map b.line f)
       (λ n low. ap (λ (g : hb_glyph_info_t). g.cluster) (get_or-map f b.line n no_glyph no_glyph low) ∙ cluster_of_choice (get_or b.line n no_glyph)) (kept_refl R same b)

@@ -67,17 +67,17 @@ module _ (classes : Option (List (ℕ × ℕ))) (lookups : List (List (ℕ × �
 
   -- a missing lookup ends the action, with what was done before it
   abbrev pub behind_cursor : Entry → Registers → Buffer → Option Buffer → Moved Registers
-  behind_cursor e r b None = record { regs = r; buffer = b }
-  behind_cursor e r b (Some d) = record { regs = with_mark e r d.cursor; buffer = d }
+  behind_cursor e r b None = record { registers = r; buffer = b }
+  behind_cursor e r b (Some d) = record { registers = with_mark e r d.cursor; buffer = d }
 
   abbrev pub behind_mark : Entry → Registers → Buffer → Option Buffer → Moved Registers
-  behind_mark e r b None = record { regs = r; buffer = b }
+  behind_mark e r b None = record { registers = r; buffer = b }
   behind_mark e r b (Some d) = behind_cursor e r d (at_cursor e d)
 
   -- the act of an entry: the marked glyph, the glyph at the cursor, then the mark
   unfoldable pub act : Entry → Registers → Buffer → Moved Registers
   act e r b =
-      if can_act r b.cursor (length b.line) then behind_mark e r b (at_mark e r b) else record { regs = r; buffer = b }
+      if can_act r b.cursor (length b.line) then behind_mark e r b (at_mark e r b) else record { registers = r; buffer = b }
 
   abbrev pub context : Context Registers Entry
   context = record { fresh = fresh; in_place = true; advances = goes_on; actionable = actionable; act = act }
@@ -107,4 +107,4 @@ held_actionable e h p n = actionable e h.registers p n
 abbrev pub held_act : Entry → Held → Buffer → Moved Held
 held_act e h b =
     let m = act h.classes h.lookups e h.registers b in
-    record { regs = with_registers h m.regs; buffer = m.buffer }
+    record { registers = with_registers h m.registers; buffer = m.buffer }

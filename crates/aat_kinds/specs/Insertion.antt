@@ -78,7 +78,7 @@ module _ (glyphs : List GlyphId) where
   -- the current part of an act, behind the mark
   abbrev pub current_part : Entry → Registers → Buffer → Moved Registers
   current_part e r b =
-      record { regs = r; buffer = if is_present e.extra.current_insert_index then at_cursor e b else b }
+      record { registers = r; buffer = if is_present e.extra.current_insert_index then at_cursor e b else b }
 
   -- the act of an entry: the marked run is paid for and goes in, unless that leaves no budget, which ends the act;
   -- then the cursor from before is marked, and the current run follows
@@ -87,7 +87,7 @@ module _ (glyphs : List GlyphId) where
       let d = paid (marked_count e) b in
       let s = with_mark e r b.cursor in
       if is_present e.extra.marked_insert_index
-      then (if has_operations d then current_part e s (at_mark e r d) else record { regs = r; buffer = d })
+      then (if has_operations d then current_part e s (at_mark e r d) else record { registers = r; buffer = d })
       else current_part e s b
 
   abbrev pub context : Context Registers Entry
@@ -105,7 +105,7 @@ held_actionable e h p n = actionable e h.registers p n
 abbrev pub held_act : Entry → Held → Buffer → Moved Held
 held_act e h b =
     let n = act h.glyphs e h.registers b in
-    record { regs = record h { registers = n.regs }; buffer = n.buffer }
+    record { registers = record h { registers = n.registers }; buffer = n.buffer }
 
 abbrev pub held_fit : Held → ℕ → ℕ → Type 0
 held_fit h p n = IsFit h.registers p n
@@ -115,8 +115,9 @@ abbrev pub puts_marked : Entry → Buffer → Bool
 puts_marked e b = is_present e.extra.marked_insert_index && has_operations (paid (marked_count e) b)
 
 -- the line that a refused act leaves has no part of a run: it is the one from before the act or, where the act puts the
--- marked run in, the one with that run
+-- marked run in and it is the current run that is refused, the one with the marked run
 abbrev pub IsLineOfWholeRuns : Entry → Held → Buffer → List hb_glyph_info_t → Type 0
 IsLineOfWholeRuns e h b line =
     (line ≡ b.line)
-    ⊎ (IsTrue (puts_marked e b) × (line ≡ (at_mark h.glyphs e h.registers (paid (marked_count e) b)).line))
+    ⊎ (IsTrue (puts_marked e b) × IsTrue (is_present e.extra.current_insert_index)
+    × (line ≡ (at_mark h.glyphs e h.registers (paid (marked_count e) b)).line))

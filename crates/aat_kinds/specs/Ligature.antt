@@ -78,7 +78,7 @@ stored c g r b =
     let u = component r c in
     let e = component r (r.count - 1) + 1 in
     let d = with_line b (later_deleted r c (r.count - 1 - c) (with_ligature u g b.line)) in
-    record { regs = record r { count = c + 1 }; buffer = if nat_lt u e then merge_out_clusters d u e else d }
+    record { registers = record r { count = c + 1 }; buffer = if nat_lt u e then merge_out_clusters d u e else d }
 
 -- what one component leaves: the act stops, or goes on with the sum
 pub data Step : Type 0 where
@@ -91,7 +91,7 @@ module _ (actions : List ℕ) (values : List ℕ) (ligatures : List GlyphId) whe
   abbrev pub stored_by : ℕ → ℕ → ℕ → Option GlyphId → Moved Registers → Step
   stored_by action c sum None n = Stops n
   stored_by action c sum (Some g) n =
-      if is_last action then Stops (stored c g.0 n.regs n.buffer) else GoesOn sum (stored c g.0 n.regs n.buffer)
+      if is_last action then Stops (stored c g.0 n.registers n.buffer) else GoesOn sum (stored c g.0 n.registers n.buffer)
 
   abbrev pub summed : ℕ → ℕ → ℕ → Option ℕ → Moved Registers → Step
   summed action c sum None n = Stops n
@@ -104,37 +104,37 @@ module _ (actions : List ℕ) (values : List ℕ) (ligatures : List GlyphId) whe
   unfoldable pub component_step : Option ℕ → ℕ → ℕ → Moved Registers → Step
   component_step None c sum n = Stops n
   component_step (Some action) c sum n =
-      let glyph = glyph_at n.buffer.line (component n.regs c) in
+      let glyph = glyph_at n.buffer.line (component n.registers c) in
       summed action c sum (element_at values (pos glyph.glyph_id +ℤ offset_of action)) n
 
   -- the c oldest components from the newest of them down, each by the next action; where none is left, none is held any
   -- more
   unfoldable pub ligated : ℕ → ℕ → ℕ → Moved Registers → Moved Registers
-  ligated zero a sum n = record n { regs = record n.regs { count = 0 } }
+  ligated zero a sum n = record n { registers = record n.registers { count = 0 } }
   ligated (suc c) a sum n =
       elim (component_step (slice_get actions a) c sum n) [ Stops d ↦ d | GoesOn more d ↦ ligated c (a + 1) more d ]
 
   -- how many components there are through the one that becomes the last ligature; all of them, where none does
   unfoldable pub through_last : ℕ → ℕ → ℕ → Moved Registers → ℕ
-  through_last zero a sum n = n.regs.count
+  through_last zero a sum n = n.registers.count
   through_last (suc c) a sum n =
       let t = component_step (slice_get actions a) c sum n in
-      elim t [ Stops d ↦ d.regs.count | GoesOn more d ↦ through_last c (a + 1) more d ]
+      elim t [ Stops d ↦ d.registers.count | GoesOn more d ↦ through_last c (a + 1) more d ]
 
   -- the act of an entry: 0x8000 holds the cursor as a component, 0x2000 takes the components in
   unfoldable pub act : GenericStateEntry ℕ → Registers → Buffer → Moved Registers
   act e r b =
       let s = with_component e r b.cursor in
       if has_flag e 0x2000 && nat_lt b.cursor (length b.line)
-      then ligated s.count e.extra 0 (record { regs = s; buffer = b })
-      else record { regs = s; buffer = b }
+      then ligated s.count e.extra 0 (record { registers = s; buffer = b })
+      else record { registers = s; buffer = b }
 
   -- the same of the act of an entry
   abbrev pub through_last_of : GenericStateEntry ℕ → Registers → Buffer → ℕ
   through_last_of e r b =
       let s = with_component e r b.cursor in
       if has_flag e 0x2000 && nat_lt b.cursor (length b.line)
-      then through_last s.count e.extra 0 (record { regs = s; buffer = b })
+      then through_last s.count e.extra 0 (record { registers = s; buffer = b })
       else s.count
 
   abbrev pub context : ℕ → Context Registers (GenericStateEntry ℕ)
@@ -154,7 +154,7 @@ held_actionable e h p n = actionable e h.registers p n
 abbrev pub held_act : GenericStateEntry ℕ → Held → Buffer → Moved Held
 held_act e h b =
     let n = act h.actions h.components h.ligatures e h.registers b in
-    record { regs = record h { registers = n.regs }; buffer = n.buffer }
+    record { registers = record h { registers = n.registers }; buffer = n.buffer }
 
 -- each component behind the last ligature of an act is the deleted glyph on a line, unless it has the same place as the
 -- component that became that ligature

@@ -125,7 +125,7 @@ impl<'a> ContextualCtx<'a> {
     )
         requires fit { held_fit self.old buffer.old.cursor (length buffer.old.line) }
         requires ids { IsSmall buffer.old }
-        ensures act { record { regs = self.new; buffer = buffer.new } ≡ held_act entry.now self.old buffer.old }
+        ensures act { record { registers = self.new; buffer = buffer.new } ≡ held_act entry.now self.old buffer.old }
         ensures ids { IsSmall buffer.new }
     {
         if buffer.backtrack_len() >= buffer.len() && !self.is_set {
@@ -176,8 +176,8 @@ impl<'a> driver_context_t<ContextualEntryData> for ContextualCtx<'a> {
             && (entry.extra.mark_index != NO_LOOKUP || entry.extra.current_index != NO_LOOKUP)
     }
 
-    /// Does what the entry says. The number of glyphs stays. Never refused. The registers have to fit, and each glyph id has
-    /// to be at most 0xFFFF, and is so again.
+    /// Does what the entry says. The number of glyphs stays. Never refused. The registers have to fit, and each glyph
+    /// id has to be at most 0xFFFF, and is so again.
     fn transition<A: Allocator + Copy>(
         &mut self,
         entry: &GenericStateEntry<ContextualEntryData>,
@@ -186,7 +186,7 @@ impl<'a> driver_context_t<ContextualEntryData> for ContextualCtx<'a> {
         requires fit { held_fit self.old buffer.old.cursor (length buffer.old.line) }
         requires ids { IsSmall buffer.old }
         ensures taken { IsOk result }
-        ensures act { OnOk result (record { regs = self.new; buffer = buffer.new } ≡ held_act entry.now self.old buffer.old) }
+        ensures act { OnOk result (record { registers = self.new; buffer = buffer.new } ≡ held_act entry.now self.old buffer.old) }
         ensures ids { OnOk result (IsSmall buffer.new) }
         ensures successful { OnOk result (buffer.new.successful ≡ buffer.old.successful) }
         ensures reason { IfErr result (IsRefusal buffer.old (held_act entry.now self.old buffer.old).buffer) }

@@ -1,7 +1,8 @@
 //! Insertion subtables: runs of glyphs go in at the marked place and at the cursor.
-ghost use Rattle.std.specs.Prelude.{◌≡◌, ℕ, ◌+◌, ◌-◌, ◌<◌, ◌≤◌, ◌&&◌, if◌then◌else◌, nat_lt, length, map, not, All, Bool, take, false, true, IfErr, OnErr, OnOk};
+ghost use Rattle.std.specs.Prelude.{◌≡◌, ℕ, ◌+◌, ◌-◌, ◌<◌, ◌≤◌, ◌&&◌, if◌then◌else◌, nat_lt, length, map, not, All, Bool, take, false, true, IfErr, IsTrue, OnErr, OnOk};
 ghost use Rattle.aat_buffer.specs.Buffer.{Buffer, Is16Bit, model_at};
 ghost use Rattle.aat_buffer.specs.Clusters.{IsSmall};
+ghost use Rattle.aat_font.specs.Entries.{is_present};
 ghost use Rattle.aat_run.specs.Budget.{paid};
 ghost use Rattle.aat_run.specs.Driven.{IsRefusal, IsRefused};
 ghost use Rattle.aat_run.specs.Laws.{FitsFresh, SameSettings};
@@ -38,8 +39,8 @@ const NO_GLYPHS: u16 = 0xFFFF;
 /// the glyph there, and may mark the cursor. Each glyph that goes in is a copy of the one at its place, or of the last
 /// one at the end of the text, with another id. A run that would leave the list, or go into an empty line, is one of no
 /// glyphs. The number that the entry counts for a run is paid out of the budget where the run has an index and the act
-/// comes to it, whatever goes in: a marked run that leaves no budget does not go in, and ends the act, and a current one
-/// that leaves a debt does not go in.
+/// comes to it, whatever goes in: a marked run that leaves no budget does not go in, and ends the act, and a current
+/// one that leaves a debt does not go in.
 ///
 /// A contract sees it as the record `Held`.
 ///
@@ -119,6 +120,7 @@ impl<'a> InsertionCtx<'a> {
         ensures successful { OnOk result (buffer.new.successful ≡ buffer.old.successful) }
         ensures reason { IfErr result (IsRefusal buffer.old (current_part self.old.glyphs entry.now self.new.registers buffer.old).buffer) }
         ensures refused { OnErr result (IsRefusedRun buffer.old buffer.new) }
+        ensures current { OnErr result (IsTrue (is_present entry.now.extra.current_insert_index)) }
     {
         if entry.has_mark() {
             self.mark = place;
@@ -171,8 +173,9 @@ impl<'a> driver_context_t<InsertionEntryData> for InsertionCtx<'a> {
     /// Refused as 2, `TooLong`, only where the act would leave a line longer than the buffer's `max_len`, and else as
     /// 3, `OutOfMemory`, only where it would leave a longer line than it found. A run goes in whole or not at all, and
     /// the length is looked at before memory is asked for. After a refusal the buffer has failed, its line is of 16-bit
-    /// glyphs, at most its greatest length long, and that from before the act or, where the act puts a marked run in, the
-    /// one with that run; all but line, cursor, positions and budget is as before, and the registers are any.
+    /// glyphs, at most its greatest length long, and that from before the act or, where the current run is refused
+    /// behind a marked one that went in, the one with that marked run; all but line, cursor, positions and budget is as
+    /// before, and the registers are any.
     ///
     /// The registers have to fit, and each glyph id has to be at most 0xFFFF, and is so again.
     #[tactic(auto, using(crate::proofs::Refusals::refused_for_run), unfolding(crate::specs::Insertion::act))]
@@ -183,7 +186,7 @@ impl<'a> driver_context_t<InsertionEntryData> for InsertionCtx<'a> {
     ) -> Result<(), AatError>
         requires fit { held_fit self.old buffer.old.cursor (length buffer.old.line) }
         requires ids { IsSmall buffer.old }
-        ensures act { OnOk result (record { regs = self.new; buffer = buffer.new } ≡ held_act entry.now self.old buffer.old) }
+        ensures act { OnOk result (record { registers = self.new; buffer = buffer.new } ≡ held_act entry.now self.old buffer.old) }
         ensures ids { OnOk result (IsSmall buffer.new) }
         ensures successful { OnOk result (buffer.new.successful ≡ buffer.old.successful) }
         ensures reason { IfErr result (IsRefusal buffer.old (held_act entry.now self.old buffer.old).buffer) }

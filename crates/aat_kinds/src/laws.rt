@@ -28,8 +28,8 @@ pub fn glyphs_are_kept()
     ensures { GlyphsAreKept }
 {}
 
-/// Right behind a store, each component behind it that was held until then is the deleted glyph. A later ligature of the
-/// same act may be written over one.
+/// Right behind a store, each component behind it that was held until then is the deleted glyph. A later ligature of
+/// the same act may be written over one.
 pub fn later_components_are_deleted()
     ensures { LaterComponentsAreDeleted }
 {}

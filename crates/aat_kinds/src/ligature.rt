@@ -28,7 +28,7 @@ const STORE: u32 = 0xC000_0000;
 /// The bit of the last action of a list.
 const LAST: u32 = 0x8000_0000;
 
-/// The glyph that stands for none.
+/// The glyph id of a glyph that shaping has deleted.
 const DELETED_GLYPH: u32 = 0xFFFF;
 
 /// The places of the components that are held: of as many of the newest as there are slots.
@@ -224,8 +224,8 @@ impl<const SLOTS: usize> Components<SLOTS> {
 /// that more components than slots write over the oldest places.
 ///
 /// A contract sees it as the record `Held`. It fits where there is a slot and the held places lie on the line, no more
-/// components are held than glyphs stand before the cursor and one at it, and where there are as many, the newest is the
-/// cursor. It takes no memory, and no act changes the number of glyphs, so that a run over it is never refused.
+/// components are held than glyphs stand before the cursor and one at it, and where there are as many, the newest is
+/// the cursor. It takes no memory, and no act changes the number of glyphs, so that a run over it is never refused.
 ///
 /// Apple's TrueType Reference Manual, "The 'morx' table", ligature substitution.
 #[derive(Drop)]
@@ -291,7 +291,7 @@ impl<'a, const SLOTS: usize> LigatureCtx<'a, SLOTS> {
     )
         requires fit { IsHeldFit self.old buffer.old.cursor (length buffer.old.line) }
         requires ids { IsSmall buffer.old }
-        ensures act { record { regs = self.new; buffer = buffer.new } ≡ held_act entry.now self.old buffer.old }
+        ensures act { record { registers = self.new; buffer = buffer.new } ≡ held_act entry.now self.old buffer.old }
         ensures ids { IsSmall buffer.new }
         ensures successful { buffer.new.successful ≡ buffer.old.successful }
         ensures count { length buffer.new.line ≡ length buffer.old.line }
@@ -345,8 +345,8 @@ impl<'a, const SLOTS: usize> driver_context_t<u16> for LigatureCtx<'a, SLOTS> {
     /// makes is the deleted glyph, unless it has the same place as that ligature. Never refused.
     /// What is held has to fit, and each glyph id has to be at most 0xFFFF, and is so again.
     ///
-    /// Holding a component is O(1); taking components in is O(of their number, and of the glyphs that become one
-    /// cluster).
+    /// Holding a component is O(1); taking components in is O(of their number, and for each ligature that is stored of
+    /// the glyphs that its merge makes one cluster).
     fn transition<A: Allocator + Copy>(
         &mut self,
         entry: &GenericStateEntry<u16>,
@@ -355,7 +355,7 @@ impl<'a, const SLOTS: usize> driver_context_t<u16> for LigatureCtx<'a, SLOTS> {
         requires fit { IsHeldFit self.old buffer.old.cursor (length buffer.old.line) }
         requires ids { IsSmall buffer.old }
         ensures taken { IsOk result }
-        ensures act { OnOk result (record { regs = self.new; buffer = buffer.new } ≡ held_act entry.now self.old buffer.old) }
+        ensures act { OnOk result (record { registers = self.new; buffer = buffer.new } ≡ held_act entry.now self.old buffer.old) }
         ensures ids { OnOk result (IsSmall buffer.new) }
         ensures successful { OnOk result (buffer.new.successful ≡ buffer.old.successful) }
         ensures reason { IfErr result (IsRefusal buffer.old (held_act entry.now self.old buffer.old).buffer) }

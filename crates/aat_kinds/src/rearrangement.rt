@@ -95,7 +95,7 @@ impl<const LONGEST: usize> RearrangementCtx<LONGEST> {
         buffer: &mut hb_buffer_t<A>,
     )
         requires { IsFit self.old buffer.old.cursor (length buffer.old.line) }
-        ensures { record { regs = self.new; buffer = buffer.new } ≡ act LONGEST entry.now self.old buffer.old }
+        ensures { record { registers = self.new; buffer = buffer.new } ≡ act LONGEST entry.now self.old buffer.old }
     {
         self.set_marks(entry, buffer.backtrack_len(), buffer.len());
         let verb = verb_of(entry);
@@ -140,8 +140,8 @@ impl<const LONGEST: usize> driver_context_t<()> for RearrangementCtx<LONGEST> {
         entry.flags & 0x000F != 0 && self.start < self.end
     }
 
-    /// Does what the entry says. The glyph ids are permuted. Never refused. The registers have to fit, and each glyph id has
-    /// to be at most 0xFFFF, and is so again.
+    /// Does what the entry says. The glyph ids are permuted. Never refused. The registers have to fit, and each glyph
+    /// id has to be at most 0xFFFF, and is so again.
     fn transition<A: Allocator + Copy>(
         &mut self,
         entry: &GenericStateEntry<()>,
@@ -150,7 +150,7 @@ impl<const LONGEST: usize> driver_context_t<()> for RearrangementCtx<LONGEST> {
         requires fit { IsFit self.old buffer.old.cursor (length buffer.old.line) }
         requires ids { IsSmall buffer.old }
         ensures taken { IsOk result }
-        ensures act { OnOk result (record { regs = self.new; buffer = buffer.new } ≡ act LONGEST entry.now self.old buffer.old) }
+        ensures act { OnOk result (record { registers = self.new; buffer = buffer.new } ≡ act LONGEST entry.now self.old buffer.old) }
         ensures ids { OnOk result (IsSmall buffer.new) }
         ensures successful { OnOk result (buffer.new.successful ≡ buffer.old.successful) }
         ensures reason { IfErr result (IsRefusal buffer.old (act LONGEST entry.now self.old buffer.old).buffer) }

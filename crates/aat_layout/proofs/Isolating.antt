@@ -12,10 +12,10 @@ use Rattle.aat_morx.specs.Substitution.{substituted}
 use Rattle.aat_run.specs.Outcome.{Outcome}
 
 pub isolated_by_run : (z : Sizes) → 0 < z.slots → (plan : hb_ot_shape_plan_t) (face : hb_font_t) (b d : Buffer) (turns : ℕ) → record { buffer = d; turns = turns } ≡ substitution_with z plan face b → IsIsolatedWith z plan face b d
-isolated_by_run z some plan face b d turns ran small requests alike =
+isolated_by_run z some plan face b d turns ran requests alike =
     ap (λ (o : Outcome). with_cursor o.buffer 0) ran ∙ by_flags plan.apply_morx
   where
     by_flags : (applies : Bool) → with_cursor (substituted z (switched applies (plan_requests plan face) (chains_in (tables_of face).morx)) b).buffer 0
         ≡ with_cursor (substituted z (switched applies requests (chains_in (tables_of face).morx)) b).buffer 0
-    by_flags true = requests_are_isolated z (plan_requests plan face) requests (chains_in (tables_of face).morx) b some small alike
+    by_flags true = requests_are_isolated z (plan_requests plan face) requests (chains_in (tables_of face).morx) b some alike
     by_flags false = refl

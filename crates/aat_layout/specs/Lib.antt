@@ -8,8 +8,11 @@ pub use Rattle.aat_run.specs.Budget
 pub use Rattle.aat_run.specs.Driven
 pub use Rattle.aat_run.specs.Laws
 pub use Rattle.aat_run.specs.Outcome
+pub use Rattle.aat_run.specs.Ranges
+pub use Rattle.aat_kinds.specs.Kinds
 pub use Rattle.aat_map.specs.Requests
 pub use Rattle.aat_map.specs.SwitchedChains
+pub use Rattle.aat_morx.specs.Applying
 pub use Rattle.aat_morx.specs.Isolation
 pub use Rattle.aat_morx.specs.Kept
 pub use Rattle.aat_morx.specs.Substitution

@@ -1,7 +1,6 @@
 -- Substitution by a plan. Apple's TrueType Reference Manual, "The 'morx' table".
 use Rattle.std.specs.Prelude.{List}
 use Rattle.aat_buffer.specs.Buffer.{Buffer}
-use Rattle.aat_buffer.specs.Clusters.{HasSmallClusters}
 use Rattle.aat_font.specs.Face.{tables_of, chains_in}
 use Rattle.aat_font.specs.declared.face.hb_font_t.{hb_font_t}
 use Rattle.aat_font.specs.declared.plan.hb_ot_shape_plan_t.{hb_ot_shape_plan_t}
@@ -21,11 +20,11 @@ substitution_with z plan face b =
 abbrev pub substitution : hb_ot_shape_plan_t → hb_font_t → Buffer → Outcome
 substitution plan face b = substitution_with (sizes_for face) plan face b
 
--- what is asked for elsewhere changes nothing: requests that give each chain the plan's flags at each 32-bit cluster
+-- what is asked for elsewhere changes nothing: requests that give each chain the plan's flags at each cluster
 -- that a glyph has at the start, or at 0 where there is no glyph, leave the same buffer, wherever its cursor then is
 abbrev pub IsIsolatedWith : Sizes → hb_ot_shape_plan_t → hb_font_t → Buffer → Buffer → Type 0
 IsIsolatedWith z plan face old new =
-    HasSmallClusters old.line → (requests : List feature_range_t)
+    (requests : List feature_range_t)
     → AskAlike (plan_requests plan face) requests (chains_in (tables_of face).morx) old.line
     → AreOneButCursor new (substituted z (switched plan.apply_morx requests (chains_in (tables_of face).morx)) old).buffer
 

@@ -56,6 +56,10 @@ RefusesBeforeRuns plan face b BufferFailed = b.successful ≡ false
 abbrev pub passes_with : Sizes → hb_ot_shape_plan_t → hb_font_t → Buffer → ℕ → Bool
 passes_with z plan face b n = nat_lt n (length (substitution_with z plan face b).buffer.line)
 
+-- no value is too large, and the line that substitution leaves, with sizes, is longer than the one that it is given
+abbrev pub grows_with : Sizes → hb_ot_shape_plan_t → hb_font_t → Buffer → Bool
+grows_with z plan face b = is_none (first_too_large plan face) && passes_with z plan face b (length b.line)
+
 -- why a substitution with sizes is refused: first a buffer that had failed; then the plan; then a line that would pass
 -- the longest one, or want of memory where the line would get longer
 abbrev pub RefusesSubstitutionWith : Sizes → hb_ot_shape_plan_t → hb_font_t → Buffer → AatError → Type 0
@@ -63,7 +67,7 @@ RefusesSubstitutionWith z plan face b (AaltValue value) = (b.successful ≡ true
 RefusesSubstitutionWith z plan face b TooLong =
     (b.successful ≡ true) × (first_too_large plan face ≡ None) × IsTrue (passes_with z plan face b b.max_len)
 RefusesSubstitutionWith z plan face b OutOfMemory =
-    (b.successful ≡ true) × IsTrue (wants_memory plan face || passes_with z plan face b (length b.line))
+    (b.successful ≡ true) × IsTrue (wants_memory plan face || grows_with z plan face b)
 RefusesSubstitutionWith z plan face b BufferFailed = b.successful ≡ false
 
 -- the same with the usual sizes
@@ -76,7 +80,7 @@ abbrev pub LeavesBehindWith : Sizes → hb_ot_shape_plan_t → hb_font_t → Buf
 LeavesBehindWith z plan face old new (AaltValue value) = new ≡ old
 LeavesBehindWith z plan face old new TooLong = IsRefused old new
 LeavesBehindWith z plan face old new OutOfMemory =
-    (new ≡ old) ⊎ (IsRefused old new × IsTrue (passes_with z plan face old (length old.line)))
+    (new ≡ old) ⊎ (IsRefused old new × IsTrue (grows_with z plan face old))
 LeavesBehindWith z plan face old new BufferFailed = new ≡ old
 
 -- the same with the usual sizes

@@ -9,9 +9,10 @@ ghost use Rattle.aat_layout.specs.Planned.{IsIsolated, IsIsolatedWith, substitut
 ghost use Rattle.aat_layout.specs.Refusals.{LeavesBehind, LeavesBehindWith, RefusesBeforeRuns, RefusesFeatures, RefusesPlan, RefusesSubstitution, RefusesSubstitutionWith, first_too_large};
 ghost use Rattle.aat_map.specs.Requests.{is_too_large, requests_of};
 ghost use Rattle.aat_map.specs.SwitchedChains.{plan_requests, switched, switched_by};
-ghost use Rattle.aat_morx.specs.Kept.{KeepsOrder, has_insertion};
+ghost use Rattle.aat_morx.specs.Kept.{has_insertion};
 ghost use Rattle.aat_run.specs.Budget.{extent};
 ghost use Rattle.aat_run.specs.Driven.{StaysWithin};
+ghost use Rattle.aat_run.specs.Laws.{HasOrderOf};
 ghost use Rattle.aat_run.specs.Outcome.{Outcome};
 ghost use Rattle.aat_run.specs.Ranges.{is_whole_list};
 
@@ -40,17 +41,17 @@ pub type Turns = u64;
 /// Each glyph id has to be at most 0xFFFF, which [`all_glyphs_16`](hb_buffer_t::all_glyphs_16) tells.
 ///
 /// Refused, in this order: as 4, `BufferFailed`, where a call of the buffer was refused before; then for each feature
-/// in turn as 1, `AaltValue`, for a value of alternates that is no setting, and as 3, `OutOfMemory`, where its
-/// request gets no memory; then as 3 where compiling gets no memory. After each of these the buffer is unchanged (of 3 the
-/// contract says so where substitution leaves no longer line). At
-/// last, in the middle of a run, as 2, `TooLong`, only where substitution leaves a line longer than the buffer's
-/// `max_len`, and as 3 only where it leaves a longer line than it found; then the buffer has failed, its line is some
-/// line of 16-bit glyphs that has at most its greatest length, and all but line, cursor, positions and budget is as
-/// before.
+/// in turn as 1, `AaltValue`, for a value of alternates that is no setting, and as 3, `OutOfMemory`, where its request
+/// gets no memory; then as 3 where compiling gets no memory. After each of these the buffer is unchanged (of 3 the
+/// contract says so where substitution leaves no longer line). At last, in the middle of a run, as 2, `TooLong`, only
+/// where substitution leaves a line longer than the buffer's `max_len`, and as 3 only where it leaves a longer line
+/// than it found; then the buffer has failed, its line is some line of 16-bit glyphs that has at most its greatest
+/// length, and all but line, cursor, positions and budget is as before.
 ///
 /// With S subtables in all chains, n glyphs and a budget M (0 where it is negative) it takes at most S(n + M + 1) turns
 /// and leaves at most n + M glyphs. So it is never refused as `TooLong` where n + M is at most `max_len`; and where no
-/// subtable is one of insertion the number of glyphs stays, and it is not refused once a subtable has begun to run.
+/// subtable is one of insertion the number of glyphs stays, and a refusal has a reason that stands before the subtables
+/// and leaves the buffer unchanged.
 ///
 /// At each cluster level but `HB_BUFFER_CLUSTER_LEVEL_CHARACTERS`, clusters that never fall along the line never fall
 /// afterwards, and those that never rise never rise. At every level each cluster stood on the line before. What is
@@ -72,7 +73,7 @@ pub fn hb_aat_layout_substitute<H: Allocator + Copy, A: Allocator + Copy>(
     ensures substituted { IfOk result (λ turns. record { buffer = buffer.new; turns = turns } ≡ substitution plan.now face.now buffer.old) }
     ensures within { IfOk result (StaysWithin (subtable_count (chains_in (tables_of face.now).morx)) buffer.old buffer.new) }
     ensures successful { OnOk result (buffer.new.successful ≡ true) }
-    ensures order { OnOk result (KeepsOrder buffer.old buffer.new) }
+    ensures order { OnOk result (HasOrderOf buffer.old buffer.new) }
     ensures isolation { OnOk result (IsIsolated plan.now face.now buffer.old buffer.new) }
     ensures room { IsErrOf result AatError.TooLong → buffer.old.max_len < extent buffer.old }
     ensures without_insertion { has_insertion (chains_in (tables_of face.now).morx) ≡ false → IfErr result (RefusesBeforeRuns plan.now face.now buffer.old) }
@@ -106,7 +107,7 @@ pub fn hb_aat_layout_substitute_with<const SLOTS: usize, const LONGEST: usize>(
     ensures substituted { IfOk result (λ turns. record { buffer = buffer.new; turns = turns } ≡ substitution_with (sizes_of SLOTS LONGEST face.now) plan.now face.now buffer.old) }
     ensures within { IfOk result (StaysWithin (subtable_count (chains_in (tables_of face.now).morx)) buffer.old buffer.new) }
     ensures successful { OnOk result (buffer.new.successful ≡ true) }
-    ensures order { OnOk result (KeepsOrder buffer.old buffer.new) }
+    ensures order { OnOk result (HasOrderOf buffer.old buffer.new) }
     ensures isolation { OnOk result (IsIsolatedWith (sizes_of SLOTS LONGEST face.now) plan.now face.now buffer.old buffer.new) }
     ensures room { IsErrOf result AatError.TooLong → buffer.old.max_len < extent buffer.old }
     ensures without_insertion { has_insertion (chains_in (tables_of face.now).morx) ≡ false → IfErr result (RefusesBeforeRuns plan.now face.now buffer.old) }

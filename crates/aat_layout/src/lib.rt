@@ -26,7 +26,10 @@ pub use aat_run::{AatError, drive, driver_context_t, hb_aat_apply_context_t, ran
 /// The laws of the definitions as theorems.
 #[doc(hidden)]
 pub mod laws {
-    pub use aat_kerning::laws::{drivers_are_lawful, kerning_changes_little, kerning_is_bounded};
+    pub use aat_kerning::laws::{
+        alike_parts_are_kerned_apart, drivers_are_lawful, kerning_changes_little,
+        kerning_is_bounded, pairs_change_the_advances, parts_are_kerned_apart,
+    };
     pub use aat_kinds::laws::{
         acts_keep_order, acts_keep_small, contexts_are_lawful, glyphs_are_kept,
         later_components_are_deleted,

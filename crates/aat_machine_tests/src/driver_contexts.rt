@@ -19,6 +19,7 @@ impl driver_context_t<u16> for CountingCtx {
     ghost use Rattle.std.specs.Prelude.{true};
     ghost use Rattle.aat_font.specs.Entries.{goes_on};
     ghost use Rattle.aat_machine_tests.specs.Counting as c;
+    ghost use Rattle.aat_machine_tests.specs.facts.CountingHolds as laws;
 
     ghost fits = { c.IsFit };
 
@@ -60,25 +61,25 @@ impl driver_context_t<u16> for CountingCtx {
         Ok(())
     }
 
-    ghost keeps_fit = { c.keeps_fit };
+    ghost keeps_fit = { laws.keeps_fit };
 
-    ghost passes_fit = { c.passes_fit };
+    ghost passes_fit = { laws.passes_fit };
 
-    ghost pays = { c.pays };
+    ghost pays = { laws.pays };
 
-    ghost bounded = { c.bounded };
+    ghost bounded = { laws.bounded };
 
-    ghost lengthens = { c.lengthens };
+    ghost lengthens = { laws.lengthens };
 
-    ghost makes_no_positions = { c.makes_no_positions };
+    ghost makes_no_positions = { laws.makes_no_positions };
 
-    ghost keeps_settings = { c.keeps_settings };
+    ghost keeps_settings = { laws.keeps_settings };
 
-    ghost keeps_place = { c.keeps_place };
+    ghost keeps_place = { laws.keeps_place };
 
-    ghost keeps_count = { c.keeps_count };
+    ghost keeps_count = { laws.keeps_count };
 
-    ghost keeps_order = { c.keeps_order };
+    ghost keeps_order = { laws.keeps_order };
 }
 
 /// Puts a glyph like the one at the cursor before it.
@@ -105,6 +106,7 @@ impl driver_context_t<u16> for PuttingCtx {
     ghost use Rattle.std.specs.Prelude.{false};
     ghost use Rattle.aat_font.specs.Entries.{goes_on};
     ghost use Rattle.aat_machine_tests.specs.Putting as p;
+    ghost use Rattle.aat_machine_tests.specs.facts.PuttingHolds as laws;
 
     ghost fits = { p.IsFit };
 
@@ -148,23 +150,23 @@ impl driver_context_t<u16> for PuttingCtx {
         Ok(())
     }
 
-    ghost keeps_fit = { p.keeps_fit };
+    ghost keeps_fit = { laws.keeps_fit };
 
-    ghost passes_fit = { p.passes_fit };
+    ghost passes_fit = { laws.passes_fit };
 
-    ghost pays = { p.pays };
+    ghost pays = { laws.pays };
 
-    ghost bounded = { p.bounded };
+    ghost bounded = { laws.bounded };
 
-    ghost lengthens = { p.lengthens };
+    ghost lengthens = { laws.lengthens };
 
-    ghost makes_no_positions = { p.makes_no_positions };
+    ghost makes_no_positions = { laws.makes_no_positions };
 
-    ghost keeps_settings = { p.keeps_settings };
+    ghost keeps_settings = { laws.keeps_settings };
 
-    ghost keeps_place = { p.keeps_place };
+    ghost keeps_place = { laws.keeps_place };
 
-    ghost keeps_count = { p.keeps_count };
+    ghost keeps_count = { laws.keeps_count };
 
-    ghost keeps_order = { p.keeps_order };
+    ghost keeps_order = { laws.keeps_order };
 }

@@ -2,10 +2,10 @@
 use Rattle.std.proofs.Common.{◌≡◌, ◌∙◌, ap, sym, refl, ℕ, zero, suc, ◌+◌, ◌-◌, ◌<◌, ◌≤◌, Bool, true, false, cond, not, List, [], ◌∷◌, map, length, Option, Some, None, arith, nat_lt}
 use Rattle.std.proofs.lemmas.Bool.Decides.{nat_tests}
 use Rattle.aat_buffer.specs.Buffer.{Buffer, with_cursor, with_line, glyph_at}
-use Rattle.aat_buffer.specs.Clusters.{HasSmallClusters, ComesFrom}
+use Rattle.aat_buffer.specs.Clusters.{ComesFrom}
 use Rattle.aat_buffer.specs.Marks.{cluster_at, unsafe_to_break}
 use Rattle.aat_buffer.specs.facts.Cases.{chosen, either}
-use Rattle.aat_buffer.specs.facts.Order.{Kept, kept_refl, kept_unsafe, comes_refl, comes_trans, comes_small}
+use Rattle.aat_buffer.specs.facts.Order.{Kept, kept_refl, kept_unsafe, comes_refl, comes_trans}
 use Rattle.aat_font.specs.Keys.{value_in}
 use Rattle.aat_font.specs.Table.{TableValue}
 use Rattle.aat_font.specs.declared.morx.SubtableKind.{SubtableKind}
@@ -45,8 +45,8 @@ alike_from on other gs hs from longer alike = record {
 }
 
 module _ {T Q : Type 0} (table : TableValue (GenericStateEntry T)) (x : Context Q (GenericStateEntry T)) (fits : Q → ℕ → ℕ → Type 0) (law : IsLawful x fits) where
-  module _ (on other : ℕ → Bool) (b : Buffer) (small : HasSmallClusters b.line)
-      (each : (e : GenericStateEntry T) (s : Q) (d : Buffer) → fits s d.cursor (length d.line) → HasSmallClusters d.line → Kept Rising le_same d (x.act e s d).buffer)
+  module _ (on other : ℕ → Bool) (b : Buffer)
+      (each : (e : GenericStateEntry T) (s : Q) (d : Buffer) → fits s d.cursor (length d.line) → Kept Rising le_same d (x.act e s d).buffer)
       (alike : SayAlike on other b.line)
     where
       abbrev m : Machine Q (GenericStateEntry T)
@@ -57,7 +57,7 @@ module _ {T Q : Type 0} (table : TableValue (GenericStateEntry T)) (x : Context 
 
       -- a run stands over clusters of the line, and at the end where both switches say the same
       record Good (d : Config Q) : Type 0 where
-        stands : fits d.regs d.buffer.cursor (length d.buffer.line)
+        stands : fits d.registers d.buffer.cursor (length d.buffer.line)
         from : ComesFrom b.line d.buffer.line
         last : is_at_end d.buffer ≡ true → on d.last ≡ other d.last
 
@@ -103,7 +103,7 @@ module _ {T Q : Type 0} (table : TableValue (GenericStateEntry T)) (x : Context 
       kept_turn d good =
           turn_keeps m fits law.keeps_fit law.passes_fit law.pays (λ (e : Buffer). ComesFrom b.line e.line)
           (λ e from. comes_trans b.line e.line (unsafe_to_break e (Some (e.cursor - 1)) (Some (e.cursor + 1))).line from (kept_unsafe Rising le_same e e (Some (e.cursor - 1)) (Some (e.cursor + 1)) (kept_refl Rising le_same e)).from)
-          (λ e s d fit from. comes_trans b.line d.line (x.act e s d).buffer.line from (each e s d fit (comes_small b.line d.line from small)).from)
+          (λ e s d fit from. comes_trans b.line d.line (x.act e s d).buffer.line from (each e s d fit).from)
           (λ e from. from) (λ e from. from) d good.stands good.from
 
       good_turn : (d : Config Q) → Good d → OnGoes Good (turn m d)
@@ -151,7 +151,7 @@ module _ {T Q : Type 0} (table : TableValue (GenericStateEntry T)) (x : Context 
   unfolding machine_run
   machine_off b none = by_place x.in_place
     where
-      from_here : (d : Config Q) → fits d.regs d.buffer.cursor (length d.buffer.line) → with_cursor d.buffer 0 ≡ with_cursor b 0 → (outcome_of (whole (machine_of (λ _. false) table x) d)).buffer ≡ with_cursor b 0
+      from_here : (d : Config Q) → fits d.registers d.buffer.cursor (length d.buffer.line) → with_cursor d.buffer 0 ≡ with_cursor b 0 → (outcome_of (whole (machine_of (λ _. false) table x) d)).buffer ≡ with_cursor b 0
       from_here d stands same =
           whole_keeps (machine_of (λ _. false) table x) fits law.keeps_fit law.passes_fit law.pays (λ (e : Config Q). with_cursor e.buffer 0 ≡ with_cursor b 0) (λ e h p. off_everywhere e ∙ p) d stands same
 
@@ -190,18 +190,18 @@ map_none [] = refl
 map_none (g ∷ gs) = ap (λ (hs : List hb_glyph_info_t). g ∷ hs) (map_none gs)
 
 -- the run of a subtable under two switches that say the same at the clusters of the line
-pub kind_alike : (z : Sizes) (on other : ℕ → Bool) (k : SubtableKind) (b : Buffer) → 0 < z.slots → HasSmallClusters b.line → SayAlike on other b.line → kind_run z on k b ≡ kind_run z other k b
+pub kind_alike : (z : Sizes) (on other : ℕ → Bool) (k : SubtableKind) (b : Buffer) → 0 < z.slots → SayAlike on other b.line → kind_run z on k b ≡ kind_run z other k b
 unfolding rearrangement_run contextual_run ligature_run insertion_run noncontextual_run
-kind_alike z on other (Rearrangement table) b some small alike =
-    machine_alike table (r.context z.bound) r.IsFit (contexts_are_lawful.rearrangement_is_lawful z.bound) on other b small (λ e s d fit d_small. rearrangement_kept Rising le_same z.bound e s d fit d_small) alike
-kind_alike z on other (Contextual s) b some small alike =
-    machine_alike s.state (c.context z.classes s.lookups) c.IsFit (contexts_are_lawful.contextual_is_lawful z.classes s.lookups) on other b small (λ e q d fit d_small. contextual_kept Rising le_same z.classes s.lookups e q d) alike
-kind_alike z on other (Ligature s) b some small alike =
-    machine_alike s.state (l.context s.actions s.components s.ligatures z.slots) l.IsFit (contexts_are_lawful.ligature_is_lawful s.actions s.components s.ligatures z.slots some) on other b small
-    (λ e q d fit d_small. ligature_kept Rising le_same s.actions s.components s.ligatures e q d d_small) alike
-kind_alike z on other (Insertion s) b some small alike =
-    machine_alike s.state (i.context s.glyphs) i.IsFit (contexts_are_lawful.insertion_is_lawful s.glyphs) on other b small (λ e q d fit d_small. insertion_kept Rising le_same s.glyphs e q d) alike
-kind_alike z on other (NonContextual lookup) b some small alike =
+kind_alike z on other (Rearrangement table) b some alike =
+    machine_alike table (r.context z.bound) r.IsFit (contexts_are_lawful.rearrangement_is_lawful z.bound) on other b (λ e s d fit. rearrangement_kept Rising le_same z.bound e s d fit) alike
+kind_alike z on other (Contextual s) b some alike =
+    machine_alike s.state (c.context z.classes s.lookups) c.IsFit (contexts_are_lawful.contextual_is_lawful z.classes s.lookups) on other b (λ e q d fit. contextual_kept Rising le_same z.classes s.lookups e q d) alike
+kind_alike z on other (Ligature s) b some alike =
+    machine_alike s.state (l.context s.actions s.components s.ligatures z.slots) l.IsFit (contexts_are_lawful.ligature_is_lawful s.actions s.components s.ligatures z.slots some) on other b
+    (λ e q d fit. ligature_kept Rising le_same s.actions s.components s.ligatures e q d) alike
+kind_alike z on other (Insertion s) b some alike =
+    machine_alike s.state (i.context s.glyphs) i.IsFit (contexts_are_lawful.insertion_is_lawful s.glyphs) on other b (λ e q d fit. insertion_kept Rising le_same s.glyphs e q d) alike
+kind_alike z on other (NonContextual lookup) b some alike =
     ap (λ (gs : List hb_glyph_info_t). record { buffer = with_line b gs; turns = length b.line }) (map_alike on other (λ g. with_answer z.classes (value_in lookup g.glyph_id) g) b.line alike.each)
 
 -- the run of a subtable that is on nowhere

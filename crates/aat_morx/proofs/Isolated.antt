@@ -3,10 +3,10 @@ use Rattle.std.proofs.Common.{subst, ◌≡◌, ◌∙◌, ap, sym, refl, ℕ, z
 use Rattle.std.proofs.lemmas.List.{reverse-reverse, length-reverse, length-map, get_or-map}
 use Rattle.std.specs.Prelude.{fold, option_map}
 use Rattle.aat_buffer.specs.Buffer.{Buffer, with_cursor, reversed, without_positions, no_glyph}
-use Rattle.aat_buffer.specs.Clusters.{HasSmallClusters, ComesFrom}
+use Rattle.aat_buffer.specs.Clusters.{ComesFrom}
 use Rattle.aat_buffer.specs.facts.Cases.{chosen}
 use Rattle.aat_buffer.specs.facts.Lines.{length_concat}
-use Rattle.aat_buffer.specs.facts.Order.{comes_trans, comes_small}
+use Rattle.aat_buffer.specs.facts.Order.{comes_trans}
 use Rattle.aat_font.specs.declared.morx.Chain.{Chain}
 use Rattle.aat_font.specs.declared.morx.Coverage.{Coverage}
 use Rattle.aat_font.specs.declared.morx.Subtable.{Subtable}
@@ -58,8 +58,8 @@ module _ (z : Sizes) (some : 0 < z.slots) (coverage : Coverage) (k : SubtableKin
       by_order true = ap reversed (kind_at_front z on k (reversed b) some)
       by_order false = kind_at_front z on k b some
 
-  ordered_alike : (on other : ℕ → Bool) (b : Buffer) → HasSmallClusters b.line → SayAlike on other b.line → in_its_order on b ≡ in_its_order other b
-  ordered_alike on other b small alike = by_order (is_reversed coverage b.direction)
+  ordered_alike : (on other : ℕ → Bool) (b : Buffer) → SayAlike on other b.line → in_its_order on b ≡ in_its_order other b
+  ordered_alike on other b alike = by_order (is_reversed coverage b.direction)
     where
       turned : ComesFrom b.line (reverse b.line)
       turned = comes_of_reverse b.line
@@ -67,8 +67,8 @@ module _ (z : Sizes) (some : 0 < z.slots) (coverage : Coverage) (k : SubtableKin
       by_order : (t : Bool) → cond t (reversed_run (kind_run z on k) b) (kind_run z on k b) ≡ cond t (reversed_run (kind_run z other k) b) (kind_run z other k b)
       by_order true =
           ap (λ (o : Outcome). record { buffer = reversed o.buffer; turns = o.turns })
-          (kind_alike z on other k (reversed b) some (comes_small b.line (reverse b.line) turned small) (alike_from on other b.line (reverse b.line) turned (omega (arith, length-reverse b.line)) alike))
-      by_order false = kind_alike z on other k b some small alike
+          (kind_alike z on other k (reversed b) some (alike_from on other b.line (reverse b.line) turned (omega (arith, length-reverse b.line)) alike))
+      by_order false = kind_alike z on other k b some alike
 
   ordered_makes_none : (on : ℕ → Bool) (b : Buffer) → b.positions ≡ None → (in_its_order on b).buffer.positions ≡ None
   ordered_makes_none on b none =
@@ -109,18 +109,18 @@ module _ (z : Sizes) (some : 0 < z.slots) (s : Subtable) where
       by_direction true = ordered_at_front z some s.coverage s.kind (switch.is_on s.feature_flags) b
       by_direction false = refl
 
-  run_alike : (switch other : Switch) (b : Buffer) → HasSmallClusters b.line → SayAlike (switch.is_on s.feature_flags) (other.is_on s.feature_flags) b.line → run_of switch b ≡ run_of other b
-  run_alike switch other b small alike =
-      ap (λ (o : Outcome). cond (is_for b.direction s.coverage) o.buffer b) (ordered_alike z some s.coverage s.kind (switch.is_on s.feature_flags) (other.is_on s.feature_flags) b small alike)
+  run_alike : (switch other : Switch) (b : Buffer) → SayAlike (switch.is_on s.feature_flags) (other.is_on s.feature_flags) b.line → run_of switch b ≡ run_of other b
+  run_alike switch other b alike =
+      ap (λ (o : Outcome). cond (is_for b.direction s.coverage) o.buffer b) (ordered_alike z some s.coverage s.kind (switch.is_on s.feature_flags) (other.is_on s.feature_flags) b alike)
 
   -- a subtable under two switches that say the same at the clusters of the line
-  subtable_isolated : (switch other : Switch) (b d : Buffer) → IsEven switch → IsEven other → b.positions ≡ None → HasSmallClusters b.line
+  subtable_isolated : (switch other : Switch) (b d : Buffer) → IsEven switch → IsEven other → b.positions ≡ None
       → SayAlike (switch.is_on s.feature_flags) (other.is_on s.feature_flags) b.line → front b ≡ front d → front (subtable_run z switch s b).buffer ≡ front (subtable_run z other s d).buffer
-  subtable_isolated switch other b d even other_even none small alike same =
+  subtable_isolated switch other b d even other_even none alike same =
       let d_none : d.positions ≡ None = sym (ap (λ (x : Buffer). x.positions) same) ∙ none in
       subtable_is_run switch b even none
       ∙ (sym (run_at_front switch b)
-      ∙ (ap (λ (x : Buffer). front x) (run_alike switch other (front b) small alike)
+      ∙ (ap (λ (x : Buffer). front x) (run_alike switch other (front b) alike)
       ∙ (ap (λ (x : Buffer). front (run_of other x)) same
       ∙ (run_at_front other d
       ∙ sym (subtable_is_run other d other_even d_none)))))
@@ -137,11 +137,11 @@ record MadeOf (start b : Buffer) : Type 0 where
   from : ComesFrom start.line b.line
   longer : length start.line ≤ length b.line
 
-module _ (z : Sizes) (some : 0 < z.slots) (start : Buffer) (small : HasSmallClusters start.line) where
+module _ (z : Sizes) (some : 0 < z.slots) (start : Buffer) where
   made_by_subtable : (switch : Switch) (s : Subtable) (b : Buffer) → MadeOf start b → MadeOf start (subtable_run z switch s b).buffer
   made_by_subtable switch s b made = record {
     none = subtable_makes_none z some s switch b made.none;
-    from = comes_trans start.line b.line (subtable_run z switch s b).buffer.line made.from (comes_of_subtable z switch s b some (comes_small start.line b.line made.from small));
+    from = comes_trans start.line b.line (subtable_run z switch s b).buffer.line made.from (comes_of_subtable z switch s b some);
     longer = omega (arith, made.longer, (subtable_is_bounded z switch s b some).length);
   }
 
@@ -157,7 +157,7 @@ module _ (z : Sizes) (some : 0 < z.slots) (start : Buffer) (small : HasSmallClus
       subtables_isolated switch other even other_even alike ss (then_run o (subtable_run z switch s)) (then_run p (subtable_run z other s)) (record {
         made = made_by_subtable switch s o.buffer both.made;
         same =
-            subtable_isolated z some s switch other o.buffer p.buffer even other_even both.made.none (comes_small start.line o.buffer.line both.made.from small)
+            subtable_isolated z some s switch other o.buffer p.buffer even other_even both.made.none
             (alike_from (switch.is_on s.feature_flags) (other.is_on s.feature_flags) start.line o.buffer.line both.made.from both.made.longer (alike s.feature_flags)) both.same;
       })
 
@@ -180,17 +180,17 @@ says_alike requests others c (g ∷ gs) flags same = record {
 even_by_requests : (requests : List feature_range_t) (c : Chain) → IsEven (switched_at requests c).switch
 even_by_requests requests c one flags x = ap (λ f. meets f flags) (flags_of_one_range requests c.default_flags c.features.items x one)
 
-module _ (z : Sizes) (some : 0 < z.slots) (requests others : List feature_range_t) (b : Buffer) (small : HasSmallClusters b.line) where
-  chains_isolated : (chains : List Chain) → AskAlike requests others chains b.line → (o p : Outcome) → RunAlike z some b small o p
-      → RunAlike z some b small (fold (λ o c. then_run o (chain_run z c)) o (by_requests requests chains)) (fold (λ o c. then_run o (chain_run z c)) p (by_requests others chains))
+module _ (z : Sizes) (some : 0 < z.slots) (requests others : List feature_range_t) (b : Buffer) where
+  chains_isolated : (chains : List Chain) → AskAlike requests others chains b.line → (o p : Outcome) → RunAlike z some b o p
+      → RunAlike z some b (fold (λ o c. then_run o (chain_run z c)) o (by_requests requests chains)) (fold (λ o c. then_run o (chain_run z c)) p (by_requests others chains))
   chains_isolated [] alike o p both = both
   chains_isolated (c ∷ cs) alike o p both =
-      let ran = subtables_isolated z some b small (switched_at requests c).switch (switched_at others c).switch (even_by_requests requests c) (even_by_requests others c)
+      let ran = subtables_isolated z some b (switched_at requests c).switch (switched_at others c).switch (even_by_requests requests c) (even_by_requests others c)
       (λ flags. says_alike requests others c b.line flags (alike zero c (omega arith))) c.subtables.items (untouched o.buffer) (untouched p.buffer) (record { made = both.made; same = both.same }) in
       chains_isolated cs (λ k d low. alike (suc k) d (omega (arith, low))) (then_run o (chain_run z (switched_at requests c))) (then_run p (chain_run z (switched_at others c)))
       (record { made = ran.made; same = ran.same })
 
 pub requests_are_isolated : RequestsAreIsolated
-requests_are_isolated z requests others chains b some small alike =
+requests_are_isolated z requests others chains b some alike =
     let begun : MadeOf b (prepared b) = record { none = refl; from = comes_of_prepared b; longer = omega (arith, length_concat (without_positions b) None None) } in
-    (chains_isolated z some requests others b small chains alike (untouched (prepared b)) (untouched (prepared b)) (record { made = begun; same = refl })).same
+    (chains_isolated z some requests others b chains alike (untouched (prepared b)) (untouched (prepared b)) (record { made = begun; same = refl })).same

@@ -1,12 +1,14 @@
 -- The bounds of substitution are the best there are: a table of any number of subtables that meets both.
-use Rattle.std.specs.Prelude.{◌≡◌, ℕ, suc, pos, negsuc, ◌+◌, ◌*◌, List, [], ◌∷◌, length, replicate}
+use Rattle.std.specs.Prelude.{◌≡◌, ℕ, suc, pos, negsuc, ◌+◌, ◌*◌, ◌<◌, ◌≤◌, List, [], ◌∷◌, length, replicate}
 use Rattle.aat_buffer.specs.Buffer.{Buffer}
+use Rattle.aat_buffer.specs.Clusters.{IsSmall}
 use Rattle.aat_font.specs.declared.entries.InsertionEntryData.{InsertionEntryData}
 use Rattle.aat_font.specs.declared.morx.SubtableKind.{SubtableKind}
 use Rattle.aat_font.specs.declared.state_table.GenericStateEntry.{GenericStateEntry}
+use Rattle.aat_kinds.specs.Kinds.{Sizes}
 use Rattle.aat_map.specs.SwitchedChains.{SwitchedChain}
 use Rattle.aat_morx.specs.InsertionRows.{with_indexes, id}
-use Rattle.aat_morx.specs.Rows.{sizes, subtable, substituted_by}
+use Rattle.aat_morx.specs.Rows.{subtable, chain}
 use Rattle.aat_morx.specs.Substitution.{substituted, subtables_in}
 use Rattle.aat_run.specs.Budget.{extent}
 use Rattle.aat_run.specs.Rows.{buffer_of, entry, glyph, all_at, table, printed, shows_with}
@@ -34,15 +36,23 @@ two_before_and_stay = SubtableKind.Insertion (record {
 abbrev pub one_six : Buffer
 one_six = buffer_of (glyph 6 0 0 ∷ []) (pos 2)
 
--- so many subtables leave as many glyphs as there were and the budget allows, in as many turns as the bound
+-- so many subtables leave as many glyphs as there were and the budget allows, in as many turns as the bound, with
+-- any sizes
 pub record MeetsBounds (count : ℕ) (chains : List SwitchedChain) (b : Buffer) : Type 0 where
   pub counted : subtables_in chains ≡ count
-  pub turns : (substituted sizes chains b).turns ≡ count * (extent b + 1)
-  pub length : length (substituted sizes chains b).buffer.line ≡ extent b
+  pub turns : (z : Sizes) → (substituted z chains b).turns ≡ count * (extent b + 1)
+  pub length : (z : Sizes) → length (substituted z chains b).buffer.line ≡ extent b
+
+-- a line of 16-bit glyphs that may grow by all that its budget allows, and where a subtable runs, by a glyph or more
+pub record MayGrow (count : ℕ) (b : Buffer) : Type 0 where
+  pub ids : IsSmall b
+  pub room : extent b ≤ b.max_len
+  pub grows : 0 < count → length b.line < extent b
 
 -- one copy of that subtable or more makes 5 5 6 of the 6, in 4 turns each; and for every number of subtables there is a
--- table and a line that meet both bounds with equality
+-- table and a line that meet both bounds with equality, by putting glyphs in
 pub record BoundsAreMet : Type 0 where
-  pub copies : (n : ℕ) → printed (substituted_by (replicate (suc n) (subtable two_before_and_stay)) one_six)
+  pub copies : (z : Sizes) (n : ℕ)
+      → printed (substituted z (chain (replicate (suc n) (subtable two_before_and_stay)) ∷ []) one_six)
       ≡ shows_with (negsuc 0) (all_at 0 (5 ∷ 5 ∷ 6 ∷ [])) (4 * suc n)
-  pub every : (count : ℕ) → (chains : List SwitchedChain) × (b : Buffer) × MeetsBounds count chains b
+  pub every : (count : ℕ) → (chains : List SwitchedChain) × (b : Buffer) × MayGrow count b × MeetsBounds count chains b

@@ -1,7 +1,6 @@
 -- What is asked for at the clusters of a line decides what substitution leaves of it.
 use Rattle.std.specs.Prelude.{◌≡◌, ℕ, ◌<◌, List, [], ◌∷◌, map, All}
 use Rattle.aat_buffer.specs.Buffer.{Buffer, with_cursor}
-use Rattle.aat_buffer.specs.Clusters.{HasSmallClusters}
 use Rattle.aat_font.specs.declared.morx.Chain.{Chain}
 use Rattle.aat_glyph.specs.declared.glyph.hb_glyph_info_t.{hb_glyph_info_t}
 use Rattle.aat_kinds.specs.Kinds.{Sizes}
@@ -29,12 +28,12 @@ AskAlike requests others chains line = All (λ c. All (GiveSameFlags requests ot
 abbrev pub AreOneButCursor : Buffer → Buffer → Type 0
 AreOneButCursor b d = with_cursor b 0 ≡ with_cursor d 0
 
--- requests that ask alike at the 32-bit clusters of a line leave the same buffer of it, though not always in the same
--- turns: a subtable that is off over the only range of its chain is not run
+-- requests that ask alike at the clusters of a line leave the same buffer of it but for the cursor, though not always
+-- in the same turns: a subtable that is off over the only range of its chain is not run
 abbrev pub RequestsAreIsolated : Type 0
 RequestsAreIsolated =
     (z : Sizes) (requests others : List feature_range_t) (chains : List Chain) (b : Buffer)
-    → 0 < z.slots → HasSmallClusters b.line → AskAlike requests others chains b.line
+    → 0 < z.slots → AskAlike requests others chains b.line
     → AreOneButCursor
     (substituted z (by_requests requests chains) b).buffer
     (substituted z (by_requests others chains) b).buffer

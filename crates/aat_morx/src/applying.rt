@@ -7,10 +7,11 @@ ghost use Rattle.aat_font.specs.Face.{chains_in, tables_of};
 ghost use Rattle.aat_kinds.specs.Kinds.{sizes_for, sizes_of};
 ghost use Rattle.aat_map.specs.SwitchedChains.{switched_by};
 ghost use Rattle.aat_morx.specs.Applying.{RefusesRun};
-ghost use Rattle.aat_morx.specs.Kept.{KeepsOrder, has_insertion};
+ghost use Rattle.aat_morx.specs.Kept.{has_insertion};
 ghost use Rattle.aat_morx.specs.Substitution.{prepared, substituted};
 ghost use Rattle.aat_run.specs.Budget.{extent};
 ghost use Rattle.aat_run.specs.Driven.{IsRefusal, IsRefused, StaysWithin};
+ghost use Rattle.aat_run.specs.Laws.{HasOrderOf};
 ghost use Rattle.aat_run.specs.Outcome.{Outcome};
 ghost use Rattle.aat_run.specs.Ranges.{is_whole_list};
 
@@ -36,10 +37,10 @@ use std::alloc::Allocator;
 /// Refused as 4, `BufferFailed`, where a call of the buffer was refused before, and nothing changes then. Else as 2,
 /// `TooLong`, only where substitution leaves a line longer than the buffer's `max_len`, and as 3, `OutOfMemory`, only
 /// where it leaves a longer line than it found; then the buffer has failed, its line is some line of 16-bit glyphs that
-/// has at most its greatest length, all but line, cursor, positions and budget is as before, the run has no ranges and no
-/// feature flags, and no turns are added.
-/// So it is never refused as `TooLong` where the number of glyphs and the budget (0 where it is negative) together are
-/// at most `max_len`; and where no subtable is one of insertion the number of glyphs stays, and neither comes.
+/// has at most its greatest length, all but line, cursor, positions and budget is as before, the run has no ranges and
+/// no feature flags, and no turns are added. So it is never refused as `TooLong` where the number of glyphs and the
+/// budget (0 where it is negative) together are at most `max_len`; and where no subtable is one of insertion the number
+/// of glyphs stays, and neither comes.
 ///
 /// At each cluster level but `HB_BUFFER_CLUSTER_LEVEL_CHARACTERS`, clusters that never fall along the line never fall
 /// afterwards, and those that never rise never rise. At every level each cluster stood on the line before.
@@ -62,7 +63,7 @@ pub fn apply<A: Allocator + Copy, M: Allocator + Copy>(
     ensures counted { OnOk result (c.old.turns ≤ c.new.turns) }
     ensures uncounted { OnErr result (c.new.turns ≡ c.old.turns) }
     ensures within { OnOk result (StaysWithin (subtable_count (chains_in (tables_of c.old.face.now).morx)) c.old.buffer.now c.new.buffer.now (c.new.turns - c.old.turns)) }
-    ensures order { OnOk result (KeepsOrder c.old.buffer.now c.new.buffer.now) }
+    ensures order { OnOk result (HasOrderOf c.old.buffer.now c.new.buffer.now) }
     ensures room { IsErrOf result AatError.TooLong → c.old.buffer.now.max_len < extent c.old.buffer.now }
     ensures without_insertion { has_insertion (chains_in (tables_of c.old.face.now).morx) ≡ false → IfErr result (λ error. error ≡ AatError.BufferFailed) }
     ensures number { has_insertion (chains_in (tables_of c.old.face.now).morx) ≡ false → OnOk result (length c.new.buffer.now.line ≡ length c.old.buffer.now.line) }
@@ -99,7 +100,7 @@ pub fn apply_with<const SLOTS: usize, const LONGEST: usize>(
     ensures counted { OnOk result (c.old.turns ≤ c.new.turns) }
     ensures uncounted { OnErr result (c.new.turns ≡ c.old.turns) }
     ensures within { OnOk result (StaysWithin (subtable_count (chains_in (tables_of c.old.face.now).morx)) c.old.buffer.now c.new.buffer.now (c.new.turns - c.old.turns)) }
-    ensures order { OnOk result (KeepsOrder c.old.buffer.now c.new.buffer.now) }
+    ensures order { OnOk result (HasOrderOf c.old.buffer.now c.new.buffer.now) }
     ensures room { IsErrOf result AatError.TooLong → c.old.buffer.now.max_len < extent c.old.buffer.now }
     ensures without_insertion { has_insertion (chains_in (tables_of c.old.face.now).morx) ≡ false → IfErr result (λ error. error ≡ AatError.BufferFailed) }
     ensures number { has_insertion (chains_in (tables_of c.old.face.now).morx) ≡ false → OnOk result (length c.new.buffer.now.line ≡ length c.old.buffer.now.line) }
@@ -138,8 +139,8 @@ fn prepare<A: Allocator + Copy>(buffer: &mut hb_buffer_t<A>)
 
 /// Prepares the line, runs the table under a map, and answers the turns, or none without the table.
 ///
-/// Each glyph id has to be at most 0xFFFF, and the map whole. A buffer that had failed is run as any other; else
-/// refused as `apply` is.
+/// Each glyph id has to be at most 0xFFFF, and the map whole; there has to be a slot, and at most 2^59 of them. A
+/// buffer that had failed is run as any other; else refused as `apply` is.
 #[tactic(auto, using(aat_run::specs::facts::Settings::refused_behind, crate::proofs::Prepared::prepared_settings))]
 pub fn run_table<
     const SLOTS: usize,
@@ -161,7 +162,7 @@ pub fn run_table<
     ensures few { IfOk result (λ answer. IfSome answer (λ turns. turns ≤ 2 ^ 62)) }
     ensures reason { IfErr result (IsRefusal buffer.old (substituted (sizes_of SLOTS LONGEST face.now) (switched_by (chains_in (tables_of face.now).morx) map.now) buffer.old).buffer) }
     ensures refused { OnErr result (IsRefused buffer.old buffer.new) }
-    ensures order { OnOk result (KeepsOrder buffer.old buffer.new) }
+    ensures order { OnOk result (HasOrderOf buffer.old buffer.new) }
     ensures room { IsErrOf result AatError.TooLong → buffer.old.max_len < extent buffer.old }
     ensures without_insertion { has_insertion (chains_in (tables_of face.now).morx) ≡ false → IsOk result }
     ensures number { has_insertion (chains_in (tables_of face.now).morx) ≡ false → OnOk result (length buffer.new.line ≡ length buffer.old.line) }

@@ -18,14 +18,15 @@ pub fn clusters_keep_their_order()
     ensures { ClustersKeepTheirOrder }
 {}
 
-/// For every number of subtables there are a table and a line that meet both bounds with equality: a subtable that puts
-/// in the whole budget before a glyph and stays, and copies of it, each of which passes all glyphs.
+/// For every number of subtables there are chains and a line that meet both bounds with equality, with any sizes: a
+/// subtable that puts in the whole budget before a glyph and stays, and copies of it, each of which passes all glyphs.
 #[tactic(auto, using(crate::proofs::BestBounds::bounds_are_met))]
 pub fn bounds_are_met()
     ensures { BoundsAreMet }
 {}
 
-/// Requests that give each chain the same flags at each cluster of a line leave the same of it, in perhaps other turns.
+/// Requests that give each chain the same flags at each cluster of a line leave the same of it but for the cursor, in
+/// perhaps other turns.
 #[tactic(auto, using(crate::proofs::Isolated::requests_are_isolated))]
 pub fn requests_are_isolated()
     ensures { RequestsAreIsolated }

@@ -15,7 +15,7 @@ module _ {R E : Type 0} (m : Machine R E) (fits : R → ℕ → ℕ → Type 0)
     (keeps : KeepsFit m.act fits) (passes : PassesFit fits) (pays : Pays m.act fits) (lengthens : Lengthens m.act fits) (settings : KeepsSettings m.act fits)
   where
     -- where a run begins
-    pub has_begun : (c : Config R) → fits c.regs c.buffer.cursor (length c.buffer.line) → HasCome m fits c c
+    pub has_begun : (c : Config R) → fits c.registers c.buffer.cursor (length c.buffer.line) → HasCome m fits c c
     has_begun c fit = record { run = refl; fit = fit; counted = omega arith; settings = settings_stay c.buffer; longer = omega arith }
 
     module _ (from to : Config R) (come : HasCome m fits from to) where

@@ -7,7 +7,7 @@ use Rattle.aat_font.specs.declared.state_table.GenericStateEntry.{GenericStateEn
 
 -- the registers and the buffer that an act leaves
 pub record Moved (R : Type 0) : Type 0 where
-  pub regs : R
+  pub registers : R
   pub buffer : Buffer
 
 -- what a context means: its fresh registers, whether it keeps the length and the positions, whether an entry advances,
@@ -53,7 +53,7 @@ machine_of on table context = machine_with on table context.advances context.act
 -- the turns so far
 pub record Config (R : Type 0) : Type 0 where
   pub buffer : Buffer
-  pub regs : R
+  pub registers : R
   pub state : ℕ
   pub last : ℕ
   pub turns : ℕ
@@ -62,7 +62,7 @@ pub record Config (R : Type 0) : Type 0 where
 abbrev pub start : {R : Type 0} → Bool → Buffer → R → Config R
 start in_place b r = record {
   buffer = with_cursor (if in_place then b else without_positions b) 0;
-  regs = r;
+  registers = r;
   state = 0;
   last = 0;
   turns = 0;

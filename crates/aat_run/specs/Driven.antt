@@ -39,7 +39,7 @@ machine_run on table context b =
 unfoldable pub registers_behind : {T R : Type 0} → (ℕ → Bool) → TableValue (GenericStateEntry T)
     → Context R (GenericStateEntry T) → Buffer → R
 registers_behind on table context b =
-    (whole (machine_of on table context) (start context.in_place b context.fresh)).regs
+    (whole (machine_of on table context) (start context.in_place b context.fresh)).registers
 
 -- the positions that a run leaves: those that stood before it, and none where the context is not in place
 abbrev pub positions_behind : Bool → Buffer → Option (List GlyphPosition)

@@ -5,7 +5,7 @@ use Rattle.aat_run.specs.Budget.{potential, extent}
 use Rattle.aat_run.specs.Context.{Moved, Context, Machine, Config}
 use Rattle.aat_run.specs.Machine.{IsWholeRun, turn}
 use Rattle.aat_run.specs.Outcome.{Outcome}
-use Rattle.aat_buffer.specs.Clusters.{ClustersMerge, IsRisingLine, IsFallingLine, HasSmallClusters, ComesFrom}
+use Rattle.aat_buffer.specs.Clusters.{ClustersMerge, IsRisingLine, IsFallingLine, ComesFrom}
 
 -- what no act touches
 pub record SameSettings (old new : Buffer) : Type 0 where
@@ -30,7 +30,7 @@ module _ {R E : Type 0} (act : E → R → Buffer → Moved R) (fits : R → ℕ
   KeepsFit =
       (e : E) (r : R) (b : Buffer) → fits r b.cursor (length b.line)
       → (act e r b).buffer.cursor < length (act e r b).buffer.line
-      → fits (act e r b).regs (act e r b).buffer.cursor (length (act e r b).buffer.line)
+      → fits (act e r b).registers (act e r b).buffer.cursor (length (act e r b).buffer.line)
 
   -- no act adds to the potential
   abbrev pub Pays : Type 0
@@ -84,20 +84,20 @@ module _ {R E : Type 0} (act : E → R → Buffer → Moved R) (fits : R → ℕ
   abbrev pub KeepsRising : Type 0
   KeepsRising =
       (e : E) (r : R) (b : Buffer) → fits r b.cursor (length b.line)
-      → ClustersMerge b.cluster_level → HasSmallClusters b.line
+      → ClustersMerge b.cluster_level
       → IsRisingLine b.line → IsRisingLine (act e r b).buffer.line
 
   abbrev pub KeepsFalling : Type 0
   KeepsFalling =
       (e : E) (r : R) (b : Buffer) → fits r b.cursor (length b.line)
-      → ClustersMerge b.cluster_level → HasSmallClusters b.line
+      → ClustersMerge b.cluster_level
       → IsFallingLine b.line → IsFallingLine (act e r b).buffer.line
 
   -- each cluster behind an act stood on the line before it
   abbrev pub KeepsClusters : Type 0
   KeepsClusters =
       (e : E) (r : R) (b : Buffer) → fits r b.cursor (length b.line)
-      → HasSmallClusters b.line → ComesFrom b.line (act e r b).buffer.line
+      → ComesFrom b.line (act e r b).buffer.line
 
 -- what a run asks of every context
 pub record IsLawful {R E : Type 0} (context : Context R E) (fits : R → ℕ → ℕ → Type 0) : Type 0 where
@@ -123,7 +123,7 @@ pub record IsBounded (b : Buffer) (o : Outcome) : Type 0 where
 -- each run from registers that fit ends by itself, in no more turns than it is given: the potential and one more
 abbrev pub RunsEnd : {R E : Type 0} → Machine R E → (R → ℕ → ℕ → Type 0) → Type 0
 RunsEnd {R} m fits =
-    (c : Config R) → fits c.regs c.buffer.cursor (length c.buffer.line)
+    (c : Config R) → fits c.registers c.buffer.cursor (length c.buffer.line)
     → IsWholeRun (turn m) (potential c.buffer + 1) c
 
 -- what an act leaves of the clusters, unless clusters stay apart: those that never fall along the line never fall

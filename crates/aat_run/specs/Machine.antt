@@ -63,8 +63,8 @@ module _ {R E : Type 0} (m : Machine R E) where
   -- the mark, the act and the new state
   unfoldable pub acted : E → Config R → Turn (Config R)
   acted e c =
-      let n = m.act e c.regs (marked e c) in
-      settled e (record c { buffer = n.buffer; regs = n.regs; state = m.next e })
+      let n = m.act e c.registers (marked e c) in
+      settled e (record c { buffer = n.buffer; registers = n.registers; state = m.next e })
 
   -- a missing entry ends the run
   unfoldable pub by_entry : Option E → Config R → Turn (Config R)

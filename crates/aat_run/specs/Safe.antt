@@ -15,7 +15,7 @@ use Rattle.aat_run.specs.Truth.{is_some_and, is_alike}
 -- Registers, cursor and length are those before the act. HarfBuzz asks the same three questions.
 unfoldable pub is_safe : {R E : Type 0} → Machine R E → E → Option E → Option E → Config R → Bool
 is_safe {R} {E} m e from_start at_end c =
-    let is_idle : E → Bool = λ f. not (m.actionable f c.regs c.buffer.cursor (length c.buffer.line)) in
+    let is_idle : E → Bool = λ f. not (m.actionable f c.registers c.buffer.cursor (length c.buffer.line)) in
     let does_as_e : E → Bool = λ f. (m.next f == m.next e) && is_alike (m.advances f) (m.advances e) in
     is_idle e
     && (((c.state == 0)

@@ -92,7 +92,7 @@ pub trait driver_context_t<T: Copy> {
     ) -> Result<(), AatError>
         requires fit { fits self.old buffer.old.cursor (length buffer.old.line) }
         requires ids { IsSmall buffer.old }
-        ensures act { OnOk result (record { regs = self.new; buffer = buffer.new } ≡ act entry.now self.old buffer.old) }
+        ensures act { OnOk result (record { registers = self.new; buffer = buffer.new } ≡ act entry.now self.old buffer.old) }
         ensures ids { OnOk result (IsSmall buffer.new) }
         ensures successful { OnOk result (buffer.new.successful ≡ buffer.old.successful) }
         ensures reason { IfErr result (IsRefusal buffer.old (act entry.now self.old buffer.old).buffer) }

@@ -15,8 +15,8 @@ pub enum AatError {
     /// 2: the line would pass its greatest length. The buffer has failed then.
     #[error("the line would be too long")]
     TooLong,
-    /// 3: memory is wanting. In the middle of a run the buffer has failed then; else what was asked for is as it was, and a
-    /// map that was to be compiled is empty.
+    /// 3: memory is wanting. In the middle of a run the buffer has failed then; else what was asked for is as it was,
+    /// and a map that was to be compiled is empty.
     #[error("out of memory")]
     OutOfMemory,
     /// 4: the buffer had failed before. Nothing changes.

@@ -2,7 +2,6 @@
 
 ghost use Rattle.std.specs.Prelude.{ℕ, Bool, length};
 ghost use Rattle.aat_buffer.specs.Buffer.{Buffer};
-ghost use Rattle.aat_buffer.specs.Clusters.{HasSmallClusters};
 ghost use Rattle.aat_font.specs.Table.{TableValue};
 ghost use Rattle.aat_font.specs.declared.state_table.GenericStateEntry.{GenericStateEntry};
 ghost use Rattle.aat_run.specs.Budget.{FloorIsUnseen};
@@ -26,5 +25,5 @@ pub fn runs_end<T: Copy, C: driver_context_t<T>>()
 /// A run of a context keeps an order of the clusters along the line, unless clusters stay apart, and makes no new
 /// cluster.
 pub fn runs_keep_order<T: Copy, C: driver_context_t<T>>()
-    ensures { (on : ℕ → Bool) (table : TableValue (GenericStateEntry T)) (r : C) (b : Buffer) → C.fits r 0 (length b.line) → HasSmallClusters b.line → HasOrderOf b (machine_run on table (context_from C.stays_in_place C.advances C.actionable C.act r) b).buffer }
+    ensures { (on : ℕ → Bool) (table : TableValue (GenericStateEntry T)) (r : C) (b : Buffer) → C.fits r 0 (length b.line) → HasOrderOf b (machine_run on table (context_from C.stays_in_place C.advances C.actionable C.act r) b).buffer }
 {}

@@ -112,10 +112,7 @@ pub(crate) fn inserting_font(
         features: Vec::new(alloc),
         subtables: vec![in alloc; subtable]?,
     };
-    let tables = FaceTables {
-        morx: Some(Morx::new(vec![in alloc; chain]?)?),
-        feat: None,
-    };
+    let tables = FaceTables::default().with_morx(Morx::new(vec![in alloc; chain]?)?);
     Ok(Inserting {
         table: table_of(alloc, at_end, at_20)?,
         glyphs: longest_run(alloc)?,

@@ -1,6 +1,7 @@
 //! The tests of the layer as a whole, through its public paths.
 #![tactic(auto)]
 
+pub mod callers;
 #[cfg(test)]
 mod deleted_tests;
 #[cfg(test)]

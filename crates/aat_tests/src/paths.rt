@@ -8,8 +8,10 @@ pub use aat_layout::buffer::{
 pub use aat_layout::font::{
     Chain, ChainFeature, ContextualEntryData, ContextualSubtable, Coverage, EntryData,
     ExtendedStateTable, FaceTables, Feat, Feature, FeatureName, GenericStateEntry, GlyphId,
-    InsertionEntryData, InsertionSubtable, KernEntryData, LigatureSubtable, Lookup, Morx, Point,
-    Subtable, SubtableKind, TableError, hb_font_t, hb_ot_shape_plan_t, hb_tag_t,
+    InsertionEntryData, InsertionSubtable, Kern, KernEntryData, KernKind, KernMachine,
+    KernSubtable, Kerx, KerxFormat, KerxSubtable, LigatureSubtable, Lookup, Morx, Pairs, Point,
+    Subtable, Subtable1, Subtable4, SubtableKind, TableError, hb_font_t, hb_ot_shape_plan_t,
+    hb_tag_t,
 };
 pub use aat_layout::{
     AatError, ContextualCtx, DELETED_GLYPH, InsertionCtx, LIGATURE_SLOTS, LigatureCtx,

@@ -1,5 +1,7 @@
-//! What the contract of substitution promises as a whole, on lines: requests act where they are made, each chain has its
-//! own ranges, orientation is asked for in each chain, and the bounds are met.
+//! What the contract of substitution promises as a whole, on lines: requests act where they are made, each chain has
+//! its own ranges, orientation is asked for in each chain, and the bounds are met.
+
+ghost use Rattle.std.specs.Prelude.{◌<◌};
 
 use aat_layout::buffer::{BufferError, Direction, hb_buffer_t, hb_glyph_info_t};
 use aat_layout::font::{
@@ -100,6 +102,11 @@ fn is_line(buffer: &hb_buffer_t, wanted: &[Seen]) -> bool {
         })
 }
 
+/// Whether two lines have the same glyphs, with their masks and properties.
+fn are_one_line(a: &hb_buffer_t, b: &hb_buffer_t) -> bool {
+    a.len() == b.len() && (0..a.len()).all(|i| i < a.len() && i < b.len() && a.info(i) == b.info(i))
+}
+
 /// A request for a feature off over one cluster leaves that one glyph, on a line whose clusters rise, on one whose
 /// clusters fall, and beside a further request where no glyph is.
 #[test]
@@ -117,6 +124,9 @@ fn requests_act_where_they_are_made(rt: HostRuntime) -> Result<(), Fail> {
     let mut buffer = line_of(alloc, Direction::LeftToRight, 16384, &rising)?;
     assert!(rt; turns_of(alloc, &font, &elsewhere, &mut buffer)? == Some(3));
     assert!(rt; is_line(&buffer, &[(9, 0), (5, 1), (9, 2)]) && buffer.max_ops() == 16384);
+    let mut alone = line_of(alloc, Direction::LeftToRight, 16384, &rising)?;
+    assert!(rt; turns_of(alloc, &font, &here, &mut alone)? == Some(3));
+    assert!(rt; are_one_line(&alone, &buffer) && alone.max_ops() == buffer.max_ops());
     Ok(())
 }
 
@@ -137,8 +147,7 @@ fn each_chain_has_its_ranges(rt: HostRuntime) -> Result<(), Fail> {
     Ok(())
 }
 
-/// Of a subtable for vertical text and one for horizontal text the first alone acts on a vertical line, in the second
-/// chain too.
+/// Of two chains for horizontal text and a third one for vertical text the third alone acts on a vertical line.
 #[test]
 fn orientation_is_asked_in_each_chain(rt: HostRuntime) -> Result<(), Fail> {
     let alloc = rt.alloc();
@@ -201,18 +210,54 @@ fn bounds_are_met(rt: HostRuntime) -> Result<(), Fail> {
     Ok(())
 }
 
-/// A run with one slot and spans of one glyph.
+/// A subtable that takes a 10 to the place behind the next 12.
+fn moving(alloc: Global) -> Result<Subtable, Fail> {
+    let rules = [
+        (0, 0, moving_entry(0)),
+        (0, 1, moving_entry(0)),
+        (0, 4, moving_entry(0x8000)),
+        (0, 5, moving_entry(0x2001)),
+    ];
+    let state = ExtendedStateTable::new(alloc, 6, &[(10, 4), (12, 5)], &rules)?;
+    let kind = SubtableKind::Rearrangement(state);
+    Ok(Subtable::new(kind, Coverage::ALL_DIRECTIONS, 1))
+}
+
+/// An entry that stays in state 0.
+fn moving_entry(flags: u16) -> GenericStateEntry<()> {
+    GenericStateEntry {
+        new_state: 0,
+        flags,
+        extra: (),
+    }
+}
+
+/// Runs a font over 10 11 12 with one slot and spans of `LONGEST` glyphs; the turns, and whether that line is left.
+fn runs_with<const LONGEST: usize>(
+    alloc: Global,
+    font: &hb_font_t,
+    wanted: &[Seen],
+) -> Result<bool, Fail>
+    requires { 0 < LONGEST }
+{
+    let map = hb_aat_map_t::default(alloc);
+    let line: [Seen; 3] = [(10, 0), (11, 1), (12, 2)];
+    let mut buffer = line_of(alloc, Direction::LeftToRight, 16384, &line)?;
+    if !(buffer.all_glyphs_16() && map.is_whole()) {
+        return Ok(false);
+    }
+    let mut context = hb_aat_apply_context_t::new(font, &mut buffer);
+    let answer = apply_with::<1, LONGEST>(&mut context, &map);
+    Ok(answer == Ok(Some(())) && context.turns == 4 && is_line(&buffer, wanted))
+}
+
+/// A span of three glyphs is rearranged where the longest span has three, and stays where it has two.
 #[test]
 fn sizes_are_named(rt: HostRuntime) -> Result<(), Fail> {
     let alloc = rt.alloc();
-    let chain = chain_of(alloc, 1, OFF_CLEARS, Coverage::ALL_DIRECTIONS, (5, 9))?;
+    let chain = Chain::new(1, Vec::new(alloc), vec![in alloc; moving(alloc)?]?);
     let font = font_of(alloc, vec![in alloc; chain]?)?;
-    let map = hb_aat_map_t::default(alloc);
-    let mut buffer = line_of(alloc, Direction::LeftToRight, 16384, &[(5, 0)])?;
-    assert!(rt; buffer.all_glyphs_16() && map.is_whole());
-    let mut context = hb_aat_apply_context_t::new(&font, &mut buffer);
-    let answer = apply_with::<1, 1>(&mut context, &map);
-    assert!(rt; answer == Ok(Some(())) && context.turns == 1);
-    assert!(rt; is_line(&buffer, &[(9, 0)]));
+    assert!(rt; runs_with::<3>(alloc, &font, &[(11, 0), (12, 0), (10, 0)])?);
+    assert!(rt; runs_with::<2>(alloc, &font, &[(10, 0), (11, 1), (12, 2)])?);
     Ok(())
 }

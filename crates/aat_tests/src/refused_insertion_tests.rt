@@ -1,5 +1,5 @@
-//! Insertion where memory or length is wanting, by each public call: a refused run leaves the line as it was before that
-//! run, with the runs before it in it, and a failed buffer.
+//! Insertion where memory or length is wanting, by each public call: a refused run leaves the line as it was before
+//! that run, with the runs before it in it, and a failed buffer.
 
 use crate::inserting::{
     BUDGET, CALLS, CURRENT_BEFORE, Call, Inserting, LONGEST_CURRENT, LONGEST_MARKED, NONE, Outcome,
@@ -54,8 +54,8 @@ struct Scene {
 }
 
 /// A run of one glyph goes in before the glyph 20 again and again, since the entry stays there: each takes an operation
-/// for its glyph and one for the stay, and a turn at each of the two glyphs. With none left the run is paid for and does
-/// not go in, and the glyph is passed with one more to pay. A turn more is that at the end.
+/// for its glyph and one for the stay, and a turn at each of the two glyphs. With none left the run is paid for and
+/// does not go in, and the glyph is passed with one more to pay. A turn more is that at the end.
 const AGAIN_AND_AGAIN: Scene = Scene {
     flags: STAYS | CURRENT_BEFORE | 1 << 5,
     marked: NONE,

@@ -7,7 +7,7 @@ use Rattle.std.specs.Prelude.{slice_range, fold}
 use Rattle.aat_buffer.specs.Buffer.{Buffer, no_glyph}
 use Rattle.aat_buffer.specs.Marks.{clusters_stay_apart, on_span, break_marked, with_cluster, merged, merged_out, merge_start, merge_end, run_after, run_before, least_of, cluster_at, merge_clusters, merge_out_clusters}
 use Rattle.aat_glyph.specs.declared.glyph.hb_glyph_info_t.{hb_glyph_info_t}
-use Rattle.aat_buffer.specs.Clusters.{ClustersMerge, IsOrdered, HasSmallClusters}
+use Rattle.aat_buffer.specs.Clusters.{ClustersMerge, IsOrdered}
 use Rattle.aat_buffer.specs.facts.Cases.{chosen}
 use Rattle.aat_buffer.specs.facts.Lines.{length_slice, length_on_span, run_of_within, merge_end_low, merge_end_high, merge_start_low}
 
@@ -68,11 +68,6 @@ module _ (f : hb_glyph_info_t → hb_glyph_info_t) (i j : ℕ) (gs : List hb_gly
 pub length_on_span_of : (f : hb_glyph_info_t → hb_glyph_info_t) (i j : ℕ) (gs : List hb_glyph_info_t) → i ≤ j → j ≤ length gs → length (on_span (map f) i j gs) ≡ length gs
 length_on_span_of f i j gs low high = length_on_span (map f) i j gs (λ xs. length-map xs f) low high
 
--- the least of a fold is what it began with, or stands on the line
-least_below : (a : ℕ) (gs : List hb_glyph_info_t) → fold (λ (m : ℕ) (g : hb_glyph_info_t). min m g.cluster) a gs ≤ a
-least_below a [] = omega arith
-least_below a (g ∷ gs) = omega (arith, least_below (min a g.cluster) gs)
-
 -- where a least cluster stands
 record StandsOn (gs : List hb_glyph_info_t) (c : ℕ) : Type 0 where
   place : ℕ
@@ -82,6 +77,7 @@ record StandsOn (gs : List hb_glyph_info_t) (c : ℕ) : Type 0 where
 stands_behind : (g : hb_glyph_info_t) (gs : List hb_glyph_info_t) (c : ℕ) → StandsOn gs c → StandsOn (g ∷ gs) c
 stands_behind g gs c s = record { place = suc s.place; within = omega (arith, s.within); is = s.is }
 
+-- the least of a fold is what it began with, or stands on the line
 attained_from : (a : ℕ) (gs : List hb_glyph_info_t) → (fold (λ (m : ℕ) (g : hb_glyph_info_t). min m g.cluster) a gs ≡ a) ⊎ StandsOn gs (fold (λ (m : ℕ) (g : hb_glyph_info_t). min m g.cluster) a gs)
 attained_from a [] = inl refl
 attained_from a (g ∷ gs) = by_rest (attained_from (min a g.cluster) gs)
@@ -97,16 +93,12 @@ attained_from a (g ∷ gs) = by_rest (attained_from (min a g.cluster) gs)
     by_rest (inl e) = by_order e (cases_lt a g.cluster)
     by_rest (inr s) = inr (stands_behind g gs c s)
 
--- the least cluster of some glyphs stands on one of them, where clusters are u32
-least_stands : (gs : List hb_glyph_info_t) → 0 < length gs → HasSmallClusters gs → StandsOn gs (least_of gs)
-least_stands [] some small = absurd (omega (arith, some))
-least_stands (g ∷ gs) some small = by_least (attained_from 0xFFFFFFFF (g ∷ gs))
+-- the least cluster of some glyphs stands on one of them
+least_stands : (gs : List hb_glyph_info_t) → 0 < length gs → StandsOn gs (least_of gs)
+least_stands gs some = by_least (attained_from (cluster_at gs 0) gs)
   where
-    first : g.cluster ≤ 0xFFFFFFFF
-    first = small 0 no_glyph some
-
-    by_least : ((least_of (g ∷ gs) ≡ 0xFFFFFFFF) ⊎ StandsOn (g ∷ gs) (least_of (g ∷ gs))) → StandsOn (g ∷ gs) (least_of (g ∷ gs))
-    by_least (inl e) = record { place = 0; within = some; is = let low = least_below (min 0xFFFFFFFF g.cluster) gs in omega (arith, e, low, first) }
+    by_least : ((least_of gs ≡ cluster_at gs 0) ⊎ StandsOn gs (least_of gs)) → StandsOn gs (least_of gs)
+    by_least (inl e) = record { place = 0; within = some; is = e }
     by_least (inr s) = s
 
 -- the least cluster of a span stands within it
@@ -116,12 +108,11 @@ pub record StandsWithin (gs : List hb_glyph_info_t) (i j c : ℕ) : Type 0 where
   pub to : place < j
   pub is : c ≡ cluster_at gs place
 
-pub least_within : (gs : List hb_glyph_info_t) (i j : ℕ) → i < j → j ≤ length gs → HasSmallClusters gs → StandsWithin gs i j (least_of (slice_range gs i j))
-least_within gs i j some high small =
+pub least_within : (gs : List hb_glyph_info_t) (i j : ℕ) → i < j → j ≤ length gs → StandsWithin gs i j (least_of (slice_range gs i j))
+least_within gs i j some high =
     let span : length (slice_range gs i j) ≡ j - i = length_slice i j gs (omega arith) high in
     let read : (k : ℕ) (d : hb_glyph_info_t) → k < j - i → get_or (slice_range gs i j) k d ≡ get_or gs (i + k) d = λ k d low. get_or-take (j - i) (drop i gs) k d low ∙ get_or-drop i gs k d in
-    let span_small : HasSmallClusters (slice_range gs i j) = λ k d low. let inside : k < j - i = omega (arith, low, span) in rw (read k d inside) (small (i + k) d (omega (arith, inside, high))) in
-    let s = least_stands (slice_range gs i j) (omega (arith, span, some)) span_small in
+    let s = least_stands (slice_range gs i j) (omega (arith, span, some)) in
     let inside : s.place < j - i = omega (arith, s.within, span) in
     record { place = i + s.place; from = omega arith; to = omega (arith, inside); is = s.is ∙ ap (λ (g : hb_glyph_info_t). g.cluster) (read s.place no_glyph inside) }
 
@@ -157,11 +148,11 @@ module _ (R : ℕ → ℕ → Type 0) (same : (x y : ℕ) → x ≡ y → R x y)
       by_first (inr a) (inr p) b q = rw (back i p, back j (omega (arith, p, before))) (old (omega (arith, before, within, long)))
 
   -- a span that takes its least cluster, also where it is grown, keeps the order
-  order_of_merge_span : (gs : List hb_glyph_info_t) (i j s e : ℕ) → i < j → j ≤ length gs → s ≤ i → j ≤ e → e ≤ length gs → HasSmallClusters gs → IsOrdered R gs → IsOrdered R (on_span (map (with_cluster (least_of (slice_range gs i j)))) s e gs)
-  order_of_merge_span gs i j s e some high start end within small ordered =
+  order_of_merge_span : (gs : List hb_glyph_info_t) (i j s e : ℕ) → i < j → j ≤ length gs → s ≤ i → j ≤ e → e ≤ length gs → IsOrdered R gs → IsOrdered R (on_span (map (with_cluster (least_of (slice_range gs i j)))) s e gs)
+  order_of_merge_span gs i j s e some high start end within ordered =
       let m = least_of (slice_range gs i j) in
       let f = with_cluster m in
-      let at = least_within gs i j some high small in
+      let at = least_within gs i j some high in
       let low : s ≤ e = omega (arith, start, some, end) in
       order_of_spread gs (on_span (map f) s e gs) s e at.place m (length_on_span_of f s e gs low within) (omega (arith, start, at.from)) (omega (arith, at.to, end)) within at.is
       (λ n before. ap (λ (g : hb_glyph_info_t). g.cluster) (get_before f s e gs low within n no_glyph before))
@@ -169,30 +160,30 @@ module _ (R : ℕ → ℕ → Type 0) (same : (x y : ℕ) → x ≡ y → R x y)
       (λ n from. ap (λ (g : hb_glyph_info_t). g.cluster) (get_behind f s e gs low within n no_glyph from))
       ordered
 
-  pub order_of_merged : (gs : List hb_glyph_info_t) (p i j : ℕ) → i < j → j ≤ length gs → HasSmallClusters gs → IsOrdered R gs → IsOrdered R (merged gs p i j)
+  pub order_of_merged : (gs : List hb_glyph_info_t) (p i j : ℕ) → i < j → j ≤ length gs → IsOrdered R gs → IsOrdered R (merged gs p i j)
   unfolding merged
-  order_of_merged gs p i j some high small ordered =
+  order_of_merged gs p i j some high ordered =
       let m = least_of (slice_range gs i j) in
-      order_of_merge_span gs i j (merge_start gs p i m) (merge_end gs j m) some high (merge_start_low gs p i m) (merge_end_low gs j m) (merge_end_high gs j m high) small ordered
+      order_of_merge_span gs i j (merge_start gs p i m) (merge_end gs j m) some high (merge_start_low gs p i m) (merge_end_low gs j m) (merge_end_high gs j m high) ordered
 
-  pub order_of_merged_out : (gs : List hb_glyph_info_t) (i j : ℕ) → i < j → j ≤ length gs → HasSmallClusters gs → IsOrdered R gs → IsOrdered R (merged_out gs i j)
+  pub order_of_merged_out : (gs : List hb_glyph_info_t) (i j : ℕ) → i < j → j ≤ length gs → IsOrdered R gs → IsOrdered R (merged_out gs i j)
   unfolding merged_out
-  order_of_merged_out gs i j some high small ordered =
+  order_of_merged_out gs i j some high ordered =
       order_of_merge_span gs i j (i - run_before gs 0 i (cluster_at gs i)) (j + run_after gs j (cluster_at gs (j - 1))) some high (omega arith) (omega arith)
-      (omega (arith, high, run_of_within (cluster_at gs (j - 1)) (drop j gs), length-drop j gs)) small ordered
+      (omega (arith, high, run_of_within (cluster_at gs (j - 1)) (drop j gs), length-drop j gs)) ordered
 
-  pub order_of_merge : (b : Buffer) (i j : ℕ) → ClustersMerge b.cluster_level → HasSmallClusters b.line → IsOrdered R b.line → IsOrdered R (merge_clusters b i j).line
-  order_of_merge b i j level small ordered =
+  pub order_of_merge : (b : Buffer) (i j : ℕ) → ClustersMerge b.cluster_level → IsOrdered R b.line → IsOrdered R (merge_clusters b i j).line
+  order_of_merge b i j level ordered =
       let e = min j (length b.line) in
       chosen (λ (gs : List hb_glyph_info_t). IsOrdered R gs) (nat_le (i + 2) e) (cond (clusters_stay_apart b.cluster_level) (on_span break_marked i e b.line) (merged b.line b.cursor i e)) b.line
       (λ long.
       let some : i < e = grind (arith, nat_tests, long) in
       chosen (λ (gs : List hb_glyph_info_t). IsOrdered R gs) (clusters_stay_apart b.cluster_level) (on_span break_marked i e b.line) (merged b.line b.cursor i e)
-      (λ two. absurd (level two)) (λ _. order_of_merged b.line b.cursor i e some (omega arith) small ordered))
+      (λ two. absurd (level two)) (λ _. order_of_merged b.line b.cursor i e some (omega arith) ordered))
       (λ _. ordered)
 
-  pub order_of_merge_out : (b : Buffer) (i j : ℕ) → HasSmallClusters b.line → IsOrdered R b.line → IsOrdered R (merge_out_clusters b i j).line
-  order_of_merge_out b i j small ordered =
+  pub order_of_merge_out : (b : Buffer) (i j : ℕ) → IsOrdered R b.line → IsOrdered R (merge_out_clusters b i j).line
+  order_of_merge_out b i j ordered =
       let e = min j (length b.line) in
       chosen (λ (gs : List hb_glyph_info_t). IsOrdered R gs) (nat_le (i + 2) e && not (clusters_stay_apart b.cluster_level)) (merged_out b.line i e) b.line
-      (λ long. let some : i < e = grind (arith, nat_tests, long) in order_of_merged_out b.line i e some (omega arith) small ordered) (λ _. ordered)
+      (λ long. let some : i < e = grind (arith, nat_tests, long) in order_of_merged_out b.line i e some (omega arith) ordered) (λ _. ordered)

@@ -2,12 +2,11 @@
 use Rattle.std.proofs.Common.{◌≡◌, ◌≢◌, ◌⊎◌, inl, inr, ℕ, ◌+◌, ◌-◌, ◌<◌, ◌≤◌, ◌&&◌, ◌==◌, not, cond, min, List, length, drop, map, get_or, refl, sym, ap, ◌∙◌, arith, length-drop, length-set, get_or-set_same, get_or-set_other, nat_le, Option}
 use Rattle.std.proofs.lemmas.Bool.{cases_lt, cases_eq}
 use Rattle.std.proofs.lemmas.Bool.Decides.{nat_tests}
-use Rattle.std.proofs.lemmas.List.{get_or_default}
 use Rattle.std.specs.Prelude.{slice_range, slice_set}
 use Rattle.aat_buffer.specs.Buffer.{Buffer, no_glyph}
 use Rattle.aat_buffer.specs.Marks.{clusters_stay_apart, on_span, break_marked, marked_above, with_mask_bits, unsafe_to_break, start_place, end_place, with_cluster, merged, merged_out, merge_start, merge_end, run_after, run_before, least_of, cluster_at, merge_clusters, merge_out_clusters, with_line}
 use Rattle.aat_glyph.specs.declared.glyph.hb_glyph_info_t.{hb_glyph_info_t}
-use Rattle.aat_buffer.specs.Clusters.{ClustersMerge, IsOrdered, HasSmallClusters, ComesFrom}
+use Rattle.aat_buffer.specs.Clusters.{ClustersMerge, IsOrdered, ComesFrom}
 use Rattle.aat_buffer.specs.facts.Clusters.{length_on_span_of, get_before, get_inside, get_behind, cluster_set, least_within, order_of_clusters, order_of_merge, order_of_merge_out}
 use Rattle.aat_buffer.specs.facts.Cases.{chosen}
 use Rattle.aat_buffer.specs.facts.Lines.{length_unsafe, of_merge, of_merge_out, run_of_within, merge_end_low, merge_end_high, merge_start_low}
@@ -17,15 +16,6 @@ comes_refl gs k low = (k, low, refl)
 
 pub comes_trans : (xs ys zs : List hb_glyph_info_t) → ComesFrom xs ys → ComesFrom ys zs → ComesFrom xs zs
 comes_trans xs ys zs f g k low = let a = g k low in let b = f a.0 a.1 in (b.0, b.1, a.2 ∙ b.2)
-
-pub comes_small : (xs ys : List hb_glyph_info_t) → ComesFrom xs ys → HasSmallClusters xs → HasSmallClusters ys
-comes_small xs ys from small k d low =
-    let a = from k low in
-    let here : (get_or ys k d).cluster ≡ cluster_at ys k = ap (λ (g : hb_glyph_info_t). g.cluster) (default_of ys k d low) in
-    rw (here, a.2) (small a.0 no_glyph a.1)
-  where
-    default_of : (gs : List hb_glyph_info_t) (i : ℕ) (e : hb_glyph_info_t) → i < length gs → get_or gs i e ≡ get_or gs i no_glyph
-    default_of gs i e within = get_or_default gs i e no_glyph within
 
 -- where no cluster changes
 comes_same : (gs hs : List hb_glyph_info_t) → length hs ≡ length gs → ((k : ℕ) → k < length gs → cluster_at hs k ≡ cluster_at gs k) → ComesFrom gs hs
@@ -60,8 +50,8 @@ same_set gs i g same k low = by_place (cases_eq k i)
     by_place (inr other) = ap (λ (x : hb_glyph_info_t). x.cluster) (get_or-set_other gs i k g no_glyph other)
 
 -- a span that takes its least cluster takes one of the line's
-comes_of_span : (gs : List hb_glyph_info_t) (i j s e : ℕ) → i < j → j ≤ length gs → s ≤ i → j ≤ e → e ≤ length gs → HasSmallClusters gs → ComesFrom gs (on_span (map (with_cluster (least_of (slice_range gs i j)))) s e gs)
-comes_of_span gs i j s e some high start end within small k low =
+comes_of_span : (gs : List hb_glyph_info_t) (i j s e : ℕ) → i < j → j ≤ length gs → s ≤ i → j ≤ e → e ≤ length gs → ComesFrom gs (on_span (map (with_cluster (least_of (slice_range gs i j)))) s e gs)
+comes_of_span gs i j s e some high start end within k low =
     by_place (cases_lt k s) (cases_lt k e)
   where
     f : hb_glyph_info_t → hb_glyph_info_t
@@ -76,7 +66,7 @@ comes_of_span gs i j s e some high start end within small k low =
     by_place : ((k < s) ⊎ (s ≤ k)) → ((k < e) ⊎ (e ≤ k)) → (n : ℕ) × (n < length gs) × (cluster_at (on_span (map f) s e gs) k ≡ cluster_at gs n)
     by_place (inl a) b = (k, inside, ap (λ (g : hb_glyph_info_t). g.cluster) (get_before f s e gs ordered within k no_glyph a))
     by_place (inr a) (inl b) =
-        let at = least_within gs i j some high small in
+        let at = least_within gs i j some high in
         (at.place, omega (arith, at.to, high), ap (λ (g : hb_glyph_info_t). g.cluster) (get_inside f s e gs ordered within k no_glyph a b) ∙ (cluster_set (least_of (slice_range gs i j)) (get_or gs k no_glyph) ∙ at.is))
     by_place (inr a) (inr b) = (k, inside, ap (λ (g : hb_glyph_info_t). g.cluster) (get_behind f s e gs ordered within k no_glyph b))
 
@@ -86,9 +76,9 @@ comes_of_marks gs i j low high =
     comes_same gs (on_span break_marked i j gs) (length_on_span_of (marked_above (least_of (slice_range gs i j)) 3) i j gs low high)
     (λ k inside. same_on_span (marked_above (least_of (slice_range gs i j)) 3) i j gs low high (cluster_of_marked _) k)
 
-pub comes_of_merge : (b : Buffer) (i j : ℕ) → HasSmallClusters b.line → ComesFrom b.line (merge_clusters b i j).line
+pub comes_of_merge : (b : Buffer) (i j : ℕ) → ComesFrom b.line (merge_clusters b i j).line
 unfolding merged
-comes_of_merge b i j small =
+comes_of_merge b i j =
     let e = min j (length b.line) in
     let m = least_of (slice_range b.line i e) in
     chosen (λ (gs : List hb_glyph_info_t). ComesFrom b.line gs) (nat_le (i + 2) e) (cond (clusters_stay_apart b.cluster_level) (on_span break_marked i e b.line) (merged b.line b.cursor i e)) b.line
@@ -96,18 +86,18 @@ comes_of_merge b i j small =
     let some : i < e = grind (arith, nat_tests, long) in
     chosen (λ (gs : List hb_glyph_info_t). ComesFrom b.line gs) (clusters_stay_apart b.cluster_level) (on_span break_marked i e b.line) (merged b.line b.cursor i e)
     (λ _. comes_of_marks b.line i e (omega arith) (omega arith))
-    (λ _. comes_of_span b.line i e (merge_start b.line b.cursor i m) (merge_end b.line e m) some (omega arith) (merge_start_low b.line b.cursor i m) (merge_end_low b.line e m) (merge_end_high b.line e m (omega arith)) small))
+    (λ _. comes_of_span b.line i e (merge_start b.line b.cursor i m) (merge_end b.line e m) some (omega arith) (merge_start_low b.line b.cursor i m) (merge_end_low b.line e m) (merge_end_high b.line e m (omega arith))))
     (λ _. comes_refl b.line)
 
-pub comes_of_merge_out : (b : Buffer) (i j : ℕ) → HasSmallClusters b.line → ComesFrom b.line (merge_out_clusters b i j).line
+pub comes_of_merge_out : (b : Buffer) (i j : ℕ) → ComesFrom b.line (merge_out_clusters b i j).line
 unfolding merged_out
-comes_of_merge_out b i j small =
+comes_of_merge_out b i j =
     let e = min j (length b.line) in
     chosen (λ (gs : List hb_glyph_info_t). ComesFrom b.line gs) (nat_le (i + 2) e && not (clusters_stay_apart b.cluster_level)) (merged_out b.line i e) b.line
     (λ long.
     let some : i < e = grind (arith, nat_tests, long) in
     comes_of_span b.line i e (i - run_before b.line 0 i (cluster_at b.line i)) (e + run_after b.line e (cluster_at b.line (e - 1))) some (omega arith) (omega arith) (omega arith)
-    (omega (arith, run_of_within (cluster_at b.line (e - 1)) (drop e b.line), length-drop e b.line)) small)
+    (omega (arith, run_of_within (cluster_at b.line (e - 1)) (drop e b.line), length-drop e b.line)))
     (λ _. comes_refl b.line)
 
 -- a line in order, and one that an act has made of it: as long or longer, of the same clusters, in order, at the same
@@ -135,23 +125,21 @@ module _ (R : ℕ → ℕ → Type 0) (same : (x y : ℕ) → x ≡ y → R x y)
   pub kept_set : (b d : Buffer) (i : ℕ) (g : hb_glyph_info_t) → g.cluster ≡ cluster_at d.line i → Kept b d → Kept b (with_line d (slice_set d.line i g))
   kept_set b d i g equal k = kept_same b d (with_line d (slice_set d.line i g)) refl (length-set d.line i g) (λ n low. same_set d.line i g equal n low) k
 
-  module _ (b : Buffer) (small : HasSmallClusters b.line) where
+  module _ (b : Buffer) where
     pub kept_merge : (d : Buffer) (i j : ℕ) → Kept b d → Kept b (merge_clusters d i j)
     kept_merge d i j k =
-        let d_small = comes_small b.line d.line k.from small in
         record {
           level = of_merge (λ (x : Buffer). x.cluster_level) d i j (λ gs. refl) ∙ k.level;
-          from = comes_trans b.line d.line (merge_clusters d i j).line k.from (comes_of_merge d i j d_small);
-          ordered = λ low ordered. order_of_merge R same d i j (λ two. low (ap clusters_stay_apart (sym k.level) ∙ two)) d_small (k.ordered low ordered);
+          from = comes_trans b.line d.line (merge_clusters d i j).line k.from (comes_of_merge d i j);
+          ordered = λ low ordered. order_of_merge R same d i j (λ two. low (ap clusters_stay_apart (sym k.level) ∙ two)) (k.ordered low ordered);
         }
 
     pub kept_merge_out : (d : Buffer) (i j : ℕ) → Kept b d → Kept b (merge_out_clusters d i j)
     kept_merge_out d i j k =
-        let d_small = comes_small b.line d.line k.from small in
         record {
           level = of_merge_out (λ (x : Buffer). x.cluster_level) d i j (λ gs. refl) ∙ k.level;
-          from = comes_trans b.line d.line (merge_out_clusters d i j).line k.from (comes_of_merge_out d i j d_small);
-          ordered = λ low ordered. order_of_merge_out R same d i j d_small (k.ordered low ordered);
+          from = comes_trans b.line d.line (merge_out_clusters d i j).line k.from (comes_of_merge_out d i j);
+          ordered = λ low ordered. order_of_merge_out R same d i j (k.ordered low ordered);
         }
 
 -- the clusters of a span behind a merge are one

@@ -36,11 +36,11 @@ module _ (P : Buffer → Type 0)
         by_pair (Some pair) each = each pair
 
     of_behind :
-        (e : GenericStateEntry EntryData) (regs : Option ℕ) (mark : ℕ) (b : Buffer) (o : Option Buffer) → P b
-        → OnSome o → P (behind_anchors e regs mark b o).buffer
+        (e : GenericStateEntry EntryData) (registers : Option ℕ) (mark : ℕ) (b : Buffer) (o : Option Buffer) → P b
+        → OnSome o → P (behind_anchors e registers mark b o).buffer
     unfolding OnSome
-    of_behind e regs mark b None p q = p
-    of_behind e regs mark b (Some d) p q = on_attach _ (on_write d.cursor _ d q)
+    of_behind e registers mark b None p q = p
+    of_behind e registers mark b (Some d) p q = on_attach _ (on_write d.cursor _ d q)
 
     pub of_anchors :
         (points : Option Points) (pairs : List (ℕ × ℕ)) (e : GenericStateEntry EntryData) (mark : Option ℕ) (b : Buffer)
@@ -64,31 +64,31 @@ marked_fits :
 marked_fits e mark p n fit below = chosen (λ o. IsFit o p n) (has_flag e 0x8000) (Some p) mark (λ _. below) (λ _. fit)
 
 behind_fits :
-    (e : GenericStateEntry EntryData) (regs : Option ℕ) (mark : ℕ) (b : Buffer) (o : Option Buffer) (n : ℕ)
-    → IsFit regs b.cursor n → b.cursor < n
-    → IsFit (behind_anchors e regs mark b o).regs b.cursor n
-behind_fits e regs mark b None n fit below = fit
-behind_fits e regs mark b (Some d) n fit below = marked_fits e regs b.cursor n fit below
+    (e : GenericStateEntry EntryData) (registers : Option ℕ) (mark : ℕ) (b : Buffer) (o : Option Buffer) (n : ℕ)
+    → IsFit registers b.cursor n → b.cursor < n
+    → IsFit (behind_anchors e registers mark b o).registers b.cursor n
+behind_fits e registers mark b None n fit below = fit
+behind_fits e registers mark b (Some d) n fit below = marked_fits e registers b.cursor n fit below
 
 regs_fit :
     (points : Option Points) (pairs : List (ℕ × ℕ)) (e : GenericStateEntry EntryData) (mark : Option ℕ) (b : Buffer)
     → IsFit mark b.cursor (length b.line)
-    → b.cursor < length b.line → IsFit (anchor_act points pairs e mark b).regs b.cursor (length b.line)
+    → b.cursor < length b.line → IsFit (anchor_act points pairs e mark b).registers b.cursor (length b.line)
 unfolding anchor_act
 regs_fit points pairs e None b fit below = marked_fits e None b.cursor (length b.line) fit below
 regs_fit points pairs e (Some mark) b fit below =
     let index = e.extra.action_index in
     let n = length b.line in
-    chosen (λ (x : Moved (Option ℕ)). IsFit x.regs b.cursor n) (is_present index && nat_lt b.cursor n)
+    chosen (λ (x : Moved (Option ℕ)). IsFit x.registers b.cursor n) (is_present index && nat_lt b.cursor n)
     (behind_anchors e (Some mark) mark b (anchored points pairs index mark b))
-    (record { regs = with_mark e (Some mark) b.cursor; buffer = b })
+    (record { registers = with_mark e (Some mark) b.cursor; buffer = b })
     (λ _. behind_fits e (Some mark) mark b (anchored points pairs index mark b) n fit below)
     (λ _. marked_fits e (Some mark) b.cursor n fit below)
 
 pub anchors_keep_fit : (points : Option Points) (pairs : List (ℕ × ℕ)) → KeepsFit (anchor_act points pairs) IsFit
 anchors_keep_fit points pairs e mark b fit below =
     let k = anchors_keep_place points pairs e mark b fit in
-    let P : ℕ → ℕ → Type 0 = λ p n. IsFit (anchor_act points pairs e mark b).regs p n in
+    let P : ℕ → ℕ → Type 0 = λ p n. IsFit (anchor_act points pairs e mark b).registers p n in
     let inside : b.cursor < length b.line = rw (k.cursor, k.line) at below in
     let here : P (anchor_act points pairs e mark b).buffer.cursor (length b.line) =
     subst (λ p. P p (length b.line)) (sym k.cursor) (regs_fit points pairs e mark b fit inside)

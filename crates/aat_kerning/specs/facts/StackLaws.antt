@@ -53,7 +53,7 @@ module _ (P : Buffer → Type 0)
 
     of_value :
         (o : Option ℤ) (stack : List ℕ) (b : Buffer) (more : ℤ → Moved (List ℕ)) → P b → ((v : ℤ) → P (more v).buffer)
-        → P (elim o as (λ _. Moved (List ℕ)) [ None ↦ record { regs = stack; buffer = b } | Some v ↦ more v ]).buffer
+        → P (elim o as (λ _. Moved (List ℕ)) [ None ↦ record { registers = stack; buffer = b } | Some v ↦ more v ]).buffer
     of_value None stack b more p f = p
     of_value (Some v) stack b more p f = f v
 
@@ -73,7 +73,7 @@ module _ (P : Buffer → Type 0)
         of_value (value index) stack b _ p (λ v.
         let d = with_value_for is_cross kern_mask v i b in
         let kept = of_place is_cross kern_mask v i b p in
-        of_end (ends_list v i b) (record { regs = stack; buffer = d })
+        of_end (ends_list v i b) (record { registers = stack; buffer = d })
         (popped is_cross kern_mask value step stack (index + step) d)
         kept (of_popped is_cross kern_mask value step stack (index + step) d kept))
 

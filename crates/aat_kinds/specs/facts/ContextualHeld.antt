@@ -35,7 +35,7 @@ keeps_place = record {
 
 pub keeps_order : KeepsClusterOrder held_act held_fit
 keeps_order = record {
-  rising = λ e h b fit level small ordered. (contextual_kept (λ x y. x ≤ y) (λ x y same. omega (arith, same)) h.classes h.lookups e h.registers b).ordered level ordered;
-  falling = λ e h b fit level small ordered. (contextual_kept (λ x y. y ≤ x) (λ x y same. omega (arith, same)) h.classes h.lookups e h.registers b).ordered level ordered;
-  clusters = λ e h b fit small. (contextual_kept (λ x y. x ≤ y) (λ x y same. omega (arith, same)) h.classes h.lookups e h.registers b).from;
+  rising = λ e h b fit level ordered. (contextual_kept (λ x y. x ≤ y) (λ x y same. omega (arith, same)) h.classes h.lookups e h.registers b).ordered level ordered;
+  falling = λ e h b fit level ordered. (contextual_kept (λ x y. y ≤ x) (λ x y same. omega (arith, same)) h.classes h.lookups e h.registers b).ordered level ordered;
+  clusters = λ e h b fit. (contextual_kept (λ x y. x ≤ y) (λ x y same. omega (arith, same)) h.classes h.lookups e h.registers b).from;
 }

@@ -64,7 +64,7 @@ module _ (classes : Option (List (ℕ × ℕ))) (lookups : List (List (ℕ × �
       pub of_good_act : (e : Entry) (r : Registers) (b : Buffer) → P b → P (act classes lookups e r b).buffer
       unfolding act
       of_good_act e r b p =
-          chosen (λ (n : Moved Registers). P n.buffer) (can_act r b.cursor (length b.line)) (behind_mark classes lookups e r b (at_mark classes lookups e r b)) (record { regs = r; buffer = b })
+          chosen (λ (n : Moved Registers). P n.buffer) (can_act r b.cursor (length b.line)) (behind_mark classes lookups e r b (at_mark classes lookups e r b)) (record { registers = r; buffer = b })
           (λ _. of_behind_mark e r b (at_mark classes lookups e r b) p (of_mark e r b p)) (λ _. p)
 
   pub any_value : (o : Option (Option ℕ)) → OnValue (λ v. Unit {0}) o
@@ -89,21 +89,21 @@ module _ (classes : Option (List (ℕ × ℕ))) (lookups : List (List (ℕ × �
   regs_of : (e : Entry) (r : Registers) (p n : ℕ) → IsFit r p n → p < n → IsFit (with_mark e r p) p n
   regs_of e r p n fit below = chosen (λ s. IsFit s p n) (has_flag e 0x8000) (record { mark = p; is_set = true }) r (λ _. (λ _. below, λ h. grind (arith, h))) (λ _. fit)
 
-  regs_behind_cursor : (e : Entry) (r : Registers) (b : Buffer) (o : Option Buffer) (n : ℕ) → OnSomeBuffer (λ d. d.cursor ≡ b.cursor) o → IsFit r b.cursor n → b.cursor < n → IsFit (behind_cursor classes lookups e r b o).regs b.cursor n
+  regs_behind_cursor : (e : Entry) (r : Registers) (b : Buffer) (o : Option Buffer) (n : ℕ) → OnSomeBuffer (λ d. d.cursor ≡ b.cursor) o → IsFit r b.cursor n → b.cursor < n → IsFit (behind_cursor classes lookups e r b o).registers b.cursor n
   unfolding OnSomeBuffer
   regs_behind_cursor e r b None n same fit below = fit
   regs_behind_cursor e r b (Some d) n same fit below = rw same (regs_of e r b.cursor n fit below)
 
-  regs_behind_mark : (e : Entry) (r : Registers) (b : Buffer) (o : Option Buffer) (n : ℕ) → OnSomeBuffer (λ d. d.cursor ≡ b.cursor) o → IsFit r b.cursor n → b.cursor < n → IsFit (behind_mark classes lookups e r b o).regs b.cursor n
+  regs_behind_mark : (e : Entry) (r : Registers) (b : Buffer) (o : Option Buffer) (n : ℕ) → OnSomeBuffer (λ d. d.cursor ≡ b.cursor) o → IsFit r b.cursor n → b.cursor < n → IsFit (behind_mark classes lookups e r b o).registers b.cursor n
   unfolding OnSomeBuffer
   regs_behind_mark e r b None n same fit below = fit
   regs_behind_mark e r b (Some d) n same fit below =
       regs_behind_cursor e r d (at_cursor classes lookups e d) n (of_cursor (λ x. x.cursor ≡ d.cursor) (λ v. Unit {0}) (λ index g. any_value (answer_of classes lookups index g)) (λ x i j k. k) (λ x i v _ k. k) e d refl) fit (rw same below)
 
-  regs_of_act : (e : Entry) (r : Registers) (b : Buffer) → IsFit r b.cursor (length b.line) → b.cursor < length b.line → IsFit (act classes lookups e r b).regs b.cursor (length b.line)
+  regs_of_act : (e : Entry) (r : Registers) (b : Buffer) → IsFit r b.cursor (length b.line) → b.cursor < length b.line → IsFit (act classes lookups e r b).registers b.cursor (length b.line)
   unfolding act
   regs_of_act e r b fit inside =
-      chosen (λ (n : Moved Registers). IsFit n.regs b.cursor (length b.line)) (can_act r b.cursor (length b.line)) (behind_mark classes lookups e r b (at_mark classes lookups e r b)) (record { regs = r; buffer = b })
+      chosen (λ (n : Moved Registers). IsFit n.registers b.cursor (length b.line)) (can_act r b.cursor (length b.line)) (behind_mark classes lookups e r b (at_mark classes lookups e r b)) (record { registers = r; buffer = b })
       (λ _. regs_behind_mark e r b (at_mark classes lookups e r b) (length b.line) (of_mark (λ x. x.cursor ≡ b.cursor) (λ v. Unit {0}) (λ index g. any_value (answer_of classes lookups index g)) (λ x i j k. k) (λ x i v _ k. k) e r b refl) fit inside)
       (λ _. fit)
 

@@ -25,13 +25,13 @@ module _ (classes : Option (List (ℕ × ℕ))) (lookups : List (List (ℕ × �
   Holds h = (h.classes ≡ classes) × (h.lookups ≡ lookups)
 
   same_act : (e : contextual.Entry) (h : Held) (b : Buffer) → Holds h
-      → contextual.act classes lookups e h.registers b ≡ record { regs = (held_act e h b).regs.registers; buffer = (held_act e h b).buffer }
+      → contextual.act classes lookups e h.registers b ≡ record { registers = (held_act e h b).registers.registers; buffer = (held_act e h b).buffer }
   unfolding Holds
   same_act e h b held =
       let m : Option (List (ℕ × ℕ)) → List (List (ℕ × ℕ)) → Moved contextual.Registers = λ cs ls. contextual.act cs ls e h.registers b in
       sym (ap (λ cs. m cs h.lookups) held.0 ∙ ap (m classes) held.1)
 
-  stays_held : (e : contextual.Entry) (h : Held) (b : Buffer) → Holds h → Holds (held_act e h b).regs
+  stays_held : (e : contextual.Entry) (h : Held) (b : Buffer) → Holds h → Holds (held_act e h b).registers
   unfolding Holds
   stays_held e h b held = held
 

@@ -51,9 +51,9 @@ keeps_count e = absurd (false≢true e)
 
 pub keeps_order : KeepsClusterOrder held_act held_fit
 keeps_order = record {
-  rising = λ e h b fit level small ordered. (insertion_kept (λ x y. x ≤ y) (λ x y same. omega (arith, same)) h.glyphs e h.registers b).ordered level ordered;
-  falling = λ e h b fit level small ordered. (insertion_kept (λ x y. y ≤ x) (λ x y same. omega (arith, same)) h.glyphs e h.registers b).ordered level ordered;
-  clusters = λ e h b fit small. (insertion_kept (λ x y. x ≤ y) (λ x y same. omega (arith, same)) h.glyphs e h.registers b).from;
+  rising = λ e h b fit level ordered. (insertion_kept (λ x y. x ≤ y) (λ x y same. omega (arith, same)) h.glyphs e h.registers b).ordered level ordered;
+  falling = λ e h b fit level ordered. (insertion_kept (λ x y. y ≤ x) (λ x y same. omega (arith, same)) h.glyphs e h.registers b).ordered level ordered;
+  clusters = λ e h b fit. (insertion_kept (λ x y. x ≤ y) (λ x y same. omega (arith, same)) h.glyphs e h.registers b).from;
 }
 
 -- what a driver runs of a fresh insertion context is the run of an insertion subtable

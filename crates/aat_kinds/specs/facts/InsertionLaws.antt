@@ -107,8 +107,8 @@ module _ (glyphs : List GlyphId) where
   grows e r b =
       let d = paid (marked_count e) b in
       let s = with_mark e r b.cursor in
-      chosen (λ (n : Moved Registers). Grows b n.buffer) (is_present e.extra.marked_insert_index) (cond (has_operations d) (current_part glyphs e s (at_mark glyphs e r d)) (record { regs = r; buffer = d })) (current_part glyphs e s b)
-      (λ _. chosen (λ (n : Moved Registers). Grows b n.buffer) (has_operations d) (current_part glyphs e s (at_mark glyphs e r d)) (record { regs = r; buffer = d })
+      chosen (λ (n : Moved Registers). Grows b n.buffer) (is_present e.extra.marked_insert_index) (cond (has_operations d) (current_part glyphs e s (at_mark glyphs e r d)) (record { registers = r; buffer = d })) (current_part glyphs e s b)
+      (λ _. chosen (λ (n : Moved Registers). Grows b n.buffer) (has_operations d) (current_part glyphs e s (at_mark glyphs e r d)) (record { registers = r; buffer = d })
       (λ rich. grows_trans b (at_mark glyphs e r d) _ (mark_grows e r b rich) (current_grows e s (at_mark glyphs e r d))) (λ _. pay_grows (marked_count e) b))
       (λ _. current_grows e s b)
 
@@ -120,8 +120,8 @@ module _ (glyphs : List GlyphId) where
       let d = paid (marked_count e) b in
       let s = with_mark e r b.cursor in
       let marked = at_mark glyphs e r d in
-      chosen (λ (n : Moved Registers). length marked.line ≤ length n.buffer.line) (is_present e.extra.marked_insert_index) (cond (has_operations d) (current_part glyphs e s marked) (record { regs = r; buffer = d })) (current_part glyphs e s b)
-      (λ _. chosen (λ (n : Moved Registers). length marked.line ≤ length n.buffer.line) (has_operations d) (current_part glyphs e s marked) (record { regs = r; buffer = d })
+      chosen (λ (n : Moved Registers). length marked.line ≤ length n.buffer.line) (is_present e.extra.marked_insert_index) (cond (has_operations d) (current_part glyphs e s marked) (record { registers = r; buffer = d })) (current_part glyphs e s b)
+      (λ _. chosen (λ (n : Moved Registers). length marked.line ≤ length n.buffer.line) (has_operations d) (current_part glyphs e s marked) (record { registers = r; buffer = d })
       (λ _. (current_grows e s marked).length) (λ poor. absurd (grind (arith, rich, poor)))) (λ none. absurd (grind (arith, named, none)))
 
   pub pays : Pays (act glyphs) IsFit
@@ -134,14 +134,14 @@ module _ (glyphs : List GlyphId) where
   lengthens e r b fit = (grows e r b).length
 
   -- the mark stays, or is the cursor from before
-  mark_of_regs : (P : ℕ → Type 0) (e : Entry) (r : Registers) (b : Buffer) → P r.mark → P b.cursor → P (act glyphs e r b).regs.mark
+  mark_of_regs : (P : ℕ → Type 0) (e : Entry) (r : Registers) (b : Buffer) → P r.mark → P b.cursor → P (act glyphs e r b).registers.mark
   unfolding act
   mark_of_regs P e r b stay set =
       let d = paid (marked_count e) b in
       let s = with_mark e r b.cursor in
       let marked : P s.mark = chosen (λ (x : Registers). P x.mark) (has_flag e 0x8000) (record { mark = b.cursor }) r (λ _. set) (λ _. stay) in
-      chosen (λ (n : Moved Registers). P n.regs.mark) (is_present e.extra.marked_insert_index) (cond (has_operations d) (current_part glyphs e s (at_mark glyphs e r d)) (record { regs = r; buffer = d })) (current_part glyphs e s b)
-      (λ _. chosen (λ (n : Moved Registers). P n.regs.mark) (has_operations d) (current_part glyphs e s (at_mark glyphs e r d)) (record { regs = r; buffer = d }) (λ _. marked) (λ _. stay))
+      chosen (λ (n : Moved Registers). P n.registers.mark) (is_present e.extra.marked_insert_index) (cond (has_operations d) (current_part glyphs e s (at_mark glyphs e r d)) (record { registers = r; buffer = d })) (current_part glyphs e s b)
+      (λ _. chosen (λ (n : Moved Registers). P n.registers.mark) (has_operations d) (current_part glyphs e s (at_mark glyphs e r d)) (record { registers = r; buffer = d }) (λ _. marked) (λ _. stay))
       (λ _. marked)
 
   pub keeps_fit : KeepsFit (act glyphs) IsFit
@@ -173,8 +173,8 @@ module _ (glyphs : List GlyphId) where
           let new = run_for glyphs d e.extra.marked_insert_index (marked_count e) in
           let put = put_in glyphs new r.mark (not (has_flag e 0x0400)) (length new) d in
           let marked : P (at_mark glyphs e r d) = on_unsafe put (Some r.mark) (Some (min (put.cursor + 1) (length put.line))) (on_put e.extra.marked_insert_index (marked_count e) r.mark (not (has_flag e 0x0400)) (length new) d (on_pay (marked_count e) b p)) in
-          chosen (λ (n : Moved Registers). P n.buffer) (is_present e.extra.marked_insert_index) (cond (has_operations d) (current_part glyphs e s (at_mark glyphs e r d)) (record { regs = r; buffer = d })) (current_part glyphs e s b)
-          (λ _. chosen (λ (n : Moved Registers). P n.buffer) (has_operations d) (current_part glyphs e s (at_mark glyphs e r d)) (record { regs = r; buffer = d })
+          chosen (λ (n : Moved Registers). P n.buffer) (is_present e.extra.marked_insert_index) (cond (has_operations d) (current_part glyphs e s (at_mark glyphs e r d)) (record { registers = r; buffer = d })) (current_part glyphs e s b)
+          (λ _. chosen (λ (n : Moved Registers). P n.buffer) (has_operations d) (current_part glyphs e s (at_mark glyphs e r d)) (record { registers = r; buffer = d })
           (λ _. of_current e s (at_mark glyphs e r d) marked) (λ _. on_pay (marked_count e) b p))
           (λ _. of_current e s b p)
 

@@ -65,11 +65,11 @@ counted_of_fewer r s p slots fewer c = record {
 }
 
 -- an act leaves the slots as a push leaves them, and no more components
-counted_of_act : (actions values : List ℕ) (ligatures : List GlyphId) (e : GenericStateEntry ℕ) (r : Registers) (b : Buffer) → 0 < length r.slots → IsCounted r b.cursor → IsCounted (act actions values ligatures e r b).regs b.cursor
+counted_of_act : (actions values : List ℕ) (ligatures : List GlyphId) (e : GenericStateEntry ℕ) (r : Registers) (b : Buffer) → 0 < length r.slots → IsCounted r b.cursor → IsCounted (act actions values ligatures e r b).registers b.cursor
 counted_of_act actions values ligatures e r b some c =
     let s = with_component e r b.cursor in
     let d = laws.slots_of_act actions values ligatures e r b in
-    counted_of_fewer s (act actions values ligatures e r b).regs b.cursor d.slots d.count (counted_of_component e r b.cursor some c)
+    counted_of_fewer s (act actions values ligatures e r b).registers b.cursor d.slots d.count (counted_of_component e r b.cursor some c)
 
 pub keeps_fit : KeepsFit held_act IsHeldFit
 keeps_fit e s b fit below =
@@ -110,9 +110,9 @@ ge_same x y e = omega (arith, e)
 
 pub keeps_order : KeepsClusterOrder held_act IsHeldFit
 keeps_order = record {
-  rising = λ e s b fit level small ordered. (ligature_kept (λ x y. x ≤ y) le_same s.actions s.components s.ligatures e s.registers b small).ordered level ordered;
-  falling = λ e s b fit level small ordered. (ligature_kept (λ x y. y ≤ x) ge_same s.actions s.components s.ligatures e s.registers b small).ordered level ordered;
-  clusters = λ e s b fit small. (ligature_kept (λ x y. x ≤ y) le_same s.actions s.components s.ligatures e s.registers b small).from;
+  rising = λ e s b fit level ordered. (ligature_kept (λ x y. x ≤ y) le_same s.actions s.components s.ligatures e s.registers b).ordered level ordered;
+  falling = λ e s b fit level ordered. (ligature_kept (λ x y. y ≤ x) ge_same s.actions s.components s.ligatures e s.registers b).ordered level ordered;
+  clusters = λ e s b fit. (ligature_kept (λ x y. x ≤ y) le_same s.actions s.components s.ligatures e s.registers b).from;
 }
 
 -- what a context holds of a subtable's lists

@@ -173,14 +173,14 @@ module _ (actions values : List ℕ) (ligatures : List GlyphId) where
   -- what stores of the list's ligatures and an emptied stack keep, the taking in of components keeps; c is below the
   -- number held at first
   module _ (most : ℕ) (Is : ℕ → Type 0) (all : (i : ℕ) (g : GlyphId) → slice_get ligatures i ≡ Some g → Is g.0) (Q : Moved Registers → Type 0)
-      (on_store : (c g : ℕ) (n : Moved Registers) → Is g → c < most → Q n → Q (stored c g n.regs n.buffer))
-      (on_none : (n : Moved Registers) → Q n → Q (record n { regs = record n.regs { count = 0 } }))
+      (on_store : (c g : ℕ) (n : Moved Registers) → Is g → c < most → Q n → Q (stored c g n.registers n.buffer))
+      (on_none : (n : Moved Registers) → Q n → Q (record n { registers = record n.registers { count = 0 } }))
     where
       of_stored_by : (action c sum : ℕ) (o : Option GlyphId) (n : Moved Registers) → ((g : GlyphId) → o ≡ Some g → Is g.0) → c < most → Q n → OnStep Q (stored_by actions values ligatures action c sum o n)
       unfolding OnStep
       of_stored_by action c sum None n is low q = q
       of_stored_by action c sum (Some g) n is low q =
-          chosen (OnStep Q) (is_last action) (Stops (stored c g.0 n.regs n.buffer)) (GoesOn sum (stored c g.0 n.regs n.buffer)) (λ _. on_store c g.0 n (is g refl) low q) (λ _. on_store c g.0 n (is g refl) low q)
+          chosen (OnStep Q) (is_last action) (Stops (stored c g.0 n.registers n.buffer)) (GoesOn sum (stored c g.0 n.registers n.buffer)) (λ _. on_store c g.0 n (is g refl) low q) (λ _. on_store c g.0 n (is g refl) low q)
 
       of_summed : (action c sum : ℕ) (o : Option ℕ) (n : Moved Registers) → c < most → Q n → OnStep Q (summed actions values ligatures action c sum o n)
       unfolding OnStep
@@ -193,7 +193,7 @@ module _ (actions values : List ℕ) (ligatures : List GlyphId) where
       unfolding component_step OnStep
       of_taken None c sum n low q = q
       of_taken (Some action) c sum n low q =
-          of_summed action c sum (element_at values (pos (glyph_at n.buffer.line (component n.regs c)).glyph_id +ℤ offset_of action)) n low q
+          of_summed action c sum (element_at values (pos (glyph_at n.buffer.line (component n.registers c)).glyph_id +ℤ offset_of action)) n low q
 
       of_step : (t : Step) (more : ℕ → Moved Registers → Moved Registers) → OnStep Q t → ((sum : ℕ) (d : Moved Registers) → Q d → Q (more sum d)) → Q (elim t [ Stops d ↦ d | GoesOn sum d ↦ more sum d ])
       unfolding OnStep
@@ -232,8 +232,8 @@ module _ (actions values : List ℕ) (ligatures : List GlyphId) where
       unfolding act
       of_act_within e r b p =
           let s = with_component e r b.cursor in
-          chosen (λ (n : Moved Registers). P n.buffer) (has_flag e 0x2000 && nat_lt b.cursor (length b.line)) (ligated actions values ligatures s.count e.extra 0 (record { regs = s; buffer = b })) (record { regs = s; buffer = b })
-          (λ _. of_ligated s.count Is all (λ n. P n.buffer) (λ c g n is low q. of_stored c g n.regs n.buffer is q) (λ n q. q) s.count e.extra 0 (record { regs = s; buffer = b }) (omega arith) p) (λ _. p)
+          chosen (λ (n : Moved Registers). P n.buffer) (has_flag e 0x2000 && nat_lt b.cursor (length b.line)) (ligated actions values ligatures s.count e.extra 0 (record { registers = s; buffer = b })) (record { registers = s; buffer = b })
+          (λ _. of_ligated s.count Is all (λ n. P n.buffer) (λ c g n is low q. of_stored c g n.registers n.buffer is q) (λ n q. q) s.count e.extra 0 (record { registers = s; buffer = b }) (omega arith) p) (λ _. p)
 
   -- a property that each write of one glyph with the cluster of its place keeps
   pub of_act : (P : Buffer → Type 0) → ((d : Buffer) (i : ℕ) (g : hb_glyph_info_t) → g.cluster ≡ cluster_at d.line i → P d → P (with_line d (slice_set d.line i g))) → ((d : Buffer) (i j : ℕ) → P d → P (merge_out_clusters d i j))
@@ -261,19 +261,19 @@ module _ (actions values : List ℕ) (ligatures : List GlyphId) where
       e r b (record { length = refl; cursor = refl; budget = refl })
 
   -- an act leaves the slots as they are behind the push, and no more components
-  pub slots_of_act : (e : GenericStateEntry ℕ) (r : Registers) (b : Buffer) → SameSlots (with_component e r b.cursor).slots (with_component e r b.cursor).count (act actions values ligatures e r b).regs
+  pub slots_of_act : (e : GenericStateEntry ℕ) (r : Registers) (b : Buffer) → SameSlots (with_component e r b.cursor).slots (with_component e r b.cursor).count (act actions values ligatures e r b).registers
   unfolding act stored
   slots_of_act e r b =
       let s = with_component e r b.cursor in
-      chosen (λ (m : Moved Registers). SameSlots s.slots s.count m.regs) (has_flag e 0x2000 && nat_lt b.cursor (length b.line)) (ligated actions values ligatures s.count e.extra 0 (record { regs = s; buffer = b })) (record { regs = s; buffer = b })
-      (λ _. of_ligated s.count (λ _. Unit {0}) (λ i g got. tt) (λ m. SameSlots s.slots s.count m.regs) (λ c g m is low k. record { slots = k.slots; count = omega (arith, low) }) (λ m k. record { slots = k.slots; count = omega arith })
-      s.count e.extra 0 (record { regs = s; buffer = b }) (omega arith) (record { slots = refl; count = omega arith }))
+      chosen (λ (m : Moved Registers). SameSlots s.slots s.count m.registers) (has_flag e 0x2000 && nat_lt b.cursor (length b.line)) (ligated actions values ligatures s.count e.extra 0 (record { registers = s; buffer = b })) (record { registers = s; buffer = b })
+      (λ _. of_ligated s.count (λ _. Unit {0}) (λ i g got. tt) (λ m. SameSlots s.slots s.count m.registers) (λ c g m is low k. record { slots = k.slots; count = omega (arith, low) }) (λ m k. record { slots = k.slots; count = omega arith })
+      s.count e.extra 0 (record { registers = s; buffer = b }) (omega arith) (record { slots = refl; count = omega arith }))
       (λ _. record { slots = refl; count = omega arith })
 
-  regs_of_act : (e : GenericStateEntry ℕ) (r : Registers) (b : Buffer) → IsFit r b.cursor (length b.line) → b.cursor < length b.line → (q : ℕ) → IsFit (act actions values ligatures e r b).regs q (length b.line)
+  regs_of_act : (e : GenericStateEntry ℕ) (r : Registers) (b : Buffer) → IsFit r b.cursor (length b.line) → b.cursor < length b.line → (q : ℕ) → IsFit (act actions values ligatures e r b).registers q (length b.line)
   regs_of_act e r b fit below q =
       let s = with_component e r b.cursor in
-      fit_of_fewer s.slots s.count s (act actions values ligatures e r b).regs q q (length b.line) (fit_of_component e r b.cursor (length b.line) b.cursor q fit below) refl refl (slots_of_act e r b)
+      fit_of_fewer s.slots s.count s (act actions values ligatures e r b).registers q q (length b.line) (fit_of_component e r b.cursor (length b.line) b.cursor q fit below) refl refl (slots_of_act e r b)
 
   pub keeps_fit : KeepsFit (act actions values ligatures) IsFit
   keeps_fit e r b fit below =

@@ -10,7 +10,7 @@ use Rattle.aat_buffer.specs.Marks.{clusters_stay_apart, on_span, cluster_at, mer
 use Rattle.aat_glyph.specs.declared.glyph.hb_glyph_info_t.{hb_glyph_info_t}
 use Rattle.aat_font.specs.declared.plan.GlyphId.{GlyphId}
 use Rattle.aat_font.specs.declared.state_table.GenericStateEntry.{GenericStateEntry}
-use Rattle.aat_buffer.specs.Clusters.{ClustersMerge, IsOrdered, HasSmallClusters, ComesFrom}
+use Rattle.aat_buffer.specs.Clusters.{ClustersMerge, IsOrdered, ComesFrom}
 use Rattle.aat_buffer.specs.facts.Clusters.{order_of_clusters}
 use Rattle.aat_buffer.specs.facts.Cases.{chosen}
 use Rattle.aat_buffer.specs.facts.Lines.{length_slice, length_of_span, length_merge, of_merge}
@@ -73,13 +73,13 @@ same_uniform v s e c gs some high room uniform k inside = by_place (cases_lt k s
     by_place (inr a) (inr b) = ap (λ (g : hb_glyph_info_t). g.cluster) (span_behind (r.rearranged v) s e gs (omega arith) high same k no_glyph b)
 
 -- moving a span of one cluster keeps the order; at the level where clusters stay apart it makes no new cluster
-moved_keeps : (R : ℕ → ℕ → Type 0) (same : (x y : ℕ) → x ≡ y → R x y) (v : r.Verb) (t : r.Registers) (b : Buffer) → HasSmallClusters b.line → r.size_of v.front + r.size_of v.back ≤ t.end - t.start → t.start < t.end → t.end ≤ length b.line → Kept R same b (r.moved v t b)
+moved_keeps : (R : ℕ → ℕ → Type 0) (same : (x y : ℕ) → x ≡ y → R x y) (v : r.Verb) (t : r.Registers) (b : Buffer) → r.size_of v.front + r.size_of v.back ≤ t.end - t.start → t.start < t.end → t.end ≤ length b.line → Kept R same b (r.moved v t b)
 unfolding r.moved
-moved_keeps R same v t b small room some within =
+moved_keeps R same v t b room some within =
     let one = merge_clusters b t.start (min (b.cursor + 1) (length b.line)) in
     let two = merge_clusters one t.start t.end in
-    let first = kept_merge R same b small b t.start (min (b.cursor + 1) (length b.line)) (kept_refl R same b) in
-    let k = kept_merge R same b small one t.start t.end first in
+    let first = kept_merge R same b b t.start (min (b.cursor + 1) (length b.line)) (kept_refl R same b) in
+    let k = kept_merge R same b one t.start t.end first in
     let long_one : length one.line ≡ length b.line = length_merge b t.start (min (b.cursor + 1) (length b.line)) in
     let long : length two.line ≡ length b.line = length_merge one t.start t.end ∙ long_one in
     let high : t.end ≤ length two.line = omega (arith, long, within) in
@@ -193,17 +193,17 @@ copy_at gs n new j e low = get_or-map (λ (g : GlyphId). record (model_at gs n) 
 
 module _ (R : ℕ → ℕ → Type 0) (same : (x y : ℕ) → x ≡ y → R x y) where
   -- what an act leaves of the order and of the clusters
-  pub rearrangement_kept : (bound : ℕ) (e : r.Entry) (s : r.Registers) (b : Buffer) → r.IsFit s b.cursor (length b.line) → HasSmallClusters b.line → Kept R same b (r.act bound e s b).buffer
-  rearrangement_kept bound e s b fit small =
-      rl.of_act bound (Kept R same b) e s b fit (kept_refl R same b) (λ v t room some within. moved_keeps R same v t b small room some within)
+  pub rearrangement_kept : (bound : ℕ) (e : r.Entry) (s : r.Registers) (b : Buffer) → r.IsFit s b.cursor (length b.line) → Kept R same b (r.act bound e s b).buffer
+  rearrangement_kept bound e s b fit =
+      rl.of_act bound (Kept R same b) e s b fit (kept_refl R same b) (λ v t room some within. moved_keeps R same v t b room some within)
 
   pub contextual_kept : (classes : Option (List (ℕ × ℕ))) (lookups : List (List (ℕ × ℕ))) (e : c.Entry) (s : c.Registers) (b : Buffer) → Kept R same b (c.act classes lookups e s b).buffer
   contextual_kept classes lookups e s b =
       cl.of_act classes lookups (Kept R same b) (λ d x y k. kept_unsafe R same b d x y k) (λ d n v k. kept_set R same b d n _ refl k) e s b (kept_refl R same b)
 
-  pub ligature_kept : (actions values : List ℕ) (ligatures : List GlyphId) (e : GenericStateEntry ℕ) (s : l.Registers) (b : Buffer) → HasSmallClusters b.line → Kept R same b (l.act actions values ligatures e s b).buffer
-  ligature_kept actions values ligatures e s b small =
-      ll.of_act actions values ligatures (Kept R same b) (λ d n g equal k. kept_set R same b d n g equal k) (λ d x y k. kept_merge_out R same b small d x y k) e s b (kept_refl R same b)
+  pub ligature_kept : (actions values : List ℕ) (ligatures : List GlyphId) (e : GenericStateEntry ℕ) (s : l.Registers) (b : Buffer) → Kept R same b (l.act actions values ligatures e s b).buffer
+  ligature_kept actions values ligatures e s b =
+      ll.of_act actions values ligatures (Kept R same b) (λ d n g equal k. kept_set R same b d n g equal k) (λ d x y k. kept_merge_out R same b d x y k) e s b (kept_refl R same b)
 
   -- a run that goes in keeps the order, since its glyphs are like a neighbour
   inserted_kept : (b d : Buffer) (new : List GlyphId) (n : ℕ) (behind : Bool) (by : ℕ) → 0 < length d.line → Kept R same b d → Kept R same b (record d { line = i.inserted new n behind d.line; cursor = d.cursor + by; positions = None })

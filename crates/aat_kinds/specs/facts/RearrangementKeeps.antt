@@ -38,7 +38,7 @@ keeps_place bound = record { length = laws.keeps_length bound; cursor = laws.kee
 
 pub keeps_order : (bound : ℕ) → KeepsClusterOrder (act bound) IsFit
 keeps_order bound = record {
-  rising = λ e r b fit level small ordered. (rearrangement_kept (λ x y. x ≤ y) (λ x y same. omega (arith, same)) bound e r b fit small).ordered level ordered;
-  falling = λ e r b fit level small ordered. (rearrangement_kept (λ x y. y ≤ x) (λ x y same. omega (arith, same)) bound e r b fit small).ordered level ordered;
-  clusters = λ e r b fit small. (rearrangement_kept (λ x y. x ≤ y) (λ x y same. omega (arith, same)) bound e r b fit small).from;
+  rising = λ e r b fit level ordered. (rearrangement_kept (λ x y. x ≤ y) (λ x y same. omega (arith, same)) bound e r b fit).ordered level ordered;
+  falling = λ e r b fit level ordered. (rearrangement_kept (λ x y. y ≤ x) (λ x y same. omega (arith, same)) bound e r b fit).ordered level ordered;
+  clusters = λ e r b fit. (rearrangement_kept (λ x y. x ≤ y) (λ x y same. omega (arith, same)) bound e r b fit).from;
 }

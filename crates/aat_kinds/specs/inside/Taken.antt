@@ -6,7 +6,7 @@ use Rattle.aat_run.specs.Context.{Moved}
 use Rattle.aat_kinds.specs.Ligature.{Registers, Step, component_step, ligated}
 
 abbrev pub moved : Registers → Buffer → Moved Registers
-moved r b = record { regs = r; buffer = b }
+moved r b = record { registers = r; buffer = b }
 
 -- one component by the action at a place
 abbrev pub step_of : LigatureTables → ℕ → ℕ → ℕ → Registers → Buffer → Step

@@ -84,7 +84,7 @@ module _ {R E : Type 0} (m : Machine R E) where
       (either (λ (b : Buffer). b.line) (has_operations c.buffer) (paid 1 c.buffer) (paid 1 (passed c.buffer)) _ refl refl))
 
   -- the line that an entry leaves is that of its act
-  pub line_of_acted : (e : E) (c : Config R) → (left_by (acted m e c)).buffer.line ≡ (m.act e c.regs (marked m e c)).buffer.line
+  pub line_of_acted : (e : E) (c : Config R) → (left_by (acted m e c)).buffer.line ≡ (m.act e c.registers (marked m e c)).buffer.line
   unfolding acted
   line_of_acted e c = line_of_settled e _
 
@@ -93,7 +93,7 @@ module _ {R E : Type 0} (m : Machine R E) (Fits : R → ℕ → ℕ → Type 0)
   where
     -- a run may stand here
     abbrev pub Stands : Config R → Type 0
-    Stands c = Fits c.regs c.buffer.cursor (length c.buffer.line)
+    Stands c = Fits c.registers c.buffer.cursor (length c.buffer.line)
 
     abbrev pub left : Config R → ℕ
     left c = potential c.buffer
@@ -117,17 +117,17 @@ module _ {R E : Type 0} (m : Machine R E) (Fits : R → ℕ → ℕ → Type 0)
     settled_falls e c stands =
         chosen (OnGoes (Lower (left c))) (is_at_end c.buffer) (Ends c) (Goes _) (λ _. tt) (λ inside.
         let below = below_end c.buffer inside in
-        steps (m.advances e) c.regs c.buffer (stands below) below)
+        steps (m.advances e) c.registers c.buffer (stands below) below)
 
     acted_falls : (e : E) (c : Config R) → Stands c → OnGoes (Lower (left c)) (acted m e c)
     unfolding acted
     acted_falls e c stands =
         let b = marked m e c in
-        let fits : Fits c.regs b.cursor (length b.line) = rw (length_of_marked m e c, cursor_of_marked m e c) stands in
+        let fits : Fits c.registers b.cursor (length b.line) = rw (length_of_marked m e c, cursor_of_marked m e c) stands in
         let same : potential b ≡ left c = rw (length_of_marked m e c, cursor_of_marked m e c, budget_of_marked m e c) refl in
-        let n = m.act e c.regs b in
-        weaker (Lower (potential n.buffer)) (Lower (left c)) _ (λ d h. (omega (arith, h.0, pays e c.regs b fits, same), h.1))
-        (settled_falls e (record c { buffer = n.buffer; regs = n.regs; state = m.next e }) (keeps e c.regs b fits))
+        let n = m.act e c.registers b in
+        weaker (Lower (potential n.buffer)) (Lower (left c)) _ (λ d h. (omega (arith, h.0, pays e c.registers b fits, same), h.1))
+        (settled_falls e (record c { buffer = n.buffer; registers = n.registers; state = m.next e }) (keeps e c.registers b fits))
 
     by_entry_falls : (o : Option E) (c : Config R) → Stands c → OnGoes (Lower (left c)) (by_entry m o c)
     unfolding by_entry
@@ -193,8 +193,8 @@ module _ {R E : Type 0} (m : Machine R E) (Fits : R → ℕ → ℕ → Type 0)
         by_entry_keeps None c stands q = q
         by_entry_keeps (Some e) c stands q =
             let b = marked m e c in
-            let fits : Fits c.regs b.cursor (length b.line) = rw (length_of_marked m e c, cursor_of_marked m e c) stands in
-            settled_keeps e _ (on_act e c.regs b fits (marked_keeps e c q))
+            let fits : Fits c.registers b.cursor (length b.line) = rw (length_of_marked m e c, cursor_of_marked m e c) stands in
+            settled_keeps e _ (on_act e c.registers b fits (marked_keeps e c q))
 
         off_keeps : (c : Config R) → Q c.buffer → Q (left_by (off m c)).buffer
         unfolding off

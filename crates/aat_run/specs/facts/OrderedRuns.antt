@@ -1,9 +1,8 @@
 -- What a run of a lawful context leaves of the clusters.
 use Rattle.std.proofs.Common.{◌≡◌, ℕ, ◌+◌, ◌-◌, ◌≤◌, Bool, true, false, length, Some, refl, ap, sym, ◌∙◌, arith}
 use Rattle.aat_buffer.specs.Buffer.{Buffer}
-use Rattle.aat_buffer.specs.Clusters.{HasSmallClusters}
 use Rattle.aat_buffer.specs.Marks.{clusters_stay_apart}
-use Rattle.aat_buffer.specs.facts.Order.{Kept, kept_refl, kept_same, kept_unsafe, comes_trans, comes_small}
+use Rattle.aat_buffer.specs.facts.Order.{Kept, kept_refl, kept_same, kept_unsafe, comes_trans}
 use Rattle.aat_font.specs.Table.{TableValue}
 use Rattle.aat_font.specs.declared.state_table.GenericStateEntry.{GenericStateEntry}
 use Rattle.aat_run.specs.Context.{Context, Config, Machine, machine_of, start}
@@ -13,10 +12,10 @@ use Rattle.aat_run.specs.Machine.{whole}
 use Rattle.aat_run.specs.facts.MachineRuns.{buffer_kept}
 
 module _ {T Q : Type 0} (on : ℕ → Bool) (table : TableValue (GenericStateEntry T)) (x : Context Q (GenericStateEntry T)) (fits : Q → ℕ → ℕ → Type 0)
-    (keeps : KeepsFit x.act fits) (passes : PassesFit fits) (pays : Pays x.act fits) (b : Buffer) (fit : fits x.fresh 0 (length b.line)) (small : HasSmallClusters b.line)
+    (keeps : KeepsFit x.act fits) (passes : PassesFit fits) (pays : Pays x.act fits) (b : Buffer) (fit : fits x.fresh 0 (length b.line))
   where
     module _ (R : ℕ → ℕ → Type 0) (same : (x y : ℕ) → x ≡ y → R x y)
-        (each : (e : GenericStateEntry T) (s : Q) (d : Buffer) → fits s d.cursor (length d.line) → HasSmallClusters d.line → Kept R same d (x.act e s d).buffer)
+        (each : (e : GenericStateEntry T) (s : Q) (d : Buffer) → fits s d.cursor (length d.line) → Kept R same d (x.act e s d).buffer)
       where
         kept_trans : (a d e : Buffer) → Kept R same a d → Kept R same d e → Kept R same a e
         kept_trans a d e f g = record {
@@ -33,12 +32,12 @@ module _ {T Q : Type 0} (on : ℕ → Bool) (table : TableValue (GenericStateEnt
             m : Machine Q (GenericStateEntry T)
             m = machine_of on table x
 
-            from_here : (c : Config Q) → fits c.regs c.buffer.cursor (length c.buffer.line) → Kept R same b c.buffer → Kept R same b (outcome_of (whole m c)).buffer
+            from_here : (c : Config Q) → fits c.registers c.buffer.cursor (length c.buffer.line) → Kept R same b c.buffer → Kept R same b (outcome_of (whole m c)).buffer
             from_here c stands begun =
                 kept_same R same b (whole m c).buffer _ refl refl (λ n low. refl)
                 (buffer_kept m fits keeps passes pays (Kept R same b)
                 (λ d k. kept_unsafe R same b d (Some (d.cursor - 1)) (Some (d.cursor + 1)) k)
-                (λ e s d fit k. kept_trans b d (x.act e s d).buffer k (each e s d fit (comes_small b.line d.line k.from small)))
+                (λ e s d fit k. kept_trans b d (x.act e s d).buffer k (each e s d fit))
                 (λ d k. kept_same R same b d _ refl refl (λ n low. refl) k)
                 (λ d k. kept_same R same b d _ refl refl (λ n low. refl) k) c stands begun)
 
@@ -50,15 +49,15 @@ module _ {T Q : Type 0} (on : ℕ → Bool) (table : TableValue (GenericStateEnt
     pub run_keeps_order : KeepsSettings x.act fits → KeepsClusterOrder x.act fits → HasOrderOf b (machine_run on table x b).buffer
     run_keeps_order settings order =
         let rises = run_keeps_clusters (λ n k. n ≤ k) (λ n k e. omega (arith, e))
-        (λ e s d fits_here d_small. record {
+        (λ e s d fits_here. record {
           level = (settings e s d fits_here).cluster_level;
-          from = order.clusters e s d fits_here d_small;
-          ordered = λ level ordered. order.rising e s d fits_here level d_small ordered;
+          from = order.clusters e s d fits_here;
+          ordered = λ level ordered. order.rising e s d fits_here level ordered;
         }) in
         let falls = run_keeps_clusters (λ n k. k ≤ n) (λ n k e. omega (arith, e))
-        (λ e s d fits_here d_small. record {
+        (λ e s d fits_here. record {
           level = (settings e s d fits_here).cluster_level;
-          from = order.clusters e s d fits_here d_small;
-          ordered = λ level ordered. order.falling e s d fits_here level d_small ordered;
+          from = order.clusters e s d fits_here;
+          ordered = λ level ordered. order.falling e s d fits_here level ordered;
         }) in
         record { rising = rises.ordered; falling = falls.ordered; clusters = rises.from }

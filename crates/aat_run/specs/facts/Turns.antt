@@ -10,7 +10,7 @@ use Rattle.aat_run.specs.facts.Runs.{followed, Falls, is_whole_run, first_turn, 
 module _ {R : Type 0} (turn : Config R → Turn (Config R)) (Fits : R → ℕ → ℕ → Type 0) where
   -- a run may stand here
   abbrev pub Stands : Config R → Type 0
-  Stands c = Fits c.regs c.buffer.cursor (length c.buffer.line)
+  Stands c = Fits c.registers c.buffer.cursor (length c.buffer.line)
 
   abbrev pub left : Config R → ℕ
   left c = potential c.buffer

@@ -16,8 +16,8 @@ module _ {R S E : Type 0} (on : ℕ → Bool) (class_of : ℕ → Option ℕ) (e
     (held_actionable : E → S → ℕ → ℕ → Bool) (held_act : E → S → Buffer → Moved S)
     (view : S → R) (Good : S → Type 0)
     (same_test : (e : E) (s : S) (p n : ℕ) → Good s → held_actionable e s p n ≡ actionable e (view s) p n)
-    (same_act : (e : E) (s : S) (b : Buffer) → Good s → act e (view s) b ≡ record { regs = view (held_act e s b).regs; buffer = (held_act e s b).buffer })
-    (stays_good : (e : E) (s : S) (b : Buffer) → Good s → Good (held_act e s b).regs)
+    (same_act : (e : E) (s : S) (b : Buffer) → Good s → act e (view s) b ≡ record { registers = view (held_act e s b).registers; buffer = (held_act e s b).buffer })
+    (stays_good : (e : E) (s : S) (b : Buffer) → Good s → Good (held_act e s b).registers)
   where
     -- the machine of the definition, and that of the context
     abbrev pub plain : Machine R E
@@ -27,21 +27,21 @@ module _ {R S E : Type 0} (on : ℕ → Bool) (class_of : ℕ → Option ℕ) (e
     held = record { on = on; class_of = class_of; entry = entry; next = next; advances = advances; actionable = held_actionable; act = held_act }
 
     abbrev pub seen : Config S → Config R
-    seen c = record { buffer = c.buffer; regs = view c.regs; state = c.state; last = c.last; turns = c.turns }
+    seen c = record { buffer = c.buffer; registers = view c.registers; state = c.state; last = c.last; turns = c.turns }
 
-    same_acts : (e : E) (c : Config S) → Good c.regs → acts held c e ≡ acts plain (seen c) e
-    same_acts e c good = same_test e c.regs c.buffer.cursor (length c.buffer.line) good
+    same_acts : (e : E) (c : Config S) → Good c.registers → acts held c e ≡ acts plain (seen c) e
+    same_acts e c good = same_test e c.registers c.buffer.cursor (length c.buffer.line) good
 
-    same_alike : (e : E) (o : Option E) (c : Config S) → Good c.regs → does_alike held c e o ≡ does_alike plain (seen c) e o
+    same_alike : (e : E) (o : Option E) (c : Config S) → Good c.registers → does_alike held c e o ≡ does_alike plain (seen c) e o
     unfolding does_alike
     same_alike e None c good = refl
     same_alike e (Some f) c good = ap (λ t. cond t false (cond (next f == next e) (is_alike (advances f) (advances e)) false)) (same_acts f c good)
 
-    same_ahead : (o : Option E) (c : Config S) → Good c.regs → is_idle_at_end held c o ≡ is_idle_at_end plain (seen c) o
+    same_ahead : (o : Option E) (c : Config S) → Good c.registers → is_idle_at_end held c o ≡ is_idle_at_end plain (seen c) o
     same_ahead None c good = refl
     same_ahead (Some f) c good = ap not (same_acts f c good)
 
-    same_safe : (e : E) (f g : Option E) (c : Config S) → Good c.regs → is_safe held e f g c ≡ is_safe plain e f g (seen c)
+    same_safe : (e : E) (f g : Option E) (c : Config S) → Good c.registers → is_safe held e f g c ≡ is_safe plain e f g (seen c)
     same_safe e f g c good =
         let alike = same_alike e f c good in
         let branches : safe_branches held c e f g ≡ safe_branches plain (seen c) e f g =
@@ -50,7 +50,7 @@ module _ {R S E : Type 0} (on : ℕ → Bool) (class_of : ℕ → Option ℕ) (e
         ∙ ap (λ t. cond (acts plain (seen c) e) false (cond (cond (c.state == 0) true (cond (not (advances e) && (next e == 0)) true (does_alike plain (seen c) e f))) t false)) (same_ahead g c good)) in
         safe_by_branches held c e f g ∙ (branches ∙ sym (safe_by_branches plain (seen c) e f g))
 
-    same_marked : (e : E) (c : Config S) → Good c.regs → marked plain e (seen c) ≡ marked held e c
+    same_marked : (e : E) (c : Config S) → Good c.registers → marked plain e (seen c) ≡ marked held e c
     unfolding marked
     same_marked e c good =
         ap (λ t. cond (is_inside c.buffer && not t) (break_marked_at c.buffer) c.buffer) (sym (same_safe e (entry 0 (class_at class_of c.buffer)) (entry c.state 0) c good))
@@ -63,16 +63,16 @@ module _ {R S E : Type 0} (on : ℕ → Bool) (class_of : ℕ → Option ℕ) (e
         by_end true = refl
         by_end false = refl
 
-    same_acted : (e : E) (c : Config S) → Good c.regs → acted plain e (seen c) ≡ mapped seen (acted held e c)
+    same_acted : (e : E) (c : Config S) → Good c.registers → acted plain e (seen c) ≡ mapped seen (acted held e c)
     unfolding acted
     same_acted e c good =
         let b = marked held e c in
-        let n = held_act e c.regs b in
-        let moved : act e (view c.regs) (marked plain e (seen c)) ≡ record { regs = view n.regs; buffer = n.buffer } = ap (λ (d : Buffer). act e (view c.regs) d) (same_marked e c good) ∙ same_act e c.regs b good in
-        ap (λ (x : Moved R). settled plain e (record { buffer = x.buffer; regs = x.regs; state = next e; last = c.last; turns = c.turns })) moved
-        ∙ same_settled e (record c { buffer = n.buffer; regs = n.regs; state = next e })
+        let n = held_act e c.registers b in
+        let moved : act e (view c.registers) (marked plain e (seen c)) ≡ record { registers = view n.registers; buffer = n.buffer } = ap (λ (d : Buffer). act e (view c.registers) d) (same_marked e c good) ∙ same_act e c.registers b good in
+        ap (λ (x : Moved R). settled plain e (record { buffer = x.buffer; registers = x.registers; state = next e; last = c.last; turns = c.turns })) moved
+        ∙ same_settled e (record c { buffer = n.buffer; registers = n.registers; state = next e })
 
-    same_by_entry : (o : Option E) (c : Config S) → Good c.regs → by_entry plain o (seen c) ≡ mapped seen (by_entry held o c)
+    same_by_entry : (o : Option E) (c : Config S) → Good c.registers → by_entry plain o (seen c) ≡ mapped seen (by_entry held o c)
     unfolding by_entry
     same_by_entry None c good = refl
     same_by_entry (Some e) c good = same_acted e c good
@@ -89,33 +89,33 @@ module _ {R S E : Type 0} (on : ℕ → Bool) (class_of : ℕ → Option ℕ) (e
     by_switch true x y u v p q = p
     by_switch false x y u v p q = q
 
-    same_turn : (c : Config S) → Good c.regs → turn plain (seen c) ≡ mapped seen (turn held c)
+    same_turn : (c : Config S) → Good c.registers → turn plain (seen c) ≡ mapped seen (turn held c)
     unfolding turn
     same_turn c good =
         let d = counted held c in
         let o = entry d.state (class_at class_of d.buffer) in
         by_switch (on d.last) (by_entry plain o (seen d)) (off plain (seen d)) (by_entry held o d) (off held d) (same_by_entry o d good) (same_off d)
 
-    good_acted : (e : E) (c : Config S) → Good c.regs → OnGoes (λ (d : Config S). Good d.regs) (acted held e c)
+    good_acted : (e : E) (c : Config S) → Good c.registers → OnGoes (λ (d : Config S). Good d.registers) (acted held e c)
     unfolding acted settled
     good_acted e c good =
-        let n = held_act e c.regs (marked held e c) in
-        chosen (OnGoes (λ (d : Config S). Good d.regs)) (is_at_end n.buffer) (Ends _) (Goes _) (λ _. tt) (λ _. stays_good e c.regs (marked held e c) good)
+        let n = held_act e c.registers (marked held e c) in
+        chosen (OnGoes (λ (d : Config S). Good d.registers)) (is_at_end n.buffer) (Ends _) (Goes _) (λ _. tt) (λ _. stays_good e c.registers (marked held e c) good)
 
-    good_by_entry : (o : Option E) (c : Config S) → Good c.regs → OnGoes (λ (d : Config S). Good d.regs) (by_entry held o c)
+    good_by_entry : (o : Option E) (c : Config S) → Good c.registers → OnGoes (λ (d : Config S). Good d.registers) (by_entry held o c)
     unfolding by_entry
     good_by_entry None c good = tt
     good_by_entry (Some e) c good = good_acted e c good
 
-    good_turn : (c : Config S) → Good c.regs → OnGoes (λ (d : Config S). Good d.regs) (turn held c)
+    good_turn : (c : Config S) → Good c.registers → OnGoes (λ (d : Config S). Good d.registers) (turn held c)
     unfolding turn off
     good_turn c good =
         let d = counted held c in
-        chosen (OnGoes (λ (x : Config S). Good x.regs)) (on d.last) (by_entry held (entry d.state (class_at class_of d.buffer)) d) (off held d)
+        chosen (OnGoes (λ (x : Config S). Good x.registers)) (on d.last) (by_entry held (entry d.state (class_at class_of d.buffer)) d) (off held d)
         (λ _. good_by_entry (entry d.state (class_at class_of d.buffer)) d good)
-        (λ _. chosen (OnGoes (λ (x : Config S). Good x.regs)) (is_at_end d.buffer) (Ends d) (Goes _) (λ _. tt) (λ _. good))
+        (λ _. chosen (OnGoes (λ (x : Config S). Good x.registers)) (is_at_end d.buffer) (Ends d) (Goes _) (λ _. tt) (λ _. good))
 
     -- the run of the context, seen by the registers of the definition, is the run of the definition
-    pub whole_is_seen : (c : Config S) → Good c.regs → whole plain (seen c) ≡ seen (whole held c)
+    pub whole_is_seen : (c : Config S) → Good c.registers → whole plain (seen c) ≡ seen (whole held c)
     unfolding whole
-    whole_is_seen c good = run_maps seen (turn plain) (turn held) (λ (d : Config S). Good d.regs) same_turn good_turn (potential c.buffer + 1) c good
+    whole_is_seen c good = run_maps seen (turn plain) (turn held) (λ (d : Config S). Good d.registers) same_turn good_turn (potential c.buffer + 1) c good

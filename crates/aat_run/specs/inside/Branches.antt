@@ -6,7 +6,7 @@ use Rattle.aat_run.specs.Truth.{is_alike}
 
 module _ {R E : Type 0} (m : Machine R E) (c : Config R) where
   abbrev pub acts : E → Bool
-  acts e = m.actionable e c.regs c.buffer.cursor (length c.buffer.line)
+  acts e = m.actionable e c.registers c.buffer.cursor (length c.buffer.line)
 
   -- an entry that does as e does, without an act
   unfoldable pub does_alike : E → Option E → Bool

@@ -1,4 +1,4 @@
-use Rattle.aat_machine_tests.specs.Putting.{small_output}
+use Rattle.aat_machine_tests.specs.facts.PuttingHolds.{small_output}
 use Rattle.std.proofs.Common.{arith}
 use Rattle.aat_machine_tests.proofs.driver_contexts.put.Goals as goal
 

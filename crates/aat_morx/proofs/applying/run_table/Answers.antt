@@ -33,18 +33,18 @@ pub returns-in-None-clause-within : goal.returns-in-None-clause-within
 returns-in-None-clause-within g c = rw c.prepare.ensures (prepared_within c.args.buffer.now c.requires.ids)
 
 pub returns-in-None-clause-order : goal.returns-in-None-clause-order
-returns-in-None-clause-order g c = λ small.
+returns-in-None-clause-order g c =
     let b = c.args.buffer.now in
-    subst (HasOrderOf b) (sym c.prepare.ensures) (substitution_keeps_order (sizes_of g.row.SLOTS g.row.LONGEST c.args.face.now) [] b c.requires.slots small)
+    subst (HasOrderOf b) (sym c.prepare.ensures) (substitution_keeps_order (sizes_of g.row.SLOTS g.row.LONGEST c.args.face.now) [] b c.requires.slots)
 
 pub returns-in_ok-run_chains-in-Some-clause-order : goal.returns-in_ok-run_chains-in-Some-clause-order
-returns-in_ok-run_chains-in-Some-clause-order g c = λ small.
+returns-in_ok-run_chains-in-Some-clause-order g c =
     let b = c.args.buffer.now in
     let z = sizes_of g.row.SLOTS g.row.LONGEST c.args.face.now in
     let chains = switched_by c.chains.result.now c.args.map.now in
     let ran : c.run_chains.new.buffer ≡ (substituted z chains b).buffer =
     ap (λ (o : Outcome). o.buffer) c.in_ok-run_chains-in-Some.ensures.run ∙ ap (λ (d : Buffer). (in_order (chain_run z) chains d).buffer) c.prepare.ensures in
-    subst (HasOrderOf b) (sym ran) (substitution_keeps_order z chains b c.requires.slots small)
+    subst (HasOrderOf b) (sym ran) (substitution_keeps_order z chains b c.requires.slots)
 
 pub returns-in_ok-run_chains-in-Some-clause-number : goal.returns-in_ok-run_chains-in-Some-clause-number
 returns-in_ok-run_chains-in-Some-clause-number g c = λ none.

@@ -37,7 +37,7 @@ returns-clause-run g c =
     let new = config c.turn_once.new.buffer c.turn_once.new.context c.turn_once.new.place in
     let last : turn m old ≡ Ends new = rw c.if-branch.false at c.in_ok-turn_once.ensures.turn in
     let done = (ends m context.fits laws.keeps_fit laws.passes_fit laws.pays laws.lengthens laws.keeps_settings (first c.args.buffer.now c.args.context.now) old c.loop.invariant.come new last).0 in
-    record { buffer = ap (λ (d : Config _). d.buffer) done; registers = ap (λ (d : Config _). d.regs) done; counted = ap (λ (d : Config _). d.turns) done }
+    record { buffer = ap (λ (d : Config _). d.buffer) done; registers = ap (λ (d : Config _). d.registers) done; counted = ap (λ (d : Config _). d.turns) done }
 
 pub returns-clause-few : goal.returns-clause-few
 returns-clause-few g c =

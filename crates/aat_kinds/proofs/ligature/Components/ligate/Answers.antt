@@ -30,5 +30,5 @@ pub returns-clause-act : goal.returns-clause-act
 returns-clause-act g c =
     let s = c.args.subtable.now in
     let l = c.loop-left in
-    let none = ligated_none s.actions s.components s.ligatures l.left l.action l.sum (record { regs = l.self; buffer = l.buffer }) (omega arith) in
+    let none = ligated_none s.actions s.components s.ligatures l.left l.action l.sum (record { registers = l.self; buffer = l.buffer }) (omega arith) in
     cc

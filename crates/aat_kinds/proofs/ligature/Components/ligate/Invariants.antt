@@ -5,8 +5,8 @@ use Rattle.aat_kinds.proofs.ligature.Components.ligate.Given as goal
 
 abbrev pub invariant-loop-left : goal.invariant-loop-left
 invariant-loop-left g l = record {
-  done : ligated l.subtable.actions l.subtable.components l.subtable.ligatures l.left l.action l.sum (record { regs = l.self; buffer = l.buffer })
-      ≡ ligated l.subtable.actions l.subtable.components l.subtable.ligatures l.fn.self.count l.first 0 (record { regs = l.fn.self; buffer = l.fn.buffer });
+  done : ligated l.subtable.actions l.subtable.components l.subtable.ligatures l.left l.action l.sum (record { registers = l.self; buffer = l.buffer })
+      ≡ ligated l.subtable.actions l.subtable.components l.subtable.ligatures l.fn.self.count l.first 0 (record { registers = l.fn.self; buffer = l.fn.buffer });
   slots : l.self.slots ≡ l.fn.self.slots;
   fewer : l.self.count ≤ l.fn.self.count;
   held : l.left ≤ l.self.count;

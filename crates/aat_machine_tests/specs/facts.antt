@@ -1,0 +1,2 @@
+pub mod CountingHolds
+pub mod PuttingHolds
