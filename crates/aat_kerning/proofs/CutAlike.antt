@@ -22,7 +22,13 @@ use Rattle.aat_kerning.specs.Cut.{ordered_line, greater_at, AreParts, HaveFlagsO
 use Rattle.aat_kerning.specs.KerningLaws.{IsKernedFrom, IsMarkedFrom}
 use Rattle.aat_kerning.specs.PairKerning.{kerned, pair_kerning, in_stream, cross_stream}
 use Rattle.aat_kerning.specs.Pairs.{Pair, kerx_skips, kern_skips, is_solid, pair_at, pairs_of}
-use Rattle.aat_kerning.specs.Positioning.{cursively_attached, in_processing_order, line_marked, KerxKind, KerxPairs, KerxStack, KerxAnchors, KernKind, KernPairs, KernMachine, KerxSubtable, KernSubtable, is_kerx_pairs, is_kern_pairs, kerx_run, kern_run, kerx_kerning, kern_kerning, kerx_positioning, kern_positioning}
+use Rattle.aat_font.specs.declared.kern.KernKind.{KernKind}
+use Rattle.aat_font.specs.declared.kern.KernKind.TheVariants as kind
+use Rattle.aat_font.specs.declared.kern.KernSubtable.{KernSubtable}
+use Rattle.aat_font.specs.declared.kerx.KerxFormat.{KerxFormat}
+use Rattle.aat_font.specs.declared.kerx.KerxFormat.TheVariants.{Format0, Format1, Format2, Format4, Format6}
+use Rattle.aat_font.specs.declared.kerx.KerxSubtable.{KerxSubtable}
+use Rattle.aat_kerning.specs.Positioning.{cursively_attached, in_processing_order, line_marked, is_kerx_pairs, is_kern_pairs, kerx_run, kern_run, kerx_kerning, kern_kerning, kerx_positioning, kern_positioning}
 use Rattle.aat_kerning.proofs.Changes.{of_marked, of_pair, of_pairs, of_pair_kerning, of_attachment}
 use Rattle.aat_kerning.proofs.CutHolds.{attached_apart, places_of_marked, ordered_marked, ordered_places, ordered_way, IsCutLine, cut_line}
 use Rattle.aat_kerning.proofs.CutMarks.{IsUnflagged}
@@ -414,24 +420,28 @@ module _ (skips kern_mask q : ℕ) (way : Direction) (line : List hb_glyph_info_
 module _ (kern_mask q great less : ℕ) (way : Direction) (line : List hb_glyph_info_t) (at : IsGreater q great less line) where
   kerx_alike :
       (points : Option Points) → IsCutLine kerx_skips q line
-      → (is_cross : Bool) (tuple_count : ℕ) (k : KerxKind) (b first second : Buffer) → is_kerx_pairs k ≡ true
+      → (is_cross : Bool) (tuple_count : ℕ) (k : KerxFormat) (b first second : Buffer) → is_kerx_pairs k ≡ true
       → AreAlike q way line b first second
       → IsUnflagged (glyph_at (kerx_run kern_mask points is_cross tuple_count k b).buffer.line great)
       → AreAlike q way line (kerx_run kern_mask points is_cross tuple_count k b).buffer
       (kerx_run kern_mask points is_cross tuple_count k first).buffer (kerx_run kern_mask points is_cross tuple_count k second).buffer
-  kerx_alike points place is_cross tuple_count (KerxPairs asked values) b first second pairs now none =
-      alike_paired kerx_skips kern_mask q way line place great less at is_cross values asked b first second now none
-  kerx_alike points place is_cross tuple_count (KerxStack table values) b first second pairs now none = absurd (true≢false (sym pairs))
-  kerx_alike points place is_cross tuple_count (KerxAnchors table anchors) b first second pairs now none = absurd (true≢false (sym pairs))
+  kerx_alike points place is_cross tuple_count (Format0 values) b first second pairs now none =
+      alike_paired kerx_skips kern_mask q way line place great less at is_cross values false b first second now none
+  kerx_alike points place is_cross tuple_count (Format1 s) b first second pairs now none = absurd (true≢false (sym pairs))
+  kerx_alike points place is_cross tuple_count (Format2 values) b first second pairs now none =
+      alike_paired kerx_skips kern_mask q way line place great less at is_cross values true b first second now none
+  kerx_alike points place is_cross tuple_count (Format4 s) b first second pairs now none = absurd (true≢false (sym pairs))
+  kerx_alike points place is_cross tuple_count (Format6 values) b first second pairs now none =
+      alike_paired kerx_skips kern_mask q way line place great less at is_cross values false b first second now none
 
   kern_alike :
       IsCutLine kern_skips q line → (is_cross : Bool) (k : KernKind) (b first second : Buffer) → is_kern_pairs k ≡ true
       → AreAlike q way line b first second → IsUnflagged (glyph_at (kern_run kern_mask is_cross k b).buffer.line great)
       → AreAlike q way line (kern_run kern_mask is_cross k b).buffer
       (kern_run kern_mask is_cross k first).buffer (kern_run kern_mask is_cross k second).buffer
-  kern_alike place is_cross (KernPairs values) b first second pairs now none =
+  kern_alike place is_cross (kind.Pairs values) b first second pairs now none =
       alike_paired kern_skips kern_mask q way line place great less at is_cross values true b first second now none
-  kern_alike place is_cross (KernMachine table values) b first second pairs now none = absurd (true≢false (sym pairs))
+  kern_alike place is_cross (kind.Machine s) b first second pairs now none = absurd (true≢false (sym pairs))
 
 ordered_flags : (b : Buffer) → (in_processing_order b).flags ≡ b.flags
 ordered_flags b = by_way (is_backward b.direction)
@@ -510,22 +520,22 @@ kerx_apart :
     → CanBeCutAlike kerx_skips (map (kerx_kerning kern_mask points) subtables)
     (kerx_positioning requested kern_mask points subtables) b
 unfolding kerx_positioning
-kerx_apart requested kern_mask points subtables b q first second alone place none parts flags =
+kerx_apart requested kern_mask points subtables b q first second alone place none alike =
     let line = ordered_line b in
     let great = greater_of q line place.starts in
     let cut = cut_line kerx_skips q b place in
     positioned_apart (kerx_kerning kern_mask points) requested (greater_at q line) b.direction (AreAlike q b.direction line)
     (ways_alike q b.direction line) (alike_attached kerx_skips kern_mask q b.direction line cut)
-    (λ x. kerx_alike kern_mask q (greater_at q line) great.0 b.direction line great.1 points cut x.has_cross_stream x.tuple_count x.kind)
-    (λ x d. kerx_is_paid kern_mask points x.has_cross_stream x.tuple_count x.kind d)
+    (λ x. kerx_alike kern_mask q (greater_at q line) great.0 b.direction line great.1 points cut x.has_cross_stream x.tuple_count x.format)
+    (λ x d. kerx_is_paid kern_mask points x.has_cross_stream x.tuple_count x.format d)
     q line subtables b (unsafe_to_concat b None None) (unsafe_to_concat first None None) (unsafe_to_concat second None None)
-    refl alone refl (λ d e f now. now.apart) (marked_parts_alike q b first second place.before_end flags parts) (ordered_marked b) none
+    refl alone refl (λ d e f now. now.apart) (marked_parts_alike q b first second place.before_end alike.flags alike.parts) (ordered_marked b) none
 
 kern_apart :
     (requested : Bool) (kern_mask : ℕ) (subtables : List KernSubtable) (b : Buffer)
     → CanBeCutAlike kern_skips (map (kern_kerning kern_mask) subtables) (kern_positioning requested kern_mask subtables) b
 unfolding kern_positioning
-kern_apart requested kern_mask subtables b q first second alone place none parts flags =
+kern_apart requested kern_mask subtables b q first second alone place none alike =
     let line = ordered_line b in
     let great = greater_of q line place.starts in
     let cut = cut_line kern_skips q b place in
@@ -534,7 +544,7 @@ kern_apart requested kern_mask subtables b q first second alone place none parts
     (λ x. kern_alike kern_mask q (greater_at q line) great.0 b.direction line great.1 cut x.has_cross_stream x.kind)
     (λ x d. kern_is_paid kern_mask x.has_cross_stream x.kind d)
     q line subtables b b first second refl alone refl (λ d e f now. now.apart)
-    (parts_alike q b first second place.before_end flags parts) (line_same line) none
+    (parts_alike q b first second place.before_end alike.flags alike.parts) (line_same line) none
 
 -- pairs can be kerned in two parts by every kern mask
 pub alike_parts_are_kerned_apart : AlikePartsAreKernedApart

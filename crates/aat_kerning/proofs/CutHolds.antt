@@ -15,7 +15,13 @@ use Rattle.aat_kerning.specs.Cut.{ordered_line, ordered_positions, IsCutPlace, g
 use Rattle.aat_kerning.specs.KerningLaws.{IsKernedFrom, IsMarkedFrom}
 use Rattle.aat_kerning.specs.PairKerning.{pair_kerning}
 use Rattle.aat_kerning.specs.Pairs.{kerx_skips, kern_skips, is_solid}
-use Rattle.aat_kerning.specs.Positioning.{cursively_attached, in_processing_order, line_marked, KerxKind, KerxPairs, KerxStack, KerxAnchors, KernKind, KernPairs, KernMachine, KerxSubtable, KernSubtable, is_kerx_pairs, is_kern_pairs, kerx_run, kern_run, kerx_kerning, kern_kerning, kerx_positioning, kern_positioning}
+use Rattle.aat_font.specs.declared.kern.KernKind.{KernKind}
+use Rattle.aat_font.specs.declared.kern.KernKind.TheVariants as kind
+use Rattle.aat_font.specs.declared.kern.KernSubtable.{KernSubtable}
+use Rattle.aat_font.specs.declared.kerx.KerxFormat.{KerxFormat}
+use Rattle.aat_font.specs.declared.kerx.KerxFormat.TheVariants.{Format0, Format1, Format2, Format4, Format6}
+use Rattle.aat_font.specs.declared.kerx.KerxSubtable.{KerxSubtable}
+use Rattle.aat_kerning.specs.Positioning.{cursively_attached, in_processing_order, line_marked, is_kerx_pairs, is_kern_pairs, kerx_run, kern_run, kerx_kerning, kern_kerning, kerx_positioning, kern_positioning}
 use Rattle.aat_kerning.specs.Positions.{attached_as}
 use Rattle.aat_kerning.proofs.Changes.{of_marked, of_pair_kerning, of_attachment}
 use Rattle.aat_kerning.proofs.CutMarks.{IsUnflagged, looks_as_before}
@@ -209,24 +215,28 @@ module _ (skips kern_mask q : ℕ) (way : Direction) (line : List hb_glyph_info_
 module _ (kern_mask q great less : ℕ) (way : Direction) (line : List hb_glyph_info_t) (free : bit_and kern_mask 7 ≡ 0) (at : IsGreater q great less line) where
   kerx_now :
       (points : Option Points) → IsCutLine kerx_skips q line
-      → (is_cross : Bool) (tuple_count : ℕ) (k : KerxKind) (b first second : Buffer) → is_kerx_pairs k ≡ true
+      → (is_cross : Bool) (tuple_count : ℕ) (k : KerxFormat) (b first second : Buffer) → is_kerx_pairs k ≡ true
       → AreNow q way line b first second
       → IsUnflagged (glyph_at (kerx_run kern_mask points is_cross tuple_count k b).buffer.line great)
       → AreNow q way line (kerx_run kern_mask points is_cross tuple_count k b).buffer
       (kerx_run kern_mask points is_cross tuple_count k first).buffer (kerx_run kern_mask points is_cross tuple_count k second).buffer
-  kerx_now points place is_cross tuple_count (KerxPairs asked values) b first second pairs now none =
-      now_paired kerx_skips kern_mask q way line free place great less at is_cross values asked b first second now none
-  kerx_now points place is_cross tuple_count (KerxStack table values) b first second pairs now none = absurd (true≢false (sym pairs))
-  kerx_now points place is_cross tuple_count (KerxAnchors table pairs_of) b first second pairs now none = absurd (true≢false (sym pairs))
+  kerx_now points place is_cross tuple_count (Format0 values) b first second pairs now none =
+      now_paired kerx_skips kern_mask q way line free place great less at is_cross values false b first second now none
+  kerx_now points place is_cross tuple_count (Format1 s) b first second pairs now none = absurd (true≢false (sym pairs))
+  kerx_now points place is_cross tuple_count (Format2 values) b first second pairs now none =
+      now_paired kerx_skips kern_mask q way line free place great less at is_cross values true b first second now none
+  kerx_now points place is_cross tuple_count (Format4 s) b first second pairs now none = absurd (true≢false (sym pairs))
+  kerx_now points place is_cross tuple_count (Format6 values) b first second pairs now none =
+      now_paired kerx_skips kern_mask q way line free place great less at is_cross values false b first second now none
 
   kern_now :
       IsCutLine kern_skips q line → (is_cross : Bool) (k : KernKind) (b first second : Buffer) → is_kern_pairs k ≡ true
       → AreNow q way line b first second → IsUnflagged (glyph_at (kern_run kern_mask is_cross k b).buffer.line great)
       → AreNow q way line (kern_run kern_mask is_cross k b).buffer
       (kern_run kern_mask is_cross k first).buffer (kern_run kern_mask is_cross k second).buffer
-  kern_now place is_cross (KernPairs values) b first second pairs now none =
+  kern_now place is_cross (kind.Pairs values) b first second pairs now none =
       now_paired kern_skips kern_mask q way line free place great less at is_cross values true b first second now none
-  kern_now place is_cross (KernMachine table values) b first second pairs now none = absurd (true≢false (sym pairs))
+  kern_now place is_cross (kind.Machine s) b first second pairs now none = absurd (true≢false (sym pairs))
 
 -- before the first subtable
 parts_now :
@@ -275,14 +285,14 @@ kerx_apart :
     → CanBeCut kerx_skips (map (kerx_kerning kern_mask points) subtables)
     (kerx_positioning requested kern_mask points subtables) b
 unfolding kerx_positioning
-kerx_apart requested kern_mask points subtables b free q first second alone place none parts _ =
+kerx_apart requested kern_mask points subtables b free q first second alone place none parts =
     let line = ordered_line b in
     let great = greater_of q line place.starts in
     let cut = cut_line kerx_skips q b place in
     positioned_apart (kerx_kerning kern_mask points) requested (greater_at q line) b.direction (AreNow q b.direction line)
     (ways_now q b.direction line) (now_attached kerx_skips kern_mask q b.direction line free cut)
-    (λ x. kerx_now kern_mask q (greater_at q line) great.0 b.direction line free great.1 points cut x.has_cross_stream x.tuple_count x.kind)
-    (λ x d. kerx_is_paid kern_mask points x.has_cross_stream x.tuple_count x.kind d)
+    (λ x. kerx_now kern_mask q (greater_at q line) great.0 b.direction line free great.1 points cut x.has_cross_stream x.tuple_count x.format)
+    (λ x d. kerx_is_paid kern_mask points x.has_cross_stream x.tuple_count x.format d)
     q line subtables b (unsafe_to_concat b None None) (unsafe_to_concat first None None) (unsafe_to_concat second None None)
     refl alone refl (λ d e f now. now.apart) (marked_parts_now q b first second parts) (ordered_marked b) none
 
@@ -291,7 +301,7 @@ kern_apart :
     → bit_and kern_mask 7 ≡ 0
     → CanBeCut kern_skips (map (kern_kerning kern_mask) subtables) (kern_positioning requested kern_mask subtables) b
 unfolding kern_positioning
-kern_apart requested kern_mask subtables b free q first second alone place none parts _ =
+kern_apart requested kern_mask subtables b free q first second alone place none parts =
     let line = ordered_line b in
     let great = greater_of q line place.starts in
     let cut = cut_line kern_skips q b place in

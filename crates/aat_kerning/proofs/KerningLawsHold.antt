@@ -9,6 +9,12 @@ use Rattle.aat_buffer.specs.facts.Cases.{chosen, either}
 use Rattle.aat_glyph.specs.Directions.{is_backward}
 use Rattle.aat_font.specs.Table.{TableValue}
 use Rattle.aat_font.specs.declared.state_table.GenericStateEntry.{GenericStateEntry}
+use Rattle.aat_font.specs.declared.kern.KernKind.{KernKind}
+use Rattle.aat_font.specs.declared.kern.KernKind.TheVariants as kind
+use Rattle.aat_font.specs.declared.kern.KernSubtable.{KernSubtable}
+use Rattle.aat_font.specs.declared.kerx.KerxFormat.{KerxFormat}
+use Rattle.aat_font.specs.declared.kerx.KerxFormat.TheVariants.{Format0, Format1, Format2, Format4, Format6}
+use Rattle.aat_font.specs.declared.kerx.KerxSubtable.{KerxSubtable}
 use Rattle.aat_font.specs.AnchorPoints.{Points}
 use Rattle.aat_run.specs.Budget.{operations_left}
 use Rattle.aat_run.specs.Context.{start}
@@ -17,7 +23,7 @@ use Rattle.aat_kerning.specs.Anchors.{anchor_driver, IsFit}
 use Rattle.aat_kerning.specs.KerningLaws.{IsLawfulDriver, KerningRunsEnd, IsMarkedFrom, IsKernedFrom}
 use Rattle.aat_kerning.specs.KerningLawful.{FitsAlways, DriversAreLawful, KerningIsBounded, KerningChangesLittle}
 use Rattle.aat_kerning.specs.KerningMachine.{Driver, kerning_machine_of, kerning_whole}
-use Rattle.aat_kerning.specs.Positioning.{Kerning, Positioned, positioned, positioning, driver_run, cursively_attached, in_processing_order, is_for_text, KerxKind, KerxPairs, KerxStack, KerxAnchors, KernKind, KernPairs, KernMachine, KerxSubtable, KernSubtable, kerx_run, kern_run, kerx_kerning, kern_kerning, kerx_positioning, kern_positioning}
+use Rattle.aat_kerning.specs.Positioning.{Kerning, Positioned, positioned, positioning, driver_run, cursively_attached, in_processing_order, is_for_text, kerx_run, kern_run, kerx_kerning, kern_kerning, kerx_positioning, kern_positioning}
 use Rattle.aat_kerning.specs.Stack.{kerx_driver, kern_driver}
 use Rattle.aat_kerning.specs.facts.AnchorLaws.{anchors_are_lawful}
 use Rattle.aat_kerning.specs.facts.StackLaws.{kerx_is_lawful, kern_is_lawful}
@@ -71,21 +77,25 @@ module _ {T R : Type 0} (pays_first : Bool) (x : Driver R (GenericStateEntry T))
       runs_end (kerning_machine_of pays_first table x) fits laws.keeps_place laws.keeps_fit laws.passes_fit
 
 pub kerx_is_paid :
-    (kern_mask : ℕ) (points : Option Points) (is_cross : Bool) (tuple_count : ℕ) (k : KerxKind) (b : Buffer)
+    (kern_mask : ℕ) (points : Option Points) (is_cross : Bool) (tuple_count : ℕ) (k : KerxFormat) (b : Buffer)
     → IsPaid b (kerx_run kern_mask points is_cross tuple_count k b)
-kerx_is_paid kern_mask points is_cross tuple_count (KerxPairs asked values) b =
-    paid_without_turns b _ (of_pair_kerning _ kern_mask is_cross values asked b)
-kerx_is_paid kern_mask points is_cross tuple_count (KerxStack table values) b =
-    driver_is_paid false (kerx_driver is_cross kern_mask tuple_count values) FitsAlways (kerx_is_lawful is_cross kern_mask tuple_count values) table b
-kerx_is_paid kern_mask points is_cross tuple_count (KerxAnchors table pairs) b =
-    driver_is_paid false (anchor_driver points pairs) IsFit (anchors_are_lawful points pairs) table b
+kerx_is_paid kern_mask points is_cross tuple_count (Format0 values) b =
+    paid_without_turns b _ (of_pair_kerning _ kern_mask is_cross values false b)
+kerx_is_paid kern_mask points is_cross tuple_count (Format1 s) b =
+    driver_is_paid false (kerx_driver is_cross kern_mask tuple_count s.values) FitsAlways (kerx_is_lawful is_cross kern_mask tuple_count s.values) s.state_table b
+kerx_is_paid kern_mask points is_cross tuple_count (Format2 values) b =
+    paid_without_turns b _ (of_pair_kerning _ kern_mask is_cross values true b)
+kerx_is_paid kern_mask points is_cross tuple_count (Format4 s) b =
+    driver_is_paid false (anchor_driver points s.anchor_points) IsFit (anchors_are_lawful points s.anchor_points) s.state_table b
+kerx_is_paid kern_mask points is_cross tuple_count (Format6 values) b =
+    paid_without_turns b _ (of_pair_kerning _ kern_mask is_cross values false b)
 
 pub kern_is_paid :
     (kern_mask : ℕ) (is_cross : Bool) (k : KernKind) (b : Buffer) → IsPaid b (kern_run kern_mask is_cross k b)
-kern_is_paid kern_mask is_cross (KernPairs values) b =
+kern_is_paid kern_mask is_cross (kind.Pairs values) b =
     paid_without_turns b _ (of_pair_kerning _ kern_mask is_cross values true b)
-kern_is_paid kern_mask is_cross (KernMachine table values) b =
-    driver_is_paid true (kern_driver is_cross kern_mask values) FitsAlways (kern_is_lawful is_cross kern_mask values) table b
+kern_is_paid kern_mask is_cross (kind.Machine s) b =
+    driver_is_paid true (kern_driver is_cross kern_mask s.values) FitsAlways (kern_is_lawful is_cross kern_mask s.values) s.state_table b
 
 -- what the subtables so far leave of a line of n glyphs with the operations ops, in so many turns at most
 pub record IsPaidSoFar (b : Buffer) (most : ℕ) (s : Positioned) : Type 0 where
@@ -164,7 +174,7 @@ kerx_is_positioned requested kern_mask points subtables b =
     let o = positioning requested (map (kerx_kerning kern_mask points) subtables) d in
     let marked = of_marked true b in
     let k : IsPositioned (length subtables) d o =
-    positioning_is_bounded requested (kerx_kerning kern_mask points) subtables d (λ s x. kerx_is_paid kern_mask points s.has_cross_stream s.tuple_count s.kind x) in
+    positioning_is_bounded requested (kerx_kerning kern_mask points) subtables d (λ s x. kerx_is_paid kern_mask points s.has_cross_stream s.tuple_count s.format x) in
     let turns : length subtables * (length d.line + 1) ≡ length subtables * (length b.line + 1) = ap (λ n. length subtables * (n + 1)) (long b d marked) in
     record { turns = omega (arith, k.turns, marked.budget, turns); kept = kerned_twice b d o.buffer marked k.kept }
 

@@ -52,6 +52,8 @@ pair_examples = record {
   backward_cut = refl;
   advances_added = refl;
   values_added = refl;
+  advances_added_twice = refl;
+  values_added_twice = refl;
 }
 
 machine_examples : MachineExamples

@@ -1,3 +1,5 @@
+pub mod Attached
+pub mod Called
 pub mod Changes
 pub mod CutAlike
 pub mod CutHolds
@@ -6,9 +8,13 @@ pub mod CutMoves
 pub mod CutPairs
 pub mod CutRuns
 pub mod CutStep
+pub mod InStream
 pub mod KerningLawsHold
 pub mod KerningRowsHold
 pub mod KerningRuns
 pub mod Marked
+pub mod Positioned
 pub mod Summed
+pub mod SummedTables
+pub mod Walk
 pub mod Zeroed

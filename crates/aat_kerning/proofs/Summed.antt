@@ -12,7 +12,8 @@ use Rattle.aat_glyph.specs.Directions.{is_horizontal}
 use Rattle.aat_glyph.specs.declared.glyph.GlyphPosition.{GlyphPosition}
 use Rattle.aat_glyph.specs.declared.glyph.hb_glyph_info_t.{hb_glyph_info_t}
 use Rattle.aat_kerning.specs.Advances.{advance, all_advances, all_values, PairsChangeTheAdvances}
-use Rattle.aat_kerning.specs.PairKerning.{pair_key, value_of, half, pair_kerning}
+use Rattle.aat_font.specs.Pairs.{pair_key}
+use Rattle.aat_kerning.specs.PairKerning.{value_of, half, pair_kerning}
 use Rattle.aat_kerning.specs.Pairs.{Pair, pairs_of}
 use Rattle.aat_kerning.specs.Positions.{plus, with_advance, with_shift}
 use Rattle.aat_kerning.proofs.CutMoves.{on_place, moved_by, moved_if, moves, value_at, pairs_move}
@@ -22,7 +23,7 @@ swapped : (a x y : ℤ) → (a +ℤ x) +ℤ y ≡ (a +ℤ y) +ℤ x
 swapped a x y = omega (arith, ints)
 
 -- a sum that begins with something more
-sum_from :
+pub sum_from :
     {X : Type 0} (f : X → ℤ) (a x : ℤ) (xs : List X)
     → fold (λ s y. s +ℤ f y) (a +ℤ x) xs ≡ fold (λ s y. s +ℤ f y) a xs +ℤ x
 sum_from f a x [] = refl
@@ -43,7 +44,7 @@ module _ (h : Bool) where
       ∙ (swapped (sum a xs) (advance h q) (advance h x) ∙ ap (λ s. s +ℤ advance h q) (sym (sum_from (advance h) a (advance h x) xs)))
   sum_of_set a (x ∷ xs) (suc i) q low = sum_of_set (a +ℤ advance h x) xs i q (omega (arith, low))
 
-  abbrev Fits : List GlyphPosition → Type 0
+  abbrev pub Fits : List GlyphPosition → Type 0
   Fits qs = All (λ q. FitsSigned w32 (advance h q)) qs
 
   -- a write that adds v to an advance
@@ -166,7 +167,7 @@ length_of_moves h v p qs =
     (length-set ps p.right _ ∙ length-set qs p.left _)
 
 -- all pairs
-sum_of_pairs :
+pub sum_of_pairs :
     (h : Bool) (values : List (ℕ × ℕ × ℤ)) (line : List hb_glyph_info_t) → All (λ v. FitsSigned w16 v.2) values
     → (ps : List Pair) (qs : List GlyphPosition) → AllBefore (length qs) ps → Fits h qs
     → int_wrap w32 (all_advances h (fold (λ qs p. moves false h values line p qs) qs ps))
@@ -192,6 +193,18 @@ sum_of_pairs h values line small (p ∷ ps) qs before fits =
 
     turned : (s v t : ℤ) → (s +ℤ v) +ℤ t ≡ s +ℤ (t +ℤ v)
     turned s v t = omega (arith, ints)
+
+-- advances of 32 bits stay so
+pub fits_of_pairs :
+    (h : Bool) (values : List (ℕ × ℕ × ℤ)) (line : List hb_glyph_info_t) → All (λ v. FitsSigned w16 v.2) values
+    → (ps : List Pair) (qs : List GlyphPosition) → AllBefore (length qs) ps → Fits h qs
+    → Fits h (fold (λ qs p. moves false h values line p qs) qs ps)
+fits_of_pairs h values line small [] qs before fits = fits
+fits_of_pairs h values line small (p ∷ ps) qs before fits =
+    let v = value_at values line p in
+    let here = sum_of_pair h v p qs (value_fits values (glyph_at line p.left).glyph_id (glyph_at line p.right).glyph_id small) before.0.0 before.0.1 fits in
+    let inside = subst (λ n. AllBefore n ps) (sym (length_of_moves h v p qs)) before.1 in
+    fits_of_pairs h values line small ps (moves false h values line p qs) inside here.1
 
 pub pairs_change_the_advances : PairsChangeTheAdvances
 unfolding pair_kerning

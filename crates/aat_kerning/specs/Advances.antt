@@ -1,12 +1,20 @@
 -- The sum of the advances of a line: how long it is. TrueType Reference Manual: The 'kern' table.
-use Rattle.std.specs.Prelude.{◌≡◌, ℕ, Bool, true, false, List, length, ℤ, pos, ◌+ℤ◌, All, fold, FitsSigned}
+use Rattle.std.specs.Prelude.{◌≡◌, ℕ, Bool, true, false, List, [], length, ℤ, pos, ◌+ℤ◌, All, None, fold, FitsSigned, if◌then◌else◌}
 use Rattle.std.specs.Int.{int_wrap, w16, w32}
 use Rattle.aat_buffer.specs.Buffer.{Buffer, glyph_at, position_list}
+use Rattle.aat_font.specs.declared.kern.KernKind.{KernKind}
+use Rattle.aat_font.specs.declared.kern.KernKind.TheVariants as kind
+use Rattle.aat_font.specs.declared.kern.KernSubtable.{KernSubtable}
+use Rattle.aat_font.specs.declared.kerx.KerxFormat.{KerxFormat}
+use Rattle.aat_font.specs.declared.kerx.KerxFormat.TheVariants.{Format0, Format1, Format2, Format4, Format6}
+use Rattle.aat_font.specs.declared.kerx.KerxSubtable.{KerxSubtable}
 use Rattle.aat_glyph.specs.Directions.{is_horizontal}
 use Rattle.aat_glyph.specs.declared.glyph.GlyphPosition.{GlyphPosition}
 use Rattle.aat_glyph.specs.declared.glyph.hb_glyph_info_t.{hb_glyph_info_t}
+use Rattle.aat_kerning.specs.Cut.{ordered_line}
 use Rattle.aat_kerning.specs.PairKerning.{pair_kerning, value_of}
-use Rattle.aat_kerning.specs.Pairs.{Pair, pairs_of}
+use Rattle.aat_kerning.specs.Pairs.{Pair, kern_skips, kerx_skips, pairs_of}
+use Rattle.aat_kerning.specs.Positioning.{Kerning, is_for_text, kern_kerning, kerx_kerning}
 
 -- the advance along the line: in x where the text is horizontal, and else in y
 abbrev pub advance : Bool → GlyphPosition → ℤ
@@ -33,3 +41,54 @@ PairsChangeTheAdvances =
     → All (λ v. FitsSigned w16 v.2) values
     → int_wrap w32 (all_advances h (position_list (pair_kerning skips kern_mask false values b)))
     ≡ int_wrap w32 (all_advances h (position_list b) +ℤ all_values values b.line (pairs_of skips kern_mask b.line))
+
+-- the pairs of a `kerx` subtable with their values, and none of a machine
+abbrev pub kerx_values : KerxFormat → List (ℕ × ℕ × ℤ)
+kerx_values (Format0 values) = values
+kerx_values (Format1 s) = []
+kerx_values (Format2 values) = values
+kerx_values (Format4 s) = []
+kerx_values (Format6 values) = values
+
+-- those of a `kern` subtable
+abbrev pub kern_values : KernKind → List (ℕ × ℕ × ℤ)
+kern_values (kind.Pairs values) = values
+kern_values (kind.Machine s) = []
+
+-- a subtable of pairs in the stream, whose values have 16 bits
+pub record IsInStream (k : Kerning) (values : List (ℕ × ℕ × ℤ)) : Type 0 where
+  pub pairs : k.is_pairs ≡ true
+  pub along : k.has_cross_stream ≡ false
+  pub small : All (λ v. FitsSigned w16 v.2) values
+
+-- the sum of the values of the pairs of a line, in processing order, by a subtable that is for its text, and else 0
+abbrev pub values_by : Kerning → List (ℕ × ℕ × ℤ) → ℕ → ℕ → Buffer → ℤ
+values_by k values skips kern_mask b =
+    let line = ordered_line b in
+    if is_for_text k b then all_values values line (pairs_of skips kern_mask line) else pos 0
+
+-- and by all subtables
+abbrev pub values_by_all : {X : Type 0} → (X → Kerning) → (X → List (ℕ × ℕ × ℤ)) → ℕ → ℕ → List X → Buffer → ℤ
+values_by_all kerning values_of skips kern_mask xs b =
+    fold (λ s x. s +ℤ values_by (kerning x) (values_of x) skips kern_mask b) (pos 0) xs
+
+-- What was left of a line with advances of 32 bits, where the subtables that are for its text are of pairs in the
+-- stream: the sum of the advances is changed by the sum of the values of all of them, modulo 2 ^ 32.
+abbrev pub AdvancesGainValues :
+    {X : Type 0} → (X → Kerning) → (X → List (ℕ × ℕ × ℤ)) → ℕ → ℕ → List X → Buffer → Buffer → Type 0
+AdvancesGainValues kerning values_of skips kern_mask xs b left =
+    let h = is_horizontal b.direction in
+    All (λ q. FitsSigned w32 (advance h q)) (position_list b)
+    → All (λ x. is_for_text (kerning x) b ≡ true → IsInStream (kerning x) (values_of x)) xs
+    → int_wrap w32 (all_advances h (position_list left))
+    ≡ int_wrap w32 (all_advances h (position_list b) +ℤ values_by_all kerning values_of skips kern_mask xs b)
+
+-- so it is of the subtables of a `kerx` table
+abbrev pub KerxSumsAdvances : ℕ → List KerxSubtable → Buffer → Buffer → Type 0
+KerxSumsAdvances kern_mask subtables b left =
+    AdvancesGainValues (kerx_kerning kern_mask None) (λ s. kerx_values s.format) kerx_skips kern_mask subtables b left
+
+-- and of those of a `kern` table
+abbrev pub KernSumsAdvances : ℕ → List KernSubtable → Buffer → Buffer → Type 0
+KernSumsAdvances kern_mask subtables b left =
+    AdvancesGainValues (kern_kerning kern_mask) (λ s. kern_values s.kind) kern_skips kern_mask subtables b left

@@ -4,11 +4,13 @@ use Rattle.std.specs.Prelude.{◌≡◌, ◌≢◌, ℕ, ◌<◌, ◌-◌, Bool,
 use Rattle.aat_buffer.specs.Buffer.{Buffer, glyph_at, position_list}
 use Rattle.aat_buffer.specs.Marks.{cluster_at}
 use Rattle.aat_font.specs.AnchorPoints.{Points}
+use Rattle.aat_font.specs.declared.kern.KernSubtable.{KernSubtable}
+use Rattle.aat_font.specs.declared.kerx.KerxSubtable.{KerxSubtable}
 use Rattle.aat_glyph.specs.declared.glyph.GlyphPosition.{GlyphPosition}
 use Rattle.aat_glyph.specs.declared.glyph.hb_glyph_info_t.{hb_glyph_info_t}
 use Rattle.aat_run.specs.Outcome.{Outcome}
 use Rattle.aat_kerning.specs.Pairs.{kerx_skips, kern_skips, is_solid}
-use Rattle.aat_kerning.specs.Positioning.{Kerning, is_for_text, in_processing_order, KerxSubtable, KernSubtable, kerx_kerning, kern_kerning, kerx_positioning, kern_positioning}
+use Rattle.aat_kerning.specs.Positioning.{Kerning, is_for_text, in_processing_order, kerx_kerning, kern_kerning, kerx_positioning, kern_positioning}
 
 -- the glyphs of a buffer in processing order
 abbrev pub ordered_line : Buffer → List hb_glyph_info_t
@@ -59,22 +61,36 @@ pub record HaveFlagsOf (b first second : Buffer) : Type 0 where
   pub front : first.flags ≡ b.flags
   pub back : second.flags ≡ b.flags
 
--- A kerning by these subtables can be cut: where pairs alone are for the text, at each place where of the two glyphs
--- the one with the greater cluster is left unflagged, it leaves of all parts that are allowed what it leaves of the
--- whole.
-abbrev pub CanBeCutInto : (Buffer → Buffer → Buffer → Type 0) → ℕ → List Kerning → (Buffer → Outcome) → Buffer → Type 0
-CanBeCutInto Allowed skips ks kern b =
-    (q : ℕ) (first second : Buffer)
-    → PairsAlone ks b → IsCutPlace skips q b → IsUnflaggedAt q (ordered_line (kern b).buffer)
-    → AreParts q b first second → Allowed b first second → IsKernedInParts kern b first second
+-- the two parts of a buffer that is cut, with its buffer flags
+pub record AreAlikeParts (q : ℕ) (b first second : Buffer) : Type 0 where
+  pub parts : AreParts q b first second
+  pub flags : HaveFlagsOf b first second
 
--- into parts with any buffer flags
+-- What was left of b by this kerning is left of all of these parts: where pairs alone are for the text, at each place
+-- where of the two glyphs the one with the greater cluster was left unflagged, the positions that were left are those
+-- of the first part, and then those of the second.
+abbrev pub IsLeftOfAll :
+    (ℕ → Buffer → Buffer → Buffer → Type 0) → ℕ → List Kerning → (Buffer → Outcome) → Buffer → Buffer → Type 0
+IsLeftOfAll AreThese skips ks kern b left =
+    (q : ℕ) (first second : Buffer)
+    → PairsAlone ks b → IsCutPlace skips q b → IsUnflaggedAt q (ordered_line left) → AreThese q b first second
+    → ordered_positions left ≡ ordered_positions (kern first).buffer ++ ordered_positions (kern second).buffer
+
+-- of parts with any buffer flags
+abbrev pub IsLeftOfParts : ℕ → List Kerning → (Buffer → Outcome) → Buffer → Buffer → Type 0
+IsLeftOfParts skips ks kern b left = IsLeftOfAll AreParts skips ks kern b left
+
+-- of parts with the buffer flags of the whole
+abbrev pub IsLeftOfAlikeParts : ℕ → List Kerning → (Buffer → Outcome) → Buffer → Buffer → Type 0
+IsLeftOfAlikeParts skips ks kern b left = IsLeftOfAll AreAlikeParts skips ks kern b left
+
+-- a kerning by these subtables can be cut: it leaves of all parts, with any buffer flags, what it leaves of the whole
 abbrev pub CanBeCut : ℕ → List Kerning → (Buffer → Outcome) → Buffer → Type 0
-CanBeCut skips ks kern b = CanBeCutInto (λ b first second. Unit {0}) skips ks kern b
+CanBeCut skips ks kern b = IsLeftOfParts skips ks kern b (kern b).buffer
 
 -- into parts with the buffer flags of the whole
 abbrev pub CanBeCutAlike : ℕ → List Kerning → (Buffer → Outcome) → Buffer → Type 0
-CanBeCutAlike skips ks kern b = CanBeCutInto HaveFlagsOf skips ks kern b
+CanBeCutAlike skips ks kern b = IsLeftOfAlikeParts skips ks kern b (kern b).buffer
 
 -- by a kern mask without glyph flags (7), pairs can be kerned in two parts
 pub record PartsAreKernedApart : Type 0 where

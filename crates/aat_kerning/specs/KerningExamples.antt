@@ -9,14 +9,17 @@ use Rattle.aat_font.specs.declared.entries.KernEntryData.{KernEntryData}
 use Rattle.aat_font.specs.declared.state_table.GenericStateEntry.{GenericStateEntry}
 use Rattle.aat_run.specs.Outcome.{Outcome, untouched}
 use Rattle.aat_run.specs.Rows.{glyph, entry, many}
-use Rattle.aat_kerning.specs.Advances.{all_advances, all_values}
+use Rattle.aat_kerning.specs.Advances.{all_advances, all_values, kern_values, values_by_all}
 use Rattle.aat_kerning.specs.Cut.{ordered_line, IsCutPlace, IsUnflaggedAt, AreParts, IsKernedInParts}
 use Rattle.aat_kerning.specs.KerningRows.{positions_of, skipped_mark, kern_machine, three_values, two_points}
 use Rattle.aat_kerning.specs.PairKerning.{pair_kerning}
 use Rattle.aat_kerning.specs.Pairs.{kern_skips, pairs_of}
-use Rattle.aat_kerning.specs.Positioning.{KerxSubtable, KerxPairs, KerxStack, KerxAnchors, KernPairs, KernMachine, KernSubtable, kerx_run, kern_positioning}
+use Rattle.aat_font.specs.declared.kerx.KerxFormat.TheVariants.{Format0, Format2}
+use Rattle.aat_font.specs.declared.kern.KernSubtable.{KernSubtable}
+use Rattle.aat_font.specs.declared.kerx.KerxSubtable.{KerxSubtable}
+use Rattle.aat_kerning.specs.Positioning.{kerx_run, kern_kerning, kern_positioning}
 use Rattle.aat_kerning.specs.Positions.{attached_as}
-use Rattle.aat_kerning.specs.RowWords.{position, untouched_position, along_x, PrintedKerning, printed_kerning, shows_positions, shows_three_turns, asking_from, two_glyphs, two_glyphs_marked, buffer_with_advances, kern_subtable, kerx_subtable, by_kern, by_kerx, values_from, no_values, action_at, no_action, kern_rules, kerx_rules, kern_entries, kerx_entries, anchor_entries, kern_pairs}
+use Rattle.aat_kerning.specs.RowWords.{position, untouched_position, along_x, PrintedKerning, printed_kerning, shows_positions, shows_three_turns, asking_from, two_glyphs, two_glyphs_marked, buffer_with_advances, kern_subtable, kerx_subtable, by_kern, by_kerx, values_from, no_values, action_at, no_action, kern_rules, kerx_rules, kern_entries, kerx_entries, anchor_entries, kern_pairs, pairs_of_kern, machine_of_kern, stack_of_kerx, anchors_of_kerx}
 
 -- the two glyphs in horizontal text, left to right
 abbrev pub in_a_row : Buffer
@@ -54,9 +57,14 @@ with_middle g = glyph 1 0 8 ∷ g ∷ glyph 2 2 8 ∷ []
 abbrev pub four_glyphs : List hb_glyph_info_t
 four_glyphs = asking_from 0 (1 ∷ 2 ∷ 3 ∷ 4 ∷ [])
 
+-- the subtable of row 16 twice, and once for vertical text
+abbrev pub three_tables : List KernSubtable
+three_tables =
+    let one = kern_subtable (pairs_of_kern three_values) in one ∷ one ∷ record one { horizontal = false } ∷ []
+
 -- a `kern` subtable of pairs across the stream
 abbrev pub kern_across : KernSubtable
-kern_across = record (kern_subtable (KernPairs (one_pair (pos 30)))) { has_cross_stream = true }
+kern_across = record (kern_subtable (pairs_of_kern (one_pair (pos 30)))) { has_cross_stream = true }
 
 -- which glyphs pair, and what a pair moves. TrueType Reference Manual: The 'kern' table and The 'kerx' table.
 pub record PairExamples : Type 0 where
@@ -65,7 +73,7 @@ pub record PairExamples : Type 0 where
       kern_pairs LeftToRight (one_pair (negsuc 24)) (with_middle (record (glyph 3 1 8) { glyph_props = 2 }))
       ≡ shows_positions (with_middle (record (glyph 3 1 8) { glyph_props = 2 })) (untouched_position ∷ two_untouched)
   pub kerx_skips_base :
-      by_kerx None (kerx_subtable (KerxPairs false (one_pair (negsuc 24))) ∷ [])
+      by_kerx None (kerx_subtable (Format0 (one_pair (negsuc 24))) ∷ [])
       (buffer_with_advances LeftToRight many (with_middle (record (glyph 3 1 8) { glyph_props = 2 })))
       ≡ shows_positions (glyph 1 0 8 ∷ record (glyph 3 1 11) { glyph_props = 2 } ∷ glyph 2 2 11 ∷ [])
       (along_x (pos 487) (pos 0) ∷ untouched_position ∷ along_x (pos 488) (negsuc 11) ∷ [])
@@ -89,7 +97,7 @@ pub record PairExamples : Type 0 where
       ≡ along_x (pos 487) (pos 0) ∷ along_x (pos 488) (negsuc 11) ∷ []
   -- in vertical text the halves go to y, and a value across the stream to x
   pub vertical_pair :
-      by_kern (record (kern_subtable (KernPairs (one_pair (negsuc 24)))) { horizontal = false } ∷ []) in_a_column
+      by_kern (record (kern_subtable (pairs_of_kern (one_pair (negsuc 24)))) { horizontal = false } ∷ []) in_a_column
       ≡ shows_positions two_glyphs_marked
       (position (pos 500) (negsuc 12) (pos 0) (pos 0) ∷ position (pos 500) (negsuc 11) (pos 0) (negsuc 11) ∷ [])
   pub vertical_pair_across :
@@ -112,12 +120,18 @@ pub record PairExamples : Type 0 where
   pub advances_added :
       all_advances true (positions_of (kern_pairs LeftToRight three_values four_glyphs)) ≡ pos 1990
   pub values_added : all_values three_values four_glyphs (pairs_of kern_skips 8 four_glyphs) ≡ negsuc 9
+  -- two subtables that are for the text change them twice, so they become 1980
+  pub advances_added_twice :
+      all_advances true (positions_of (by_kern three_tables (buffer_with_advances LeftToRight many four_glyphs))) ≡ pos 1980
+  pub values_added_twice :
+      values_by_all (kern_kerning 8) (λ s. kern_values s.kind) kern_skips 8 three_tables
+      (buffer_with_advances LeftToRight many four_glyphs) ≡ negsuc 19
 
 -- a `kern` machine with rules, values and glyphs
 abbrev pub kern_machine_of :
     List (ℕ × ℕ × GenericStateEntry KernEntryData) → List ℤ → List ℕ → PrintedKerning
 kern_machine_of rules values ids =
-    by_kern (kern_subtable (KernMachine (kern_rules rules) values) ∷ [])
+    by_kern (kern_subtable (machine_of_kern (kern_rules rules) values) ∷ [])
     (buffer_with_advances LeftToRight many (asking_from 0 ids))
 
 -- what a machine shows of a line whose positions stay
@@ -146,7 +160,7 @@ pub record MachineExamples : Type 0 where
       ≡ shows_unmoved two_glyphs_marked 3 (pos 16382)
   -- where the state has no entry for the end, the run ends before the last glyph
   pub nothing_ahead :
-      by_kern (kern_subtable (KernMachine (record {
+      by_kern (kern_subtable (machine_of_kern (record {
         class_count = 6;
         classes = [];
         rules = (0, 1, entry 0 0 no_values) ∷ [];
@@ -154,17 +168,18 @@ pub record MachineExamples : Type 0 where
       ≡ shows_unmoved two_glyphs 1 many
   -- with one operation left a `kern` entry that stays moves on, and a `kerx` entry stays once more
   pub last_operation_of_kern :
-      by_kern (kern_subtable (KernMachine (kern_rules ((0, 4, entry 0 0x4000 no_values) ∷ [])) []) ∷ [])
+      by_kern (kern_subtable (machine_of_kern (kern_rules ((0, 4, entry 0 0x4000 no_values) ∷ [])) []) ∷ [])
       (buffer_with_advances LeftToRight (pos 1) (asking_from 0 (1 ∷ [])))
       ≡ record (shows_positions (asking_from 0 (1 ∷ [])) (untouched_position ∷ [])) { turns = 2; budget = pos 0 }
   pub last_operation_of_kerx :
-      by_kerx None (kerx_subtable (KerxStack (kerx_rules ((0, 4, entry 0 0x4000 no_action) ∷ [])) []) ∷ [])
+      by_kerx None (kerx_subtable (stack_of_kerx (kerx_rules ((0, 4, entry 0 0x4000 no_action) ∷ [])) []) ∷ [])
       (buffer_with_advances LeftToRight (pos 1) (asking_from 0 (1 ∷ [])))
       ≡ record (shows_positions (asking_from 0 (1 ∷ [])) (untouched_position ∷ [])) { turns = 3; budget = negsuc 0 }
 
 -- a `kerx` stack subtable with values, so many tuples, and rules
 abbrev pub kerx_values : List (ℕ × ℕ × GenericStateEntry EntryData) → ℕ → List ℤ → KerxSubtable
-kerx_values rules tuples values = record (kerx_subtable (KerxStack (kerx_rules rules) values)) { tuple_count = tuples }
+kerx_values rules tuples values =
+    record (kerx_subtable (stack_of_kerx (kerx_rules rules) values)) { tuple_count = tuples }
 
 -- rules that push 1, and take values at 2 from an index, by an entry with flags
 abbrev pub taking : ℕ → ℕ → List (ℕ × ℕ × GenericStateEntry EntryData)
@@ -176,7 +191,7 @@ stack_across values = record (kerx_values (taking 0x8000 0) 1 values) { has_cros
 
 -- a `kern` machine that pushes 1 and 2 and takes values, for vertical text
 abbrev pub vertical_stack : Bool → List ℤ → KernSubtable
-vertical_stack is_cross values = record (kern_subtable (KernMachine kern_entries values)) {
+vertical_stack is_cross values = record (kern_subtable (machine_of_kern kern_entries values)) {
   horizontal = false;
   has_cross_stream = is_cross;
 }
@@ -205,7 +220,7 @@ pub record StackExamples : Type 0 where
       }
   -- a glyph whose mask does not meet the kern mask uses up its value
   pub unasked_place :
-      by_kern (kern_subtable (KernMachine kern_entries (pos 20 ∷ pos 10 ∷ [])) ∷ [])
+      by_kern (kern_subtable (machine_of_kern kern_entries (pos 20 ∷ pos 10 ∷ [])) ∷ [])
       (buffer_with_advances LeftToRight many (glyph 1 0 8 ∷ glyph 2 1 0 ∷ []))
       ≡ shows_three_turns (glyph 1 0 8 ∷ glyph 2 1 0 ∷ []) (along_x (pos 510) (pos 10) ∷ untouched_position ∷ [])
   -- 0x2000 empties the stack before the push
@@ -252,7 +267,7 @@ pub record StackExamples : Type 0 where
         scratch = 8;
       }
   pub values_across_unattached :
-      printed_kerning (kerx_run 8 None true 1 (KerxStack kerx_entries (pos 20 ∷ negsuc 6 ∷ [])) in_a_row)
+      printed_kerning (kerx_run 8 None true 1 (stack_of_kerx kerx_entries (pos 20 ∷ negsuc 6 ∷ [])) in_a_row)
       ≡ shows_three_turns two_glyphs two_untouched
   -- in vertical text a value goes to y, but only where there is no offset yet, and one across the stream goes to x
   pub vertical_values :
@@ -278,7 +293,7 @@ pub record StackExamples : Type 0 where
 -- an anchor subtable with rules and pairs of points, over three glyphs of which the last has no points
 abbrev pub anchored_three : List (ℕ × ℕ × GenericStateEntry EntryData) → List (ℕ × ℕ) → PrintedKerning
 anchored_three rules pairs =
-    by_kerx (Some two_points) (kerx_subtable (KerxAnchors (kerx_rules rules) pairs) ∷ [])
+    by_kerx (Some two_points) (kerx_subtable (anchors_of_kerx (kerx_rules rules) pairs) ∷ [])
     (buffer_with_advances LeftToRight many (asking_from 0 (1 ∷ 2 ∷ 3 ∷ [])))
 
 -- rules that mark 1, act at 2 and mark it, and act at 3
@@ -298,7 +313,7 @@ shows_attached positions = record (shows_positions (asking_from 0 (1 ∷ 2 ∷ 3
 pub record AnchorExamples : Type 0 where
   -- without anchor points the offsets stay, and the glyph is attached
   pub no_points :
-      by_kerx None (kerx_subtable (KerxAnchors anchor_entries ((0, 0) ∷ [])) ∷ []) in_a_row
+      by_kerx None (kerx_subtable (anchors_of_kerx anchor_entries ((0, 0) ∷ [])) ∷ []) in_a_row
       ≡ record (shows_three_turns two_glyphs (untouched_position ∷ attached_as 1 (negsuc 0) untouched_position ∷ [])) {
         scratch = 8;
       }
@@ -315,18 +330,18 @@ pub record AnchorExamples : Type 0 where
       ∷ attached_as 1 (negsuc 1) (position (pos 500) (pos 0) (pos 100) (pos 200)) ∷ [])
   -- at the end of the line nothing stands that could be attached
   pub at_end :
-      by_kerx (Some two_points) (kerx_subtable (KerxAnchors
+      by_kerx (Some two_points) (kerx_subtable (anchors_of_kerx
       (kerx_rules ((0, 4, entry 0 0x8000 no_action) ∷ (0, 0, entry 0 0 (action_at 0)) ∷ [])) ((0, 0) ∷ [])) ∷ [])
       (buffer_with_advances LeftToRight many (asking_from 0 (1 ∷ [])))
       ≡ record (shows_positions (asking_from 0 (1 ∷ [])) (untouched_position ∷ [])) { turns = 2; budget = pos 16383 }
 
 -- `kerx` pairs across the stream without a value
 abbrev pub attaching : KerxSubtable
-attaching = record (kerx_subtable (KerxPairs false [])) { has_cross_stream = true }
+attaching = record (kerx_subtable (Format0 [])) { has_cross_stream = true }
 
 -- an anchor subtable that attaches 2 to 1
 abbrev pub anchoring : KerxSubtable
-anchoring = kerx_subtable (KerxAnchors anchor_entries ((0, 0) ∷ []))
+anchoring = kerx_subtable (anchors_of_kerx anchor_entries ((0, 0) ∷ []))
 
 -- the position that the anchors give to 2
 abbrev pub anchored_position : GlyphPosition
@@ -365,20 +380,20 @@ pub record PositioningExamples : Type 0 where
       ≡ shows_positions two_glyphs
       (attached_as 2 (pos 1) untouched_position ∷ attached_as 2 (pos 1) untouched_position ∷ [])
   -- where the buffer asks for marks against joining, format 2 of `kerx` marks the whole line first, format 0 does not
-  pub format_2_marks : (kerx_run 8 None false 0 (KerxPairs true []) asking_for_concat).buffer.line ≡ two_glyphs_apart
-  pub format_0_does_not : (kerx_run 8 None false 0 (KerxPairs false []) asking_for_concat).buffer.line ≡ two_glyphs
+  pub format_2_marks : (kerx_run 8 None false 0 (Format2 []) asking_for_concat).buffer.line ≡ two_glyphs_apart
+  pub format_0_does_not : (kerx_run 8 None false 0 (Format0 []) asking_for_concat).buffer.line ≡ two_glyphs
   -- pairs of `kern` do, and its machines do not
   pub kern_pairs_mark :
-      by_kern (kern_subtable (KernPairs []) ∷ []) asking_for_concat ≡ shows_positions two_glyphs_apart two_untouched
+      by_kern (kern_subtable (pairs_of_kern []) ∷ []) asking_for_concat ≡ shows_positions two_glyphs_apart two_untouched
   pub kern_machine_does_not :
-      by_kern (kern_subtable (KernMachine (kern_rules []) []) ∷ []) asking_for_concat
+      by_kern (kern_subtable (machine_of_kern (kern_rules []) []) ∷ []) asking_for_concat
       ≡ shows_three_turns two_glyphs two_untouched
   -- positioning by `kerx` marks the whole line before any subtable
   pub kerx_marks : by_kerx None [] asking_for_concat ≡ shows_positions two_glyphs_apart two_untouched
 
 -- right to left, the pair of 2 and 1, of which 2 comes first in processing order
 abbrev pub backward_pair : Buffer → Outcome
-backward_pair b = kern_positioning true 8 (kern_subtable (KernPairs ((2, 1, negsuc 19) ∷ [])) ∷ []) b
+backward_pair b = kern_positioning true 8 (kern_subtable (pairs_of_kern ((2, 1, negsuc 19) ∷ [])) ∷ []) b
 
 -- right to left, glyphs with clusters from one on, so that clusters fall in processing order
 abbrev pub backward_line : ℕ → List ℕ → Buffer
@@ -419,11 +434,13 @@ pub record CutExamples : Type 0 where
       (along_x (pos 487) (pos 0) ∷ along_x (pos 488) (negsuc 11) ∷ [])
   -- by a kern mask of UNSAFE_TO_CONCAT (2) a line pairs where its buffer asks for that mark, and else it does not
   pub without_marks :
-      printed_kerning (kern_positioning true 2 (kern_subtable (KernPairs (one_pair (negsuc 24))) ∷ []) in_a_row)
+      printed_kerning (kern_positioning true 2 (kern_subtable (pairs_of_kern (one_pair (negsuc 24))) ∷ []) in_a_row)
       ≡ shows_positions two_glyphs two_untouched
   pub with_marks :
-      printed_kerning (kern_positioning true 2 (kern_subtable (KernPairs (one_pair (negsuc 24))) ∷ []) asking_for_concat)
-      ≡ shows_positions (glyph 1 0 10 ∷ glyph 2 1 11 ∷ []) (along_x (pos 487) (pos 0) ∷ along_x (pos 488) (negsuc 11) ∷ [])
+      printed_kerning
+      (kern_positioning true 2 (kern_subtable (pairs_of_kern (one_pair (negsuc 24))) ∷ []) asking_for_concat)
+      ≡ shows_positions (glyph 1 0 10 ∷ glyph 2 1 11 ∷ [])
+      (along_x (pos 487) (pos 0) ∷ along_x (pos 488) (negsuc 11) ∷ [])
   -- a machine moves 1 where 2 stands behind it, and flags neither (row 18a); it leaves 1 alone where it is
   pub machine_alone : positions_of (kern_machine many (1 ∷ [])) ≡ untouched_position ∷ []
 

@@ -5,12 +5,14 @@ use Rattle.aat_font.specs.AnchorPoints.{Points}
 use Rattle.aat_font.specs.Table.{TableValue}
 use Rattle.aat_font.specs.declared.entries.EntryData.{EntryData}
 use Rattle.aat_font.specs.declared.entries.KernEntryData.{KernEntryData}
+use Rattle.aat_font.specs.declared.kern.KernSubtable.{KernSubtable}
+use Rattle.aat_font.specs.declared.kerx.KerxSubtable.{KerxSubtable}
 use Rattle.aat_font.specs.declared.state_table.GenericStateEntry.{GenericStateEntry}
 use Rattle.aat_run.specs.Budget.{operations_left}
 use Rattle.aat_kerning.specs.Anchors.{anchor_driver, IsFit}
 use Rattle.aat_kerning.specs.KerningLaws.{IsLawfulDriver, KerningRunsEnd, IsKernedFrom}
 use Rattle.aat_kerning.specs.KerningMachine.{kerning_machine_of}
-use Rattle.aat_kerning.specs.Positioning.{KerxSubtable, KernSubtable, kerx_positioning, kern_positioning}
+use Rattle.aat_kerning.specs.Positioning.{kerx_positioning, kern_positioning}
 use Rattle.aat_kerning.specs.Stack.{kerx_driver, kern_driver}
 
 -- a stack fits everywhere, since it asks for the length before it uses a place

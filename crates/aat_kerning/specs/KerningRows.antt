@@ -6,9 +6,10 @@ use Rattle.aat_glyph.specs.declared.glyph.GlyphPosition.{GlyphPosition}
 use Rattle.aat_glyph.specs.declared.glyph.Direction.TheVariants.{LeftToRight, RightToLeft}
 use Rattle.aat_font.specs.AnchorPoints.{Points}
 use Rattle.aat_run.specs.Rows.{glyph, buffer_of, many}
-use Rattle.aat_kerning.specs.Positioning.{KerxPairs, KerxStack, KerxAnchors, KernPairs, KernMachine, kerx_positioning, kern_positioning}
+use Rattle.aat_font.specs.declared.kerx.KerxFormat.TheVariants.{Format0}
+use Rattle.aat_kerning.specs.Positioning.{kerx_positioning, kern_positioning}
 use Rattle.aat_kerning.specs.Positions.{attached_as}
-use Rattle.aat_kerning.specs.RowWords.{position, untouched_position, along_x, PrintedKerning, printed_kerning, shows_positions, shows_three_turns, asking_from, two_glyphs, two_glyphs_marked, buffer_with_advances, kern_subtable, kerx_subtable, by_kern, by_kerx, kern_entries, kerx_entries, anchor_entries, kern_pairs}
+use Rattle.aat_kerning.specs.RowWords.{position, untouched_position, along_x, PrintedKerning, printed_kerning, shows_positions, shows_three_turns, asking_from, two_glyphs, two_glyphs_marked, buffer_with_advances, kern_subtable, kerx_subtable, by_kern, by_kerx, kern_entries, kerx_entries, anchor_entries, kern_pairs, pairs_of_kern, machine_of_kern, stack_of_kerx, anchors_of_kerx}
 use Rattle.aat_kerning.specs.Zeroing.{zeroed}
 
 -- the positions alone
@@ -26,14 +27,14 @@ three_values = (1, 2, negsuc 19) ∷ (2, 3, pos 0) ∷ (3, 4, pos 10) ∷ []
 -- a `kern` machine with the values 20 and 11
 abbrev pub kern_machine : ℤ → List ℕ → PrintedKerning
 kern_machine budget ids =
-    by_kern (kern_subtable (KernMachine kern_entries (pos 20 ∷ pos 11 ∷ [])) ∷ [])
+    by_kern (kern_subtable (machine_of_kern kern_entries (pos 20 ∷ pos 11 ∷ [])) ∷ [])
     (buffer_with_advances LeftToRight budget (asking_from 0 ids))
 
 -- a `kerx` stack machine with so many tuples
 abbrev pub kerx_tuples : ℕ → PrintedKerning
 kerx_tuples count =
     by_kerx None
-    (record (kerx_subtable (KerxStack kerx_entries (pos 20 ∷ pos 0 ∷ pos 11 ∷ []))) { tuple_count = count } ∷ [])
+    (record (kerx_subtable (stack_of_kerx kerx_entries (pos 20 ∷ pos 0 ∷ pos 11 ∷ []))) { tuple_count = count } ∷ [])
     (buffer_with_advances LeftToRight many two_glyphs)
 
 -- anchor points of the glyphs 1 and 2
@@ -51,7 +52,7 @@ pub record KerningRows : Type 0 where
       ≡ shows_positions two_glyphs_marked (along_x (pos 487) (pos 0) ∷ along_x (pos 488) (negsuc 11) ∷ [])
   -- a mark in between is skipped; it has an advance of 0
   pub row_15b :
-      by_kern (kern_subtable (KernPairs ((1, 2, negsuc 24) ∷ [])) ∷ [])
+      by_kern (kern_subtable (pairs_of_kern ((1, 2, negsuc 24) ∷ [])) ∷ [])
       (record (buffer_of (glyph 1 0 8 ∷ skipped_mark 3 1 8 ∷ glyph 2 2 8 ∷ []) many) {
         positions = Some (untouched_position ∷ along_x (pos 0) (pos 0) ∷ untouched_position ∷ []);
       })
@@ -69,7 +70,7 @@ pub record KerningRows : Type 0 where
       ++ positions_of (kern_pairs LeftToRight three_values (asking_from 2 (3 ∷ 4 ∷ [])))
   -- right to left
   pub row_17a :
-      printed_kerning (kern_positioning false 8 (kern_subtable (KernPairs ((2, 1, negsuc 24) ∷ [])) ∷ [])
+      printed_kerning (kern_positioning false 8 (kern_subtable (pairs_of_kern ((2, 1, negsuc 24) ∷ [])) ∷ [])
       (buffer_with_advances RightToLeft many two_glyphs))
       ≡ shows_positions two_glyphs (untouched_position ∷ untouched_position ∷ [])
   pub row_17b :
@@ -96,13 +97,13 @@ pub record KerningRows : Type 0 where
   pub row_19d : line_without_deleted (glyph 5 0 0 ∷ glyph 65535 1 0 ∷ []) ≡ glyph 5 0 0 ∷ []
   -- sums wrap
   pub row_20 :
-      by_kern (kern_subtable (KernPairs ((1, 2, pos 3) ∷ [])) ∷ [])
+      by_kern (kern_subtable (pairs_of_kern ((1, 2, pos 3) ∷ [])) ∷ [])
       (record (buffer_of two_glyphs many) {
         positions = Some (along_x (pos 2147483647) (pos 0) ∷ untouched_position ∷ []);
       })
       ≡ shows_positions two_glyphs_marked (along_x (negsuc 2147483647) (pos 0) ∷ along_x (pos 502) (pos 2) ∷ [])
   pub row_21 :
-      by_kerx (Some two_points) (kerx_subtable (KerxAnchors anchor_entries ((0, 0) ∷ [])) ∷ [])
+      by_kerx (Some two_points) (kerx_subtable (anchors_of_kerx anchor_entries ((0, 0) ∷ [])) ∷ [])
       (buffer_with_advances LeftToRight many two_glyphs)
       ≡ record (shows_three_turns two_glyphs
       (untouched_position ∷ attached_as 1 (negsuc 0) (position (pos 500) (pos 0) (pos 70) (pos 250)) ∷ [])) {
@@ -110,14 +111,14 @@ pub record KerningRows : Type 0 where
       }
   -- the cursive attachment is made at the first subtable with cross-stream, also where it is skipped
   pub row_28a :
-      by_kerx None (record (kerx_subtable (KerxPairs false ((1, 2, negsuc 24) ∷ []))) { has_cross_stream = true } ∷ [])
+      by_kerx None (record (kerx_subtable (Format0 ((1, 2, negsuc 24) ∷ []))) { has_cross_stream = true } ∷ [])
       (buffer_with_advances LeftToRight many two_glyphs)
       ≡ record (shows_positions two_glyphs_marked
       (attached_as 2 (negsuc 0) untouched_position
       ∷ attached_as 2 (negsuc 0) (position (pos 500) (pos 0) (pos 0) (negsuc 24)) ∷ [])) { scratch = 8 }
   pub row_28b :
       printed_kerning (kerx_positioning false 8 None
-      (record (kerx_subtable (KerxPairs false ((1, 2, negsuc 24) ∷ []))) { has_cross_stream = true } ∷ [])
+      (record (kerx_subtable (Format0 ((1, 2, negsuc 24) ∷ []))) { has_cross_stream = true } ∷ [])
       (buffer_with_advances LeftToRight many two_glyphs))
       ≡ shows_positions two_glyphs
       (attached_as 2 (negsuc 0) untouched_position ∷ attached_as 2 (negsuc 0) untouched_position ∷ [])

@@ -16,3 +16,4 @@ pub mod RowWords
 pub mod Stack
 pub mod Zeroing
 pub mod facts
+pub mod inside

@@ -1,22 +1,17 @@
 -- Kerning by pairs. TrueType Reference Manual: The 'kern' table, and The 'kerx' table, formats 0, 2 and 6.
-use Rattle.std.specs.Prelude.{ℕ, ◌+◌, ◌*◌, Bool, List, ℤ, pos, ◌-ℤ◌, Some, option_map, unwrap_or, fold, if◌then◌else◌}
+use Rattle.std.specs.Prelude.{ℕ, ◌+◌, Bool, List, ℤ, pos, ◌-ℤ◌, Some, unwrap_or, fold, if◌then◌else◌}
 use Rattle.std.specs.Int.{int_shr}
 use Rattle.std.specs.Ordering.{int_eq}
 use Rattle.aat_buffer.specs.Buffer.{Buffer, glyph_at}
 use Rattle.aat_buffer.specs.Marks.{unsafe_to_break}
-use Rattle.aat_font.specs.Keys.{at_key}
+use Rattle.aat_font.specs.Pairs.{kerning_of}
 use Rattle.aat_glyph.specs.Directions.{is_horizontal}
 use Rattle.aat_kerning.specs.Pairs.{Pair, pairs_of}
 use Rattle.aat_kerning.specs.Positions.{on_position, with_advance, with_shift, with_cross_offset, with_attachment_flag}
 
--- pairs rise by left, then by right; glyph ids have 16 bits. TrueType Reference Manual: The 'kern' table, format 0.
-abbrev pub pair_key : ℕ → ℕ → ℕ
-pair_key left right = left * 65536 + right
-
 -- the value of two glyphs, and 0 without one
 abbrev pub value_of : List (ℕ × ℕ × ℤ) → ℕ → ℕ → ℤ
-value_of values left right =
-    unwrap_or (option_map (λ v. v.2) (at_key (λ v. pair_key v.0 v.1) values (pair_key left right))) (pos 0)
+value_of values left right = unwrap_or (kerning_of values left right) (pos 0)
 
 -- the half of a value, rounded down
 abbrev pub half : ℤ → ℤ

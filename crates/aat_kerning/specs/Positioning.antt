@@ -1,11 +1,15 @@
 -- Kerning by all subtables of a table. TrueType Reference Manual: The 'kerx' table and The 'kern' table.
-use Rattle.std.specs.Prelude.{ℕ, ◌+◌, ◌&&◌, ◌||◌, not, Bool, true, false, List, ℤ, pos, negsuc, Option, None, map, fold, if◌then◌else◌}
+use Rattle.std.specs.Prelude.{All, IsTrue, ℕ, ◌+◌, ◌&&◌, ◌||◌, not, Bool, true, false, List, pos, negsuc, Option, None, map, fold, if◌then◌else◌}
 use Rattle.aat_buffer.specs.Buffer.{Buffer, reversed}
 use Rattle.aat_buffer.specs.Marks.{unsafe_to_concat}
 use Rattle.aat_font.specs.Table.{TableValue}
 use Rattle.aat_font.specs.declared.state_table.GenericStateEntry.{GenericStateEntry}
-use Rattle.aat_font.specs.declared.entries.EntryData.{EntryData}
-use Rattle.aat_font.specs.declared.entries.KernEntryData.{KernEntryData}
+use Rattle.aat_font.specs.declared.kern.KernKind.{KernKind}
+use Rattle.aat_font.specs.declared.kern.KernKind.TheVariants as kind
+use Rattle.aat_font.specs.declared.kern.KernSubtable.{KernSubtable}
+use Rattle.aat_font.specs.declared.kerx.KerxFormat.{KerxFormat}
+use Rattle.aat_font.specs.declared.kerx.KerxFormat.TheVariants.{Format0, Format1, Format2, Format4, Format6}
+use Rattle.aat_font.specs.declared.kerx.KerxSubtable.{KerxSubtable}
 use Rattle.aat_font.specs.AnchorPoints.{Points}
 use Rattle.aat_glyph.specs.Directions.{is_horizontal, is_backward}
 use Rattle.aat_run.specs.Truth.{is_alike}
@@ -71,39 +75,35 @@ positioning requested ks b =
     let s = fold (λ s k. positioned requested k s) before ks in
     record { buffer = in_processing_order s.buffer; turns = s.turns }
 
--- the kinds of a `kerx` subtable: pairs, of which format 2 marks the whole line first; a stack machine; an anchor
--- machine. TrueType Reference Manual: The 'kerx' table, subtable formats.
-pub data KerxKind : Type 0 where
-  KerxPairs : Bool → List (ℕ × ℕ × ℤ) → KerxKind
-  KerxStack : TableValue (GenericStateEntry EntryData) → List ℤ → KerxKind
-  KerxAnchors : TableValue (GenericStateEntry EntryData) → List (ℕ × ℕ) → KerxKind
-
--- a `kerx` subtable. TrueType Reference Manual: The 'kerx' table, subtable headers.
-pub record KerxSubtable : Type 0 where
-  pub kind : KerxKind
-  pub horizontal : Bool
-  pub has_cross_stream : Bool
-  pub variable : Bool
-  pub tuple_count : ℕ
-
 -- the whole line is marked first, where asked
 abbrev pub line_marked : Bool → Buffer → Buffer
 line_marked asked b = if asked then unsafe_to_concat b None None else b
 
--- the run of a `kerx` subtable. TrueType Reference Manual: The 'kerx' table, formats 0, 1, 2, 4 and 6.
-abbrev pub kerx_run : ℕ → Option Points → Bool → ℕ → KerxKind → Buffer → Outcome
-kerx_run kern_mask points is_cross tuple_count (KerxPairs marks_line values) b =
-    untouched (pair_kerning kerx_skips kern_mask is_cross values (line_marked marks_line b))
-kerx_run kern_mask points is_cross tuple_count (KerxStack table values) b =
-    driver_run false table (kerx_driver is_cross kern_mask tuple_count values) b
-kerx_run kern_mask points is_cross tuple_count (KerxAnchors table pairs) b =
-    driver_run false table (anchor_driver points pairs) b
+-- the run of a `kerx` subtable: pairs, of which format 2 marks the whole line first, a stack machine, or an anchor
+-- machine. TrueType Reference Manual: The 'kerx' table, formats 0, 1, 2, 4 and 6.
+abbrev pub kerx_run : ℕ → Option Points → Bool → ℕ → KerxFormat → Buffer → Outcome
+kerx_run kern_mask points is_cross tuple_count (Format0 values) b =
+    untouched (pair_kerning kerx_skips kern_mask is_cross values (line_marked false b))
+kerx_run kern_mask points is_cross tuple_count (Format1 s) b =
+    driver_run false s.state_table (kerx_driver is_cross kern_mask tuple_count s.values) b
+kerx_run kern_mask points is_cross tuple_count (Format2 values) b =
+    untouched (pair_kerning kerx_skips kern_mask is_cross values (line_marked true b))
+kerx_run kern_mask points is_cross tuple_count (Format4 s) b =
+    driver_run false s.state_table (anchor_driver points s.anchor_points) b
+kerx_run kern_mask points is_cross tuple_count (Format6 values) b =
+    untouched (pair_kerning kerx_skips kern_mask is_cross values (line_marked false b))
 
 -- whether a `kerx` subtable is of pairs
-abbrev pub is_kerx_pairs : KerxKind → Bool
-is_kerx_pairs (KerxPairs marks_line values) = true
-is_kerx_pairs (KerxStack table values) = false
-is_kerx_pairs (KerxAnchors table pairs) = false
+abbrev pub is_kerx_pairs : KerxFormat → Bool
+is_kerx_pairs (Format0 values) = true
+is_kerx_pairs (Format1 s) = false
+is_kerx_pairs (Format2 values) = true
+is_kerx_pairs (Format4 s) = false
+is_kerx_pairs (Format6 values) = true
+
+-- all of these are of pairs
+abbrev pub AreKerxPairs : List KerxSubtable → Type 0
+AreKerxPairs subtables = All (λ s. IsTrue (is_kerx_pairs s.format)) subtables
 
 -- a `kerx` subtable, as positioning sees it
 abbrev pub kerx_kerning : ℕ → Option Points → KerxSubtable → Kerning
@@ -111,8 +111,8 @@ kerx_kerning kern_mask points s = record {
   horizontal = s.horizontal;
   has_cross_stream = s.has_cross_stream;
   variable = s.variable;
-  is_pairs = is_kerx_pairs s.kind;
-  run = kerx_run kern_mask points s.has_cross_stream s.tuple_count s.kind;
+  is_pairs = is_kerx_pairs s.format;
+  run = kerx_run kern_mask points s.has_cross_stream s.tuple_count s.format;
 }
 
 -- kerning by a `kerx` table: the whole line is marked first
@@ -120,29 +120,22 @@ unfoldable pub kerx_positioning : Bool → ℕ → Option Points → List KerxSu
 kerx_positioning requested kern_mask points subtables b =
     positioning requested (map (kerx_kerning kern_mask points) subtables) (unsafe_to_concat b None None)
 
--- the kinds of a `kern` subtable: pairs, which mark the whole line first, and a stack machine
-pub data KernKind : Type 0 where
-  KernPairs : List (ℕ × ℕ × ℤ) → KernKind
-  KernMachine : TableValue (GenericStateEntry KernEntryData) → List ℤ → KernKind
-
--- a `kern` subtable. TrueType Reference Manual: The 'kern' table, subtable headers.
-pub record KernSubtable : Type 0 where
-  pub kind : KernKind
-  pub horizontal : Bool
-  pub has_cross_stream : Bool
-  pub variable : Bool
-
--- the run of a `kern` subtable. TrueType Reference Manual: The 'kern' table, formats 0 to 3.
+-- the run of a `kern` subtable: pairs, which mark the whole line first, or a stack machine. TrueType Reference
+-- Manual: The 'kern' table, formats 0 to 3.
 abbrev pub kern_run : ℕ → Bool → KernKind → Buffer → Outcome
-kern_run kern_mask is_cross (KernPairs values) b =
+kern_run kern_mask is_cross (kind.Pairs values) b =
     untouched (pair_kerning kern_skips kern_mask is_cross values (line_marked true b))
-kern_run kern_mask is_cross (KernMachine table values) b =
-    driver_run true table (kern_driver is_cross kern_mask values) b
+kern_run kern_mask is_cross (kind.Machine s) b =
+    driver_run true s.state_table (kern_driver is_cross kern_mask s.values) b
 
 -- whether a `kern` subtable is of pairs
 abbrev pub is_kern_pairs : KernKind → Bool
-is_kern_pairs (KernPairs values) = true
-is_kern_pairs (KernMachine table values) = false
+is_kern_pairs (kind.Pairs values) = true
+is_kern_pairs (kind.Machine s) = false
+
+-- all of these are of pairs
+abbrev pub AreKernPairs : List KernSubtable → Type 0
+AreKernPairs subtables = All (λ s. IsTrue (is_kern_pairs s.kind)) subtables
 
 -- a `kern` subtable, as positioning sees it
 abbrev pub kern_kerning : ℕ → KernSubtable → Kerning

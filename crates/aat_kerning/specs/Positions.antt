@@ -1,8 +1,12 @@
 -- Positions, along the line and across it. TrueType Reference Manual: The 'kern' table and The 'kerx' table.
-use Rattle.std.specs.Prelude.{ℕ, ℤ, Bool, true, false, map, option_map, bit_or}
+use Rattle.std.specs.Prelude.{◌≡◌, ℕ, ℤ, Bool, true, false, length, map, option_map, bit_or}
 use Rattle.std.specs.Int.{int_wrapping_add, w32}
-use Rattle.aat_buffer.specs.Buffer.{Buffer, position_at, with_position}
+use Rattle.aat_buffer.specs.Buffer.{Buffer, position_at, position_list, with_position}
 use Rattle.aat_glyph.specs.declared.glyph.GlyphPosition.{GlyphPosition}
+
+-- each glyph has its position
+abbrev pub IsPlaced : Buffer → Type 0
+IsPlaced b = length (position_list b) ≡ length b.line
 
 -- one position is changed
 abbrev pub on_position : (GlyphPosition → GlyphPosition) → ℕ → Buffer → Buffer

@@ -8,10 +8,16 @@ use Rattle.aat_font.specs.Table.{TableValue}
 use Rattle.aat_font.specs.declared.state_table.GenericStateEntry.{GenericStateEntry}
 use Rattle.aat_font.specs.declared.entries.EntryData.{EntryData}
 use Rattle.aat_font.specs.declared.entries.KernEntryData.{KernEntryData}
+use Rattle.aat_font.specs.declared.kern.KernKind.{KernKind}
+use Rattle.aat_font.specs.declared.kern.KernKind.TheVariants as kind
+use Rattle.aat_font.specs.declared.kern.KernSubtable.{KernSubtable}
+use Rattle.aat_font.specs.declared.kerx.KerxFormat.{KerxFormat}
+use Rattle.aat_font.specs.declared.kerx.KerxFormat.TheVariants.{Format1, Format4}
+use Rattle.aat_font.specs.declared.kerx.KerxSubtable.{KerxSubtable}
 use Rattle.aat_font.specs.AnchorPoints.{Points}
 use Rattle.aat_run.specs.Outcome.{Outcome}
 use Rattle.aat_run.specs.Rows.{glyph, entry, table, buffer_of, many}
-use Rattle.aat_kerning.specs.Positioning.{KerxKind, KerxSubtable, KernKind, KernPairs, KernSubtable, kerx_positioning, kern_positioning}
+use Rattle.aat_kerning.specs.Positioning.{kerx_positioning, kern_positioning}
 
 -- a position by its numbers, without an attachment
 abbrev pub position : ℤ → ℤ → ℤ → ℤ → GlyphPosition
@@ -77,14 +83,30 @@ abbrev pub buffer_with_advances : Direction → ℤ → List hb_glyph_info_t →
 buffer_with_advances direction budget line =
     record (buffer_of line budget) { direction = direction; positions = Some (map (λ g. untouched_position) line) }
 
+-- the pairs of a `kern` subtable
+abbrev pub pairs_of_kern : List (ℕ × ℕ × ℤ) → KernKind
+pairs_of_kern values = kind.Pairs values
+
+-- the machine of a `kern` subtable
+abbrev pub machine_of_kern : TableValue (GenericStateEntry KernEntryData) → List ℤ → KernKind
+machine_of_kern table values = kind.Machine (record { state_table = table; values = values })
+
+-- the stack machine of a `kerx` subtable
+abbrev pub stack_of_kerx : TableValue (GenericStateEntry EntryData) → List ℤ → KerxFormat
+stack_of_kerx table values = Format1 (record { state_table = table; values = values })
+
+-- the anchor machine of a `kerx` subtable
+abbrev pub anchors_of_kerx : TableValue (GenericStateEntry EntryData) → List (ℕ × ℕ) → KerxFormat
+anchors_of_kerx table pairs = Format4 (record { state_table = table; anchor_points = pairs })
+
 -- a horizontal `kern` subtable in the stream
 abbrev pub kern_subtable : KernKind → KernSubtable
-kern_subtable kind = record { kind = kind; horizontal = true; has_cross_stream = false; variable = false }
+kern_subtable how = record { kind = how; horizontal = true; has_cross_stream = false; variable = false }
 
 -- a horizontal `kerx` subtable in the stream
-abbrev pub kerx_subtable : KerxKind → KerxSubtable
-kerx_subtable kind = record {
-  kind = kind;
+abbrev pub kerx_subtable : KerxFormat → KerxSubtable
+kerx_subtable format = record {
+  format = format;
   horizontal = true;
   has_cross_stream = false;
   variable = false;
@@ -138,4 +160,4 @@ anchor_entries = kerx_rules ((0, 4, entry 0 0x8000 no_action) ∷ (0, 5, entry 0
 -- one `kern` subtable of pairs, in a direction
 abbrev pub kern_pairs : Direction → List (ℕ × ℕ × ℤ) → List hb_glyph_info_t → PrintedKerning
 kern_pairs direction values line =
-    by_kern (kern_subtable (KernPairs values) ∷ []) (buffer_with_advances direction many line)
+    by_kern (kern_subtable (pairs_of_kern values) ∷ []) (buffer_with_advances direction many line)

@@ -1,12 +1,19 @@
-//! Deleted glyphs, and the definitions of kerning with their laws and worked rows. No code runs kerning yet.
+//! Kerning by pairs, deleted glyphs, and the definitions of kerning with their laws and worked rows. The kerning
+//! machines have no code yet.
 #![tactic(auto)]
 
 mod deleted;
+mod kern;
+mod kerx;
 #[doc(hidden)]
 pub mod laws;
+mod pair_kerning;
+mod positioning;
 #[doc(hidden)]
 pub mod worked;
 
 pub use deleted::{
     DELETED_GLYPH, hb_aat_layout_remove_deleted_glyphs, hb_aat_layout_zero_width_deleted_glyphs,
 };
+pub use kern::{has_kern_pairs_alone, hb_ot_layout_kern};
+pub use kerx::{has_kerx_pairs_alone, hb_aat_layout_position};

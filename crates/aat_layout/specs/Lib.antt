@@ -1,3 +1,4 @@
+pub use Rattle.aat_glyph.specs.Directions
 pub use Rattle.aat_buffer.specs.Buffer
 pub use Rattle.aat_buffer.specs.Clusters
 pub use Rattle.aat_buffer.specs.Marks
@@ -16,6 +17,12 @@ pub use Rattle.aat_morx.specs.Applying
 pub use Rattle.aat_morx.specs.Isolation
 pub use Rattle.aat_morx.specs.Kept
 pub use Rattle.aat_morx.specs.Substitution
+pub use Rattle.aat_kerning.specs.Advances
+pub use Rattle.aat_kerning.specs.Cut
+pub use Rattle.aat_kerning.specs.KerningLaws
+pub use Rattle.aat_kerning.specs.PairKerning
+pub use Rattle.aat_kerning.specs.Pairs
+pub use Rattle.aat_kerning.specs.Positioning
 pub use Rattle.aat_kerning.specs.Zeroing
 pub mod Planned
 pub mod Refusals

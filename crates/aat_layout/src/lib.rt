@@ -1,4 +1,4 @@
-//! Apple Advanced Typography: extended glyph substitution over a shaping buffer.
+//! Apple Advanced Typography: extended glyph substitution and kerning by pairs over a shaping buffer.
 #![tactic(auto)]
 
 mod aat_layout;
@@ -10,7 +10,9 @@ pub use aat_font as font;
 /// The numbers of the feature types and their selectors.
 pub use aat_font::constants;
 pub use aat_kerning::{
-    DELETED_GLYPH, hb_aat_layout_remove_deleted_glyphs, hb_aat_layout_zero_width_deleted_glyphs,
+    DELETED_GLYPH, has_kern_pairs_alone, has_kerx_pairs_alone, hb_aat_layout_position,
+    hb_aat_layout_remove_deleted_glyphs, hb_aat_layout_zero_width_deleted_glyphs,
+    hb_ot_layout_kern,
 };
 pub use aat_kinds::{
     ContextualCtx, InsertionCtx, LIGATURE_SLOTS, LigatureCtx, MAX_CONTEXT_LENGTH, RearrangementCtx,

@@ -17,7 +17,7 @@ use aat_layout::hb_aat_map_builder_t;
 use std::alloc::Global;
 
 /// The longest line of a row.
-const MAX_LEN: usize = 16384;
+pub(crate) const MAX_LEN: usize = 16384;
 
 /// The flags that a subtable is on at.
 const FEATURE_FLAGS: u32 = 1;

@@ -2,6 +2,7 @@
 #![tactic(auto)]
 
 mod build;
+mod kerned;
 mod print;
 mod rows;
 mod stop;

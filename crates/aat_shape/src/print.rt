@@ -3,17 +3,19 @@ ghost use Rattle.std.specs.Prelude.{◌<◌, ◌≤◌, length};
 ghost use Rattle.aat_layout.specs.Clusters.{IsSmall};
 
 use crate::build::{buffer_of, builder_of, face_of, feature_of, plan_of, set_advances};
+use crate::kerned::{kerned_face_of, kerning_plan_of, placed_buffer_of};
 use crate::rows::{
-    Addition, After, Compilation, FROM_7, FROM_13, FROM_19, FROM_25, FROM_31, MAX_OPS, Part, Row,
-    Run, Shown, Sizes, Substitution, TO_6, Zeroing,
+    Addition, After, Compilation, FROM_7, FROM_13, FROM_19, FROM_25, FROM_31, Kerning,
+    KerningTable, MAX_OPS, Part, Row, Run, Shown, Sizes, Substitution, TO_6, Zeroing,
 };
 use crate::stop::Stop;
 use aat_layout::buffer::{glyph_flag, hb_buffer_t};
 use aat_layout::font::{hb_font_t, hb_ot_shape_plan_t};
 use aat_layout::{
-    AatError, LIGATURE_SLOTS, MAX_CONTEXT_LENGTH, Turns, hb_aat_layout_remove_deleted_glyphs,
-    hb_aat_layout_substitute, hb_aat_layout_substitute_with,
-    hb_aat_layout_zero_width_deleted_glyphs, hb_aat_map_builder_t, hb_aat_map_t, range_flags_t,
+    AatError, LIGATURE_SLOTS, MAX_CONTEXT_LENGTH, Turns, hb_aat_layout_position,
+    hb_aat_layout_remove_deleted_glyphs, hb_aat_layout_substitute, hb_aat_layout_substitute_with,
+    hb_aat_layout_zero_width_deleted_glyphs, hb_aat_map_builder_t, hb_aat_map_t, hb_ot_layout_kern,
+    range_flags_t,
 };
 use std::alloc::Global;
 use std::io::Write;
@@ -93,6 +95,7 @@ fn print_part<W: Write>(alloc: Global, part: &Part, out: &mut W) -> Result<(), S
         Shown::Substitution(shown) => print_substitution(alloc, shown, out),
         Shown::Compilation(shown) => print_compilation(alloc, shown, out),
         Shown::Addition(shown) => print_addition(alloc, shown, out),
+        Shown::Kerning(shown) => print_kerning(alloc, shown, out),
         Shown::Zeroing(shown) => print_zeroing(alloc, shown, out),
         Shown::Removal(line) => print_removal(alloc, line, out),
     }
@@ -178,6 +181,19 @@ fn print_addition<W: Write>(alloc: Global, shown: &Addition, out: &mut W) -> Res
     }
     writeln!(out, "requests {}", builder.features().len())?;
     Ok(())
+}
+
+/// Kerns a line by the table of its font, and prints it with the turns and the budget.
+fn print_kerning<W: Write>(alloc: Global, shown: &Kerning, out: &mut W) -> Result<(), Stop> {
+    let face = kerned_face_of(alloc, &shown.table)?;
+    let plan = kerning_plan_of(alloc, shown.requested_kerning);
+    let mut buffer = placed_buffer_of(alloc, shown.line)?;
+    buffer.set_direction(shown.direction);
+    let turns = match &shown.table {
+        KerningTable::Kern(_) => hb_ot_layout_kern(&plan, &face, &mut buffer)?,
+        KerningTable::KerxAcross(_) => hb_aat_layout_position(&plan, &face, &mut buffer)?,
+    };
+    print_buffer(&buffer, turns, out)
 }
 
 /// Gives the glyphs of a line positions, takes the room from its deleted glyphs, and prints it.

@@ -94,6 +94,7 @@ mod contextual;
 mod deleted;
 mod insertion;
 mod ligature;
+mod pairs;
 mod rearrangement;
 mod requests;
 
@@ -101,6 +102,7 @@ use contextual::{ROW_10, ROW_35};
 use deleted::ROW_19;
 use insertion::{ROW_13, ROW_14, ROW_25, ROW_27, ROW_33};
 use ligature::{ROW_11, ROW_12, ROW_24, ROW_31, ROW_32, ROW_37};
+use pairs::{ROW_15, ROW_16, ROW_17, ROW_20, ROW_28};
 use rearrangement::{ROW_8, ROW_9, ROW_22, ROW_23, ROW_26, ROW_36};
 use requests::{ROW_1, ROW_2, ROW_3, ROW_4, ROW_5, ROW_6, ROW_7};
 
@@ -124,6 +126,8 @@ pub(crate) enum Shown {
     Compilation(Compilation),
     /// A request that is added to a new builder.
     Addition(Addition),
+    /// A line that is kerned.
+    Kerning(Kerning),
     /// A line whose deleted glyphs take no room.
     Zeroing(Zeroing),
     /// A line whose deleted glyphs are removed, run by run.
@@ -185,6 +189,36 @@ pub(crate) struct Compilation {
 pub(crate) struct Addition {
     pub(crate) font: FontData,
     pub(crate) request: Request,
+}
+
+/// A line that is kerned by the table of a font.
+pub(crate) struct Kerning {
+    pub(crate) table: KerningTable,
+    /// The line, glyph by glyph.
+    pub(crate) line: &'static [Placed],
+    /// The direction of the line.
+    pub(crate) direction: Direction,
+    /// Whether kerning is requested.
+    pub(crate) requested_kerning: bool,
+}
+
+/// A kerning table with one subtable for horizontal text, of pairs: the left glyph, the right glyph and the value, in
+/// font units.
+pub(crate) enum KerningTable {
+    /// The kerning table, along the line.
+    Kern(&'static [(u16, u16, i16)]),
+    /// The extended kerning table in format 0, across the line.
+    KerxAcross(&'static [(u16, u16, i16)]),
+}
+
+/// A glyph with a position, which asks for kerning.
+pub(crate) struct Placed {
+    pub(crate) glyph: u16,
+    pub(crate) cluster: u32,
+    /// The properties that its class gives it.
+    pub(crate) glyph_props: u16,
+    /// Its horizontal advance, in font units.
+    pub(crate) x_advance: i32,
 }
 
 /// A line with positions whose deleted glyphs take no room.
@@ -287,13 +321,13 @@ pub(crate) static TO_6: [Row; 6] = [ROW_1, ROW_2, ROW_3, ROW_4, ROW_5, ROW_6];
 pub(crate) static FROM_7: [Row; 6] = [ROW_7, ROW_8, ROW_9, ROW_10, ROW_11, ROW_12];
 
 /// The rows from 13 to 18.
-pub(crate) static FROM_13: [Row; 2] = [ROW_13, ROW_14];
+pub(crate) static FROM_13: [Row; 5] = [ROW_13, ROW_14, ROW_15, ROW_16, ROW_17];
 
 /// The rows from 19 to 24.
-pub(crate) static FROM_19: [Row; 4] = [ROW_19, ROW_22, ROW_23, ROW_24];
+pub(crate) static FROM_19: [Row; 5] = [ROW_19, ROW_20, ROW_22, ROW_23, ROW_24];
 
 /// The rows from 25 to 30.
-pub(crate) static FROM_25: [Row; 3] = [ROW_25, ROW_26, ROW_27];
+pub(crate) static FROM_25: [Row; 4] = [ROW_25, ROW_26, ROW_27, ROW_28];
 
 /// The rows from 31 on.
 pub(crate) static FROM_31: [Row; 6] = [ROW_31, ROW_32, ROW_33, ROW_35, ROW_36, ROW_37];

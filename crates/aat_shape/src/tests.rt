@@ -294,6 +294,38 @@ const ROW_14: &str = "\
     5 0 0\n\
     turns 5 budget -5\n";
 
+/// The text of row 15.
+const ROW_15: &str = "\
+    row 15a\n\
+    1 0 0 487 0 0 0\n\
+    2 1 3 488 0 -12 0\n\
+    turns 0 budget 16384\n\
+    row 15b\n\
+    1 0 0 487 0 0 0\n\
+    3 1 3 0 0 0 0\n\
+    2 2 3 488 0 -12 0\n\
+    turns 0 budget 16384\n";
+
+/// The text of row 16.
+const ROW_16: &str = "\
+    row 16\n\
+    1 0 0 490 0 0 0\n\
+    2 1 3 490 0 -10 0\n\
+    3 2 0 505 0 0 0\n\
+    4 3 3 505 0 5 0\n\
+    turns 0 budget 16384\n";
+
+/// The text of row 17.
+const ROW_17: &str = "\
+    row 17a\n\
+    1 0 0 500 0 0 0\n\
+    2 1 0 500 0 0 0\n\
+    turns 0 budget 16384\n\
+    row 17b\n\
+    1 0 0 488 0 -12 0\n\
+    2 1 3 487 0 0 0\n\
+    turns 0 budget 16384\n";
+
 /// The text of row 19.
 const ROW_19: &str = "\
     row 19a\n\
@@ -308,6 +340,13 @@ const ROW_19: &str = "\
     turns 0 budget 16384\n\
     row 19d\n\
     5 0 0\n\
+    turns 0 budget 16384\n";
+
+/// The text of row 20.
+const ROW_20: &str = "\
+    row 20\n\
+    1 0 0 -2147483648 0 0 0\n\
+    2 1 3 502 0 2 0\n\
     turns 0 budget 16384\n";
 
 /// The text of row 22.
@@ -367,6 +406,17 @@ const ROW_27: &str = "\
     8 3 0\n\
     5 3 0\n\
     turns 6 budget -1\n";
+
+/// The text of row 28.
+const ROW_28: &str = "\
+    row 28a\n\
+    1 0 0 500 0 0 0\n\
+    2 1 3 500 0 0 -25\n\
+    turns 0 budget 16384\n\
+    row 28b\n\
+    1 0 0 500 0 0 0\n\
+    2 1 0 500 0 0 0\n\
+    turns 0 budget 16384\n";
 
 /// The text of row 31.
 const ROW_31: &str = "\
@@ -548,7 +598,7 @@ const ROW_37: &str = "\
     turns 3 budget 16384\n";
 
 /// The rows that are built, in their order, each with its number and its text.
-const ROWS: [(&str, &str); 27] = [
+const ROWS: [(&str, &str); 32] = [
     ("1", ROW_1),
     ("2", ROW_2),
     ("3", ROW_3),
@@ -563,13 +613,18 @@ const ROWS: [(&str, &str); 27] = [
     ("12", ROW_12),
     ("13", ROW_13),
     ("14", ROW_14),
+    ("15", ROW_15),
+    ("16", ROW_16),
+    ("17", ROW_17),
     ("19", ROW_19),
+    ("20", ROW_20),
     ("22", ROW_22),
     ("23", ROW_23),
     ("24", ROW_24),
     ("25", ROW_25),
     ("26", ROW_26),
     ("27", ROW_27),
+    ("28", ROW_28),
     ("31", ROW_31),
     ("32", ROW_32),
     ("33", ROW_33),

@@ -7,6 +7,8 @@ mod deleted_tests;
 #[cfg(test)]
 mod inserting;
 #[cfg(test)]
+mod kerning_tests;
+#[cfg(test)]
 mod longest_run_tests;
 #[cfg(test)]
 mod mapping_tests;

@@ -1,0 +1,113 @@
+-- One subtable, and subtables one after another.
+use Rattle.std.proofs.Common.{◌≡◌, ◌∙◌, ap, sym, refl, ℕ, ◌<◌, ◌+◌, ◌&&◌, ◌||◌, not, Bool, true, false, cond, List, [], ◌∷◌, ◌++◌, Option, Some, None, length, map, take, get_or, arith}
+use Rattle.std.specs.Prelude.{fold, option_map, reverse}
+use Rattle.std.proofs.lemmas.List.{map-append, reverse-reverse, take_more}
+use Rattle.std.proofs.lemmas.List.Sums.{fold_push}
+use Rattle.aat_buffer.specs.Buffer.{Buffer, reversed}
+use Rattle.aat_buffer.specs.facts.Cases.{chosen}
+use Rattle.aat_glyph.specs.Directions.{is_backward, is_horizontal}
+use Rattle.aat_glyph.specs.declared.glyph.Direction.{Direction}
+use Rattle.aat_glyph.specs.declared.glyph.GlyphPosition.{GlyphPosition}
+use Rattle.aat_kerning.specs.Positioning.{Kerning, Positioned, cursively_attached, in_processing_order, is_for_text, positioned, positioning}
+use Rattle.aat_run.specs.Outcome.{Outcome, untouched}
+use Rattle.aat_run.specs.Truth.{is_alike}
+
+-- a subtable that is not for the text
+pub not_for_text : (requested : Bool) (k : Kerning) (s : Positioned) → is_for_text k s.buffer ≡ false → s ≡ positioned requested k s
+unfolding positioned
+not_for_text requested k s outside =
+    let d = cond (k.has_cross_stream && not s.is_attached) (cursively_attached s.buffer) s.buffer in
+    let o = cond (k.is_pairs && not requested) (untouched d) (k.run d) in
+    chosen (λ (x : Positioned). s ≡ x) (is_for_text k s.buffer)
+    (record { buffer = o.buffer; turns = s.turns + o.turns; is_attached = s.is_attached || k.has_cross_stream }) s
+    (λ inside. cc) (λ _. refl)
+
+-- a subtable that is for it, and takes no turn
+pub for_text :
+    (requested : Bool) (k : Kerning) (s : Positioned) (d e : Buffer) (now : Bool) → is_for_text k s.buffer ≡ true
+    → d ≡ cond (k.has_cross_stream && not s.is_attached) (cursively_attached s.buffer) s.buffer
+    → untouched e ≡ cond (k.is_pairs && not requested) (untouched d) (k.run d) → now ≡ (s.is_attached || k.has_cross_stream)
+    → record { buffer = e; turns = s.turns; is_attached = now } ≡ positioned requested k s
+unfolding positioned
+for_text requested k s d e now inside attached ran noted =
+    let start = cond (k.has_cross_stream && not s.is_attached) (cursively_attached s.buffer) s.buffer in
+    let o = cond (k.is_pairs && not requested) (untouched start) (k.run start) in
+    let all : untouched e ≡ o =
+    ran ∙ ap (λ (x : Buffer). cond (k.is_pairs && not requested) (untouched x) (k.run x)) attached in
+    let none : s.turns ≡ s.turns + 0 = omega arith in
+    let after : Positioned = record { buffer = e; turns = s.turns; is_attached = now } in
+    let first : after ≡ record { buffer = e; turns = s.turns + 0; is_attached = now } =
+    ap (λ (n : ℕ). record after { turns = n }) none in
+    let second : after ≡ record { buffer = o.buffer; turns = s.turns + o.turns; is_attached = now } =
+    first ∙ ap (λ (x : Outcome). record after { buffer = x.buffer; turns = s.turns + x.turns }) all in
+    let third : after ≡ record { buffer = o.buffer; turns = s.turns + o.turns; is_attached = s.is_attached || k.has_cross_stream } =
+    second ∙ ap (λ (t : Bool). record after { buffer = o.buffer; turns = s.turns + o.turns; is_attached = t }) noted in
+    chosen (λ (x : Positioned). after ≡ x) (is_for_text k s.buffer)
+    (record { buffer = o.buffer; turns = s.turns + o.turns; is_attached = s.is_attached || k.has_cross_stream }) s
+    (λ _. third) (λ outside. cc)
+
+-- the subtables so far
+abbrev pub positioned_so_far : {X : Type 0} → Bool → (X → Kerning) → List X → Buffer → Positioned
+positioned_so_far requested kerning xs b =
+    fold (λ s k. positioned requested k s) (record { buffer = in_processing_order b; turns = 0; is_attached = false }) (map kerning xs)
+
+-- one more, of x, which is the element at place i
+pub so_far_more :
+    {X : Type 0} (requested : Bool) (kerning : X → Kerning) (xs : List X) (i : ℕ) (x : X) (b : Buffer) → i < length xs
+    → x ≡ get_or xs i x
+    → positioned_so_far requested kerning (take (i + 1) xs) b ≡ positioned requested (kerning x) (positioned_so_far requested kerning (take i xs) b)
+so_far_more {X} requested kerning xs i x b below read =
+    let f = λ (s : Positioned) (k : Kerning). positioned requested k s in
+    let before : Positioned = record { buffer = in_processing_order b; turns = 0; is_attached = false } in
+    ap (λ (ys : List X). fold f before (map kerning ys)) (take_more xs i x below ∙ ap (λ (y : X). take i xs ++ (y ∷ [])) (sym read))
+    ∙ ap (fold f before) (map-append kerning (take i xs) (x ∷ []))
+    ∙ fold_push f before (map kerning (take i xs)) (kerning x)
+
+-- all of them, and the line turned back
+pub so_far_all :
+    {X : Type 0} (requested : Bool) (kerning : X → Kerning) (xs : List X) (b now after : Buffer) (is_attached : Bool)
+    → record { buffer = now; turns = 0; is_attached = is_attached } ≡ positioned_so_far requested kerning xs b
+    → after ≡ in_processing_order now → untouched after ≡ positioning requested (map kerning xs) b
+unfolding positioning
+so_far_all requested kerning xs b now after is_attached was turned =
+    ap untouched turned ∙ ap (λ (s : Positioned). record { buffer = in_processing_order s.buffer; turns = s.turns }) was
+
+-- a line that is turned twice
+twice : (o : Option (List GlyphPosition)) → option_map (λ qs. reverse qs) (option_map (λ qs. reverse qs) o) ≡ o
+twice None = refl
+twice (Some qs) = ap Some (reverse-reverse qs)
+
+reversed_twice : (b : Buffer) → reversed (reversed b) ≡ b
+reversed_twice b =
+    ap (λ gs. record b { line = gs; positions = option_map reverse (option_map reverse b.positions) }) (reverse-reverse b.line)
+    ∙ ap (λ (o : Option (List GlyphPosition)). record b { positions = o }) (twice b.positions)
+
+pub ordered_twice : (b : Buffer) → in_processing_order (in_processing_order b) ≡ b
+ordered_twice b =
+    chosen (λ (d : Buffer). cond (is_backward d.direction) (reversed d) d ≡ b) (is_backward b.direction) (reversed b) b
+    (λ back. ap (λ t. cond t (reversed (reversed b)) (reversed b)) back ∙ reversed_twice b) (λ ahead. ap (λ t. cond t (reversed b) b) ahead)
+
+-- no subtables leave the line as it was
+pub none_positioned :
+    {X : Type 0} (requested : Bool) (kerning : X → Kerning) (b : Buffer) → untouched b ≡ positioning requested (map kerning []) b
+unfolding positioning
+none_positioned requested kerning b = ap untouched (sym (ordered_twice b))
+
+-- pairs are left out where kerning is not requested
+pub left_out : (p r : Bool) (x y : Outcome) → p ≡ true → r ≡ false → x ≡ cond (p && not r) x y
+left_out true false x y pairs asked = refl
+left_out true true x y pairs asked = cc
+left_out false r x y pairs asked = cc
+
+-- and run where it is
+pub not_left_out : (p r : Bool) (x y : Outcome) → r ≡ true → y ≡ cond (p && not r) x y
+not_left_out true true x y asked = refl
+not_left_out false true x y asked = refl
+not_left_out p false x y asked = cc
+
+-- whether a subtable is for a text, by a call that was asked
+pub asked_for_text :
+    (k : Kerning) (b : Buffer) (d : Direction) (r t : Bool) → d ≡ b.direction
+    → r ≡ (not k.variable && is_alike k.horizontal (is_horizontal d)) → r ≡ t → is_for_text k b ≡ t
+asked_for_text k b d r t is asked answer =
+    ap (λ (e : Direction). not k.variable && is_alike k.horizontal (is_horizontal e)) (sym is) ∙ sym asked ∙ answer

@@ -1,0 +1,39 @@
+-- The advances before a place, one place after the other.
+use Rattle.std.proofs.Common.{◌≡◌, ℕ, ◌+◌, ◌<◌, Bool, true, false, List, [], length, get_or, pos, ◌+ℤ◌, Option, Some, None, option_map, unwrap_or, reverse, cond, refl, arith}
+use Rattle.std.proofs.lemmas.List.{length-reverse}
+use Rattle.std.proofs.lemmas.List.Sums.{fold_more}
+use Rattle.aat_layout.specs.Advances.{advance}
+use Rattle.aat_layout.specs.Buffer.{Buffer, position_list, reversed, zero_position}
+use Rattle.aat_layout.specs.Cut.{ordered_line, ordered_positions}
+use Rattle.aat_layout.specs.Directions.{is_backward, is_horizontal}
+use Rattle.aat_line_breaker.specs.LineCut.{advance_before}
+
+length_turned :
+    {A : Type 0} (o : Option (List A)) → length (unwrap_or (option_map reverse o) []) ≡ length (unwrap_or o [])
+length_turned None = refl
+length_turned (Some ps) = length-reverse ps
+
+-- as many positions in processing order as in the buffer
+pub length-ordered_positions : (b : Buffer) → length (ordered_positions b) ≡ length (position_list b)
+length-ordered_positions b = by_way (is_backward b.direction)
+  where
+    by_way : (t : Bool) → length (position_list (cond t (reversed b) b)) ≡ length (position_list b)
+    by_way true = length_turned b.positions
+    by_way false = refl
+
+-- and as many glyphs
+pub length-ordered_line : (b : Buffer) → length (ordered_line b) ≡ length b.line
+length-ordered_line b = by_way (is_backward b.direction)
+  where
+    by_way : (t : Bool) → length (cond t (reversed b) b).line ≡ length b.line
+    by_way true = length-reverse b.line
+    by_way false = refl
+
+-- the advance of a glyph comes to those before it
+pub advance_more :
+    (b : Buffer) (q : ℕ) → length (position_list b) ≡ length b.line → q < length b.line
+    → advance_before (q + 1) b
+    ≡ advance_before q b +ℤ advance (is_horizontal b.direction) (get_or (ordered_positions b) q zero_position)
+advance_more b q placed low =
+    fold_more (λ s p. s +ℤ advance (is_horizontal b.direction) p) (pos 0) (ordered_positions b) q zero_position
+    (omega (arith, low, placed, length-ordered_positions b))

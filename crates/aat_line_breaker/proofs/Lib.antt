@@ -1,0 +1,3 @@
+pub mod Advanced
+pub mod Lasts
+pub mod Parts

@@ -1,0 +1,64 @@
+//! A line breaker: kerns a line by pairs and finds the last place within a limit of advance at which it may be cut.
+#![tactic(auto)]
+
+ghost use Rattle.std.specs.Prelude.{◌≡◌, ◌↔◌, false, IfErr, IfOk, IfSome, IsErrOf, IsSome, OnErr, OnOk};
+ghost use Rattle.aat_layout.specs.Clusters.{IsSmall};
+ghost use Rattle.aat_layout.specs.Cut.{IsCutPlace};
+ghost use Rattle.aat_layout.specs.Face.{kern_in, tables_of};
+ghost use Rattle.aat_layout.specs.Pairs.{kern_skips};
+ghost use Rattle.aat_layout.specs.Positioning.{AreKernPairs, kern_positioning};
+ghost use Rattle.aat_line_breaker.specs.LineCut.{IsFit, IsLast, IsLeftOfPartsAt};
+
+mod order;
+mod place;
+#[cfg(test)]
+mod tests;
+
+use crate::place::last_fit;
+use aat_layout::buffer::hb_buffer_t;
+use aat_layout::font::{hb_font_t, hb_ot_shape_plan_t};
+use aat_layout::{AatError, hb_ot_layout_kern};
+use std::alloc::Allocator;
+
+/// Kerns a line by the kerning table of a font, and answers the last place, in processing order, at which the line may
+/// be cut and the advances before which sum to at most `limit`; `None` where there is no such place. Both are in units
+/// of the font, along x in a row and along y in a column, as the positions have them after kerning. It looks for a
+/// place also where the whole line is within the limit.
+///
+/// A line may be cut before a glyph that kerning does not skip and that begins a cluster, unless of it and the glyph
+/// before it the one with the greater cluster is marked unsafe to break. There the two parts can be kerned by
+/// themselves, with the same plan and font and in buffers with the flags of this one, and have the positions that the
+/// line has: a caller sets the part before the place as it stands, and calls again with the glyphs from the place on and
+/// the positions that they had before.
+///
+/// The place counts from the glyph that is kerned first: the first one of the buffer, and on a backward line the last.
+///
+/// Each glyph id has to be at most 0xFFFF, which `all_glyphs_16` tells, positions have to stand, which `has_positions`
+/// tells, and all subtables have to be of pairs, which `has_kern_pairs_alone` tells.
+///
+/// Refused as 4, `BufferFailed`, where a call of the buffer was refused before, and nothing changes then; never else.
+/// It takes no memory, and besides kerning as many steps as the line is long.
+///
+/// Apple's TrueType Reference Manual, "The 'kern' table".
+pub fn kern_and_cut<A: Allocator + Copy>(
+    plan: &hb_ot_shape_plan_t,
+    face: &hb_font_t,
+    limit: i64,
+    buffer: &mut hb_buffer_t<A>,
+) -> Result<Option<usize>, AatError>
+    requires ids { IsSmall buffer.old }
+    requires positions { IsSome buffer.old.positions }
+    requires pairs { AreKernPairs (kern_in (tables_of face.now).kern) }
+    ensures failed { IsErrOf result AatError.BufferFailed ↔ (buffer.old.successful ≡ false) }
+    ensures reason { IfErr result (λ error. error ≡ AatError.BufferFailed) }
+    ensures unchanged { OnErr result (buffer.new ≡ buffer.old) }
+    ensures kerned { OnOk result (buffer.new ≡ (kern_positioning plan.now.requested_kerning plan.now.kern_mask (kern_in (tables_of face.now).kern) buffer.old).buffer) }
+    ensures last { IfOk result (λ place. IsLast (IsFit limit buffer.new) place) }
+    ensures place { IfOk result (λ place. IfSome place (λ q. IsCutPlace kern_skips q buffer.old)) }
+    ensures apart { IfOk result (λ place. IfSome place (λ q. IsLeftOfPartsAt q (kern_positioning plan.now.requested_kerning plan.now.kern_mask (kern_in (tables_of face.now).kern)) buffer.old buffer.new)) }
+{
+    // there are as many positions as glyphs
+    let _placed = buffer.has_positions();
+    hb_ot_layout_kern(plan, face, buffer)?;
+    Ok(last_fit(limit, buffer))
+}

@@ -1,0 +1,52 @@
+//! What a line has at a place in processing order.
+ghost use Rattle.std.specs.Prelude.{◌≡◌, ◌<◌, ◌<ℤ◌, ◌≤ℤ◌, length, negsuc, pos, slice_index_or};
+ghost use Rattle.aat_layout.specs.Advances.{advance};
+ghost use Rattle.aat_layout.specs.Buffer.{glyph_at, position_list, zero_position};
+ghost use Rattle.aat_layout.specs.Cut.{ordered_line, ordered_positions};
+ghost use Rattle.aat_layout.specs.Directions.{is_horizontal};
+
+use aat_layout::buffer::{hb_buffer_t, hb_glyph_info_t};
+use std::alloc::Allocator;
+
+/// Where in the buffer the glyph stands that is at this place in processing order.
+fn in_buffer<A: Allocator + Copy>(buffer: &hb_buffer_t<A>, place: usize) -> usize
+    requires in_line { place < length buffer.now.line }
+    requires placed { length (position_list buffer.now) ≡ length buffer.now.line }
+    ensures in_line { result < length buffer.now.line }
+    ensures glyph { glyph_at buffer.now.line result ≡ glyph_at (ordered_line buffer.now) place }
+    ensures position { slice_index_or (position_list buffer.now) result zero_position ≡ slice_index_or (ordered_positions buffer.now) place zero_position }
+{
+    if buffer.direction().is_backward() {
+        buffer.len() - 1 - place
+    } else {
+        place
+    }
+}
+
+/// The glyph at a place in processing order.
+pub(crate) fn glyph_at<A: Allocator + Copy>(
+    buffer: &hb_buffer_t<A>,
+    place: usize,
+) -> hb_glyph_info_t
+    requires in_line { place < length buffer.now.line }
+    requires placed { length (position_list buffer.now) ≡ length buffer.now.line }
+    ensures { result ≡ glyph_at (ordered_line buffer.now) place }
+{
+    *buffer.info(in_buffer(buffer, place))
+}
+
+/// The advance at a place in processing order: in x in a row, and in y in a column.
+pub(crate) fn advance_at<A: Allocator + Copy>(buffer: &hb_buffer_t<A>, place: usize) -> i64
+    requires in_line { place < length buffer.now.line }
+    requires placed { length (position_list buffer.now) ≡ length buffer.now.line }
+    ensures value { result ≡ advance (is_horizontal buffer.now.direction) (slice_index_or (ordered_positions buffer.now) place zero_position) }
+    ensures low { negsuc 0x7FFF_FFFF ≤ℤ result }
+    ensures high { result ≤ℤ pos 0x7FFF_FFFF }
+{
+    let position = buffer.pos(in_buffer(buffer, place));
+    if buffer.direction().is_horizontal() {
+        i64::from(position.x_advance)
+    } else {
+        i64::from(position.y_advance)
+    }
+}
