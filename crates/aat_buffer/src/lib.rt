@@ -7,6 +7,8 @@ mod gap_line;
 mod marks;
 mod pending_runs;
 mod removal;
+#[doc(hidden)]
+pub mod worked;
 
 pub use aat_glyph::{
     BufferError, BufferFlags, Direction, GlyphPosition, HB_BUFFER_CLUSTER_LEVEL_CHARACTERS,
@@ -14,6 +16,3 @@ pub use aat_glyph::{
     ScratchFlags, UnicodeProps, glyph_flag, hb_glyph_info_t, hb_mask_t,
 };
 pub use buffer::hb_buffer_t;
-
-#[cfg(test)]
-mod tests;

@@ -1,3 +1,4 @@
+pub mod AnchorRows
 pub mod Falls
 pub mod RuleFaults
 pub mod Search

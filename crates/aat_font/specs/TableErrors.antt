@@ -1,5 +1,5 @@
 -- Why a table is refused.
-use Rattle.std.specs.Prelude.{◌≡◌, ◌<◌, ℕ, Option, Some, None}
+use Rattle.std.specs.Prelude.{◌≡◌, ◌<◌, ℕ, Option, Some, None, option_map}
 use Rattle.aat_font.specs.declared.error.TableError.{TableError}
 use Rattle.aat_font.specs.declared.error.TableError.TheVariants.{NotRising, FewClasses, ClassOutOfRange, TooManySubtables, OutOfMemory}
 
@@ -19,6 +19,11 @@ RefusesRising fall FewClasses = ⊥
 RefusesRising fall (ClassOutOfRange place) = ⊥
 RefusesRising fall TooManySubtables = ⊥
 RefusesRising fall OutOfMemory = fall ≡ None
+
+-- why a list that has to rise and is kept as it is makes no table, given the place of its first fall: the fall, and no
+-- other reason
+abbrev pub RefusesFall : Option ℕ → TableError → Type 0
+RefusesFall fall e = option_map NotRising fall ≡ Some e
 
 -- why no state table is made, given its first fault: the fault, and want of memory only where there is none
 abbrev pub RefusesFault : Option TableError → TableError → Type 0

@@ -1,8 +1,10 @@
 -- Worked examples of tables.
 use Rattle.std.specs.Prelude.{◌≡◌, ℕ, List, [], ◌∷◌, ℤ, pos, negsuc, Some, None}
+use Rattle.aat_font.specs.AnchorPoints.{Points, listed_point, point_of}
 use Rattle.aat_font.specs.Keys.{first, first_fall}
 use Rattle.aat_font.specs.Pairs.{key_of_pair, kerning_of}
 use Rattle.aat_font.specs.Table.{Rule, TableValue, class_of, entry_of, table_fault}
+use Rattle.aat_font.specs.declared.entries.Point.{Point}
 use Rattle.aat_font.specs.declared.error.TableError.TheVariants.{NotRising, FewClasses, ClassOutOfRange}
 
 -- entries that are told apart by a number
@@ -62,3 +64,20 @@ PairsAreOrdered =
     × (kerning_of example_pairs 2 0 ≡ None)
     × (first_fall key_of_pair example_pairs ≡ None)
     × (first_fall key_of_pair ((2, 1, pos 7) ∷ (2, 0, pos 7) ∷ []) ≡ Some 1)
+
+-- an anchor point
+abbrev pub example_point : Point
+example_point = record { x = pos 100; y = negsuc 199 }
+
+-- a glyph with two anchor points, and one without
+abbrev pub example_points : Points
+example_points = (7, record { x = pos 0; y = pos 1 } ∷ example_point ∷ []) ∷ (65535, []) ∷ []
+
+-- a point is listed by its glyph, then by its index, and one that is not listed is the origin
+abbrev pub PointsAreListed : Type 0
+PointsAreListed =
+    (listed_point example_points 7 1 ≡ Some example_point)
+    × (listed_point example_points 7 2 ≡ None)
+    × (listed_point example_points 65535 0 ≡ None)
+    × (listed_point example_points 8 0 ≡ None)
+    × (point_of example_points 8 0 ≡ record { x = pos 0; y = pos 0 })

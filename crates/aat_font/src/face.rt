@@ -3,6 +3,7 @@ ghost use Rattle.std.specs.Prelude.{◌≡◌, None, Some};
 ghost use Rattle.aat_font.specs.Face.{tables_of, glyph_classes_of, advances_of, has_classes, props_of, advance_of};
 ghost use Rattle.aat_font.specs.Face.{value_or_zero};
 
+use crate::ankr::Ankr;
 use crate::feat::Feat;
 use crate::kern::Kern;
 use crate::kerx::Kerx;
@@ -17,6 +18,7 @@ pub struct FaceTables {
     pub kerx: Option<Kerx>,
     pub kern: Option<Kern>,
     pub feat: Option<Feat>,
+    pub ankr: Option<Ankr>,
 }
 
 impl FaceTables {
@@ -56,6 +58,16 @@ impl FaceTables {
     {
         FaceTables {
             feat: Some(feat),
+            ..self
+        }
+    }
+
+    /// The same tables with this anchor point table.
+    pub fn with_ankr(self, ankr: Ankr) -> FaceTables
+        ensures { result ≡ record self { ankr = Some ankr } }
+    {
+        FaceTables {
+            ankr: Some(ankr),
             ..self
         }
     }

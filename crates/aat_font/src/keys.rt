@@ -1,9 +1,9 @@
 //! Rows that rise by a key, as the tables of a font keep them: how they are tested and searched.
-ghost use Rattle.std.specs.Prelude.{◌≡◌};
+ghost use Rattle.std.specs.Prelude.{◌≡◌, option_copied};
 ghost use Rattle.aat_font.specs.Keys.{IsRising, at_key, first_fall};
 
 /// A row of a table, with the number by which its rows rise.
-pub trait Keyed: Copy {
+pub trait Keyed {
     ghost use Rattle.std.specs.Prelude.{◌≡◌, ℕ};
 
     ghost key_of: { Self → ℕ };
@@ -25,13 +25,21 @@ pub fn first_fall<R: Keyed>(rows: &[R]) -> Option<usize>
     None
 }
 
-/// The row that has the key, if there is one, found by bisection.
-pub fn row_at<R: Keyed>(rows: &[R], key: u32) -> Option<R>
+/// A copy of the row that has the key, if there is one, found by bisection.
+pub fn row_at<R: Keyed + Copy>(rows: &[R], key: u32) -> Option<R>
     requires { IsRising R.key_of rows.now }
     ensures { result ≡ at_key R.key_of rows.now key }
 {
+    row_in(rows, key).copied()
+}
+
+/// The row that has the key, where it stands, if there is one, found by bisection.
+pub fn row_in<R: Keyed>(rows: &[R], key: u32) -> Option<&R>
+    requires { IsRising R.key_of rows.now }
+    ensures { option_copied result ≡ at_key R.key_of rows.now key }
+{
     match rows.binary_search_by_key(&key, |row| row.key()) {
-        Ok(at) => Some(rows[at]),
+        Ok(at) => Some(&rows[at]),
         Err(_) => None,
     }
 }

@@ -1,6 +1,7 @@
 //! The typed tables of an Apple font, the numbers of its features, the font and the shaping plan.
 #![tactic(auto)]
 
+mod ankr;
 pub mod constants;
 mod entries;
 mod error;
@@ -16,7 +17,10 @@ mod plan;
 mod state_table;
 mod subtables;
 mod tag;
+#[doc(hidden)]
+pub mod worked;
 
+pub use ankr::Ankr;
 pub use entries::{ContextualEntryData, EntryData, InsertionEntryData, KernEntryData, Point};
 pub use error::TableError;
 pub use face::{FaceTables, hb_font_t};
@@ -30,6 +34,3 @@ pub use plan::{Feature, GlyphId, hb_ot_shape_plan_t};
 pub use state_table::{ExtendedStateTable, GenericStateEntry};
 pub use subtables::{ContextualSubtable, InsertionSubtable, LigatureSubtable};
 pub use tag::hb_tag_t;
-
-#[cfg(test)]
-mod tests;

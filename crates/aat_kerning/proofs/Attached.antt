@@ -6,7 +6,7 @@ use Rattle.std.proofs.lemmas.List.Edits.{map_over_more}
 use Rattle.std.proofs.lemmas.Option.{get_or_from_slice_get}
 use Rattle.aat_buffer.specs.Buffer.{Buffer, position_list, with_position}
 use Rattle.aat_glyph.specs.declared.glyph.GlyphPosition.{GlyphPosition}
-use Rattle.aat_kerning.specs.Positions.{on_positions}
+use Rattle.aat_kerning_machines.specs.Positions.{on_positions}
 
 -- the first i positions are changed
 abbrev pub on_first : (GlyphPosition → GlyphPosition) → ℕ → Option (List GlyphPosition) → Option (List GlyphPosition)

@@ -1,6 +1,7 @@
 -- What the calls of kerning leave, from what their loops leave.
-use Rattle.std.proofs.Common.{◌≡◌, ◌∙◌, ap, sym, subst, refl, ℕ, Bool, true, false, true≢false, List, [], Option, Some, None, map}
+use Rattle.std.proofs.Common.{◌≡◌, ◌∙◌, ap, sym, subst, refl, ℕ, ◌+◌, ◌*◌, ◌≤◌, Bool, true, false, true≢false, List, [], Option, Some, None, map, length, arith}
 use Rattle.std.specs.Bool.{OnTrue}
+use Rattle.std.proofs.lemmas.Slice.Zip.{AllZip-long}
 use Rattle.std.specs.Prelude.{IsNone, IsSome, bit_and, is_some}
 use Rattle.aat_buffer.specs.Buffer.{Buffer}
 use Rattle.aat_buffer.specs.Marks.{unsafe_to_concat}
@@ -8,16 +9,18 @@ use Rattle.aat_font.specs.AnchorPoints.{Points}
 use Rattle.aat_font.specs.Face.{kern_in, kerx_in}
 use Rattle.aat_font.specs.declared.kern.KernSubtable.{KernSubtable}
 use Rattle.aat_font.specs.declared.kerx.KerxSubtable.{KerxSubtable}
+use Rattle.aat_run.specs.Budget.{operations_left}
 use Rattle.aat_run.specs.Outcome.{Outcome, untouched}
 use Rattle.aat_kerning.specs.Advances.{KernSumsAdvances, KerxSumsAdvances}
 use Rattle.aat_kerning.specs.Cut.{IsLeftOfAlikeParts, IsLeftOfParts}
-use Rattle.aat_kerning.specs.KerningLaws.{IsKernedFrom}
+use Rattle.aat_kerning.specs.KerningLawful.{IsPaidBeyond}
+use Rattle.aat_kerning_machines.specs.KerningLaws.{IsKernedFrom, IsMarkedFrom}
 use Rattle.aat_kerning.specs.Pairs.{kern_skips, kerx_skips}
 use Rattle.aat_kerning.specs.Positioning.{kern_kerning, kern_positioning, kerx_kerning, kerx_positioning, positioning}
 use Rattle.aat_kerning.proofs.CutAlike.{alike_parts_are_kerned_apart}
 use Rattle.aat_kerning.proofs.CutHolds.{parts_are_kerned_apart}
-use Rattle.aat_kerning.proofs.KerningLawsHold.{kerning_changes_little}
-use Rattle.aat_kerning.specs.Positions.{IsPlaced}
+use Rattle.aat_kerning.proofs.KerningLawsHold.{kerning_changes_little, kerning_is_bounded}
+use Rattle.aat_kerning_machines.specs.Positions.{IsPlaced}
 use Rattle.aat_kerning.proofs.Positioned.{none_positioned}
 use Rattle.aat_kerning.proofs.SummedTables.{kern_sums, kerx_sums}
 
@@ -35,90 +38,112 @@ pub placed_as_asked :
 placed_as_asked b true e placed some = placed
 placed_as_asked b false e placed some = absurd (true≢false (sym (e ∙ some)))
 
-module _ (requested : Bool) (kern_mask : ℕ) (table : Option (List KernSubtable)) (b d : Buffer) where
-  pub kern_cut :
-      untouched d ≡ kern_positioning requested kern_mask (kern_in table) b → bit_and kern_mask 7 ≡ 0
-      → IsLeftOfParts kern_skips (map (kern_kerning kern_mask) (kern_in table)) (kern_positioning requested kern_mask (kern_in table)) b d
-  kern_cut ran free =
-      subst (IsLeftOfParts kern_skips (map (kern_kerning kern_mask) (kern_in table)) (kern_positioning requested kern_mask (kern_in table)) b)
-      (sym (ap (λ (o : Outcome). o.buffer) ran)) (parts_are_kerned_apart.kern requested kern_mask (kern_in table) b free)
+-- and they still are where a line was kerned
+pub still_placed : (b d : Buffer) → IsKernedFrom b d → IsPlaced b → IsPlaced d
+still_placed b d kept placed = kept.text.positions ∙ (placed ∙ sym (AllZip-long IsMarkedFrom b.line d.line kept.line))
 
-  pub kern_cut_alike :
-      untouched d ≡ kern_positioning requested kern_mask (kern_in table) b
-      → IsLeftOfAlikeParts kern_skips (map (kern_kerning kern_mask) (kern_in table)) (kern_positioning requested kern_mask (kern_in table)) b d
-  kern_cut_alike ran =
-      subst (IsLeftOfAlikeParts kern_skips (map (kern_kerning kern_mask) (kern_in table)) (kern_positioning requested kern_mask (kern_in table)) b)
-      (sym (ap (λ (o : Outcome). o.buffer) ran)) (alike_parts_are_kerned_apart.kern requested kern_mask (kern_in table) b)
+-- turns that are paid for, but for so many, are few
+pub bounded_by : (free : ℕ) (b d : Buffer) (n : ℕ) → IsPaidBeyond free b (record { buffer = d; turns = n }) → n ≤ free + operations_left b.max_ops
+bounded_by free b d n paid = omega (arith, paid)
 
-  pub kern_summed :
-      untouched d ≡ kern_positioning requested kern_mask (kern_in table) b → requested ≡ true → bit_and kern_mask 7 ≡ 0
-      → IsPlaced b → KernSumsAdvances kern_mask (kern_in table) b d
-  kern_summed ran asked free placed =
-      subst (KernSumsAdvances kern_mask (kern_in table) b) (sym (ap (λ (o : Outcome). o.buffer) ran))
-      (kern_sums requested kern_mask (kern_in table) b asked free placed)
-
+module _ (requested : Bool) (kern_mask : ℕ) (table : Option (List KernSubtable)) (b d : Buffer) (n : ℕ) where
   pub kern_called :
       (subtables : List KernSubtable) → subtables ≡ kern_in table
-      → untouched d ≡ positioning requested (map (kern_kerning kern_mask) subtables) b
-      → untouched d ≡ kern_positioning requested kern_mask (kern_in table) b
+      → record { buffer = d; turns = n } ≡ positioning requested (map (kern_kerning kern_mask) subtables) b
+      → record { buffer = d; turns = n } ≡ kern_positioning requested kern_mask (kern_in table) b
   unfolding kern_positioning
   kern_called subtables listed ran =
       ran ∙ ap (λ (ss : List KernSubtable). positioning requested (map (kern_kerning kern_mask) ss) b) listed
 
-  pub kern_kept : untouched d ≡ kern_positioning requested kern_mask (kern_in table) b → IsKernedFrom b d
-  kern_kept ran =
-      subst (IsKernedFrom b) (sym (ap (λ (o : Outcome). o.buffer) ran)) (kerning_changes_little.kern requested kern_mask (kern_in table) b)
-
-  pub kern_without_table : IsNone table → untouched d ≡ kern_positioning requested kern_mask (kern_in table) b → d ≡ b
+  pub kern_without_table :
+      IsNone table → record { buffer = d; turns = n } ≡ kern_positioning requested kern_mask (kern_in table) b
+      → (n ≡ 0) × (d ≡ b)
   unfolding kern_positioning
   kern_without_table missing ran =
-      ap (λ (o : Outcome). o.buffer) (ran
+      let is : record { buffer = d; turns = n } ≡ untouched b = ran
       ∙ ap (λ (ss : List KernSubtable). positioning requested (map (kern_kerning kern_mask) ss) b) (kern_none table missing)
-      ∙ sym (none_positioned requested (kern_kerning kern_mask) b))
+      ∙ sym (none_positioned requested (kern_kerning kern_mask) b) in
+      (ap (λ (o : Outcome). o.turns) is, ap (λ (o : Outcome). o.buffer) is)
 
-pub kerx_summed :
-    (requested : Bool) (kern_mask : ℕ) (table : Option (List KerxSubtable)) (b d : Buffer)
-    → untouched d ≡ kerx_positioning requested kern_mask None (kerx_in table) b → requested ≡ true → bit_and kern_mask 7 ≡ 0
-    → IsPlaced b → KerxSumsAdvances kern_mask (kerx_in table) b d
-kerx_summed requested kern_mask table b d ran asked free placed =
-    subst (KerxSumsAdvances kern_mask (kerx_in table) b) (sym (ap (λ (o : Outcome). o.buffer) ran))
-    (kerx_sums requested kern_mask (kerx_in table) b asked free placed)
+module _ (requested : Bool) (kern_mask : ℕ) (subtables : List KernSubtable) (b d : Buffer) (n : ℕ)
+    (ran : record { buffer = d; turns = n } ≡ kern_positioning requested kern_mask subtables b)
+  where
+    kern_left : (kern_positioning requested kern_mask subtables b).buffer ≡ d
+    kern_left = sym (ap (λ (o : Outcome). o.buffer) ran)
 
-module _ (requested : Bool) (kern_mask : ℕ) (points : Option Points) (table : Option (List KerxSubtable)) (b d : Buffer) where
-  pub kerx_cut :
-      untouched d ≡ kerx_positioning requested kern_mask points (kerx_in table) b → bit_and kern_mask 7 ≡ 0
-      → IsLeftOfParts kerx_skips (map (kerx_kerning kern_mask points) (kerx_in table)) (kerx_positioning requested kern_mask points (kerx_in table)) b d
-  kerx_cut ran free =
-      subst (IsLeftOfParts kerx_skips (map (kerx_kerning kern_mask points) (kerx_in table)) (kerx_positioning requested kern_mask points (kerx_in table)) b)
-      (sym (ap (λ (o : Outcome). o.buffer) ran)) (parts_are_kerned_apart.kerx requested kern_mask points (kerx_in table) b free)
+    pub kern_cut :
+        bit_and kern_mask 7 ≡ 0
+        → IsLeftOfParts kern_skips (map (kern_kerning kern_mask) subtables) (kern_positioning requested kern_mask subtables) b d
+    kern_cut free =
+        subst (IsLeftOfParts kern_skips (map (kern_kerning kern_mask) subtables) (kern_positioning requested kern_mask subtables) b)
+        kern_left (parts_are_kerned_apart.kern requested kern_mask subtables b free)
 
-  pub kerx_cut_alike :
-      untouched d ≡ kerx_positioning requested kern_mask points (kerx_in table) b
-      → IsLeftOfAlikeParts kerx_skips (map (kerx_kerning kern_mask points) (kerx_in table)) (kerx_positioning requested kern_mask points (kerx_in table)) b d
-  kerx_cut_alike ran =
-      subst (IsLeftOfAlikeParts kerx_skips (map (kerx_kerning kern_mask points) (kerx_in table)) (kerx_positioning requested kern_mask points (kerx_in table)) b)
-      (sym (ap (λ (o : Outcome). o.buffer) ran)) (alike_parts_are_kerned_apart.kerx requested kern_mask points (kerx_in table) b)
+    pub kern_cut_alike : IsLeftOfAlikeParts kern_skips (map (kern_kerning kern_mask) subtables) (kern_positioning requested kern_mask subtables) b d
+    kern_cut_alike =
+        subst (IsLeftOfAlikeParts kern_skips (map (kern_kerning kern_mask) subtables) (kern_positioning requested kern_mask subtables) b)
+        kern_left (alike_parts_are_kerned_apart.kern requested kern_mask subtables b)
 
+    pub kern_summed : requested ≡ true → bit_and kern_mask 7 ≡ 0 → IsPlaced b → KernSumsAdvances kern_mask subtables b d
+    kern_summed asked free placed =
+        subst (KernSumsAdvances kern_mask subtables b) kern_left (kern_sums requested kern_mask subtables b asked free placed)
+
+    pub kern_kept : IsKernedFrom b d
+    kern_kept = subst (IsKernedFrom b) kern_left (kerning_changes_little.kern requested kern_mask subtables b)
+
+    pub kern_paid : IsPaidBeyond (length subtables * (length b.line + 1)) b (record { buffer = d; turns = n })
+    kern_paid =
+        subst (IsPaidBeyond (length subtables * (length b.line + 1)) b) (sym ran) (kerning_is_bounded.kern requested kern_mask subtables b)
+
+module _ (requested : Bool) (kern_mask : ℕ) (points : Option Points) (table : Option (List KerxSubtable)) (b d : Buffer) (n : ℕ) where
   pub kerx_called :
-      (subtables : List KerxSubtable) (marked : Buffer) → subtables ≡ kerx_in table → marked ≡ unsafe_to_concat b None None
-      → untouched d ≡ positioning requested (map (kerx_kerning kern_mask points) subtables) marked
-      → untouched d ≡ kerx_positioning requested kern_mask points (kerx_in table) b
+      (given : Option Points) (subtables : List KerxSubtable) (marked : Buffer) → given ≡ points → subtables ≡ kerx_in table
+      → marked ≡ unsafe_to_concat b None None
+      → record { buffer = d; turns = n } ≡ positioning requested (map (kerx_kerning kern_mask given) subtables) marked
+      → record { buffer = d; turns = n } ≡ kerx_positioning requested kern_mask points (kerx_in table) b
   unfolding kerx_positioning
-  kerx_called subtables marked listed is ran =
+  kerx_called given subtables marked same listed is ran =
       ran
+      ∙ ap (λ (ps : Option Points). positioning requested (map (kerx_kerning kern_mask ps) subtables) marked) same
       ∙ ap (λ (ss : List KerxSubtable). positioning requested (map (kerx_kerning kern_mask points) ss) marked) listed
       ∙ ap (positioning requested (map (kerx_kerning kern_mask points) (kerx_in table))) is
 
-  pub kerx_kept : untouched d ≡ kerx_positioning requested kern_mask points (kerx_in table) b → IsKernedFrom b d
-  kerx_kept ran =
-      subst (IsKernedFrom b) (sym (ap (λ (o : Outcome). o.buffer) ran)) (kerning_changes_little.kerx requested kern_mask points (kerx_in table) b)
-
   pub kerx_without_table :
-      IsNone table → untouched d ≡ kerx_positioning requested kern_mask points (kerx_in table) b
-      → d ≡ unsafe_to_concat b None None
+      IsNone table → record { buffer = d; turns = n } ≡ kerx_positioning requested kern_mask points (kerx_in table) b
+      → (n ≡ 0) × (d ≡ unsafe_to_concat b None None)
   unfolding kerx_positioning
   kerx_without_table missing ran =
       let marked = unsafe_to_concat b None None in
-      ap (λ (o : Outcome). o.buffer) (ran
+      let is : record { buffer = d; turns = n } ≡ untouched marked = ran
       ∙ ap (λ (ss : List KerxSubtable). positioning requested (map (kerx_kerning kern_mask points) ss) marked) (kerx_none table missing)
-      ∙ sym (none_positioned requested (kerx_kerning kern_mask points) marked))
+      ∙ sym (none_positioned requested (kerx_kerning kern_mask points) marked) in
+      (ap (λ (o : Outcome). o.turns) is, ap (λ (o : Outcome). o.buffer) is)
+
+module _ (requested : Bool) (kern_mask : ℕ) (points : Option Points) (subtables : List KerxSubtable) (b d : Buffer) (n : ℕ)
+    (ran : record { buffer = d; turns = n } ≡ kerx_positioning requested kern_mask points subtables b)
+  where
+    kerx_left : (kerx_positioning requested kern_mask points subtables b).buffer ≡ d
+    kerx_left = sym (ap (λ (o : Outcome). o.buffer) ran)
+
+    pub kerx_cut :
+        bit_and kern_mask 7 ≡ 0
+        → IsLeftOfParts kerx_skips (map (kerx_kerning kern_mask points) subtables) (kerx_positioning requested kern_mask points subtables) b d
+    kerx_cut free =
+        subst (IsLeftOfParts kerx_skips (map (kerx_kerning kern_mask points) subtables) (kerx_positioning requested kern_mask points subtables) b)
+        kerx_left (parts_are_kerned_apart.kerx requested kern_mask points subtables b free)
+
+    pub kerx_cut_alike :
+        IsLeftOfAlikeParts kerx_skips (map (kerx_kerning kern_mask points) subtables) (kerx_positioning requested kern_mask points subtables) b d
+    kerx_cut_alike =
+        subst (IsLeftOfAlikeParts kerx_skips (map (kerx_kerning kern_mask points) subtables) (kerx_positioning requested kern_mask points subtables) b)
+        kerx_left (alike_parts_are_kerned_apart.kerx requested kern_mask points subtables b)
+
+    pub kerx_summed : requested ≡ true → bit_and kern_mask 7 ≡ 0 → IsPlaced b → KerxSumsAdvances kern_mask subtables b d
+    kerx_summed asked free placed =
+        subst (KerxSumsAdvances kern_mask subtables b) kerx_left (kerx_sums requested kern_mask points subtables b asked free placed)
+
+    pub kerx_kept : IsKernedFrom b d
+    kerx_kept = subst (IsKernedFrom b) kerx_left (kerning_changes_little.kerx requested kern_mask points subtables b)
+
+    pub kerx_paid : IsPaidBeyond (length subtables * (length b.line + 1)) b (record { buffer = d; turns = n })
+    kerx_paid =
+        subst (IsPaidBeyond (length subtables * (length b.line + 1)) b) (sym ran) (kerning_is_bounded.kerx requested kern_mask points subtables b)

@@ -1,6 +1,6 @@
 -- What each part of kerning changes.
 use Rattle.std.proofs.Common.{◌≡◌, ℕ, ◌+◌, ◌≤◌, ◌⊎◌, inl, inr, Bool, true, false, cond, List, [], ◌∷◌, length, ℤ, pos, Option, Some, None, refl, ap, ◌∙◌, arith}
-use Rattle.std.specs.Prelude.{fold, reverse}
+use Rattle.std.specs.Prelude.{IsSome, fold, option_map, reverse}
 use Rattle.std.specs.Ordering.{int_eq}
 use Rattle.std.proofs.lemmas.List.{length-reverse, length-map, reverse-reverse}
 use Rattle.aat_buffer.specs.Buffer.{Buffer, with_line, with_cursor, glyph_at, reversed, position_list}
@@ -11,12 +11,12 @@ use Rattle.aat_glyph.specs.declared.glyph.GlyphPosition.{GlyphPosition}
 use Rattle.aat_glyph.specs.declared.glyph.hb_glyph_info_t.{hb_glyph_info_t}
 use Rattle.aat_run.specs.Budget.{paid, operations_left}
 use Rattle.aat_run.specs.facts.MachineRuns.{paid_less}
-use Rattle.aat_kerning.specs.KerningLaws.{GainsBits, SameText, PositionsAlone, IsKernedFrom}
+use Rattle.aat_kerning_machines.specs.KerningLaws.{GainsBits, SameText, PositionsAlone, IsKernedFrom}
 use Rattle.aat_kerning.specs.PairKerning.{pair_kerning, kerned, value_of, in_stream, cross_stream}
 use Rattle.aat_kerning.specs.Pairs.{Pair, pairs_of}
 use Rattle.aat_kerning.specs.Positioning.{cursively_attached, in_processing_order, line_marked}
-use Rattle.aat_kerning.specs.Positions.{on_positions}
-use Rattle.aat_kerning.specs.facts.Writes.{gains_none, gains_more, same_text, text_after, same_place, place_of_write, place_of_attachment}
+use Rattle.aat_kerning_machines.specs.Positions.{on_positions}
+use Rattle.aat_kerning_machines.specs.facts.Writes.{gains_none, gains_more, same_text, text_after, same_place, place_of_write, place_of_attachment}
 use Rattle.aat_kerning.proofs.Marked.{IsMarkedLine, line_same, line_twice, line_reversed, line_of_break, line_of_concat}
 
 -- what kerning changes, but for the cursor
@@ -29,17 +29,17 @@ text_twice : (a b c : Buffer) → SameText a b → SameText b c → SameText a c
 text_twice a b c p q =
     let k = gains_more 8 q.scratch_flags.0 a.scratch_flags.0 b.scratch_flags.0 q.scratch_flags.1 p.scratch_flags in
     let scratch : GainsBits 8 a.scratch_flags.0 c.scratch_flags.0 = rw q.scratch_flags.2 k in
-    text_after a b c p q.positions scratch q.settings.direction q.settings.cluster_level q.settings.flags q.settings.max_len
+    text_after a b c p q.positions q.standing scratch q.settings.direction q.settings.cluster_level q.settings.flags q.settings.max_len
     q.settings.successful
 
 -- what keeps the positions' number and all flags and settings
 same_rest :
-    (b e : Buffer) → length (position_list e) ≡ length (position_list b) → e.scratch_flags ≡ b.scratch_flags
-    → e.direction ≡ b.direction → e.cluster_level ≡ b.cluster_level → e.flags ≡ b.flags → e.max_len ≡ b.max_len
+    (b e : Buffer) → length (position_list e) ≡ length (position_list b) → (IsSome b.positions → IsSome e.positions)
+    → e.scratch_flags ≡ b.scratch_flags → e.direction ≡ b.direction → e.cluster_level ≡ b.cluster_level → e.flags ≡ b.flags → e.max_len ≡ b.max_len
     → e.successful ≡ b.successful → SameText b e
-same_rest b e positions scratch direction level flags max_len successful =
+same_rest b e positions standing scratch direction level flags max_len successful =
     let none : GainsBits 8 b.scratch_flags.0 e.scratch_flags.0 = rw scratch (gains_none 8 b.scratch_flags.0) in
-    text_after b b e (same_text b) positions none direction level flags max_len successful
+    text_after b b e (same_text b) positions standing none direction level flags max_len successful
 
 pub inside_twice : (a b c : Buffer) → IsKernedInside a b → IsKernedInside b c → IsKernedInside a c
 inside_twice a b c p q = record {
@@ -67,7 +67,7 @@ of_line b gs marked = record {
   line = marked;
   cursor = inl refl;
   budget = omega arith;
-  text = same_rest b (with_line b gs) refl refl refl refl refl refl refl;
+  text = same_rest b (with_line b gs) refl (λ some. some) refl refl refl refl refl refl;
 }
 
 pub same : (b : Buffer) → IsKernedFrom b b
@@ -91,14 +91,14 @@ pub of_cursor : (b : Buffer) (n : ℕ) → IsKernedInside b (with_cursor b n)
 of_cursor b n = record {
   line = line_same b.line;
   budget = omega arith;
-  text = same_rest b (with_cursor b n) refl refl refl refl refl refl refl;
+  text = same_rest b (with_cursor b n) refl (λ some. some) refl refl refl refl refl refl;
 }
 
 pub of_payment : (b : Buffer) → IsKernedInside b (paid 1 b)
 of_payment b = record {
   line = line_same b.line;
   budget = paid_less 1 b.max_ops;
-  text = same_rest b (paid 1 b) refl refl refl refl refl refl refl;
+  text = same_rest b (paid 1 b) refl (λ some. some) refl refl refl refl refl refl;
 }
 
 pub of_pair :
@@ -133,13 +133,18 @@ of_pair_kerning skips kern_mask is_cross values asked b =
     let d = line_marked asked b in
     kerned_twice b d _ (of_marked asked b) (of_pairs is_cross values (pairs_of skips kern_mask d.line) d)
 
+-- what stands still stands where it is changed
+some_mapped : {X Y : Type 0} (f : X → Y) (o : Option X) → IsSome o → IsSome (option_map f o)
+some_mapped f None some = some
+some_mapped f (Some x) some = refl
+
 -- attachment writes positions alone
 pub of_attachment : (b : Buffer) → IsKernedFrom b (cursively_attached b)
 of_attachment b = record {
   line = line_same b.line;
   cursor = inl refl;
   budget = omega arith;
-  text = same_rest b (cursively_attached b) (mapped _ b.positions) refl refl refl refl refl refl;
+  text = same_rest b (cursively_attached b) (mapped _ b.positions) (some_mapped _ b.positions) refl refl refl refl refl refl;
 }
   where
     mapped : (f : GlyphPosition → GlyphPosition) (qs : Option (List GlyphPosition))
@@ -166,7 +171,7 @@ turned_back b s k = record {
 }
   where
     turned : (d : Buffer) → SameText d (reversed d)
-    turned d = same_rest d (reversed d) (reversed_places d) refl refl refl refl refl refl
+    turned d = same_rest d (reversed d) (reversed_places d) (some_mapped reverse d.positions) refl refl refl refl refl refl
 
 -- what was kerned in processing order, in the order of the line
 pub in_order : (b s : Buffer) → IsKernedFrom (in_processing_order b) s → IsKernedFrom b (in_processing_order s)

@@ -1,12 +1,11 @@
 -- Pairs can be kerned in two parts, by every kern mask, where the parts ask for the marks that the whole asks for: then
 -- the marks of the whole are those of the parts.
-use Rattle.std.proofs.Common.{◌≡◌, ℕ, zero, suc, ◌+◌, ◌-◌, ◌<◌, ◌≤◌, ◌&&◌, Bool, true, false, cond, List, [], ◌∷◌, ◌++◌, length, map, take, drop, fold, min, ℤ, pos, Option, Some, None, refl, sym, ap, ◌∙◌, arith, subst, true≢false, nat_lt, nat_le, lt-ltb, append_assoc, append-nil, reverse}
+use Rattle.std.proofs.Common.{◌≡◌, ℕ, zero, suc, ◌+◌, ◌-◌, ◌<◌, ◌≤◌, ◌&&◌, Bool, true, false, cond, List, [], ◌∷◌, ◌++◌, length, map, take, drop, fold, min, ℤ, pos, Option, Some, None, refl, sym, ap, ◌∙◌, arith, nat_lt, nat_le, lt-ltb, append_assoc, append-nil, reverse}
 use Rattle.std.specs.Prelude.{slice_range}
-use Rattle.std.specs.List.{cons_option}
 use Rattle.std.specs.Ordering.{int_eq}
 use Rattle.std.proofs.lemmas.Bool.Decides.{nat_tests}
 use Rattle.std.proofs.lemmas.Grind.{reverse_onto}
-use Rattle.std.proofs.lemmas.List.{take-append-drop, take-append-le, drop-append-le, take_all, drop_all, length-append, length-drop, length-map, map-append, get_or_append_left, get_or-append-add, length-take-le}
+use Rattle.std.proofs.lemmas.List.{take-append-drop, take-append-le, drop-append-le, take_all, drop_all, length-append, length-drop, length-map, map-append, get_or_append_left, get_or-append-add}
 use Rattle.std.proofs.lemmas.Slice.Zip.{AllZip-long}
 use Rattle.aat_buffer.specs.Buffer.{Buffer, no_glyph, glyph_at, reversed}
 use Rattle.aat_buffer.specs.Marks.{on_span, on_long_span, break_marked, concat_marked, with_mask_bits, unsafe_to_break, unsafe_to_concat, produces_concat}
@@ -18,26 +17,20 @@ use Rattle.aat_glyph.specs.declared.glyph.Direction.{Direction}
 use Rattle.aat_glyph.specs.declared.flags.BufferFlags.{BufferFlags}
 use Rattle.aat_glyph.specs.declared.glyph.hb_glyph_info_t.{hb_glyph_info_t}
 use Rattle.aat_run.specs.Switches.{meets}
-use Rattle.aat_kerning.specs.Cut.{ordered_line, greater_at, AreParts, HaveFlagsOf, AlikePartsAreKernedApart, CanBeCutAlike}
-use Rattle.aat_kerning.specs.KerningLaws.{IsKernedFrom, IsMarkedFrom}
+use Rattle.aat_kerning.specs.Cut.{ordered_line, greater_at, AreAlikeParts, AlikePartsAreKernedApart, CanBeCutAlike}
+use Rattle.aat_kerning_machines.specs.KerningLaws.{IsKernedFrom, IsMarkedFrom}
 use Rattle.aat_kerning.specs.PairKerning.{kerned, pair_kerning, in_stream, cross_stream}
-use Rattle.aat_kerning.specs.Pairs.{Pair, kerx_skips, kern_skips, is_solid, pair_at, pairs_of}
-use Rattle.aat_font.specs.declared.kern.KernKind.{KernKind}
-use Rattle.aat_font.specs.declared.kern.KernKind.TheVariants as kind
+use Rattle.aat_kerning.specs.Pairs.{Pair, kerx_skips, kern_skips, is_solid, pairs_of}
 use Rattle.aat_font.specs.declared.kern.KernSubtable.{KernSubtable}
-use Rattle.aat_font.specs.declared.kerx.KerxFormat.{KerxFormat}
-use Rattle.aat_font.specs.declared.kerx.KerxFormat.TheVariants.{Format0, Format1, Format2, Format4, Format6}
 use Rattle.aat_font.specs.declared.kerx.KerxSubtable.{KerxSubtable}
-use Rattle.aat_kerning.specs.Positioning.{cursively_attached, in_processing_order, line_marked, is_kerx_pairs, is_kern_pairs, kerx_run, kern_run, kerx_kerning, kern_kerning, kerx_positioning, kern_positioning}
+use Rattle.aat_kerning.specs.Positioning.{cursively_attached, in_processing_order, line_marked, kerx_kerning, kern_kerning, kerx_positioning, kern_positioning}
 use Rattle.aat_kerning.proofs.Changes.{of_marked, of_pair, of_pairs, of_pair_kerning, of_attachment}
-use Rattle.aat_kerning.proofs.CutHolds.{attached_apart, places_of_marked, ordered_marked, ordered_places, ordered_way, IsCutLine, cut_line}
+use Rattle.aat_kerning.proofs.CutHolds.{AreNow, cut_of, marked_parts_now, now_after, now_attached, now_marked, parts_now, short_first}
 use Rattle.aat_kerning.proofs.CutMarks.{IsUnflagged}
 use Rattle.aat_kerning.proofs.CutMoves.{SameIds, ids_kept, same_value, value_at, value_further}
-use Rattle.aat_kerning.proofs.CutPairs.{LooksLike, shifted, AllBefore, pair_before, pairs_cut, pairs_within}
-use Rattle.aat_kerning.proofs.CutRuns.{greater_of, positioned_apart}
-use Rattle.aat_kerning.proofs.CutStep.{IsGreater, IsCut, IsMovedApart, by_pairs, clusters_kept, pairs_apart, crossing_changes_nothing, suc_of}
-use Rattle.aat_kerning.proofs.KerningLawsHold.{kerx_is_paid, kern_is_paid}
-use Rattle.aat_kerning.proofs.Marked.{IsMarkedLine, line_same, line_twice, marked_at}
+use Rattle.aat_kerning.proofs.CutPairs.{LooksLike, shifted, AllBefore, pairs_within}
+use Rattle.aat_kerning.proofs.CutStep.{IsGreater, IsCut, IsMovedApart, by_pairs, folded_apart, greater_kept, pairs_apart}
+use Rattle.aat_kerning.proofs.CutTables.{IsCutLine, IsKeptApart, PairsKeep, kerx_parted, kern_parted}
 
 -- the span of a pair is marked
 abbrev pub span_marked_of : Pair → List hb_glyph_info_t → List hb_glyph_info_t
@@ -269,17 +262,12 @@ concat_joined b first second f g joined =
     by_test true = map-append (with_mask_bits 2) first.line second.line
     by_test false = refl
 
--- the whole and its parts, where the whole's glyphs are those of the parts, marked from a line
+-- the whole and its parts, where the whole's glyphs are those of the parts
 record AreAlike (q : ℕ) (way : Direction) (line : List hb_glyph_info_t) (b first second : Buffer) : Type 0 where
-  whole_line : IsMarkedLine line b.line
+  now : AreNow q way line b first second
   joined : b.line ≡ first.line ++ second.line
-  short : length first.line ≡ q
   first_flags : first.flags ≡ b.flags
   second_flags : second.flags ≡ b.flags
-  whole_way : b.direction ≡ way
-  first_way : first.direction ≡ way
-  second_way : second.direction ≡ way
-  apart : IsMovedApart q b first second
 
 -- equal glyphs look like each other
 looks_same : (skips kern_mask : ℕ) (g h : hb_glyph_info_t) → h ≡ g → LooksLike skips kern_mask g h
@@ -289,159 +277,96 @@ looks_same skips kern_mask g h e = record {
   asks = ap (λ (x : hb_glyph_info_t). meets x.mask kern_mask) e;
 }
 
-module _ (skips kern_mask q : ℕ) (way : Direction) (line : List hb_glyph_info_t) (place : IsCutLine skips q line) where
-  alike_cut : (b first second : Buffer) → AreAlike q way line b first second → IsCut skips kern_mask q way b first second
-  alike_cut b first second now =
-      let longer = AllZip-long IsMarkedFrom line b.line now.whole_line in
-      let both : length b.line ≡ length first.line + length second.line = ap (λ (xs : List hb_glyph_info_t). length xs) now.joined ∙ length-append first.line second.line in
-      record {
-        short = now.short;
-        some = omega (arith, longer, both, now.short, place.inside);
-        long = both ∙ ap (λ n. n + length second.line) now.short;
-        solid = ap (is_solid skips) (marked_at line b.line now.whole_line q).2 ∙ place.solid;
-        front = λ i low. looks_same skips kern_mask (glyph_at b.line i) (glyph_at first.line i)
-            (sym (ap (λ (xs : List hb_glyph_info_t). glyph_at xs i) now.joined ∙ get_or_append_left first.line second.line no_glyph i (omega (arith, low, now.short))));
-        back = λ i. looks_same skips kern_mask (glyph_at b.line (q + i)) (glyph_at second.line i)
-            (sym (ap (λ (xs : List hb_glyph_info_t). glyph_at xs (q + i)) now.joined
-            ∙ (ap (λ n. glyph_at (first.line ++ second.line) (n + i)) (sym now.short) ∙ get_or-append-add first.line second.line i no_glyph)));
-        whole_way = now.whole_way;
-        first_way = now.first_way;
-        second_way = now.second_way;
-        front_places = now.apart.front;
-        back_places = now.apart.back;
-      }
-
+module _ (q : ℕ) (way : Direction) (line : List hb_glyph_info_t) where
   alike_after :
       (b first second d e f : Buffer) → AreAlike q way line b first second
       → IsKernedFrom b d → IsKernedFrom first e → IsKernedFrom second f → d.line ≡ e.line ++ f.line → IsMovedApart q d e f
       → AreAlike q way line d e f
-  alike_after b first second d e f now k l m joined apart = record {
-    whole_line = line_twice line b.line d.line now.whole_line k.line;
+  alike_after b first second d e f alike k l m joined apart = record {
+    now = now_after q way line b first second d e f alike.now k l m apart;
     joined = joined;
-    short = AllZip-long IsMarkedFrom first.line e.line l.line ∙ now.short;
-    first_flags = l.text.settings.flags ∙ (now.first_flags ∙ sym k.text.settings.flags);
-    second_flags = m.text.settings.flags ∙ (now.second_flags ∙ sym k.text.settings.flags);
-    whole_way = k.text.settings.direction ∙ now.whole_way;
-    first_way = l.text.settings.direction ∙ now.first_way;
-    second_way = m.text.settings.direction ∙ now.second_way;
-    apart = apart;
+    first_flags = l.text.settings.flags ∙ (alike.first_flags ∙ sym k.text.settings.flags);
+    second_flags = m.text.settings.flags ∙ (alike.second_flags ∙ sym k.text.settings.flags);
   }
 
   alike_attached :
       (b first second : Buffer) → AreAlike q way line b first second
       → AreAlike q way line (cursively_attached b) (cursively_attached first) (cursively_attached second)
-  alike_attached b first second now =
-      alike_after b first second (cursively_attached b) (cursively_attached first) (cursively_attached second) now
-      (of_attachment b) (of_attachment first) (of_attachment second) now.joined
-      (attached_apart q way b first second now.whole_way now.first_way now.second_way now.apart)
+  alike_attached b first second alike =
+      alike_after b first second (cursively_attached b) (cursively_attached first) (cursively_attached second) alike
+      (of_attachment b) (of_attachment first) (of_attachment second) alike.joined (now_attached q way line b first second alike.now).apart
 
   alike_marked :
       (asked : Bool) (b first second : Buffer) → AreAlike q way line b first second
       → AreAlike q way line (line_marked asked b) (line_marked asked first) (line_marked asked second)
-  alike_marked asked b first second now =
-      alike_after b first second (line_marked asked b) (line_marked asked first) (line_marked asked second) now
-      (of_marked asked b) (of_marked asked first) (of_marked asked second) (joined asked)
-      (record {
-        front = places_of_marked asked first ∙ (now.apart.front ∙ ap (take q) (sym (places_of_marked asked b)));
-        back = places_of_marked asked second ∙ (now.apart.back ∙ ap (drop q) (sym (places_of_marked asked b)));
-      })
+  alike_marked asked b first second alike =
+      alike_after b first second (line_marked asked b) (line_marked asked first) (line_marked asked second) alike
+      (of_marked asked b) (of_marked asked first) (of_marked asked second) (joined asked) (now_marked q way line asked b first second alike.now).apart
     where
       joined : (t : Bool) → (line_marked t b).line ≡ (line_marked t first).line ++ (line_marked t second).line
-      joined true = concat_joined b first second now.first_flags now.second_flags now.joined
-      joined false = now.joined
+      joined true = concat_joined b first second alike.first_flags alike.second_flags alike.joined
+      joined false = alike.joined
+
+module _ (skips kern_mask q : ℕ) (way : Direction) (line : List hb_glyph_info_t) (place : IsCutLine skips q line) where
+  alike_cut : (b first second : Buffer) → AreAlike q way line b first second → IsCut skips kern_mask q way b first second
+  alike_cut b first second alike =
+      let short = short_first skips kern_mask q way line place b first second alike.now in
+      cut_of skips kern_mask q way line place b first second alike.now
+      (λ i low. looks_same skips kern_mask (glyph_at b.line i) (glyph_at first.line i)
+      (sym (ap (λ (xs : List hb_glyph_info_t). glyph_at xs i) alike.joined ∙ get_or_append_left first.line second.line no_glyph i (omega (arith, low, short)))))
+      (λ i. looks_same skips kern_mask (glyph_at b.line (q + i)) (glyph_at second.line i)
+      (sym (ap (λ (xs : List hb_glyph_info_t). glyph_at xs (q + i)) alike.joined
+      ∙ (ap (λ n. glyph_at (first.line ++ second.line) (n + i)) (sym short) ∙ get_or-append-add first.line second.line i no_glyph))))
 
   -- the marks of pairs
   pairs_joined :
-      (great less : ℕ) (is_cross : Bool) (values : List (ℕ × ℕ × ℤ)) (b first second : Buffer)
-      → AreAlike q way line b first second → IsGreater q great less b.line
-      → IsUnflagged (glyph_at (pair_kerning skips kern_mask is_cross values b).line great)
+      (is_cross : Bool) (values : List (ℕ × ℕ × ℤ)) (b first second : Buffer)
+      → AreAlike q way line b first second → IsGreater q (greater_at q line) place.less b.line
+      → IsUnflagged (glyph_at (pair_kerning skips kern_mask is_cross values b).line (greater_at q line))
       → (pair_kerning skips kern_mask is_cross values b).line
       ≡ (pair_kerning skips kern_mask is_cross values first).line ++ (pair_kerning skips kern_mask is_cross values second).line
   unfolding pair_kerning
-  pairs_joined great less is_cross values b first second now at none =
-      let cut = alike_cut b first second now in
-      let over = pair_at skips kern_mask b.line q in
+  pairs_joined is_cross values b first second alike at none =
+      let cut = alike_cut b first second alike in
       let ps = pairs_of skips kern_mask first.line in
       let rs = pairs_of skips kern_mask second.line in
-      let inside : q < length b.line = omega (arith, cut.long, cut.some) in
-      let all : pairs_of skips kern_mask b.line ≡ ps ++ cons_option over (map (shifted q) rs) =
-      pairs_cut skips kern_mask q (length second.line - 1) b.line first.line second.line
-      (cut.long ∙ ap (λ n. q + n) (suc_of (length second.line) cut.some)) cut.short (suc_of (length second.line) cut.some)
-      cut.solid cut.front cut.back in
-      let unset : IsUnflagged (glyph_at (by_pairs is_cross values b (ps ++ cons_option over (map (shifted q) rs))).line great) =
-      subst (λ (xs : List Pair). IsUnflagged (glyph_at (by_pairs is_cross values b xs).line great)) all none in
       let marked : List hb_glyph_info_t → Pair → List hb_glyph_info_t = λ gs p. marks values b.line p gs in
       let part : List hb_glyph_info_t → List hb_glyph_info_t → Pair → List hb_glyph_info_t = λ xs gs p. marks values xs p gs in
       let left = fold (part first.line) first.line ps in
       let short : length left ≡ q =
       ap (λ (xs : List hb_glyph_info_t). length xs) (sym (pairs_mark is_cross values first.line ps first (λ i. refl)))
-      ∙ (AllZip-long IsMarkedFrom first.line _ (of_pairs is_cross values ps first).line ∙ now.short) in
+      ∙ (AllZip-long IsMarkedFrom first.line _ (of_pairs is_cross values ps first).line ∙ cut.short) in
       pairs_mark is_cross values b.line (pairs_of skips kern_mask b.line) b (λ i. refl)
-      ∙ (ap (fold marked b.line) all
-      ∙ (crossing_changes_nothing q great less is_cross values b at inside (marks values b.line)
-      (λ p xs zero. ap (λ t. cond t xs (span_marked_of p xs)) zero) over ps (map (shifted q) rs)
-      (pair_before skips kern_mask b.line q) unset b.line
-      ∙ (ap (λ gs. fold marked (fold marked gs ps) (map (shifted q) rs)) now.joined
+      ∙ (folded_apart skips kern_mask q (greater_at q line) place.less way is_cross values b first second cut at none (marks values b.line)
+      (λ p xs zero. ap (λ t. cond t xs (span_marked_of p xs)) zero) b.line
+      ∙ (ap (λ gs. fold marked (fold marked gs ps) (map (shifted q) rs)) alike.joined
       ∙ (ap (λ gs. fold marked gs (map (shifted q) rs))
       (front_marks q values b.line first.line (λ i low. (cut.front i low).id) ps first.line second.line
-      (pairs_within skips kern_mask q first.line now.short) now.short)
+      (pairs_within skips kern_mask q first.line cut.short) cut.short)
       ∙ (back_marks q values b.line second.line (λ i. (cut.back i).id) rs left second.line short
       ∙ (ap (λ xs. xs ++ fold (part second.line) second.line rs) (sym (pairs_mark is_cross values first.line ps first (λ i. refl)))
-      ∙ ap (λ xs. (by_pairs is_cross values first ps).line ++ xs) (sym (pairs_mark is_cross values second.line rs second (λ i. refl)))))))))
+      ∙ ap (λ xs. (by_pairs is_cross values first ps).line ++ xs) (sym (pairs_mark is_cross values second.line rs second (λ i. refl))))))))
 
-  alike_paired :
-      (great less : ℕ) → IsGreater q great less line
-      → (is_cross : Bool) (values : List (ℕ × ℕ × ℤ)) (asked : Bool) (b first second : Buffer)
-      → AreAlike q way line b first second
-      → IsUnflagged (glyph_at (pair_kerning skips kern_mask is_cross values (line_marked asked b)).line great)
-      → AreAlike q way line (pair_kerning skips kern_mask is_cross values (line_marked asked b))
-      (pair_kerning skips kern_mask is_cross values (line_marked asked first))
-      (pair_kerning skips kern_mask is_cross values (line_marked asked second))
-  alike_paired great less at is_cross values asked b first second now none =
-      let marked = alike_marked asked b first second now in
+  alike_paired : PairsKeep skips kern_mask (greater_at q line) (AreAlike q way line)
+  alike_paired is_cross values asked b first second alike none =
+      let marked = alike_marked q way line asked b first second alike in
       let d = line_marked asked b in
-      let clusters = clusters_kept line d.line marked.whole_line in
-      let here : IsGreater q great less d.line = record {
-        great_low = at.great_low;
-        great_high = at.great_high;
-        less_low = at.less_low;
-        less_high = at.less_high;
-        order = rw (clusters less, clusters great) at.order;
-      } in
-      alike_after b first second _ _ _ now
+      let here = greater_kept q (greater_at q line) place.less line d.line marked.now.whole_line place.greater in
+      alike_after q way line b first second _ _ _ alike
       (of_pair_kerning skips kern_mask is_cross values asked b)
       (of_pair_kerning skips kern_mask is_cross values asked first)
       (of_pair_kerning skips kern_mask is_cross values asked second)
-      (pairs_joined great less is_cross values d (line_marked asked first) (line_marked asked second) marked here none)
-      (pairs_apart skips kern_mask q great less way is_cross values d (line_marked asked first) (line_marked asked second)
+      (pairs_joined is_cross values d (line_marked asked first) (line_marked asked second) marked here none)
+      (pairs_apart skips kern_mask q (greater_at q line) place.less way is_cross values d (line_marked asked first) (line_marked asked second)
       (alike_cut d (line_marked asked first) (line_marked asked second) marked) here none)
 
--- a subtable of pairs of either table
-module _ (kern_mask q great less : ℕ) (way : Direction) (line : List hb_glyph_info_t) (at : IsGreater q great less line) where
-  kerx_alike :
-      (points : Option Points) → IsCutLine kerx_skips q line
-      → (is_cross : Bool) (tuple_count : ℕ) (k : KerxFormat) (b first second : Buffer) → is_kerx_pairs k ≡ true
-      → AreAlike q way line b first second
-      → IsUnflagged (glyph_at (kerx_run kern_mask points is_cross tuple_count k b).buffer.line great)
-      → AreAlike q way line (kerx_run kern_mask points is_cross tuple_count k b).buffer
-      (kerx_run kern_mask points is_cross tuple_count k first).buffer (kerx_run kern_mask points is_cross tuple_count k second).buffer
-  kerx_alike points place is_cross tuple_count (Format0 values) b first second pairs now none =
-      alike_paired kerx_skips kern_mask q way line place great less at is_cross values false b first second now none
-  kerx_alike points place is_cross tuple_count (Format1 s) b first second pairs now none = absurd (true≢false (sym pairs))
-  kerx_alike points place is_cross tuple_count (Format2 values) b first second pairs now none =
-      alike_paired kerx_skips kern_mask q way line place great less at is_cross values true b first second now none
-  kerx_alike points place is_cross tuple_count (Format4 s) b first second pairs now none = absurd (true≢false (sym pairs))
-  kerx_alike points place is_cross tuple_count (Format6 values) b first second pairs now none =
-      alike_paired kerx_skips kern_mask q way line place great less at is_cross values false b first second now none
-
-  kern_alike :
-      IsCutLine kern_skips q line → (is_cross : Bool) (k : KernKind) (b first second : Buffer) → is_kern_pairs k ≡ true
-      → AreAlike q way line b first second → IsUnflagged (glyph_at (kern_run kern_mask is_cross k b).buffer.line great)
-      → AreAlike q way line (kern_run kern_mask is_cross k b).buffer
-      (kern_run kern_mask is_cross k first).buffer (kern_run kern_mask is_cross k second).buffer
-  kern_alike place is_cross (kind.Pairs values) b first second pairs now none =
-      alike_paired kern_skips kern_mask q way line place great less at is_cross values true b first second now none
-  kern_alike place is_cross (kind.Machine s) b first second pairs now none = absurd (true≢false (sym pairs))
+  alike_kept : IsKeptApart skips kern_mask q (greater_at q line) way (AreAlike q way line)
+  alike_kept = record {
+    ways = λ b first second alike. (alike.now.whole_way, alike.now.first_way, alike.now.second_way);
+    apart = λ b first second alike. alike.now.apart;
+    attaches = alike_attached q way line;
+    pairs = alike_paired;
+  }
 
 ordered_flags : (b : Buffer) → (in_processing_order b).flags ≡ b.flags
 ordered_flags b = by_way (is_backward b.direction)
@@ -452,19 +377,14 @@ ordered_flags b = by_way (is_backward b.direction)
 
 -- before the first subtable
 parts_alike :
-    (q : ℕ) (b first second : Buffer) → q < length (ordered_line b) → HaveFlagsOf b first second → AreParts q b first second
+    (q : ℕ) (b first second : Buffer) → AreAlikeParts q b first second
     → AreAlike q b.direction (ordered_line b) (in_processing_order b) (in_processing_order first) (in_processing_order second)
-parts_alike q b first second inside flags parts = record {
-  whole_line = line_same (ordered_line b);
+parts_alike q b first second alike = record {
+  now = parts_now q b first second alike.parts;
   joined = sym (take-append-drop q (ordered_line b))
-      ∙ (ap (λ xs. xs ++ drop q (ordered_line b)) (sym parts.front.line) ∙ ap (λ xs. ordered_line first ++ xs) (sym parts.back.line));
-  short = ap (λ (xs : List hb_glyph_info_t). length xs) parts.front.line ∙ length-take-le q (ordered_line b) (omega (arith, inside));
-  first_flags = ordered_flags first ∙ (flags.front ∙ sym (ordered_flags b));
-  second_flags = ordered_flags second ∙ (flags.back ∙ sym (ordered_flags b));
-  whole_way = ordered_way b;
-  first_way = ordered_way first ∙ parts.front.direction;
-  second_way = ordered_way second ∙ parts.back.direction;
-  apart = record { front = parts.front.places; back = parts.back.places };
+      ∙ (ap (λ xs. xs ++ drop q (ordered_line b)) (sym alike.parts.front.line) ∙ ap (λ xs. ordered_line first ++ xs) (sym alike.parts.back.line));
+  first_flags = ordered_flags first ∙ (alike.flags.front ∙ sym (ordered_flags b));
+  second_flags = ordered_flags second ∙ (alike.flags.back ∙ sym (ordered_flags b));
 }
 
 -- a mark of the whole line is the same in either order
@@ -484,67 +404,38 @@ mark_ordered b = by_way (is_backward b.direction)
     by_way false = refl
 
 marked_parts_alike :
-    (q : ℕ) (b first second : Buffer) → q < length (ordered_line b) → HaveFlagsOf b first second → AreParts q b first second
+    (q : ℕ) (b first second : Buffer) → AreAlikeParts q b first second
     → AreAlike q b.direction (ordered_line b) (in_processing_order (unsafe_to_concat b None None))
     (in_processing_order (unsafe_to_concat first None None)) (in_processing_order (unsafe_to_concat second None None))
-marked_parts_alike q b first second inside flags parts =
-    let now = parts_alike q b first second inside flags parts in
+marked_parts_alike q b first second alike =
+    let unmarked = parts_alike q b first second alike in
     let o = in_processing_order b in
     let e = in_processing_order first in
     let f = in_processing_order second in
     record {
-      whole_line = ordered_marked b;
+      now = marked_parts_now q b first second alike.parts;
       joined = mark_ordered b
-          ∙ (concat_joined o e f now.first_flags now.second_flags now.joined
+          ∙ (concat_joined o e f unmarked.first_flags unmarked.second_flags unmarked.joined
           ∙ (ap (λ xs. xs ++ (unsafe_to_concat f None None).line) (sym (mark_ordered first))
           ∙ ap (λ xs. (in_processing_order (unsafe_to_concat first None None)).line ++ xs) (sym (mark_ordered second))));
-      short = AllZip-long IsMarkedFrom e.line _ (ordered_marked first) ∙ now.short;
-      first_flags = ordered_flags (unsafe_to_concat first None None) ∙ (flags.front ∙ sym (ordered_flags (unsafe_to_concat b None None)));
-      second_flags = ordered_flags (unsafe_to_concat second None None) ∙ (flags.back ∙ sym (ordered_flags (unsafe_to_concat b None None)));
-      whole_way = ordered_way (unsafe_to_concat b None None);
-      first_way = ordered_way (unsafe_to_concat first None None) ∙ parts.front.direction;
-      second_way = ordered_way (unsafe_to_concat second None None) ∙ parts.back.direction;
-      apart = record {
-        front = ordered_places first ∙ (parts.front.places ∙ ap (take q) (sym (ordered_places b)));
-        back = ordered_places second ∙ (parts.back.places ∙ ap (drop q) (sym (ordered_places b)));
-      };
+      first_flags = ordered_flags (unsafe_to_concat first None None) ∙ (alike.flags.front ∙ sym (ordered_flags (unsafe_to_concat b None None)));
+      second_flags = ordered_flags (unsafe_to_concat second None None) ∙ (alike.flags.back ∙ sym (ordered_flags (unsafe_to_concat b None None)));
     }
-
-ways_alike :
-    (q : ℕ) (way : Direction) (line : List hb_glyph_info_t) (b first second : Buffer) → AreAlike q way line b first second
-    → (b.direction ≡ way) × (first.direction ≡ way) × (second.direction ≡ way)
-ways_alike q way line b first second now = (now.whole_way, now.first_way, now.second_way)
 
 kerx_apart :
     (requested : Bool) (kern_mask : ℕ) (points : Option Points) (subtables : List KerxSubtable) (b : Buffer)
     → CanBeCutAlike kerx_skips (map (kerx_kerning kern_mask points) subtables)
     (kerx_positioning requested kern_mask points subtables) b
-unfolding kerx_positioning
-kerx_apart requested kern_mask points subtables b q first second alone place none alike =
-    let line = ordered_line b in
-    let great = greater_of q line place.starts in
-    let cut = cut_line kerx_skips q b place in
-    positioned_apart (kerx_kerning kern_mask points) requested (greater_at q line) b.direction (AreAlike q b.direction line)
-    (ways_alike q b.direction line) (alike_attached kerx_skips kern_mask q b.direction line cut)
-    (λ x. kerx_alike kern_mask q (greater_at q line) great.0 b.direction line great.1 points cut x.has_cross_stream x.tuple_count x.format)
-    (λ x d. kerx_is_paid kern_mask points x.has_cross_stream x.tuple_count x.format d)
-    q line subtables b (unsafe_to_concat b None None) (unsafe_to_concat first None None) (unsafe_to_concat second None None)
-    refl alone refl (λ d e f now. now.apart) (marked_parts_alike q b first second place.before_end alike.flags alike.parts) (ordered_marked b) none
+kerx_apart requested kern_mask points subtables b q first second alone place alike =
+    kerx_parted requested kern_mask q b first second (AreAlike q b.direction (ordered_line b)) points subtables alone place
+    (alike_kept kerx_skips kern_mask q b.direction (ordered_line b)) (marked_parts_alike q b first second alike)
 
 kern_apart :
     (requested : Bool) (kern_mask : ℕ) (subtables : List KernSubtable) (b : Buffer)
     → CanBeCutAlike kern_skips (map (kern_kerning kern_mask) subtables) (kern_positioning requested kern_mask subtables) b
-unfolding kern_positioning
-kern_apart requested kern_mask subtables b q first second alone place none alike =
-    let line = ordered_line b in
-    let great = greater_of q line place.starts in
-    let cut = cut_line kern_skips q b place in
-    positioned_apart (kern_kerning kern_mask) requested (greater_at q line) b.direction (AreAlike q b.direction line)
-    (ways_alike q b.direction line) (alike_attached kern_skips kern_mask q b.direction line cut)
-    (λ x. kern_alike kern_mask q (greater_at q line) great.0 b.direction line great.1 cut x.has_cross_stream x.kind)
-    (λ x d. kern_is_paid kern_mask x.has_cross_stream x.kind d)
-    q line subtables b b first second refl alone refl (λ d e f now. now.apart)
-    (parts_alike q b first second place.before_end alike.flags alike.parts) (line_same line) none
+kern_apart requested kern_mask subtables b q first second alone place alike =
+    kern_parted requested kern_mask q b first second (AreAlike q b.direction (ordered_line b)) subtables alone place
+    (alike_kept kern_skips kern_mask q b.direction (ordered_line b)) (parts_alike q b first second alike)
 
 -- pairs can be kerned in two parts by every kern mask
 pub alike_parts_are_kerned_apart : AlikePartsAreKernedApart

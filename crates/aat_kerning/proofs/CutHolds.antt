@@ -1,5 +1,5 @@
 -- Pairs can be kerned in two parts: the masks of the parts may get other marks than those of the whole.
-use Rattle.std.proofs.Common.{◌≡◌, ℕ, ◌+◌, ◌<◌, Bool, true, false, cond, List, [], length, map, take, drop, ℤ, pos, negsuc, Option, Some, None, refl, sym, ap, ◌∙◌, arith, subst, bit_and, unwrap_or, true≢false}
+use Rattle.std.proofs.Common.{◌≡◌, ℕ, ◌+◌, ◌<◌, Bool, true, false, cond, List, [], length, map, take, drop, pos, negsuc, Option, Some, None, refl, sym, ap, ◌∙◌, arith, subst, bit_and, unwrap_or}
 use Rattle.std.specs.Prelude.{option_map}
 use Rattle.std.proofs.lemmas.List.{take-map, drop-map, get_or-take, get_or-drop, length-take-le, length-drop}
 use Rattle.std.proofs.lemmas.Slice.Zip.{AllZip-long}
@@ -11,25 +11,19 @@ use Rattle.aat_glyph.specs.declared.glyph.Direction.{Direction}
 use Rattle.aat_glyph.specs.declared.glyph.GlyphPosition.{GlyphPosition}
 use Rattle.aat_glyph.specs.declared.glyph.hb_glyph_info_t.{hb_glyph_info_t}
 use Rattle.aat_run.specs.Switches.{meets}
-use Rattle.aat_kerning.specs.Cut.{ordered_line, ordered_positions, IsCutPlace, greater_at, AreParts, PartsAreKernedApart, CanBeCut}
-use Rattle.aat_kerning.specs.KerningLaws.{IsKernedFrom, IsMarkedFrom}
-use Rattle.aat_kerning.specs.PairKerning.{pair_kerning}
+use Rattle.aat_kerning.specs.Cut.{ordered_line, ordered_positions, greater_at, AreParts, PartsAreKernedApart, CanBeCut}
+use Rattle.aat_kerning_machines.specs.KerningLaws.{IsKernedFrom, IsMarkedFrom}
 use Rattle.aat_kerning.specs.Pairs.{kerx_skips, kern_skips, is_solid}
-use Rattle.aat_font.specs.declared.kern.KernKind.{KernKind}
-use Rattle.aat_font.specs.declared.kern.KernKind.TheVariants as kind
 use Rattle.aat_font.specs.declared.kern.KernSubtable.{KernSubtable}
-use Rattle.aat_font.specs.declared.kerx.KerxFormat.{KerxFormat}
-use Rattle.aat_font.specs.declared.kerx.KerxFormat.TheVariants.{Format0, Format1, Format2, Format4, Format6}
 use Rattle.aat_font.specs.declared.kerx.KerxSubtable.{KerxSubtable}
-use Rattle.aat_kerning.specs.Positioning.{cursively_attached, in_processing_order, line_marked, is_kerx_pairs, is_kern_pairs, kerx_run, kern_run, kerx_kerning, kern_kerning, kerx_positioning, kern_positioning}
-use Rattle.aat_kerning.specs.Positions.{attached_as}
-use Rattle.aat_kerning.proofs.Changes.{of_marked, of_pair_kerning, of_attachment}
-use Rattle.aat_kerning.proofs.CutMarks.{IsUnflagged, looks_as_before}
+use Rattle.aat_kerning.specs.Positioning.{cursively_attached, in_processing_order, line_marked, kerx_kerning, kern_kerning, kerx_positioning, kern_positioning}
+use Rattle.aat_kerning_machines.specs.Positions.{attached_as}
+use Rattle.aat_kerning.proofs.Changes.{of_concat, of_marked, of_pair_kerning, of_attachment}
+use Rattle.aat_kerning.proofs.CutMarks.{looks_as_before}
 use Rattle.aat_kerning.proofs.CutPairs.{LooksLike}
-use Rattle.aat_kerning.proofs.CutRuns.{greater_of, positioned_apart}
-use Rattle.aat_kerning.proofs.CutStep.{IsGreater, IsCut, IsMovedApart, clusters_kept, pairs_apart}
-use Rattle.aat_kerning.proofs.KerningLawsHold.{kerx_is_paid, kern_is_paid}
-use Rattle.aat_kerning.proofs.Marked.{IsMarkedLine, line_same, line_twice, line_reversed, line_of_concat, marked_at}
+use Rattle.aat_kerning.proofs.CutStep.{IsCut, IsMovedApart, greater_kept, pairs_apart}
+use Rattle.aat_kerning.proofs.CutTables.{IsCutLine, IsKeptApart, PairsKeep, kerx_parted, kern_parted, ordered_kept}
+use Rattle.aat_kerning.proofs.Marked.{IsMarkedLine, line_same, line_twice, marked_at}
 
 -- the cursive attachment of a direction
 abbrev pub cursive : Direction → GlyphPosition → GlyphPosition
@@ -68,17 +62,6 @@ places_of_marked true b = refl
 places_of_marked false b = refl
 
 -- in processing order neither
-pub ordered_marked :
-    (b : Buffer) → IsMarkedLine (in_processing_order b).line (in_processing_order (unsafe_to_concat b None None)).line
-ordered_marked b = by_way (is_backward b.direction)
-  where
-    d : Buffer
-    d = unsafe_to_concat b None None
-
-    by_way : (t : Bool) → IsMarkedLine (cond t (reversed b) b).line (cond t (reversed d) d).line
-    by_way true = line_reversed b.line d.line (line_of_concat b None None)
-    by_way false = line_of_concat b None None
-
 pub ordered_places :
     (b : Buffer) → ordered_positions (unsafe_to_concat b None None) ≡ ordered_positions b
 ordered_places b = by_way (is_backward b.direction)
@@ -107,52 +90,19 @@ looks_both skips kern_mask g h a b e k l = record {
   asks = l.asks ∙ (ap (λ (x : hb_glyph_info_t). meets x.mask kern_mask) e ∙ sym k.asks);
 }
 
--- a line, cut inside it before a solid glyph
-pub record IsCutLine (skips q : ℕ) (line : List hb_glyph_info_t) : Type 0 where
-  pub some : 0 < q
-  pub inside : q < length line
-  pub solid : is_solid skips (glyph_at line q) ≡ true
+-- the whole and its parts, marked from a line and its parts
+pub record AreNow (q : ℕ) (way : Direction) (line : List hb_glyph_info_t) (b first second : Buffer) : Type 0 where
+  pub whole_line : IsMarkedLine line b.line
+  pub first_line : IsMarkedLine (take q line) first.line
+  pub second_line : IsMarkedLine (drop q line) second.line
+  pub whole_way : b.direction ≡ way
+  pub first_way : first.direction ≡ way
+  pub second_way : second.direction ≡ way
+  pub apart : IsMovedApart q b first second
 
--- the whole and its parts, marked from such a line and its parts
-record AreNow (q : ℕ) (way : Direction) (line : List hb_glyph_info_t) (b first second : Buffer) : Type 0 where
-  whole_line : IsMarkedLine line b.line
-  first_line : IsMarkedLine (take q line) first.line
-  second_line : IsMarkedLine (drop q line) second.line
-  whole_way : b.direction ≡ way
-  first_way : first.direction ≡ way
-  second_way : second.direction ≡ way
-  apart : IsMovedApart q b first second
-
-module _ (skips kern_mask q : ℕ) (way : Direction) (line : List hb_glyph_info_t) (free : bit_and kern_mask 7 ≡ 0) (place : IsCutLine skips q line) where
-  -- they are cut alike
-  now_cut : (b first second : Buffer) → AreNow q way line b first second → IsCut skips kern_mask q way b first second
-  now_cut b first second now =
-      let longer = AllZip-long IsMarkedFrom line b.line now.whole_line in
-      let shorter = AllZip-long IsMarkedFrom (take q line) first.line now.first_line in
-      let rest = AllZip-long IsMarkedFrom (drop q line) second.line now.second_line in
-      let front = length-take-le q line (omega (arith, place.inside)) in
-      let back = length-drop q line in
-      let seen = λ (i : ℕ). looks_as_before skips kern_mask (glyph_at line i) (glyph_at b.line i) free (marked_at line b.line now.whole_line i) in
-      record {
-        short = shorter ∙ front;
-        some = omega (arith, rest, back, place.inside);
-        long = omega (arith, longer, rest, back, place.inside);
-        solid = (seen q).solid ∙ place.solid;
-        front = λ i low. looks_both skips kern_mask (glyph_at line i) (glyph_at (take q line) i) (glyph_at b.line i) (glyph_at first.line i)
-            (get_or-take q line i no_glyph low) (seen i)
-            (looks_as_before skips kern_mask (glyph_at (take q line) i) (glyph_at first.line i) free (marked_at (take q line) first.line now.first_line i));
-        back = λ i. looks_both skips kern_mask (glyph_at line (q + i)) (glyph_at (drop q line) i) (glyph_at b.line (q + i)) (glyph_at second.line i)
-            (get_or-drop q line i no_glyph) (seen (q + i))
-            (looks_as_before skips kern_mask (glyph_at (drop q line) i) (glyph_at second.line i) free (marked_at (drop q line) second.line now.second_line i));
-        whole_way = now.whole_way;
-        first_way = now.first_way;
-        second_way = now.second_way;
-        front_places = now.apart.front;
-        back_places = now.apart.back;
-      }
-
+module _ (q : ℕ) (way : Direction) (line : List hb_glyph_info_t) where
   -- what is kerned of them is marked from that line
-  now_after :
+  pub now_after :
       (b first second d e f : Buffer) → AreNow q way line b first second
       → IsKernedFrom b d → IsKernedFrom first e → IsKernedFrom second f → IsMovedApart q d e f → AreNow q way line d e f
   now_after b first second d e f now k l m apart = record {
@@ -165,7 +115,7 @@ module _ (skips kern_mask q : ℕ) (way : Direction) (line : List hb_glyph_info_
     apart = apart;
   }
 
-  now_attached :
+  pub now_attached :
       (b first second : Buffer) → AreNow q way line b first second
       → AreNow q way line (cursively_attached b) (cursively_attached first) (cursively_attached second)
   now_attached b first second now =
@@ -173,7 +123,7 @@ module _ (skips kern_mask q : ℕ) (way : Direction) (line : List hb_glyph_info_
       (of_attachment b) (of_attachment first) (of_attachment second)
       (attached_apart q way b first second now.whole_way now.first_way now.second_way now.apart)
 
-  now_marked :
+  pub now_marked :
       (asked : Bool) (b first second : Buffer) → AreNow q way line b first second
       → AreNow q way line (line_marked asked b) (line_marked asked first) (line_marked asked second)
   now_marked asked b first second now =
@@ -184,62 +134,73 @@ module _ (skips kern_mask q : ℕ) (way : Direction) (line : List hb_glyph_info_
         back = places_of_marked asked second ∙ (now.apart.back ∙ ap (drop q) (sym (places_of_marked asked b)));
       })
 
+module _ (skips kern_mask q : ℕ) (way : Direction) (line : List hb_glyph_info_t) (place : IsCutLine skips q line) where
+  pub short_first : (b first second : Buffer) → AreNow q way line b first second → length first.line ≡ q
+  short_first b first second now =
+      AllZip-long IsMarkedFrom (take q line) first.line now.first_line
+      ∙ length-take-le q line (omega (arith, place.inside))
+
+  -- they are cut, where the glyphs of the parts look like those of the whole
+  pub cut_of :
+      (b first second : Buffer) → AreNow q way line b first second
+      → ((i : ℕ) → i < q → LooksLike skips kern_mask (glyph_at b.line i) (glyph_at first.line i))
+      → ((i : ℕ) → LooksLike skips kern_mask (glyph_at b.line (q + i)) (glyph_at second.line i))
+      → IsCut skips kern_mask q way b first second
+  cut_of b first second now front back =
+      let longer = AllZip-long IsMarkedFrom line b.line now.whole_line in
+      let rest = AllZip-long IsMarkedFrom (drop q line) second.line now.second_line in
+      let all = length-drop q line in
+      record {
+        short = short_first b first second now;
+        some = omega (arith, rest, all, place.inside);
+        long = omega (arith, longer, rest, all, place.inside);
+        solid = ap (is_solid skips) (marked_at line b.line now.whole_line q).2 ∙ place.solid;
+        front = front;
+        back = back;
+        whole_way = now.whole_way;
+        first_way = now.first_way;
+        second_way = now.second_way;
+        front_places = now.apart.front;
+        back_places = now.apart.back;
+      }
+
+  now_cut :
+      bit_and kern_mask 7 ≡ 0 → (b first second : Buffer) → AreNow q way line b first second
+      → IsCut skips kern_mask q way b first second
+  now_cut free b first second now =
+      let seen = λ (i : ℕ). looks_as_before skips kern_mask (glyph_at line i) (glyph_at b.line i) free (marked_at line b.line now.whole_line i) in
+      cut_of b first second now
+      (λ i low. looks_both skips kern_mask (glyph_at line i) (glyph_at (take q line) i) (glyph_at b.line i) (glyph_at first.line i)
+      (get_or-take q line i no_glyph low) (seen i)
+      (looks_as_before skips kern_mask (glyph_at (take q line) i) (glyph_at first.line i) free (marked_at (take q line) first.line now.first_line i)))
+      (λ i. looks_both skips kern_mask (glyph_at line (q + i)) (glyph_at (drop q line) i) (glyph_at b.line (q + i)) (glyph_at second.line i)
+      (get_or-drop q line i no_glyph) (seen (q + i))
+      (looks_as_before skips kern_mask (glyph_at (drop q line) i) (glyph_at second.line i) free (marked_at (drop q line) second.line now.second_line i)))
+
   -- a subtable of pairs
-  now_paired :
-      (great less : ℕ) → IsGreater q great less line
-      → (is_cross : Bool) (values : List (ℕ × ℕ × ℤ)) (asked : Bool) (b first second : Buffer)
-      → AreNow q way line b first second
-      → IsUnflagged (glyph_at (pair_kerning skips kern_mask is_cross values (line_marked asked b)).line great)
-      → AreNow q way line (pair_kerning skips kern_mask is_cross values (line_marked asked b))
-      (pair_kerning skips kern_mask is_cross values (line_marked asked first))
-      (pair_kerning skips kern_mask is_cross values (line_marked asked second))
-  now_paired great less at is_cross values asked b first second now none =
-      let marked = now_marked asked b first second now in
+  now_paired : bit_and kern_mask 7 ≡ 0 → PairsKeep skips kern_mask (greater_at q line) (AreNow q way line)
+  now_paired free is_cross values asked b first second now none =
+      let marked = now_marked q way line asked b first second now in
       let d = line_marked asked b in
-      let clusters = clusters_kept line d.line marked.whole_line in
-      let here : IsGreater q great less d.line = record {
-        great_low = at.great_low;
-        great_high = at.great_high;
-        less_low = at.less_low;
-        less_high = at.less_high;
-        order = rw (clusters less, clusters great) at.order;
-      } in
-      now_after b first second _ _ _ now
+      now_after q way line b first second _ _ _ now
       (of_pair_kerning skips kern_mask is_cross values asked b)
       (of_pair_kerning skips kern_mask is_cross values asked first)
       (of_pair_kerning skips kern_mask is_cross values asked second)
-      (pairs_apart skips kern_mask q great less way is_cross values d (line_marked asked first) (line_marked asked second)
-      (now_cut d (line_marked asked first) (line_marked asked second) marked) here none)
+      (pairs_apart skips kern_mask q (greater_at q line) place.less way is_cross values d (line_marked asked first) (line_marked asked second)
+      (now_cut free d (line_marked asked first) (line_marked asked second) marked)
+      (greater_kept q (greater_at q line) place.less line d.line marked.whole_line place.greater) none)
 
--- a `kerx` subtable of pairs
-module _ (kern_mask q great less : ℕ) (way : Direction) (line : List hb_glyph_info_t) (free : bit_and kern_mask 7 ≡ 0) (at : IsGreater q great less line) where
-  kerx_now :
-      (points : Option Points) → IsCutLine kerx_skips q line
-      → (is_cross : Bool) (tuple_count : ℕ) (k : KerxFormat) (b first second : Buffer) → is_kerx_pairs k ≡ true
-      → AreNow q way line b first second
-      → IsUnflagged (glyph_at (kerx_run kern_mask points is_cross tuple_count k b).buffer.line great)
-      → AreNow q way line (kerx_run kern_mask points is_cross tuple_count k b).buffer
-      (kerx_run kern_mask points is_cross tuple_count k first).buffer (kerx_run kern_mask points is_cross tuple_count k second).buffer
-  kerx_now points place is_cross tuple_count (Format0 values) b first second pairs now none =
-      now_paired kerx_skips kern_mask q way line free place great less at is_cross values false b first second now none
-  kerx_now points place is_cross tuple_count (Format1 s) b first second pairs now none = absurd (true≢false (sym pairs))
-  kerx_now points place is_cross tuple_count (Format2 values) b first second pairs now none =
-      now_paired kerx_skips kern_mask q way line free place great less at is_cross values true b first second now none
-  kerx_now points place is_cross tuple_count (Format4 s) b first second pairs now none = absurd (true≢false (sym pairs))
-  kerx_now points place is_cross tuple_count (Format6 values) b first second pairs now none =
-      now_paired kerx_skips kern_mask q way line free place great less at is_cross values false b first second now none
-
-  kern_now :
-      IsCutLine kern_skips q line → (is_cross : Bool) (k : KernKind) (b first second : Buffer) → is_kern_pairs k ≡ true
-      → AreNow q way line b first second → IsUnflagged (glyph_at (kern_run kern_mask is_cross k b).buffer.line great)
-      → AreNow q way line (kern_run kern_mask is_cross k b).buffer
-      (kern_run kern_mask is_cross k first).buffer (kern_run kern_mask is_cross k second).buffer
-  kern_now place is_cross (kind.Pairs values) b first second pairs now none =
-      now_paired kern_skips kern_mask q way line free place great less at is_cross values true b first second now none
-  kern_now place is_cross (kind.Machine s) b first second pairs now none = absurd (true≢false (sym pairs))
+  now_kept :
+      bit_and kern_mask 7 ≡ 0 → IsKeptApart skips kern_mask q (greater_at q line) way (AreNow q way line)
+  now_kept free = record {
+    ways = λ b first second now. (now.whole_way, now.first_way, now.second_way);
+    apart = λ b first second now. now.apart;
+    attaches = now_attached q way line;
+    pairs = now_paired free;
+  }
 
 -- before the first subtable
-parts_now :
+pub parts_now :
     (q : ℕ) (b first second : Buffer) → AreParts q b first second
     → AreNow q b.direction (ordered_line b) (in_processing_order b) (in_processing_order first) (in_processing_order second)
 parts_now q b first second parts = record {
@@ -252,16 +213,16 @@ parts_now q b first second parts = record {
   apart = record { front = parts.front.places; back = parts.back.places };
 }
 
-marked_parts_now :
+pub marked_parts_now :
     (q : ℕ) (b first second : Buffer) → AreParts q b first second
     → AreNow q b.direction (ordered_line b) (in_processing_order (unsafe_to_concat b None None))
     (in_processing_order (unsafe_to_concat first None None)) (in_processing_order (unsafe_to_concat second None None))
 marked_parts_now q b first second parts =
     let now = parts_now q b first second parts in
     record {
-      whole_line = ordered_marked b;
-      first_line = line_twice (take q (ordered_line b)) (ordered_line first) _ now.first_line (ordered_marked first);
-      second_line = line_twice (drop q (ordered_line b)) (ordered_line second) _ now.second_line (ordered_marked second);
+      whole_line = ordered_kept b (unsafe_to_concat b None None) (of_concat b None None);
+      first_line = line_twice (take q (ordered_line b)) (ordered_line first) _ now.first_line (ordered_kept first (unsafe_to_concat first None None) (of_concat first None None));
+      second_line = line_twice (drop q (ordered_line b)) (ordered_line second) _ now.second_line (ordered_kept second (unsafe_to_concat second None None) (of_concat second None None));
       whole_way = ordered_way (unsafe_to_concat b None None);
       first_way = ordered_way (unsafe_to_concat first None None) ∙ parts.front.direction;
       second_way = ordered_way (unsafe_to_concat second None None) ∙ parts.back.direction;
@@ -271,45 +232,22 @@ marked_parts_now q b first second parts =
       };
     }
 
-pub cut_line : (skips q : ℕ) (b : Buffer) → IsCutPlace skips q b → IsCutLine skips q (ordered_line b)
-cut_line skips q b place = record { some = place.behind_first; inside = place.before_end; solid = place.solid }
-
-ways_now :
-    (q : ℕ) (way : Direction) (line : List hb_glyph_info_t) (b first second : Buffer) → AreNow q way line b first second
-    → (b.direction ≡ way) × (first.direction ≡ way) × (second.direction ≡ way)
-ways_now q way line b first second now = (now.whole_way, now.first_way, now.second_way)
-
 kerx_apart :
     (requested : Bool) (kern_mask : ℕ) (points : Option Points) (subtables : List KerxSubtable) (b : Buffer)
     → bit_and kern_mask 7 ≡ 0
     → CanBeCut kerx_skips (map (kerx_kerning kern_mask points) subtables)
     (kerx_positioning requested kern_mask points subtables) b
-unfolding kerx_positioning
-kerx_apart requested kern_mask points subtables b free q first second alone place none parts =
-    let line = ordered_line b in
-    let great = greater_of q line place.starts in
-    let cut = cut_line kerx_skips q b place in
-    positioned_apart (kerx_kerning kern_mask points) requested (greater_at q line) b.direction (AreNow q b.direction line)
-    (ways_now q b.direction line) (now_attached kerx_skips kern_mask q b.direction line free cut)
-    (λ x. kerx_now kern_mask q (greater_at q line) great.0 b.direction line free great.1 points cut x.has_cross_stream x.tuple_count x.format)
-    (λ x d. kerx_is_paid kern_mask points x.has_cross_stream x.tuple_count x.format d)
-    q line subtables b (unsafe_to_concat b None None) (unsafe_to_concat first None None) (unsafe_to_concat second None None)
-    refl alone refl (λ d e f now. now.apart) (marked_parts_now q b first second parts) (ordered_marked b) none
+kerx_apart requested kern_mask points subtables b free q first second alone place parts =
+    kerx_parted requested kern_mask q b first second (AreNow q b.direction (ordered_line b)) points subtables alone place
+    (λ cut. now_kept kerx_skips kern_mask q b.direction (ordered_line b) cut free) (marked_parts_now q b first second parts)
 
 kern_apart :
     (requested : Bool) (kern_mask : ℕ) (subtables : List KernSubtable) (b : Buffer)
     → bit_and kern_mask 7 ≡ 0
     → CanBeCut kern_skips (map (kern_kerning kern_mask) subtables) (kern_positioning requested kern_mask subtables) b
-unfolding kern_positioning
-kern_apart requested kern_mask subtables b free q first second alone place none parts =
-    let line = ordered_line b in
-    let great = greater_of q line place.starts in
-    let cut = cut_line kern_skips q b place in
-    positioned_apart (kern_kerning kern_mask) requested (greater_at q line) b.direction (AreNow q b.direction line)
-    (ways_now q b.direction line) (now_attached kern_skips kern_mask q b.direction line free cut)
-    (λ x. kern_now kern_mask q (greater_at q line) great.0 b.direction line free great.1 cut x.has_cross_stream x.kind)
-    (λ x d. kern_is_paid kern_mask x.has_cross_stream x.kind d)
-    q line subtables b b first second refl alone refl (λ d e f now. now.apart) (parts_now q b first second parts) (line_same line) none
+kern_apart requested kern_mask subtables b free q first second alone place parts =
+    kern_parted requested kern_mask q b first second (AreNow q b.direction (ordered_line b)) subtables alone place
+    (λ cut. now_kept kern_skips kern_mask q b.direction (ordered_line b) cut free) (parts_now q b first second parts)
 
 -- pairs can be kerned in two parts
 pub parts_are_kerned_apart : PartsAreKernedApart

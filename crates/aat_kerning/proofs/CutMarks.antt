@@ -14,7 +14,7 @@ use Rattle.aat_buffer.specs.facts.Clusters.{get_inside}
 use Rattle.aat_buffer.specs.facts.Lines.{length_slice}
 use Rattle.aat_glyph.specs.declared.glyph.hb_glyph_info_t.{hb_glyph_info_t}
 use Rattle.aat_run.specs.Switches.{meets}
-use Rattle.aat_kerning.specs.KerningLaws.{IsMarkedFrom}
+use Rattle.aat_kerning_machines.specs.KerningLaws.{IsMarkedFrom}
 use Rattle.aat_kerning.specs.PairKerning.{kerned, in_stream, cross_stream}
 use Rattle.aat_kerning.specs.Pairs.{Pair, is_solid}
 use Rattle.aat_kerning.proofs.CutMoves.{value_at}

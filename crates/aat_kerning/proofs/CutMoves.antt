@@ -9,10 +9,10 @@ use Rattle.aat_buffer.specs.facts.Cases.{either}
 use Rattle.aat_glyph.specs.Directions.{is_horizontal}
 use Rattle.aat_glyph.specs.declared.glyph.GlyphPosition.{GlyphPosition}
 use Rattle.aat_glyph.specs.declared.glyph.hb_glyph_info_t.{hb_glyph_info_t}
-use Rattle.aat_kerning.specs.KerningLaws.{IsKernedFrom}
+use Rattle.aat_kerning_machines.specs.KerningLaws.{IsKernedFrom}
 use Rattle.aat_kerning.specs.PairKerning.{kerned, value_of, half, in_stream, cross_stream}
 use Rattle.aat_kerning.specs.Pairs.{Pair}
-use Rattle.aat_kerning.specs.Positions.{with_advance, with_shift, with_cross_offset}
+use Rattle.aat_kerning_machines.specs.Positions.{with_advance, with_shift, with_cross_offset}
 use Rattle.aat_kerning.proofs.Changes.{of_pair}
 use Rattle.aat_kerning.proofs.CutPairs.{shifted, AllBefore}
 use Rattle.aat_kerning.proofs.Marked.{marked_at}

@@ -1,27 +1,26 @@
 -- All subtables, over a line and over its two parts: what each of them keeps of the three, all keep.
-use Rattle.std.proofs.Common.{◌≡◌, ◌≢◌, ℕ, ◌+◌, ◌-◌, ◌&&◌, ◌||◌, not, Bool, true, false, cond, List, [], ◌∷◌, ◌++◌, map, drop, fold, Option, Some, None, refl, sym, ap, ◌∙◌, arith, subst, true≢false, nat_lt, reverse}
-use Rattle.std.specs.Prelude.{option_map}
+use Rattle.std.proofs.Common.{◌≡◌, ◌≢◌, ℕ, ◌+◌, ◌-◌, ◌&&◌, ◌||◌, not, Bool, true, false, cond, List, [], ◌∷◌, ◌++◌, map, drop, fold, refl, sym, ap, ◌∙◌, arith, subst, true≢false, nat_lt}
 use Rattle.std.proofs.lemmas.Bool.Decides.{nat_tests}
-use Rattle.std.proofs.lemmas.List.{reverse-reverse, take-append-drop}
+use Rattle.std.proofs.lemmas.List.{take-append-drop}
 use Rattle.std.proofs.lemmas.List.Elements.{All-head, All-tail}
-use Rattle.aat_buffer.specs.Buffer.{Buffer, glyph_at, position_list, reversed}
+use Rattle.aat_buffer.specs.Buffer.{Buffer, glyph_at, position_list}
 use Rattle.aat_buffer.specs.Marks.{cluster_at}
 use Rattle.aat_buffer.specs.facts.Cases.{chosen}
-use Rattle.aat_glyph.specs.Directions.{is_horizontal, is_backward}
+use Rattle.aat_glyph.specs.Directions.{is_horizontal}
 use Rattle.aat_glyph.specs.declared.glyph.Direction.{Direction}
-use Rattle.aat_glyph.specs.declared.glyph.GlyphPosition.{GlyphPosition}
 use Rattle.aat_glyph.specs.declared.glyph.hb_glyph_info_t.{hb_glyph_info_t}
 use Rattle.aat_run.specs.Budget.{operations_left}
 use Rattle.aat_run.specs.Outcome.{Outcome, untouched}
 use Rattle.aat_run.specs.Truth.{is_alike}
 use Rattle.aat_kerning.specs.Cut.{ordered_line, ordered_positions, greater_at, IsUnflaggedAt, PairsAlone, IsKernedInParts}
-use Rattle.aat_kerning.specs.KerningLaws.{IsKernedFrom}
+use Rattle.aat_kerning_machines.specs.KerningLaws.{IsKernedFrom}
 use Rattle.aat_kerning.specs.Positioning.{Kerning, Positioned, positioned, positioning, cursively_attached, in_processing_order, is_for_text}
 use Rattle.aat_kerning.proofs.Changes.{same}
 use Rattle.aat_kerning.proofs.CutMarks.{IsUnflagged, unflagged_before}
 use Rattle.aat_kerning.proofs.CutStep.{IsGreater, IsMovedApart, clusters_kept}
 use Rattle.aat_kerning.proofs.KerningLawsHold.{IsPaid, all_are_paid}
 use Rattle.aat_kerning.proofs.Marked.{IsMarkedLine, marked_at, line_twice}
+use Rattle.aat_kerning.proofs.Positioned.{ordered_twice}
 
 -- three choices with equal tests
 pub three_chosen :
@@ -67,25 +66,6 @@ pub same_greater :
 same_greater q gs hs clusters =
     ap (λ c. cond (nat_lt c (cluster_at hs q)) q (q - 1)) (clusters (q - 1))
     ∙ ap (λ c. cond (nat_lt (cluster_at gs (q - 1)) c) q (q - 1)) (clusters q)
-
--- a buffer in processing order, turned back
-reversed_twice : (b : Buffer) → reversed (reversed b) ≡ b
-reversed_twice b =
-    ap (λ (gs : List hb_glyph_info_t). record b { line = gs; positions = option_map reverse (option_map reverse b.positions) }) (reverse-reverse b.line)
-    ∙ ap (λ (qs : Option (List GlyphPosition)). record b { positions = qs }) (back b.positions)
-  where
-    back : (qs : Option (List GlyphPosition)) → option_map reverse (option_map reverse qs) ≡ qs
-    back None = refl
-    back (Some xs) = ap (λ ys. Some ys) (reverse-reverse xs)
-
-pub ordered_twice : (b : Buffer) → in_processing_order (in_processing_order b) ≡ b
-ordered_twice b = by_test (is_backward b.direction) refl
-  where
-    by_test :
-        (t : Bool) → is_backward b.direction ≡ t
-        → cond (is_backward (cond t (reversed b) b).direction) (reversed (cond t (reversed b) b)) (cond t (reversed b) b) ≡ b
-    by_test true e = ap (λ s. cond s (reversed (reversed b)) (reversed b)) e ∙ reversed_twice b
-    by_test false e = ap (λ s. cond s (reversed b) b) e
 
 -- what is before the run of a subtable, its outcome, and what it leaves
 abbrev attached_first : Kerning → Positioned → Buffer

@@ -10,7 +10,7 @@ use Rattle.aat_glyph.specs.Directions.{is_horizontal}
 use Rattle.aat_glyph.specs.declared.glyph.Direction.{Direction}
 use Rattle.aat_glyph.specs.declared.glyph.GlyphPosition.{GlyphPosition}
 use Rattle.aat_glyph.specs.declared.glyph.hb_glyph_info_t.{hb_glyph_info_t}
-use Rattle.aat_kerning.specs.KerningLaws.{IsMarkedFrom}
+use Rattle.aat_kerning_machines.specs.KerningLaws.{IsMarkedFrom}
 use Rattle.aat_kerning.specs.PairKerning.{kerned, pair_kerning}
 use Rattle.aat_kerning.specs.Pairs.{Pair, is_solid, pair_at, pairs_of}
 use Rattle.aat_kerning.proofs.Changes.{of_pairs}
@@ -50,9 +50,21 @@ pub clusters_kept :
     (gs hs : List hb_glyph_info_t) → IsMarkedLine gs hs → (i : ℕ) → cluster_at hs i ≡ cluster_at gs i
 clusters_kept gs hs k i = ap (λ (g : hb_glyph_info_t). g.cluster) (marked_at gs hs k i).2
 
+-- and so the greater of the two is the greater one still
+pub greater_kept :
+    (q great less : ℕ) (gs hs : List hb_glyph_info_t) → IsMarkedLine gs hs → IsGreater q great less gs
+    → IsGreater q great less hs
+greater_kept q great less gs hs k at = record {
+  great_low = at.great_low;
+  great_high = at.great_high;
+  less_low = at.less_low;
+  less_high = at.less_high;
+  order = rw (clusters_kept gs hs k less, clusters_kept gs hs k great) at.order;
+}
+
 module _ (q great less : ℕ) (is_cross : Bool) (values : List (ℕ × ℕ × ℤ)) (whole : Buffer) (at : IsGreater q great less whole.line) (inside : q < length whole.line) where
   -- where the greater glyph is left without the flag, a pair over the cut has the value 0
-  pub crossing_is_zero :
+  crossing_is_zero :
       (p : Pair) (ps rest : List Pair) → StandsBefore q p
       → IsUnflagged (glyph_at (by_pairs is_cross values whole (ps ++ p ∷ rest)).line great)
       → int_eq (value_at values whole.line p) (pos 0) ≡ true
@@ -75,7 +87,7 @@ module _ (q great less : ℕ) (is_cross : Bool) (values : List (ℕ × ℕ × �
       ap (λ v. int_eq v (pos 0)) (sym (same_value values whole.line before.line p (ids p.left) (ids p.right))) ∙ zero
 
   -- so the pair over the cut changes nothing
-  pub crossing_changes_nothing :
+  crossing_changes_nothing :
       {X : Type 0} (act : Pair → X → X)
       → ((p : Pair) (x : X) → int_eq (value_at values whole.line p) (pos 0) ≡ true → act p x ≡ x)
       → (o : Option Pair) (ps rest : List Pair) → IfSome o (StandsBefore q)
@@ -97,6 +109,33 @@ pub record IsMovedApart (q : ℕ) (whole first second : Buffer) : Type 0 where
   pub front : position_list first ≡ take q (position_list whole)
   pub back : position_list second ≡ drop q (position_list whole)
 
+-- What pairs do over the whole line, those of the first part do and then those of the second, where the greater glyph is
+-- left without the flag.
+pub folded_apart :
+    (skips kern_mask q great less : ℕ) (way : Direction) (is_cross : Bool) (values : List (ℕ × ℕ × ℤ))
+    (whole first second : Buffer)
+    → IsCut skips kern_mask q way whole first second → IsGreater q great less whole.line
+    → IsUnflagged (glyph_at (pair_kerning skips kern_mask is_cross values whole).line great)
+    → {X : Type 0} (act : Pair → X → X)
+    → ((p : Pair) (x : X) → int_eq (value_at values whole.line p) (pos 0) ≡ true → act p x ≡ x)
+    → (x : X) → fold (λ x p. act p x) x (pairs_of skips kern_mask whole.line)
+    ≡ fold (λ x p. act p x) (fold (λ x p. act p x) x (pairs_of skips kern_mask first.line))
+    (map (shifted q) (pairs_of skips kern_mask second.line))
+unfolding pair_kerning
+folded_apart skips kern_mask q great less way is_cross values whole first second cut at none {X} act stays x =
+    let over = pair_at skips kern_mask whole.line q in
+    let ps = pairs_of skips kern_mask first.line in
+    let rs = map (shifted q) (pairs_of skips kern_mask second.line) in
+    let inside : q < length whole.line = omega (arith, cut.long, cut.some) in
+    let all : pairs_of skips kern_mask whole.line ≡ ps ++ cons_option over rs =
+    pairs_cut skips kern_mask q (length second.line - 1) whole.line first.line second.line
+    (cut.long ∙ ap (λ n. q + n) (suc_of (length second.line) cut.some)) cut.short (suc_of (length second.line) cut.some)
+    cut.solid cut.front cut.back in
+    let unset : IsUnflagged (glyph_at (by_pairs is_cross values whole (ps ++ cons_option over rs)).line great) =
+    subst (λ (xs : List Pair). IsUnflagged (glyph_at (by_pairs is_cross values whole xs).line great)) all none in
+    ap (λ (xs : List Pair). fold (λ (x : X) p. act p x) x xs) all
+    ∙ crossing_changes_nothing q great less is_cross values whole at inside act stays over ps rs (pair_before skips kern_mask whole.line q) unset x
+
 pub pairs_apart :
     (skips kern_mask q great less : ℕ) (way : Direction) (is_cross : Bool) (values : List (ℕ × ℕ × ℤ))
     (whole first second : Buffer)
@@ -107,25 +146,15 @@ pub pairs_apart :
 unfolding pair_kerning
 pairs_apart skips kern_mask q great less way is_cross values whole first second cut at none =
     let h = is_horizontal way in
-    let over = pair_at skips kern_mask whole.line q in
     let ps = pairs_of skips kern_mask first.line in
     let rs = pairs_of skips kern_mask second.line in
-    let inside : q < length whole.line = omega (arith, cut.long, cut.some) in
-    let all : pairs_of skips kern_mask whole.line ≡ ps ++ cons_option over (map (shifted q) rs) =
-    pairs_cut skips kern_mask q (length second.line - 1) whole.line first.line second.line
-    (cut.long ∙ ap (λ n. q + n) (suc_of (length second.line) cut.some)) cut.short (suc_of (length second.line) cut.some)
-    cut.solid cut.front cut.back in
-    let unset : IsUnflagged (glyph_at (by_pairs is_cross values whole (ps ++ cons_option over (map (shifted q) rs))).line great) =
-    subst (λ (xs : List Pair). IsUnflagged (glyph_at (by_pairs is_cross values whole xs).line great)) all none in
     let moved : List GlyphPosition → Pair → List GlyphPosition = λ qs p. moves is_cross h values whole.line p qs in
     let qs = position_list whole in
     let left = fold moved qs ps in
     let ends : position_list (by_pairs is_cross values whole (pairs_of skips kern_mask whole.line)) ≡ fold moved left (map (shifted q) rs) =
     pairs_move is_cross values whole.line h (pairs_of skips kern_mask whole.line) whole (λ i. refl) (ap is_horizontal cut.whole_way)
-    ∙ (ap (fold moved qs) all
-    ∙ crossing_changes_nothing q great less is_cross values whole at inside (moves is_cross h values whole.line)
-    (λ p xs zero. ap (λ t. cond t xs (moved_by is_cross h (value_at values whole.line p) p xs)) zero)
-    over ps (map (shifted q) rs) (pair_before skips kern_mask whole.line q) unset qs) in
+    ∙ folded_apart skips kern_mask q great less way is_cross values whole first second cut at none (moves is_cross h values whole.line)
+    (λ p xs zero. ap (λ t. cond t xs (moved_by is_cross h (value_at values whole.line p) p xs)) zero) qs in
     let before : AllBefore q ps = pairs_within skips kern_mask q first.line cut.short in
     record {
       front =

@@ -5,7 +5,7 @@ use Rattle.aat_buffer.specs.Buffer.{Buffer, position_at, with_position}
 use Rattle.aat_glyph.specs.Directions.{is_horizontal}
 use Rattle.aat_glyph.specs.declared.glyph.GlyphPosition.{GlyphPosition}
 use Rattle.aat_kerning.specs.PairKerning.{half, in_stream}
-use Rattle.aat_kerning.specs.Positions.{with_advance, with_shift}
+use Rattle.aat_kerning_machines.specs.Positions.{with_advance, with_shift}
 
 pub in_stream_by :
     (left right : ℕ) (v : ℤ) (b : Buffer) (h : Bool) (p q x y z : GlyphPosition)

@@ -1,8 +1,9 @@
 -- The drivers meet their laws, kerning is bounded, its runs end, and it changes little.
-use Rattle.std.proofs.Common.{◌≡◌, ℕ, ◌+◌, ◌*◌, ◌≤◌, ◌&&◌, ◌||◌, not, Bool, true, false, cond, List, [], ◌∷◌, length, map, Option, None, inr, refl, ap, arith}
+use Rattle.std.proofs.Common.{◌≡◌, ℕ, ◌+◌, ◌*◌, ◌≤◌, ◌<◌, ◌&&◌, ◌||◌, not, Bool, true, false, cond, List, [], ◌∷◌, length, map, take, Option, None, inr, refl, ap, arith}
 use Rattle.std.specs.Prelude.{fold}
 use Rattle.std.proofs.lemmas.Slice.Zip.{AllZip-long}
-use Rattle.std.proofs.lemmas.List.{length-reverse}
+use Rattle.std.proofs.lemmas.List.{length-reverse, length-take}
+use Rattle.std.proofs.lemmas.Nat.{mul-le}
 use Rattle.aat_buffer.specs.Buffer.{Buffer, with_cursor, reversed}
 use Rattle.aat_buffer.specs.Marks.{unsafe_to_concat}
 use Rattle.aat_buffer.specs.facts.Cases.{chosen, either}
@@ -19,16 +20,17 @@ use Rattle.aat_font.specs.AnchorPoints.{Points}
 use Rattle.aat_run.specs.Budget.{operations_left}
 use Rattle.aat_run.specs.Context.{start}
 use Rattle.aat_run.specs.Outcome.{Outcome, untouched}
-use Rattle.aat_kerning.specs.Anchors.{anchor_driver, IsFit}
-use Rattle.aat_kerning.specs.KerningLaws.{IsLawfulDriver, KerningRunsEnd, IsMarkedFrom, IsKernedFrom}
-use Rattle.aat_kerning.specs.KerningLawful.{FitsAlways, DriversAreLawful, KerningIsBounded, KerningChangesLittle}
-use Rattle.aat_kerning.specs.KerningMachine.{Driver, kerning_machine_of, kerning_whole}
-use Rattle.aat_kerning.specs.Positioning.{Kerning, Positioned, positioned, positioning, driver_run, cursively_attached, in_processing_order, is_for_text, kerx_run, kern_run, kerx_kerning, kern_kerning, kerx_positioning, kern_positioning}
-use Rattle.aat_kerning.specs.Stack.{kerx_driver, kern_driver}
-use Rattle.aat_kerning.specs.facts.AnchorLaws.{anchors_are_lawful}
-use Rattle.aat_kerning.specs.facts.StackLaws.{kerx_is_lawful, kern_is_lawful}
+use Rattle.aat_kerning_machines.specs.Anchors.{anchor_driver, IsFit}
+use Rattle.aat_kerning_machines.specs.KerningLaws.{IsLawfulDriver, KerningRunsEnd, IsMarkedFrom, IsKernedFrom}
+use Rattle.aat_kerning.specs.KerningLawful.{DriversAreLawful, IsPaidBeyond, KerningIsBounded, KerningChangesLittle}
+use Rattle.aat_kerning_machines.specs.KerningMachine.{Driver, driver_run, kerning_machine_of, kerning_whole}
+use Rattle.aat_kerning.specs.Positioning.{Kerning, Positioned, positioned, positioning, cursively_attached, in_processing_order, is_for_text, kerx_run, kern_run, kerx_kerning, kern_kerning, kerx_positioning, kern_positioning}
+use Rattle.aat_kerning_machines.specs.Stack.{FitsAlways, kerx_driver, kern_driver}
+use Rattle.aat_kerning_machines.specs.facts.AnchorLaws.{anchors_are_lawful}
+use Rattle.aat_kerning_machines.specs.facts.StackLaws.{kerx_is_lawful, kern_is_lawful}
 use Rattle.aat_kerning.proofs.Changes.{IsKernedInside, inside, inside_twice, kerned_twice, same, of_break, of_place, of_cursor, of_payment, of_pair_kerning, of_marked, of_attachment, in_order}
-use Rattle.aat_kerning.proofs.KerningRuns.{spends, runs_end, buffer_kept}
+use Rattle.aat_kerning_machines.specs.facts.KerningRuns.{spends, runs_end, buffer_kept}
+use Rattle.aat_kerning.proofs.Positioned.{positioned_so_far}
 
 pub drivers_are_lawful : DriversAreLawful
 drivers_are_lawful = record { kerx_stack = kerx_is_lawful; kern_stack = kern_is_lawful; anchors = anchors_are_lawful }
@@ -76,7 +78,7 @@ module _ {T R : Type 0} (pays_first : Bool) (x : Driver R (GenericStateEntry T))
   always_ends table =
       runs_end (kerning_machine_of pays_first table x) fits laws.keeps_place laws.keeps_fit laws.passes_fit
 
-pub kerx_is_paid :
+kerx_is_paid :
     (kern_mask : ℕ) (points : Option Points) (is_cross : Bool) (tuple_count : ℕ) (k : KerxFormat) (b : Buffer)
     → IsPaid b (kerx_run kern_mask points is_cross tuple_count k b)
 kerx_is_paid kern_mask points is_cross tuple_count (Format0 values) b =
@@ -90,7 +92,7 @@ kerx_is_paid kern_mask points is_cross tuple_count (Format4 s) b =
 kerx_is_paid kern_mask points is_cross tuple_count (Format6 values) b =
     paid_without_turns b _ (of_pair_kerning _ kern_mask is_cross values false b)
 
-pub kern_is_paid :
+kern_is_paid :
     (kern_mask : ℕ) (is_cross : Bool) (k : KernKind) (b : Buffer) → IsPaid b (kern_run kern_mask is_cross k b)
 kern_is_paid kern_mask is_cross (kind.Pairs values) b =
     paid_without_turns b _ (of_pair_kerning _ kern_mask is_cross values true b)
@@ -136,11 +138,6 @@ all_are_paid requested kerning (k ∷ ks) b most s each so_far =
     all_are_paid requested kerning ks b (most + (length b.line + 1)) t each (positioned_is_paid requested (kerning k) b most s (each k) so_far) in
     record { turns = omega (arith, rest.turns); kept = rest.kept }
 
--- what positioning leaves
-record IsPositioned (count : ℕ) (b : Buffer) (o : Outcome) : Type 0 where
-  turns : o.turns ≤ count * (length b.line + 1) + operations_left b.max_ops
-  kept : IsKernedFrom b o.buffer
-
 -- the order of the line changes neither its length nor the budget
 ordered_length : (b : Buffer) → length (in_processing_order b).line ≡ length b.line
 ordered_length b =
@@ -149,21 +146,59 @@ ordered_length b =
 ordered_budget : (b : Buffer) → (in_processing_order b).max_ops ≡ b.max_ops
 ordered_budget b = either (λ (d : Buffer). d.max_ops) (is_backward b.direction) (reversed b) b _ refl refl
 
+-- the subtables so far
+so_far_is_paid :
+    {X : Type 0} (requested : Bool) (kerning : X → Kerning) (ks : List X) (b : Buffer)
+    → ((x : X) (d : Buffer) → IsPaid d ((kerning x).run d))
+    → IsPaidSoFar (in_processing_order b) (operations_left b.max_ops + length ks * (length b.line + 1)) (positioned_so_far requested kerning ks b)
+so_far_is_paid requested kerning ks b each =
+    let ordered = in_processing_order b in
+    let before : Positioned = record { buffer = ordered; turns = 0; is_attached = false } in
+    let start : IsPaidSoFar ordered (operations_left ordered.max_ops) before = record { turns = omega arith; kept = same ordered } in
+    let all : IsPaidSoFar ordered (operations_left ordered.max_ops + length ks * (length ordered.line + 1)) (positioned_so_far requested kerning ks b) =
+    all_are_paid requested kerning ks ordered (operations_left ordered.max_ops) before each start in
+    let budget : operations_left ordered.max_ops ≡ operations_left b.max_ops = ap operations_left (ordered_budget b) in
+    let free : length ks * (length ordered.line + 1) ≡ length ks * (length b.line + 1) = ap (λ n. length ks * (n + 1)) (ordered_length b) in
+    record { turns = omega (arith, all.turns, budget, free); kept = all.kept }
+
+-- the turns of those before place i fit a number of 64 bits
+pub few_turns :
+    {X : Type 0} (requested : Bool) (kerning : X → Kerning) (xs : List X) (i : ℕ) (b : Buffer) (s : Positioned)
+    → ((x : X) (d : Buffer) → IsPaid d ((kerning x).run d)) → s ≡ positioned_so_far requested kerning (take i xs) b
+    → length xs ≤ 65535 → length b.line ≤ 0x3FFFFFFF → operations_left b.max_ops < 0x80000000 → s.turns < 0x800000000000
+few_turns {X} requested kerning xs i b s each is few line budget =
+    let ks : List X = take i xs in
+    let all = so_far_is_paid requested kerning ks b each in
+    let same : s.turns ≡ (positioned_so_far requested kerning ks b).turns = ap (λ (t : Positioned). t.turns) is in
+    let most : length ks * (length b.line + 1) ≤ 65535 * 0x40000000 =
+    mul-le (length ks) (length b.line + 1) 65535 0x40000000 (omega (arith, length-take i xs, few)) (omega (arith, line)) in
+    omega (arith, all.turns, most, same, budget)
+
+-- what positioning leaves
+record IsPositioned (count : ℕ) (b : Buffer) (o : Outcome) : Type 0 where
+  turns : IsPaidBeyond (count * (length b.line + 1)) b o
+  kept : IsKernedFrom b o.buffer
+
 positioning_is_bounded :
     {X : Type 0} (requested : Bool) (kerning : X → Kerning) (ks : List X) (b : Buffer)
     → ((x : X) (d : Buffer) → IsPaid d ((kerning x).run d))
     → IsPositioned (length ks) b (positioning requested (map kerning ks) b)
 unfolding positioning
 positioning_is_bounded requested kerning ks b each =
-    let ordered = in_processing_order b in
-    let before : Positioned = record { buffer = ordered; turns = 0; is_attached = false } in
-    let after : Positioned = fold (λ s k. positioned requested k s) before (map kerning ks) in
-    let start : IsPaidSoFar ordered (operations_left ordered.max_ops) before = record { turns = omega arith; kept = same ordered } in
-    let all : IsPaidSoFar ordered (operations_left ordered.max_ops + length ks * (length ordered.line + 1)) after =
-    all_are_paid requested kerning ks ordered (operations_left ordered.max_ops) before each start in
-    let budget : operations_left ordered.max_ops ≡ operations_left b.max_ops = ap operations_left (ordered_budget b) in
-    let turns : length ks * (length ordered.line + 1) ≡ length ks * (length b.line + 1) = ap (λ n. length ks * (n + 1)) (ordered_length b) in
-    record { turns = omega (arith, all.turns, budget, turns); kept = in_order b after.buffer all.kept }
+    let after = positioned_so_far requested kerning ks b in
+    let all = so_far_is_paid requested kerning ks b each in
+    record {
+      turns = omega (arith, all.turns, ap operations_left (ordered_budget after.buffer));
+      kept = in_order b after.buffer all.kept;
+    }
+
+-- each subtable of a table
+pub kerx_each_paid :
+    (kern_mask : ℕ) (points : Option Points) (s : KerxSubtable) (b : Buffer) → IsPaid b ((kerx_kerning kern_mask points s).run b)
+kerx_each_paid kern_mask points s b = kerx_is_paid kern_mask points s.has_cross_stream s.tuple_count s.format b
+
+pub kern_each_paid : (kern_mask : ℕ) (s : KernSubtable) (b : Buffer) → IsPaid b ((kern_kerning kern_mask s).run b)
+kern_each_paid kern_mask s b = kern_is_paid kern_mask s.has_cross_stream s.kind b
 
 kerx_is_positioned :
     (requested : Bool) (kern_mask : ℕ) (points : Option Points) (subtables : List KerxSubtable) (b : Buffer)
@@ -174,7 +209,7 @@ kerx_is_positioned requested kern_mask points subtables b =
     let o = positioning requested (map (kerx_kerning kern_mask points) subtables) d in
     let marked = of_marked true b in
     let k : IsPositioned (length subtables) d o =
-    positioning_is_bounded requested (kerx_kerning kern_mask points) subtables d (λ s x. kerx_is_paid kern_mask points s.has_cross_stream s.tuple_count s.format x) in
+    positioning_is_bounded requested (kerx_kerning kern_mask points) subtables d (kerx_each_paid kern_mask points) in
     let turns : length subtables * (length d.line + 1) ≡ length subtables * (length b.line + 1) = ap (λ n. length subtables * (n + 1)) (long b d marked) in
     record { turns = omega (arith, k.turns, marked.budget, turns); kept = kerned_twice b d o.buffer marked k.kept }
 
@@ -182,7 +217,7 @@ kern_is_positioned : (requested : Bool) (kern_mask : ℕ) (subtables : List Kern
     → IsPositioned (length subtables) b (kern_positioning requested kern_mask subtables b)
 unfolding kern_positioning
 kern_is_positioned requested kern_mask subtables b =
-    positioning_is_bounded requested (kern_kerning kern_mask) subtables b (λ s x. kern_is_paid kern_mask s.has_cross_stream s.kind x)
+    positioning_is_bounded requested (kern_kerning kern_mask) subtables b (kern_each_paid kern_mask)
 
 pub kerning_is_bounded : KerningIsBounded
 kerning_is_bounded = record {

@@ -1,17 +1,17 @@
 -- The worked rows and the examples of kerning, by computing.
-use Rattle.std.proofs.Common.{refl, arith}
+use Rattle.std.proofs.Common.{◌≡◌, ◌<◌, refl, arith}
 use Rattle.std.specs.Int.{int_wrap}
 use Rattle.aat_buffer.specs.Marks.{merged}
 use Rattle.aat_buffer.specs.Removal.{removal, cluster_kept_line, lowered_run}
-use Rattle.aat_kerning.specs.Anchors.{anchor_act}
-use Rattle.aat_kerning.specs.KerningMachine.{kerning_marked, kerning_settled, kerning_acted, looked_ahead, kerning_by_entry, kerning_turn, kerning_whole}
+use Rattle.aat_kerning_machines.specs.Anchors.{anchor_act}
+use Rattle.aat_kerning_machines.specs.KerningMachine.{driver_run, kerning_marked, kerning_settled, kerning_acted, looked_ahead, kerning_by_entry, kerning_turn, kerning_whole}
 use Rattle.aat_kerning.specs.KerningRows.{KerningRows}
 use Rattle.aat_kerning.specs.KerningExamples.{PairExamples, CutExamples, MachineExamples, StackExamples, AnchorExamples, PositioningExamples, KerningExamples}
 use Rattle.aat_run.specs.Machine.{run}
 use Rattle.aat_kerning.specs.PairKerning.{kerned, pair_kerning}
 use Rattle.aat_kerning.specs.Pairs.{pairs_of}
-use Rattle.aat_kerning.specs.Positioning.{driver_run, positioned, positioning, kerx_positioning, kern_positioning}
-use Rattle.aat_kerning.specs.Stack.{popped, kerx_act, kern_act}
+use Rattle.aat_kerning.specs.Positioning.{positioned, positioning, kerx_positioning, kern_positioning}
+use Rattle.aat_kerning_machines.specs.Stack.{popped, kerx_act, kern_act}
 
 pub kerning_rows : KerningRows
 unfolding int_wrap merged removal cluster_kept_line lowered_run anchor_act kerning_marked kerning_settled kerning_acted looked_ahead kerning_by_entry kerning_turn kerning_whole run kerned pair_kerning pairs_of driver_run positioned positioning kerx_positioning kern_positioning popped kerx_act kern_act
@@ -122,15 +122,15 @@ unfolding int_wrap merged removal cluster_kept_line lowered_run anchor_act kerni
 cut_examples = record {
   falling_place = record {
     behind_first = omega arith;
-    before_end = omega arith;
+    before_end = let inside : 1 < 3 = omega arith in inside;
     solid = refl;
-    starts = λ e. absurd (omega (arith, e));
+    starts = λ e. let same : 1 ≡ 2 = e in absurd (omega (arith, same));
+    unflagged = refl;
   };
   falling_parts = record {
     front = record { line = refl; places = refl; direction = refl };
     back = record { line = refl; places = refl; direction = refl };
   };
-  falling_unflagged = refl;
   falling_flagged = refl;
   falling_cut = refl;
   greater_flagged = refl;

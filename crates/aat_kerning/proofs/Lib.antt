@@ -8,12 +8,13 @@ pub mod CutMoves
 pub mod CutPairs
 pub mod CutRuns
 pub mod CutStep
+pub mod CutTables
 pub mod InStream
 pub mod KerningLawsHold
 pub mod KerningRowsHold
-pub mod KerningRuns
 pub mod Marked
 pub mod Positioned
+pub mod Staying
 pub mod Summed
 pub mod SummedTables
 pub mod Walk

@@ -11,8 +11,8 @@ use Rattle.aat_buffer.specs.Buffer.{Buffer, glyph_at, no_glyph}
 use Rattle.aat_buffer.specs.Marks.{on_span, marked_above, with_mask_bits, least_of, break_marked, concat_marked, unsafe_to_break, unsafe_to_concat, start_place, end_place, produces_concat}
 use Rattle.aat_buffer.specs.facts.Cases.{chosen}
 use Rattle.aat_glyph.specs.declared.glyph.hb_glyph_info_t.{hb_glyph_info_t}
-use Rattle.aat_kerning.specs.KerningLaws.{IsMarkedFrom}
-use Rattle.aat_kerning.specs.facts.Writes.{or_assoc}
+use Rattle.aat_kerning_machines.specs.KerningLaws.{IsMarkedFrom}
+use Rattle.aat_kerning_machines.specs.facts.Writes.{or_assoc}
 
 -- a line that is as before but for marks
 abbrev pub IsMarkedLine : List hb_glyph_info_t → List hb_glyph_info_t → Type 0

@@ -22,29 +22,37 @@ not_for_text requested k s outside =
     (record { buffer = o.buffer; turns = s.turns + o.turns; is_attached = s.is_attached || k.has_cross_stream }) s
     (λ inside. cc) (λ _. refl)
 
--- a subtable that is for it, and takes no turn
+-- and so takes no turn
+pub passed_over :
+    (requested : Bool) (k : Kerning) (b : Buffer) (n : ℕ) (now : Bool) → is_for_text k b ≡ false
+    → record { buffer = b; turns = n + 0; is_attached = now }
+    ≡ positioned requested k (record { buffer = b; turns = n; is_attached = now })
+passed_over requested k b n now outside =
+    let s : Positioned = record { buffer = b; turns = n; is_attached = now } in
+    let none : n + 0 ≡ n = omega arith in
+    ap (λ (m : ℕ). record s { turns = m }) none ∙ not_for_text requested k s outside
+
+-- a subtable that is for it, and takes n turns
 pub for_text :
-    (requested : Bool) (k : Kerning) (s : Positioned) (d e : Buffer) (now : Bool) → is_for_text k s.buffer ≡ true
+    (requested : Bool) (k : Kerning) (s : Positioned) (d e : Buffer) (n : ℕ) (now : Bool) → is_for_text k s.buffer ≡ true
     → d ≡ cond (k.has_cross_stream && not s.is_attached) (cursively_attached s.buffer) s.buffer
-    → untouched e ≡ cond (k.is_pairs && not requested) (untouched d) (k.run d) → now ≡ (s.is_attached || k.has_cross_stream)
-    → record { buffer = e; turns = s.turns; is_attached = now } ≡ positioned requested k s
+    → record { buffer = e; turns = n } ≡ cond (k.is_pairs && not requested) (untouched d) (k.run d)
+    → now ≡ (s.is_attached || k.has_cross_stream)
+    → record { buffer = e; turns = s.turns + n; is_attached = now } ≡ positioned requested k s
 unfolding positioned
-for_text requested k s d e now inside attached ran noted =
+for_text requested k s d e n now inside attached ran noted =
     let start = cond (k.has_cross_stream && not s.is_attached) (cursively_attached s.buffer) s.buffer in
     let o = cond (k.is_pairs && not requested) (untouched start) (k.run start) in
-    let all : untouched e ≡ o =
+    let all : record { buffer = e; turns = n } ≡ o =
     ran ∙ ap (λ (x : Buffer). cond (k.is_pairs && not requested) (untouched x) (k.run x)) attached in
-    let none : s.turns ≡ s.turns + 0 = omega arith in
-    let after : Positioned = record { buffer = e; turns = s.turns; is_attached = now } in
-    let first : after ≡ record { buffer = e; turns = s.turns + 0; is_attached = now } =
-    ap (λ (n : ℕ). record after { turns = n }) none in
-    let second : after ≡ record { buffer = o.buffer; turns = s.turns + o.turns; is_attached = now } =
-    first ∙ ap (λ (x : Outcome). record after { buffer = x.buffer; turns = s.turns + x.turns }) all in
-    let third : after ≡ record { buffer = o.buffer; turns = s.turns + o.turns; is_attached = s.is_attached || k.has_cross_stream } =
-    second ∙ ap (λ (t : Bool). record after { buffer = o.buffer; turns = s.turns + o.turns; is_attached = t }) noted in
+    let after : Positioned = record { buffer = e; turns = s.turns + n; is_attached = now } in
+    let first : after ≡ record { buffer = o.buffer; turns = s.turns + o.turns; is_attached = now } =
+    ap (λ (x : Outcome). record after { buffer = x.buffer; turns = s.turns + x.turns }) all in
+    let second : after ≡ record { buffer = o.buffer; turns = s.turns + o.turns; is_attached = s.is_attached || k.has_cross_stream } =
+    first ∙ ap (λ (t : Bool). record after { buffer = o.buffer; turns = s.turns + o.turns; is_attached = t }) noted in
     chosen (λ (x : Positioned). after ≡ x) (is_for_text k s.buffer)
     (record { buffer = o.buffer; turns = s.turns + o.turns; is_attached = s.is_attached || k.has_cross_stream }) s
-    (λ _. third) (λ outside. cc)
+    (λ _. second) (λ outside. cc)
 
 -- the subtables so far
 abbrev pub positioned_so_far : {X : Type 0} → Bool → (X → Kerning) → List X → Buffer → Positioned
@@ -52,7 +60,7 @@ positioned_so_far requested kerning xs b =
     fold (λ s k. positioned requested k s) (record { buffer = in_processing_order b; turns = 0; is_attached = false }) (map kerning xs)
 
 -- one more, of x, which is the element at place i
-pub so_far_more :
+so_far_more :
     {X : Type 0} (requested : Bool) (kerning : X → Kerning) (xs : List X) (i : ℕ) (x : X) (b : Buffer) → i < length xs
     → x ≡ get_or xs i x
     → positioned_so_far requested kerning (take (i + 1) xs) b ≡ positioned requested (kerning x) (positioned_so_far requested kerning (take i xs) b)
@@ -63,14 +71,22 @@ so_far_more {X} requested kerning xs i x b below read =
     ∙ ap (fold f before) (map-append kerning (take i xs) (x ∷ []))
     ∙ fold_push f before (map kerning (take i xs)) (kerning x)
 
+pub so_far_next :
+    {X : Type 0} (requested : Bool) (kerning : X → Kerning) (xs : List X) (i : ℕ) (x : X) (b : Buffer) (s t : Positioned)
+    → i < length xs → x ≡ get_or xs i x → s ≡ positioned_so_far requested kerning (take i xs) b
+    → t ≡ positioned requested (kerning x) s → t ≡ positioned_so_far requested kerning (take (i + 1) xs) b
+so_far_next requested kerning xs i x b s t below read was next =
+    next ∙ ap (λ (u : Positioned). positioned requested (kerning x) u) was ∙ sym (so_far_more requested kerning xs i x b below read)
+
 -- all of them, and the line turned back
 pub so_far_all :
-    {X : Type 0} (requested : Bool) (kerning : X → Kerning) (xs : List X) (b now after : Buffer) (is_attached : Bool)
-    → record { buffer = now; turns = 0; is_attached = is_attached } ≡ positioned_so_far requested kerning xs b
-    → after ≡ in_processing_order now → untouched after ≡ positioning requested (map kerning xs) b
+    {X : Type 0} (requested : Bool) (kerning : X → Kerning) (xs : List X) (b now after : Buffer) (n : ℕ)
+    (is_attached : Bool)
+    → record { buffer = now; turns = n; is_attached = is_attached } ≡ positioned_so_far requested kerning xs b
+    → after ≡ in_processing_order now → record { buffer = after; turns = n } ≡ positioning requested (map kerning xs) b
 unfolding positioning
-so_far_all requested kerning xs b now after is_attached was turned =
-    ap untouched turned ∙ ap (λ (s : Positioned). record { buffer = in_processing_order s.buffer; turns = s.turns }) was
+so_far_all requested kerning xs b now after n is_attached was turned =
+    ap (λ (d : Buffer). record { buffer = d; turns = n }) turned ∙ ap (λ (s : Positioned). record { buffer = in_processing_order s.buffer; turns = s.turns }) was
 
 -- a line that is turned twice
 twice : (o : Option (List GlyphPosition)) → option_map (λ qs. reverse qs) (option_map (λ qs. reverse qs) o) ≡ o
@@ -93,17 +109,12 @@ pub none_positioned :
 unfolding positioning
 none_positioned requested kerning b = ap untouched (sym (ordered_twice b))
 
--- pairs are left out where kerning is not requested
-pub left_out : (p r : Bool) (x y : Outcome) → p ≡ true → r ≡ false → x ≡ cond (p && not r) x y
-left_out true false x y pairs asked = refl
-left_out true true x y pairs asked = cc
-left_out false r x y pairs asked = cc
-
--- and run where it is
-pub not_left_out : (p r : Bool) (x y : Outcome) → r ≡ true → y ≡ cond (p && not r) x y
-not_left_out true true x y asked = refl
-not_left_out false true x y asked = refl
-not_left_out p false x y asked = cc
+-- a subtable is left out, or runs, by a call that was asked
+pub asked_outcome :
+    (requested : Bool) (k : Kerning) (d : Buffer) (p r : Bool) → p ≡ k.is_pairs → r ≡ (p && not requested)
+    → cond r (untouched d) (k.run d) ≡ cond (k.is_pairs && not requested) (untouched d) (k.run d)
+asked_outcome requested k d p r is answer =
+    ap (λ t. cond t (untouched d) (k.run d)) (answer ∙ ap (λ t. t && not requested) is)
 
 -- whether a subtable is for a text, by a call that was asked
 pub asked_for_text :

@@ -15,7 +15,7 @@ use Rattle.aat_kerning.specs.Advances.{advance, all_advances, all_values, PairsC
 use Rattle.aat_font.specs.Pairs.{pair_key}
 use Rattle.aat_kerning.specs.PairKerning.{value_of, half, pair_kerning}
 use Rattle.aat_kerning.specs.Pairs.{Pair, pairs_of}
-use Rattle.aat_kerning.specs.Positions.{plus, with_advance, with_shift}
+use Rattle.aat_kerning_machines.specs.Positions.{plus, with_advance, with_shift}
 use Rattle.aat_kerning.proofs.CutMoves.{on_place, moved_by, moved_if, moves, value_at, pairs_move}
 use Rattle.aat_kerning.proofs.CutPairs.{AllBefore, pairs_within}
 

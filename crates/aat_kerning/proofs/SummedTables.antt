@@ -7,6 +7,7 @@ use Rattle.std.proofs.lemmas.List.{length-reverse, reverse-append}
 use Rattle.std.proofs.lemmas.List.Elements.{All-head, All-push, All-tail}
 use Rattle.std.proofs.lemmas.List.Sums.{fold_push}
 use Rattle.std.proofs.lemmas.Slice.Zip.{AllZip-long}
+use Rattle.std.proofs.lemmas.List.Elements.{All-weaker}
 use Rattle.aat_buffer.specs.Buffer.{Buffer, glyph_at, position_list, reversed}
 use Rattle.aat_buffer.specs.Marks.{unsafe_to_concat}
 use Rattle.aat_font.specs.AnchorPoints.{Points}
@@ -24,16 +25,17 @@ use Rattle.aat_run.specs.Outcome.{untouched}
 use Rattle.aat_run.specs.Truth.{is_alike}
 use Rattle.aat_kerning.specs.Advances.{advance, all_advances, all_values, kern_values, kerx_values, IsInStream, KernSumsAdvances, KerxSumsAdvances}
 use Rattle.aat_kerning.specs.Cut.{ordered_line, ordered_positions}
-use Rattle.aat_kerning.specs.KerningLaws.{IsMarkedFrom}
+use Rattle.aat_kerning_machines.specs.KerningLaws.{IsMarkedFrom}
 use Rattle.aat_kerning.specs.PairKerning.{pair_kerning}
 use Rattle.aat_kerning.specs.Pairs.{Pair, kern_skips, kerx_skips, pair_at, pairs_of, places}
 use Rattle.aat_kerning.specs.Positioning.{Kerning, Positioned, cursively_attached, in_processing_order, is_for_text, is_kern_pairs, is_kerx_pairs, kern_kerning, kern_positioning, kern_run, kerx_kerning, kerx_positioning, kerx_run, line_marked, positioned, positioning}
-use Rattle.aat_kerning.specs.Positions.{IsPlaced}
-use Rattle.aat_kerning.proofs.Changes.{of_marked, of_pair_kerning}
-use Rattle.aat_kerning.proofs.CutHolds.{ordered_marked, ordered_places, ordered_way, places_of_marked}
+use Rattle.aat_kerning_machines.specs.Positions.{IsPlaced}
+use Rattle.aat_kerning.proofs.Changes.{of_concat, of_marked, of_pair_kerning}
+use Rattle.aat_kerning.proofs.CutHolds.{ordered_places, ordered_way, places_of_marked}
 use Rattle.aat_kerning.proofs.CutMarks.{looks_as_before}
 use Rattle.aat_kerning.proofs.CutMoves.{moves, pairs_move}
 use Rattle.aat_kerning.proofs.CutPairs.{AllBefore, front_pairs, pairs_within}
+use Rattle.aat_kerning.proofs.CutTables.{ordered_kept}
 use Rattle.aat_kerning.proofs.Marked.{IsMarkedLine, line_same, line_twice, marked_at}
 use Rattle.aat_kerning.proofs.Positioned.{not_for_text}
 use Rattle.aat_kerning.proofs.Summed.{Fits, fits_of_pairs, sum_from, sum_of_pairs}
@@ -263,17 +265,21 @@ module _ (kern_mask : ℕ) (free : bit_and kern_mask 7 ≡ 0) (way : Direction) 
   kern_run_summed false (kind.Machine s) v d pairs along small now = absurd (true≢false (sym pairs))
 
 pub kerx_sums :
-    (requested : Bool) (kern_mask : ℕ) (subtables : List KerxSubtable) (b : Buffer) → requested ≡ true → bit_and kern_mask 7 ≡ 0
-    → IsPlaced b → KerxSumsAdvances kern_mask subtables b (kerx_positioning requested kern_mask None subtables b).buffer
+    (requested : Bool) (kern_mask : ℕ) (points : Option Points) (subtables : List KerxSubtable) (b : Buffer) → requested ≡ true
+    → bit_and kern_mask 7 ≡ 0 → IsPlaced b
+    → KerxSumsAdvances kern_mask subtables b (kerx_positioning requested kern_mask points subtables b).buffer
 unfolding kerx_positioning
-kerx_sums requested kern_mask subtables b asked free placed fits each =
+kerx_sums requested kern_mask points subtables b asked free placed fits each =
     let way = b.direction in
     let glyphs = ordered_line b in
     let start = all_advances (is_horizontal way) (position_list b) in
-    positioned_sum (kerx_kerning kern_mask None) (λ (s : KerxSubtable). kerx_values s.format) kerx_skips kern_mask way glyphs start
-    (λ x v d is. kerx_run_summed kern_mask free way glyphs start None x.has_cross_stream x.tuple_count x.format v d is.pairs is.along is.small)
-    subtables requested (unsafe_to_concat b None None) asked each
-    (at_start b (unsafe_to_concat b None None) (ordered_marked b) (ordered_places b) refl placed fits)
+    positioned_sum (kerx_kerning kern_mask points) (λ (s : KerxSubtable). kerx_values s.format) kerx_skips kern_mask way glyphs start
+    (λ x v d is. kerx_run_summed kern_mask free way glyphs start points x.has_cross_stream x.tuple_count x.format v d is.pairs is.along is.small)
+    subtables requested (unsafe_to_concat b None None) asked
+    (All-weaker (λ (x : KerxSubtable). is_for_text (kerx_kerning kern_mask None x) b ≡ true → IsInStream (kerx_kerning kern_mask None x) (kerx_values x.format))
+    (λ x. is_for_text (kerx_kerning kern_mask points x) b ≡ true → IsInStream (kerx_kerning kern_mask points x) (kerx_values x.format))
+    (λ x so for. let is = so for in record { pairs = is.pairs; along = is.along; small = is.small }) subtables each)
+    (at_start b (unsafe_to_concat b None None) (ordered_kept b (unsafe_to_concat b None None) (of_concat b None None)) (ordered_places b) refl placed fits)
 
 pub kern_sums :
     (requested : Bool) (kern_mask : ℕ) (subtables : List KernSubtable) (b : Buffer) → requested ≡ true → bit_and kern_mask 7 ≡ 0

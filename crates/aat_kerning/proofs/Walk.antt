@@ -20,7 +20,7 @@ use Rattle.aat_glyph.specs.declared.glyph.hb_glyph_info_t.{hb_glyph_info_t}
 use Rattle.aat_run.specs.Switches.{meets}
 use Rattle.aat_kerning.specs.PairKerning.{cross_stream, in_stream, kerned, value_of}
 use Rattle.aat_kerning.specs.Pairs.{Pair, is_solid, last_solid, left_of, pair_at, places}
-use Rattle.aat_kerning.specs.Positions.{IsPlaced}
+use Rattle.aat_kerning_machines.specs.Positions.{IsPlaced}
 use Rattle.aat_kerning.specs.inside.Walk.{kerned_where, left_behind, pair_with}
 
 -- the places one further

@@ -20,13 +20,6 @@ ordered_line b = (in_processing_order b).line
 abbrev pub ordered_positions : Buffer → List GlyphPosition
 ordered_positions b = position_list (in_processing_order b)
 
--- a place q inside the line, in processing order, whose glyph kerning does not skip and starts a cluster
-pub record IsCutPlace (skips q : ℕ) (b : Buffer) : Type 0 where
-  pub behind_first : 0 < q
-  pub before_end : q < length (ordered_line b)
-  pub solid : is_solid skips (glyph_at (ordered_line b) q) ≡ true
-  pub starts : cluster_at (ordered_line b) q ≢ cluster_at (ordered_line b) (q - 1)
-
 -- of the two glyphs at the cut, the place of the one with the greater cluster
 abbrev pub greater_at : ℕ → List hb_glyph_info_t → ℕ
 greater_at q gs = if nat_lt (cluster_at gs (q - 1)) (cluster_at gs q) then q else q - 1
@@ -34,6 +27,15 @@ greater_at q gs = if nat_lt (cluster_at gs (q - 1)) (cluster_at gs q) then q els
 -- that glyph is without UNSAFE_TO_BREAK (1)
 abbrev pub IsUnflaggedAt : ℕ → List hb_glyph_info_t → Type 0
 IsUnflaggedAt q gs = bit_and (glyph_at gs (greater_at q gs)).mask 1 ≡ 0
+
+-- a place q inside a line that was kerned, in processing order, whose glyph kerning does not skip and starts a
+-- cluster, and where of the two glyphs at the cut the one with the greater cluster was left without the flag
+pub record IsCutPlace (skips q : ℕ) (left : Buffer) : Type 0 where
+  pub behind_first : 0 < q
+  pub before_end : q < length (ordered_line left)
+  pub solid : is_solid skips (glyph_at (ordered_line left) q) ≡ true
+  pub starts : cluster_at (ordered_line left) q ≢ cluster_at (ordered_line left) (q - 1)
+  pub unflagged : IsUnflaggedAt q (ordered_line left)
 
 -- a part of a buffer has these glyphs and positions, in processing order, and its direction; all else may be anything
 pub record IsPart (b part : Buffer) (glyphs : List hb_glyph_info_t) (positions : List GlyphPosition) : Type 0 where
@@ -66,14 +68,13 @@ pub record AreAlikeParts (q : ℕ) (b first second : Buffer) : Type 0 where
   pub parts : AreParts q b first second
   pub flags : HaveFlagsOf b first second
 
--- What was left of b by this kerning is left of all of these parts: where pairs alone are for the text, at each place
--- where of the two glyphs the one with the greater cluster was left unflagged, the positions that were left are those
--- of the first part, and then those of the second.
+-- What was left of b by this kerning is left of all of these parts: where pairs alone are for the text, at each cut
+-- place of what was left, the positions that were left are those of the first part, and then those of the second.
 abbrev pub IsLeftOfAll :
     (ℕ → Buffer → Buffer → Buffer → Type 0) → ℕ → List Kerning → (Buffer → Outcome) → Buffer → Buffer → Type 0
 IsLeftOfAll AreThese skips ks kern b left =
     (q : ℕ) (first second : Buffer)
-    → PairsAlone ks b → IsCutPlace skips q b → IsUnflaggedAt q (ordered_line left) → AreThese q b first second
+    → PairsAlone ks b → IsCutPlace skips q left → AreThese q b first second
     → ordered_positions left ≡ ordered_positions (kern first).buffer ++ ordered_positions (kern second).buffer
 
 -- of parts with any buffer flags

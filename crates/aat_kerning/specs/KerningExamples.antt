@@ -10,7 +10,7 @@ use Rattle.aat_font.specs.declared.state_table.GenericStateEntry.{GenericStateEn
 use Rattle.aat_run.specs.Outcome.{Outcome, untouched}
 use Rattle.aat_run.specs.Rows.{glyph, entry, many}
 use Rattle.aat_kerning.specs.Advances.{all_advances, all_values, kern_values, values_by_all}
-use Rattle.aat_kerning.specs.Cut.{ordered_line, IsCutPlace, IsUnflaggedAt, AreParts, IsKernedInParts}
+use Rattle.aat_kerning.specs.Cut.{ordered_line, IsCutPlace, AreParts, IsKernedInParts}
 use Rattle.aat_kerning.specs.KerningRows.{positions_of, skipped_mark, kern_machine, three_values, two_points}
 use Rattle.aat_kerning.specs.PairKerning.{pair_kerning}
 use Rattle.aat_kerning.specs.Pairs.{kern_skips, pairs_of}
@@ -18,7 +18,7 @@ use Rattle.aat_font.specs.declared.kerx.KerxFormat.TheVariants.{Format0, Format2
 use Rattle.aat_font.specs.declared.kern.KernSubtable.{KernSubtable}
 use Rattle.aat_font.specs.declared.kerx.KerxSubtable.{KerxSubtable}
 use Rattle.aat_kerning.specs.Positioning.{kerx_run, kern_kerning, kern_positioning}
-use Rattle.aat_kerning.specs.Positions.{attached_as}
+use Rattle.aat_kerning_machines.specs.Positions.{attached_as}
 use Rattle.aat_kerning.specs.RowWords.{position, untouched_position, along_x, PrintedKerning, printed_kerning, shows_positions, shows_three_turns, asking_from, two_glyphs, two_glyphs_marked, buffer_with_advances, kern_subtable, kerx_subtable, by_kern, by_kerx, values_from, no_values, action_at, no_action, kern_rules, kerx_rules, kern_entries, kerx_entries, anchor_entries, kern_pairs, pairs_of_kern, machine_of_kern, stack_of_kerx, anchors_of_kerx}
 
 -- the two glyphs in horizontal text, left to right
@@ -140,7 +140,7 @@ shows_unmoved line turns budget = record (shows_positions line two_untouched) { 
 
 -- the turn of a kerning machine. TrueType Reference Manual: State tables.
 pub record MachineExamples : Type 0 where
-  -- behind the first state an entry that only advances, only goes to another state than 0 or only acts makes the line
+  -- in a state that is not 0 an entry that only advances, only goes to another state than 0 or only acts makes the line
   -- unsafe before the cursor
   pub unsafe_advancing :
       kern_machine_of ((0, 4, entry 1 0 no_values) ∷ []) [] (1 ∷ 2 ∷ []) ≡ shows_unmoved two_glyphs_marked 3 (pos 16382)
@@ -407,9 +407,8 @@ three_backward = backward_line 0 (1 ∷ 2 ∷ 3 ∷ [])
 pub record CutExamples : Type 0 where
   -- cut between 3 and 2: of the two it is 3 whose cluster is greater and which has to be unflagged; 2 is flagged, as
   -- it is kerned with 1
-  pub falling_place : IsCutPlace kern_skips 1 three_backward
+  pub falling_place : IsCutPlace kern_skips 1 (backward_pair three_backward).buffer
   pub falling_parts : AreParts 1 three_backward (backward_line 2 (3 ∷ [])) (backward_line 0 (1 ∷ 2 ∷ []))
-  pub falling_unflagged : IsUnflaggedAt 1 (ordered_line (backward_pair three_backward).buffer)
   pub falling_flagged : bit_and (glyph_at (ordered_line (backward_pair three_backward).buffer) 1).mask 1 ≡ 1
   pub falling_cut :
       IsKernedInParts backward_pair three_backward (backward_line 2 (3 ∷ [])) (backward_line 0 (1 ∷ 2 ∷ []))

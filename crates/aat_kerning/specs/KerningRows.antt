@@ -8,7 +8,7 @@ use Rattle.aat_font.specs.AnchorPoints.{Points}
 use Rattle.aat_run.specs.Rows.{glyph, buffer_of, many}
 use Rattle.aat_font.specs.declared.kerx.KerxFormat.TheVariants.{Format0}
 use Rattle.aat_kerning.specs.Positioning.{kerx_positioning, kern_positioning}
-use Rattle.aat_kerning.specs.Positions.{attached_as}
+use Rattle.aat_kerning_machines.specs.Positions.{attached_as}
 use Rattle.aat_kerning.specs.RowWords.{position, untouched_position, along_x, PrintedKerning, printed_kerning, shows_positions, shows_three_turns, asking_from, two_glyphs, two_glyphs_marked, buffer_with_advances, kern_subtable, kerx_subtable, by_kern, by_kerx, kern_entries, kerx_entries, anchor_entries, kern_pairs, pairs_of_kern, machine_of_kern, stack_of_kerx, anchors_of_kerx}
 use Rattle.aat_kerning.specs.Zeroing.{zeroed}
 

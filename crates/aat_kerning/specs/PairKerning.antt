@@ -7,7 +7,7 @@ use Rattle.aat_buffer.specs.Marks.{unsafe_to_break}
 use Rattle.aat_font.specs.Pairs.{kerning_of}
 use Rattle.aat_glyph.specs.Directions.{is_horizontal}
 use Rattle.aat_kerning.specs.Pairs.{Pair, pairs_of}
-use Rattle.aat_kerning.specs.Positions.{on_position, with_advance, with_shift, with_cross_offset, with_attachment_flag}
+use Rattle.aat_kerning_machines.specs.Positions.{on_position, with_advance, with_shift, with_cross_offset, with_attachment_flag}
 
 -- the value of two glyphs, and 0 without one
 abbrev pub value_of : List (ℕ × ℕ × ℤ) → ℕ → ℕ → ℤ

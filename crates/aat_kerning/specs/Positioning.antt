@@ -2,8 +2,6 @@
 use Rattle.std.specs.Prelude.{All, IsTrue, ℕ, ◌+◌, ◌&&◌, ◌||◌, not, Bool, true, false, List, pos, negsuc, Option, None, map, fold, if◌then◌else◌}
 use Rattle.aat_buffer.specs.Buffer.{Buffer, reversed}
 use Rattle.aat_buffer.specs.Marks.{unsafe_to_concat}
-use Rattle.aat_font.specs.Table.{TableValue}
-use Rattle.aat_font.specs.declared.state_table.GenericStateEntry.{GenericStateEntry}
 use Rattle.aat_font.specs.declared.kern.KernKind.{KernKind}
 use Rattle.aat_font.specs.declared.kern.KernKind.TheVariants as kind
 use Rattle.aat_font.specs.declared.kern.KernSubtable.{KernSubtable}
@@ -13,21 +11,13 @@ use Rattle.aat_font.specs.declared.kerx.KerxSubtable.{KerxSubtable}
 use Rattle.aat_font.specs.AnchorPoints.{Points}
 use Rattle.aat_glyph.specs.Directions.{is_horizontal, is_backward}
 use Rattle.aat_run.specs.Truth.{is_alike}
-use Rattle.aat_run.specs.Context.{start}
-use Rattle.aat_run.specs.Driven.{outcome_of}
-use Rattle.aat_kerning.specs.KerningMachine.{Driver, kerning_machine_of, kerning_whole}
+use Rattle.aat_kerning_machines.specs.KerningMachine.{driver_run}
 use Rattle.aat_run.specs.Outcome.{Outcome, untouched}
 use Rattle.aat_kerning.specs.PairKerning.{pair_kerning}
 use Rattle.aat_kerning.specs.Pairs.{kerx_skips, kern_skips}
-use Rattle.aat_kerning.specs.Positions.{on_positions, attached_as}
-use Rattle.aat_kerning.specs.Stack.{kerx_driver, kern_driver}
-use Rattle.aat_kerning.specs.Anchors.{anchor_driver}
-
--- the run of a driver over a state table, from fresh registers, with the cursor back at the front
-unfoldable pub driver_run :
-    {T R : Type 0} → Bool → TableValue (GenericStateEntry T) → Driver R (GenericStateEntry T) → Buffer → Outcome
-driver_run pays_first table driver b =
-    outcome_of (kerning_whole (kerning_machine_of pays_first table driver) (start true b driver.fresh))
+use Rattle.aat_kerning_machines.specs.Positions.{on_positions, attached_as}
+use Rattle.aat_kerning_machines.specs.Stack.{kerx_driver, kern_driver}
+use Rattle.aat_kerning_machines.specs.Anchors.{anchor_driver}
 
 -- a subtable, as positioning sees it: its coverage, whether it is of pairs, and its run
 pub record Kerning : Type 0 where

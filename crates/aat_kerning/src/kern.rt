@@ -1,36 +1,60 @@
 //! Kerning by the kerning table.
-ghost use Rattle.std.specs.Prelude.{◌≡◌, ◌+◌, ◌*◌, ◌≤◌, ◌↔◌, bit_and, false, IfErr, IfOk, IsErrOf, IsNone, IsTrue, IsSome, length, map, OnErr, OnOk};
+ghost use Rattle.std.specs.Prelude.{◌≡◌, ℕ, ◌+◌, ◌*◌, ◌≤◌, ◌↔◌, All, bit_and, false, true, IfErr, IfOk, IsErrOf, IsNone, IsTrue, IsSome, length, map, OnErr, OnOk};
 ghost use Rattle.aat_buffer.specs.Clusters.{IsSmall};
 ghost use Rattle.aat_font.specs.Face.{kern_in, tables_of};
 ghost use Rattle.aat_kerning.specs.Advances.{KernSumsAdvances};
 ghost use Rattle.aat_kerning.specs.Cut.{IsLeftOfAlikeParts, IsLeftOfParts};
-ghost use Rattle.aat_kerning.specs.KerningLaws.{IsKernedFrom};
+ghost use Rattle.aat_kerning.specs.KerningLawful.{KernPaysForStaying};
+ghost use Rattle.aat_kerning_machines.specs.KerningLaws.{IsKernedFrom};
+ghost use Rattle.aat_kerning_machines.specs.KerningMachine.{driver_run};
 ghost use Rattle.aat_kerning.specs.Pairs.{kern_skips};
 ghost use Rattle.aat_kerning.specs.Positioning.{AreKernPairs, Positioned, is_kern_pairs, kern_kerning, kern_positioning, kern_run, positioned, positioning};
-ghost use Rattle.aat_kerning.specs.Positions.{IsPlaced};
+ghost use Rattle.aat_kerning_machines.specs.Positions.{IsPlaced};
+ghost use Rattle.aat_kerning_machines.specs.Stack.{kern_driver};
 ghost use Rattle.aat_run.specs.Budget.{operations_left};
-ghost use Rattle.aat_run.specs.Outcome.{untouched};
 
 use crate::pair_kerning::PairRun;
-use crate::positioning::{attach_once, is_for_text, kern_line, reorder};
-use aat_buffer::{hb_buffer_t, hb_mask_t};
-use aat_font::{KernKind, KernSubtable, hb_font_t, hb_ot_shape_plan_t};
+use crate::positioning::{attach_once, is_for_text, is_left_out, kern_line, reorder};
+use crate::solid::KERN_SKIPS;
+use aat_buffer::hb_buffer_t;
+use aat_font::{KernKind, KernMachine, KernSubtable, hb_font_t, hb_ot_shape_plan_t};
+use aat_kerning_machines::{KerningRun, StateMachineDriver, drive_kern};
 use aat_run::AatError;
 use std::alloc::Allocator;
 
-/// The glyph property that `kern` skips: mark.
-const KERN_SKIPS: u16 = 0x0008;
-
-/// Kerns by a `kern` subtable of pairs.
-fn run_kern<A: Allocator + Copy>(
-    kern_mask: hb_mask_t,
-    subtable: &KernSubtable,
+/// Runs a machine of the `kern` table over a line in processing order, and answers its turns.
+fn run_kern_machine<A: Allocator + Copy>(
+    plan: &hb_ot_shape_plan_t,
+    has_cross_stream: bool,
+    machine: &KernMachine,
     buffer: &mut hb_buffer_t<A>,
-)
-    requires pairs { IsTrue (is_kern_pairs subtable.now.kind) }
+) -> u64
     requires ids { IsSmall buffer.old }
     requires placed { IsPlaced buffer.old }
-    ensures run { untouched buffer.new ≡ kern_run kern_mask subtable.now.has_cross_stream subtable.now.kind buffer.old }
+    ensures run { record { buffer = buffer.new; turns = result } ≡ driver_run true machine.now.state_table (kern_driver has_cross_stream plan.now.kern_mask machine.now.values) buffer.old }
+    ensures ids { IsSmall buffer.new }
+    ensures placed { IsPlaced buffer.new }
+{
+    let run = KerningRun {
+        state_table: &machine.state_table,
+        table: machine,
+        has_cross_stream,
+        tuple_count: 1,
+        plan,
+    };
+    let mut driver = StateMachineDriver::new();
+    drive_kern(&run, &mut driver, buffer)
+}
+
+/// Kerns by a `kern` subtable, and answers the turns of a machine, which are 0 of pairs.
+fn run_kern<A: Allocator + Copy>(
+    plan: &hb_ot_shape_plan_t,
+    subtable: &KernSubtable,
+    buffer: &mut hb_buffer_t<A>,
+) -> u64
+    requires ids { IsSmall buffer.old }
+    requires placed { IsPlaced buffer.old }
+    ensures run { record { buffer = buffer.new; turns = result } ≡ kern_run plan.now.kern_mask subtable.now.has_cross_stream subtable.now.kind buffer.old }
     ensures ids { IsSmall buffer.new }
     ensures placed { IsPlaced buffer.new }
 {
@@ -39,56 +63,63 @@ fn run_kern<A: Allocator + Copy>(
             let run = PairRun {
                 pairs,
                 skips: KERN_SKIPS,
-                kern_mask,
+                kern_mask: plan.kern_mask,
                 is_cross_stream: subtable.has_cross_stream,
             };
             kern_line(&run, true, buffer);
+            0
         }
-        KernKind::Machine(_) => {}
+        KernKind::Machine(machine) => {
+            run_kern_machine(plan, subtable.has_cross_stream, machine, buffer)
+        }
     }
 }
 
-/// One `kern` subtable of pairs, on a line in processing order.
+/// One `kern` subtable, on a line in processing order. Answers the turns that its machine took.
 fn kern_by_kern<A: Allocator + Copy>(
     plan: &hb_ot_shape_plan_t,
     subtable: &KernSubtable,
     is_attached: &mut bool,
     buffer: &mut hb_buffer_t<A>,
-)
-    requires pairs { IsTrue (is_kern_pairs subtable.now.kind) }
+) -> u64
     requires ids { IsSmall buffer.old }
     requires placed { IsPlaced buffer.old }
-    ensures positioned { record { buffer = buffer.new; turns = 0; is_attached = is_attached.new } ≡ positioned plan.now.requested_kerning (kern_kerning plan.now.kern_mask subtable.now) (record { buffer = buffer.old; turns = 0; is_attached = is_attached.old }) }
+    ensures positioned { (turns : ℕ) → record { buffer = buffer.new; turns = turns + result; is_attached = is_attached.new } ≡ positioned plan.now.requested_kerning (kern_kerning plan.now.kern_mask subtable.now) (record { buffer = buffer.old; turns = turns; is_attached = is_attached.old }) }
     ensures ids { IsSmall buffer.new }
     ensures placed { IsPlaced buffer.new }
 {
     if !is_for_text(subtable.horizontal, subtable.variable, buffer.direction()) {
-        return;
+        return 0;
     }
     attach_once(subtable.has_cross_stream, is_attached, buffer);
-    if !plan.requested_kerning {
-        return;
+    if is_left_out(is_of_kern_pairs(subtable), plan.requested_kerning) {
+        return 0;
     }
-    run_kern(plan.kern_mask, subtable, buffer);
+    run_kern(plan, subtable, buffer)
 }
 
-/// Kerns by `kern` subtables of pairs in their order.
+/// Kerns by `kern` subtables in their order, and answers the turns of the machines.
 fn position_by_kern<A: Allocator + Copy>(
     plan: &hb_ot_shape_plan_t,
     subtables: &[KernSubtable],
     buffer: &mut hb_buffer_t<A>,
-)
-    requires pairs { AreKernPairs subtables.now }
+) -> u64
+    requires few { length subtables.now ≤ 65535 }
     requires ids { IsSmall buffer.old }
     requires placed { IsPlaced buffer.old }
-    ensures { untouched buffer.new ≡ positioning plan.now.requested_kerning (map (kern_kerning plan.now.kern_mask) subtables.now) buffer.old }
+    ensures { record { buffer = buffer.new; turns = result } ≡ positioning plan.now.requested_kerning (map (kern_kerning plan.now.kern_mask) subtables.now) buffer.old }
 {
+    // how long the line is and how large the budget, so that the count of turns fits
+    let _length = buffer.len();
+    let _budget = buffer.max_ops();
     reorder(buffer);
     let mut is_attached = false;
+    let mut turns = 0;
     for subtable in subtables {
-        kern_by_kern(plan, subtable, &mut is_attached, buffer);
+        turns += kern_by_kern(plan, subtable, &mut is_attached, buffer);
     }
     reorder(buffer);
+    turns
 }
 
 /// Whether a `kern` subtable is of pairs.
@@ -103,7 +134,8 @@ fn is_of_kern_pairs(subtable: &KernSubtable) -> bool
 
 /// The subtables of a font's kerning table, none without the table.
 fn kern_subtables(face: &hb_font_t) -> &[KernSubtable]
-    ensures { result.now ≡ kern_in (tables_of face.now).kern }
+    ensures listed { result.now ≡ kern_in (tables_of face.now).kern }
+    ensures few { length result.now ≤ 65535 }
 {
     match &face.tables().kern {
         Some(kern) => kern.subtables(),
@@ -111,8 +143,8 @@ fn kern_subtables(face: &hb_font_t) -> &[KernSubtable]
     }
 }
 
-/// Whether all subtables of a font's kerning table are of pairs, as they are without the table. This is what
-/// `hb_ot_layout_kern` asks: machines have no code yet. In as many steps as there are subtables.
+/// Whether all subtables of a font's kerning table are of pairs, as they are without the table. Then a line that
+/// `hb_ot_layout_kern` kerns can be cut as it says. In as many steps as there are subtables.
 pub fn has_kern_pairs_alone(face: &hb_font_t) -> bool
     ensures { IsTrue result ↔ AreKernPairs (kern_in (tables_of face.now).kern) }
 {
@@ -122,19 +154,24 @@ pub fn has_kern_pairs_alone(face: &hb_font_t) -> bool
 }
 
 /// Kerns a line by the kerning table of a font, and answers the number of turns that its machines took, which is 0 of
-/// pairs. Without the table nothing changes.
+/// pairs. Without the table nothing changes, and there are no turns.
 ///
 /// What it does, where a line can be cut, and how the sum of the advances changes is as with `hb_aat_layout_position`,
-/// but the line is marked against joining by each subtable that kerns, and of the glyphs with properties marks alone
-/// are skipped.
+/// but the line is marked against joining by each subtable of pairs that kerns, of the glyphs with properties marks
+/// alone are skipped (`KERN_SKIPS`), and machines run as `drive_kern` does, with `StateMachineDriver`.
 ///
-/// Each glyph id has to be at most 0xFFFF, which `all_glyphs_16` tells, positions have to stand, which `has_positions`
-/// tells, and all subtables have to be of pairs, which `has_kern_pairs_alone` tells.
+/// K subtables over n glyphs with a budget of M operations, 0 where it is negative, take at most K(n + 1) + M turns,
+/// and each one beyond K(n + 1) is paid for with an operation. A turn that leaves the cursor where it was took one and
+/// left some, so a machine cannot stay for ever.
+///
+/// Each glyph id has to be at most 0xFFFF, which `all_glyphs_16` tells, and positions have to stand, which
+/// `has_positions` tells. They stand afterwards too, one for each glyph.
 ///
 /// Refused as 4, `BufferFailed`, where a call of the buffer was refused before, and nothing changes then; never else.
 /// It takes no memory.
 ///
 /// Apple's TrueType Reference Manual, "The 'kern' table".
+#[tactic(auto, using(crate::proofs::Staying::kern_pays_for_staying))]
 pub fn hb_ot_layout_kern<A: Allocator + Copy>(
     plan: &hb_ot_shape_plan_t,
     face: &hb_font_t,
@@ -142,16 +179,19 @@ pub fn hb_ot_layout_kern<A: Allocator + Copy>(
 ) -> Result<u64, AatError>
     requires ids { IsSmall buffer.old }
     requires positions { IsSome buffer.old.positions }
-    requires pairs { AreKernPairs (kern_in (tables_of face.now).kern) }
     ensures failed { IsErrOf result AatError.BufferFailed ↔ (buffer.old.successful ≡ false) }
     ensures reason { IfErr result (λ error. error ≡ AatError.BufferFailed) }
     ensures unchanged { OnErr result (buffer.new ≡ buffer.old) }
     ensures positioned { IfOk result (λ turns. record { buffer = buffer.new; turns = turns } ≡ kern_positioning plan.now.requested_kerning plan.now.kern_mask (kern_in (tables_of face.now).kern) buffer.old) }
-    ensures without_table { IsNone (tables_of face.now).kern → OnOk result (buffer.new ≡ buffer.old) }
+    ensures without_table { IsNone (tables_of face.now).kern → IfOk result (λ turns. (turns ≡ 0) × (buffer.new ≡ buffer.old)) }
     ensures cut { bit_and plan.now.kern_mask 7 ≡ 0 → OnOk result (IsLeftOfParts kern_skips (map (kern_kerning plan.now.kern_mask) (kern_in (tables_of face.now).kern)) (kern_positioning plan.now.requested_kerning plan.now.kern_mask (kern_in (tables_of face.now).kern)) buffer.old buffer.new) }
     ensures cut_alike { OnOk result (IsLeftOfAlikeParts kern_skips (map (kern_kerning plan.now.kern_mask) (kern_in (tables_of face.now).kern)) (kern_positioning plan.now.requested_kerning plan.now.kern_mask (kern_in (tables_of face.now).kern)) buffer.old buffer.new) }
     ensures summed { IsTrue plan.now.requested_kerning → bit_and plan.now.kern_mask 7 ≡ 0 → OnOk result (KernSumsAdvances plan.now.kern_mask (kern_in (tables_of face.now).kern) buffer.old buffer.new) }
+    ensures standing { OnOk result (IsSome buffer.new.positions) }
+    ensures placed { OnOk result (IsPlaced buffer.new) }
+    ensures paid { IfOk result (λ turns. turns + operations_left buffer.new.max_ops ≤ length (kern_in (tables_of face.now).kern) * (length buffer.old.line + 1) + operations_left buffer.old.max_ops) }
     ensures bounded { IfOk result (λ turns. turns ≤ length (kern_in (tables_of face.now).kern) * (length buffer.old.line + 1) + operations_left buffer.old.max_ops) }
+    ensures staying { All (KernPaysForStaying plan.now.kern_mask) (kern_in (tables_of face.now).kern) }
     ensures kept { OnOk result (IsKernedFrom buffer.old buffer.new) }
 {
     if !buffer.is_successful() {
@@ -159,6 +199,5 @@ pub fn hb_ot_layout_kern<A: Allocator + Copy>(
     }
     // there are as many positions as glyphs
     let _placed = buffer.has_positions();
-    position_by_kern(plan, kern_subtables(face), buffer);
-    Ok(0)
+    Ok(position_by_kern(plan, kern_subtables(face), buffer))
 }

@@ -1,27 +1,30 @@
 //! Kerning by the extended kerning table.
-ghost use Rattle.std.specs.Prelude.{◌≡◌, ◌+◌, ◌*◌, ◌≤◌, ◌↔◌, bit_and, false, IfErr, IfOk, IsErrOf, IsNone, IsTrue, IsSome, length, map, OnErr, OnOk, None, Option};
+ghost use Rattle.std.specs.Prelude.{◌≡◌, ℕ, ◌+◌, ◌*◌, ◌≤◌, ◌↔◌, All, bit_and, false, IfErr, IfOk, IsErrOf, IsNone, IsTrue, IsSome, length, map, OnErr, OnOk, None, option_copied};
 ghost use Rattle.aat_buffer.specs.Clusters.{IsSmall};
 ghost use Rattle.aat_buffer.specs.Marks.{unsafe_to_concat};
-ghost use Rattle.aat_font.specs.AnchorPoints.{Points};
 ghost use Rattle.aat_font.specs.Face.{kerx_in, tables_of};
 ghost use Rattle.aat_kerning.specs.Advances.{KerxSumsAdvances};
 ghost use Rattle.aat_kerning.specs.Cut.{IsLeftOfAlikeParts, IsLeftOfParts};
-ghost use Rattle.aat_kerning.specs.KerningLaws.{IsKernedFrom};
+ghost use Rattle.aat_kerning_machines.specs.Anchors.{anchor_driver};
+ghost use Rattle.aat_kerning.specs.KerningLawful.{KerxPaysForStaying};
+ghost use Rattle.aat_kerning_machines.specs.KerningLaws.{IsKernedFrom};
+ghost use Rattle.aat_kerning_machines.specs.KerningMachine.{driver_run};
 ghost use Rattle.aat_kerning.specs.Pairs.{kerx_skips};
 ghost use Rattle.aat_kerning.specs.Positioning.{AreKerxPairs, Positioned, is_kerx_pairs, kerx_kerning, kerx_positioning, kerx_run, positioned, positioning};
-ghost use Rattle.aat_kerning.specs.Positions.{IsPlaced};
+ghost use Rattle.aat_kerning_machines.specs.Positions.{IsPlaced};
+ghost use Rattle.aat_kerning_machines.specs.Stack.{kerx_driver};
 ghost use Rattle.aat_run.specs.Budget.{operations_left};
-ghost use Rattle.aat_run.specs.Outcome.{untouched};
 
 use crate::pair_kerning::PairRun;
-use crate::positioning::{attach_once, is_for_text, kern_line, mark_line, reorder};
+use crate::positioning::{attach_once, is_for_text, is_left_out, kern_line, mark_line, reorder};
+use crate::solid::KERX_SKIPS;
 use aat_buffer::{hb_buffer_t, hb_mask_t};
-use aat_font::{KerxFormat, KerxSubtable, Pairs, hb_font_t, hb_ot_shape_plan_t};
+use aat_font::{
+    Ankr, KerxFormat, KerxSubtable, Pairs, Subtable1, Subtable4, hb_font_t, hb_ot_shape_plan_t,
+};
+use aat_kerning_machines::{Driver1, Driver4, KerningRun, drive_kerx};
 use aat_run::AatError;
 use std::alloc::Allocator;
-
-/// The glyph properties that `kerx` skips: base, ligature and mark.
-const KERX_SKIPS: u16 = 0x000E;
 
 /// How the pairs of a `kerx` subtable are kerned.
 fn pairs_of<'a>(kern_mask: hb_mask_t, subtable: &KerxSubtable, pairs: &'a Pairs) -> PairRun<'a>
@@ -38,75 +41,133 @@ fn pairs_of<'a>(kern_mask: hb_mask_t, subtable: &KerxSubtable, pairs: &'a Pairs)
     }
 }
 
-/// Kerns by a `kerx` subtable of pairs.
-fn run_kerx<A: Allocator + Copy>(
-    kern_mask: hb_mask_t,
+/// Runs a stack machine of the `kerx` table over a line in processing order, and answers its turns.
+fn run_stack<A: Allocator + Copy>(
+    plan: &hb_ot_shape_plan_t,
     subtable: &KerxSubtable,
+    machine: &Subtable1,
     buffer: &mut hb_buffer_t<A>,
-)
-    requires pairs { IsTrue (is_kerx_pairs subtable.now.format) }
+) -> u64
     requires ids { IsSmall buffer.old }
     requires placed { IsPlaced buffer.old }
-    ensures run { (points : Option Points) → untouched buffer.new ≡ kerx_run kern_mask points subtable.now.has_cross_stream subtable.now.tuple_count subtable.now.format buffer.old }
+    ensures run { record { buffer = buffer.new; turns = result } ≡ driver_run false machine.now.state_table (kerx_driver subtable.now.has_cross_stream plan.now.kern_mask subtable.now.tuple_count machine.now.values) buffer.old }
+    ensures ids { IsSmall buffer.new }
+    ensures placed { IsPlaced buffer.new }
+{
+    let run = KerningRun {
+        state_table: &machine.state_table,
+        table: machine,
+        has_cross_stream: subtable.has_cross_stream,
+        tuple_count: subtable.tuple_count,
+        plan,
+    };
+    let mut driver = Driver1::new();
+    drive_kerx(&run, &mut driver, buffer)
+}
+
+/// Runs an anchor machine of the `kerx` table over a line in processing order, and answers its turns.
+fn run_anchors<A: Allocator + Copy>(
+    plan: &hb_ot_shape_plan_t,
+    ankr: Option<&Ankr>,
+    subtable: &KerxSubtable,
+    machine: &Subtable4,
+    buffer: &mut hb_buffer_t<A>,
+) -> u64
+    requires ids { IsSmall buffer.old }
+    requires placed { IsPlaced buffer.old }
+    ensures run { record { buffer = buffer.new; turns = result } ≡ driver_run false machine.now.state_table (anchor_driver (option_copied ankr.entry) machine.now.anchor_points) buffer.old }
+    ensures ids { IsSmall buffer.new }
+    ensures placed { IsPlaced buffer.new }
+{
+    let run = KerningRun {
+        state_table: &machine.state_table,
+        table: machine,
+        has_cross_stream: subtable.has_cross_stream,
+        tuple_count: subtable.tuple_count,
+        plan,
+    };
+    let mut driver = Driver4::new(ankr);
+    drive_kerx(&run, &mut driver, buffer)
+}
+
+/// Kerns by a `kerx` subtable, and answers the turns of a machine, which are 0 of pairs.
+fn run_kerx<A: Allocator + Copy>(
+    plan: &hb_ot_shape_plan_t,
+    ankr: Option<&Ankr>,
+    subtable: &KerxSubtable,
+    buffer: &mut hb_buffer_t<A>,
+) -> u64
+    requires ids { IsSmall buffer.old }
+    requires placed { IsPlaced buffer.old }
+    ensures run { record { buffer = buffer.new; turns = result } ≡ kerx_run plan.now.kern_mask (option_copied ankr.entry) subtable.now.has_cross_stream subtable.now.tuple_count subtable.now.format buffer.old }
     ensures ids { IsSmall buffer.new }
     ensures placed { IsPlaced buffer.new }
 {
     match &subtable.format {
         KerxFormat::Format0(pairs) => {
-            kern_line(&pairs_of(kern_mask, subtable, pairs), false, buffer);
+            kern_line(&pairs_of(plan.kern_mask, subtable, pairs), false, buffer);
+            0
         }
+        KerxFormat::Format1(machine) => run_stack(plan, subtable, machine, buffer),
         KerxFormat::Format2(pairs) => {
-            kern_line(&pairs_of(kern_mask, subtable, pairs), true, buffer);
+            kern_line(&pairs_of(plan.kern_mask, subtable, pairs), true, buffer);
+            0
         }
+        KerxFormat::Format4(machine) => run_anchors(plan, ankr, subtable, machine, buffer),
         KerxFormat::Format6(pairs) => {
-            kern_line(&pairs_of(kern_mask, subtable, pairs), false, buffer);
+            kern_line(&pairs_of(plan.kern_mask, subtable, pairs), false, buffer);
+            0
         }
-        KerxFormat::Format1(_) => {}
-        KerxFormat::Format4(_) => {}
     }
 }
 
-/// One `kerx` subtable of pairs, on a line in processing order.
+/// One `kerx` subtable, on a line in processing order. Answers the turns that its machine took.
 fn kern_by_kerx<A: Allocator + Copy>(
     plan: &hb_ot_shape_plan_t,
+    ankr: Option<&Ankr>,
     subtable: &KerxSubtable,
     is_attached: &mut bool,
     buffer: &mut hb_buffer_t<A>,
-)
-    requires pairs { IsTrue (is_kerx_pairs subtable.now.format) }
+) -> u64
     requires ids { IsSmall buffer.old }
     requires placed { IsPlaced buffer.old }
-    ensures positioned { (points : Option Points) → record { buffer = buffer.new; turns = 0; is_attached = is_attached.new } ≡ positioned plan.now.requested_kerning (kerx_kerning plan.now.kern_mask points subtable.now) (record { buffer = buffer.old; turns = 0; is_attached = is_attached.old }) }
+    ensures positioned { (turns : ℕ) → record { buffer = buffer.new; turns = turns + result; is_attached = is_attached.new } ≡ positioned plan.now.requested_kerning (kerx_kerning plan.now.kern_mask (option_copied ankr.entry) subtable.now) (record { buffer = buffer.old; turns = turns; is_attached = is_attached.old }) }
     ensures ids { IsSmall buffer.new }
     ensures placed { IsPlaced buffer.new }
 {
     if !is_for_text(subtable.horizontal, subtable.variable, buffer.direction()) {
-        return;
+        return 0;
     }
     attach_once(subtable.has_cross_stream, is_attached, buffer);
-    if !plan.requested_kerning {
-        return;
+    if is_left_out(is_of_kerx_pairs(subtable), plan.requested_kerning) {
+        return 0;
     }
-    run_kerx(plan.kern_mask, subtable, buffer);
+    run_kerx(plan, ankr, subtable, buffer)
 }
 
-/// Kerns by `kerx` subtables of pairs in their order.
+/// Kerns by `kerx` subtables in their order, and answers the turns of the machines.
 fn position_by_kerx<A: Allocator + Copy>(
     plan: &hb_ot_shape_plan_t,
+    ankr: Option<&Ankr>,
     subtables: &[KerxSubtable],
     buffer: &mut hb_buffer_t<A>,
-)
-    requires pairs { AreKerxPairs subtables.now }
+) -> u64
+    requires few { length subtables.now ≤ 65535 }
     requires ids { IsSmall buffer.old }
     requires placed { IsPlaced buffer.old }
-    ensures { (points : Option Points) → untouched buffer.new ≡ positioning plan.now.requested_kerning (map (kerx_kerning plan.now.kern_mask points) subtables.now) buffer.old }
+    ensures { record { buffer = buffer.new; turns = result } ≡ positioning plan.now.requested_kerning (map (kerx_kerning plan.now.kern_mask (option_copied ankr.entry)) subtables.now) buffer.old }
 {
+    // how long the line is and how large the budget, so that the count of turns fits
+    let _length = buffer.len();
+    let _budget = buffer.max_ops();
     reorder(buffer);
     let mut is_attached = false;
+    let mut turns = 0;
     for subtable in subtables {
-        kern_by_kerx(plan, subtable, &mut is_attached, buffer);
+        turns += kern_by_kerx(plan, ankr, subtable, &mut is_attached, buffer);
     }
     reorder(buffer);
+    turns
 }
 
 /// Whether a `kerx` subtable is of pairs: of format 0, 2 or 6.
@@ -124,7 +185,8 @@ fn is_of_kerx_pairs(subtable: &KerxSubtable) -> bool
 
 /// The subtables of a font's extended kerning table, none without the table.
 fn kerx_subtables(face: &hb_font_t) -> &[KerxSubtable]
-    ensures { result.now ≡ kerx_in (tables_of face.now).kerx }
+    ensures listed { result.now ≡ kerx_in (tables_of face.now).kerx }
+    ensures few { length result.now ≤ 65535 }
 {
     match &face.tables().kerx {
         Some(kerx) => kerx.subtables(),
@@ -132,8 +194,15 @@ fn kerx_subtables(face: &hb_font_t) -> &[KerxSubtable]
     }
 }
 
-/// Whether all subtables of a font's extended kerning table are of pairs, as they are without the table. This is what
-/// `hb_aat_layout_position` asks: machines have no code yet. In as many steps as there are subtables.
+/// The anchor points of a font, if it has them.
+fn anchor_points(face: &hb_font_t) -> Option<&Ankr>
+    ensures { option_copied result ≡ (tables_of face.now).ankr }
+{
+    face.tables().ankr.as_ref()
+}
+
+/// Whether all subtables of a font's extended kerning table are of pairs, as they are without the table. Then a line
+/// that `hb_aat_layout_position` kerns can be cut as it says. In as many steps as there are subtables.
 pub fn has_kerx_pairs_alone(face: &hb_font_t) -> bool
     ensures { IsTrue result ↔ AreKerxPairs (kerx_in (tables_of face.now).kerx) }
 {
@@ -143,33 +212,42 @@ pub fn has_kerx_pairs_alone(face: &hb_font_t) -> bool
 }
 
 /// Kerns a line by the extended kerning table of a font, and answers the number of turns that its machines took, which
-/// is 0 of pairs.
+/// is 0 of pairs and without the table.
 ///
 /// The whole line gets the mark against joining, where the buffer asks for it, also without the table. Then the
-/// subtables follow in their order, on a backward line from its last glyph on: those that are variable, or of the other
-/// orientation, have no effect; the first of the others with cross-stream attaches every glyph cursively; and where the
-/// plan requests kerning, the pairs of each change positions, in units of the font, and are marked unsafe to break.
-/// Glyphs, clusters and their order stay.
+/// subtables follow in their order, on a backward line from its last glyph on: those that are variable, or of the
+/// other orientation, have no effect, and the first of the others with cross-stream attaches every glyph cursively.
+/// Where the plan requests kerning, the pairs of each change positions, in units of the font, and are marked unsafe to
+/// break. Machines run in any case, as `drive_kerx` does, with `Driver1` or, over the font's `ankr` table, `Driver4`:
+/// they change positions, mark unsafe to break, and may set the scratch flag `HAS_GPOS_ATTACHMENT`. Glyphs, clusters
+/// and their order stay.
 ///
-/// Where the kern mask has none of the bits of `glyph_flag`, a line can be cut before a glyph, in processing order,
-/// that is not skipped and begins a cluster, unless of it and the glyph before it the one with the greater cluster is
-/// marked unsafe to break afterwards: the positions that are left are those of the two parts, each kerned by the same
-/// plan and font. It can so be cut by every kern mask where the parts' buffers have the flags of this one.
+/// Where each subtable that is for the text is of pairs, as `has_kerx_pairs_alone` tells of all, and the kern mask has
+/// none of the bits of `glyph_flag`, a line can be cut before a glyph, in processing order, that is not skipped, as
+/// `is_solid` tells with `KERX_SKIPS`, and begins a cluster, unless of it and the glyph before it the one with the
+/// greater cluster is left marked unsafe to break: the positions that are left are those of the two parts, each kerned
+/// by the same plan and font. It can so be cut by every kern mask where the parts' buffers have the flags of this one.
 ///
-/// Where kerning is requested, the kern mask has none of those bits, and each subtable that is for the text is in the
-/// stream, the advances along the line, of 32 bits, change in sum by the values, of 16 bits, of all pairs of the line,
-/// as those subtables give them, modulo 2^32.
+/// Where kerning is requested, the kern mask has none of those bits, and each subtable that is for the text is of
+/// pairs in the stream, the advances along the line, of 32 bits, change in sum by the values, of 16 bits, of all pairs
+/// of the line, as those subtables give them, modulo 2^32.
 ///
-/// In as many steps as the line is long for each subtable, with a search of its pairs for each pair of the line, and
-/// the marks.
+/// K subtables over n glyphs with a budget of M operations, 0 where it is negative, take at most K(n + 1) + M turns,
+/// and each one beyond K(n + 1) is paid for with an operation. A turn that leaves the cursor where it was began with
+/// operations left and took one, so a machine cannot stay for ever.
 ///
-/// Each glyph id has to be at most 0xFFFF, which `all_glyphs_16` tells, positions have to stand, which `has_positions`
-/// tells, and all subtables have to be of pairs, which `has_kerx_pairs_alone` tells.
+/// A subtable of pairs takes as many steps as the line is long, a search of its pairs for each pair of the line, and
+/// the marks; a machine its turns, each with a search of its classes and its entries, and with at most eight values or
+/// a search of two glyphs' anchor points.
+///
+/// Each glyph id has to be at most 0xFFFF, which `all_glyphs_16` tells, and positions have to stand, which
+/// `has_positions` tells. They stand afterwards too, one for each glyph.
 ///
 /// Refused as 4, `BufferFailed`, where a call of the buffer was refused before, and nothing changes then; never else.
 /// It takes no memory.
 ///
-/// Apple's TrueType Reference Manual, "The 'kerx' table".
+/// Apple's TrueType Reference Manual, "The 'kerx' table" and "The 'ankr' table".
+#[tactic(auto, using(crate::proofs::Staying::kerx_pays_for_staying))]
 pub fn hb_aat_layout_position<A: Allocator + Copy>(
     plan: &hb_ot_shape_plan_t,
     face: &hb_font_t,
@@ -177,16 +255,19 @@ pub fn hb_aat_layout_position<A: Allocator + Copy>(
 ) -> Result<u64, AatError>
     requires ids { IsSmall buffer.old }
     requires positions { IsSome buffer.old.positions }
-    requires pairs { AreKerxPairs (kerx_in (tables_of face.now).kerx) }
     ensures failed { IsErrOf result AatError.BufferFailed ↔ (buffer.old.successful ≡ false) }
     ensures reason { IfErr result (λ error. error ≡ AatError.BufferFailed) }
     ensures unchanged { OnErr result (buffer.new ≡ buffer.old) }
-    ensures positioned { IfOk result (λ turns. record { buffer = buffer.new; turns = turns } ≡ kerx_positioning plan.now.requested_kerning plan.now.kern_mask None (kerx_in (tables_of face.now).kerx) buffer.old) }
-    ensures without_table { IsNone (tables_of face.now).kerx → OnOk result (buffer.new ≡ unsafe_to_concat buffer.old None None) }
-    ensures cut { bit_and plan.now.kern_mask 7 ≡ 0 → OnOk result (IsLeftOfParts kerx_skips (map (kerx_kerning plan.now.kern_mask None) (kerx_in (tables_of face.now).kerx)) (kerx_positioning plan.now.requested_kerning plan.now.kern_mask None (kerx_in (tables_of face.now).kerx)) buffer.old buffer.new) }
-    ensures cut_alike { OnOk result (IsLeftOfAlikeParts kerx_skips (map (kerx_kerning plan.now.kern_mask None) (kerx_in (tables_of face.now).kerx)) (kerx_positioning plan.now.requested_kerning plan.now.kern_mask None (kerx_in (tables_of face.now).kerx)) buffer.old buffer.new) }
+    ensures positioned { IfOk result (λ turns. record { buffer = buffer.new; turns = turns } ≡ kerx_positioning plan.now.requested_kerning plan.now.kern_mask (tables_of face.now).ankr (kerx_in (tables_of face.now).kerx) buffer.old) }
+    ensures without_table { IsNone (tables_of face.now).kerx → IfOk result (λ turns. (turns ≡ 0) × (buffer.new ≡ unsafe_to_concat buffer.old None None)) }
+    ensures cut { bit_and plan.now.kern_mask 7 ≡ 0 → OnOk result (IsLeftOfParts kerx_skips (map (kerx_kerning plan.now.kern_mask (tables_of face.now).ankr) (kerx_in (tables_of face.now).kerx)) (kerx_positioning plan.now.requested_kerning plan.now.kern_mask (tables_of face.now).ankr (kerx_in (tables_of face.now).kerx)) buffer.old buffer.new) }
+    ensures cut_alike { OnOk result (IsLeftOfAlikeParts kerx_skips (map (kerx_kerning plan.now.kern_mask (tables_of face.now).ankr) (kerx_in (tables_of face.now).kerx)) (kerx_positioning plan.now.requested_kerning plan.now.kern_mask (tables_of face.now).ankr (kerx_in (tables_of face.now).kerx)) buffer.old buffer.new) }
     ensures summed { IsTrue plan.now.requested_kerning → bit_and plan.now.kern_mask 7 ≡ 0 → OnOk result (KerxSumsAdvances plan.now.kern_mask (kerx_in (tables_of face.now).kerx) buffer.old buffer.new) }
+    ensures standing { OnOk result (IsSome buffer.new.positions) }
+    ensures placed { OnOk result (IsPlaced buffer.new) }
+    ensures paid { IfOk result (λ turns. turns + operations_left buffer.new.max_ops ≤ length (kerx_in (tables_of face.now).kerx) * (length buffer.old.line + 1) + operations_left buffer.old.max_ops) }
     ensures bounded { IfOk result (λ turns. turns ≤ length (kerx_in (tables_of face.now).kerx) * (length buffer.old.line + 1) + operations_left buffer.old.max_ops) }
+    ensures staying { All (KerxPaysForStaying plan.now.kern_mask (tables_of face.now).ankr) (kerx_in (tables_of face.now).kerx) }
     ensures kept { OnOk result (IsKernedFrom buffer.old buffer.new) }
 {
     if !buffer.is_successful() {
@@ -195,6 +276,5 @@ pub fn hb_aat_layout_position<A: Allocator + Copy>(
     // there are as many positions as glyphs
     let _placed = buffer.has_positions();
     mark_line(true, buffer);
-    position_by_kerx(plan, kerx_subtables(face), buffer);
-    Ok(0)
+    Ok(position_by_kerx(plan, anchor_points(face), kerx_subtables(face), buffer))
 }

@@ -2,7 +2,7 @@
 
 ghost use Rattle.aat_kerning.specs.Advances.{PairsChangeTheAdvances};
 ghost use Rattle.aat_kerning.specs.Cut.{AlikePartsAreKernedApart, PartsAreKernedApart};
-ghost use Rattle.aat_kerning.specs.KerningLawful.{DriversAreLawful, KerningChangesLittle, KerningIsBounded};
+ghost use Rattle.aat_kerning.specs.KerningLawful.{DriversAreLawful, KerningChangesLittle, KerningIsBounded, StayingIsPaid};
 
 /// The drivers of kerning machines meet the laws that a run of theirs asks for.
 #[tactic(auto, using(crate::proofs::KerningLawsHold::drivers_are_lawful))]
@@ -10,11 +10,18 @@ pub fn drivers_are_lawful()
     ensures { DriversAreLawful }
 {}
 
-/// The K subtables of a `kerx` or `kern` table take at most K(n + 1) + M turns, and each run of a machine ends by
-/// itself.
+/// The K subtables of a `kerx` or `kern` table take at most K(n + 1) + M turns, as each one beyond K(n + 1) is paid
+/// for with an operation, and each run of a machine ends by itself.
 #[tactic(auto, using(crate::proofs::KerningLawsHold::kerning_is_bounded))]
 pub fn kerning_is_bounded()
     ensures { KerningIsBounded }
+{}
+
+/// A turn of a kerning machine that goes on and leaves the cursor where it was took an operation from a budget above
+/// 0, which was above 0 in `kern` behind that payment too.
+#[tactic(auto, using(crate::proofs::Staying::staying_is_paid))]
+pub fn staying_is_paid()
+    ensures { StayingIsPaid }
 {}
 
 /// Kerning changes marks, positions, the scratch flag of attachment, the budget and the cursor alone.

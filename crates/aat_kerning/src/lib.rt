@@ -1,5 +1,5 @@
-//! Kerning by pairs, deleted glyphs, and the definitions of kerning with their laws and worked rows. The kerning
-//! machines have no code yet.
+//! Kerning by pairs and by machines over both kerning tables, deleted glyphs, and the definitions of kerning with their
+//! laws and worked rows.
 #![tactic(auto)]
 
 mod deleted;
@@ -9,6 +9,7 @@ mod kerx;
 pub mod laws;
 mod pair_kerning;
 mod positioning;
+mod solid;
 #[doc(hidden)]
 pub mod worked;
 
@@ -17,3 +18,4 @@ pub use deleted::{
 };
 pub use kern::{has_kern_pairs_alone, hb_ot_layout_kern};
 pub use kerx::{has_kerx_pairs_alone, hb_aat_layout_position};
+pub use solid::{KERN_SKIPS, KERX_SKIPS, is_solid};

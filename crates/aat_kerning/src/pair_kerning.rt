@@ -6,18 +6,14 @@ ghost use Rattle.aat_glyph.specs.Directions.{is_horizontal};
 ghost use Rattle.aat_run.specs.Switches.{meets};
 ghost use Rattle.aat_kerning.specs.PairKerning.{half, in_stream, kerned, pair_kerning, value_of};
 ghost use Rattle.aat_kerning.specs.Pairs.{is_solid};
-ghost use Rattle.aat_kerning.specs.Positions.{IsPlaced, on_position, with_advance, with_attachment_flag, with_cross_offset, with_shift};
+ghost use Rattle.aat_kerning_machines.specs.Positions.{IsPlaced, on_position, with_advance, with_attachment_flag, with_cross_offset, with_shift};
 ghost use Rattle.aat_kerning.specs.inside.Walk.{kerned_where, left_behind, pair_with};
 
-use aat_buffer::{
-    GlyphPosition, ScratchFlags, UnicodeProps, hb_buffer_t, hb_glyph_info_t, hb_mask_t,
-};
+use crate::solid::is_solid;
+use aat_buffer::{GlyphPosition, hb_buffer_t, hb_mask_t};
 use aat_font::{GlyphId, Pairs};
-use bitflags::Flags;
+use aat_kerning_machines::{meets, note_attachment};
 use std::alloc::Allocator;
-
-/// The property of a glyph that substitution has put in.
-const SUBSTITUTED: u16 = 0x10;
 
 /// What kerning by the pairs of a subtable is given besides the line.
 #[derive(Clone, Copy)]
@@ -30,22 +26,6 @@ pub(crate) struct PairRun<'a> {
     pub kern_mask: hb_mask_t,
     /// Whether the values are across the line.
     pub is_cross_stream: bool,
-}
-
-/// Whether a glyph is not skipped.
-fn is_solid(glyph: hb_glyph_info_t, skips: u16) -> bool
-    ensures { result ≡ is_solid skips glyph }
-{
-    glyph.glyph_props & skips == 0
-        && (glyph.unicode_props & UnicodeProps::IGNORABLE.bits() == 0
-            || glyph.glyph_props & SUBSTITUTED != 0)
-}
-
-/// Whether a mask meets the kern mask.
-fn meets(mask: hb_mask_t, kern_mask: hb_mask_t) -> bool
-    ensures { result ≡ meets mask kern_mask }
-{
-    mask & kern_mask != 0
 }
 
 /// The kerning value of two glyphs, 0 where the table has none.
@@ -162,15 +142,6 @@ fn kern_across<A: Allocator + Copy>(right: usize, value: i16, buffer: &mut hb_bu
     note_attachment(buffer);
 }
 
-/// Notes in the buffer that glyphs are attached.
-fn note_attachment<A: Allocator + Copy>(buffer: &mut hb_buffer_t<A>)
-    ensures { buffer.new ≡ with_attachment_flag buffer.old }
-{
-    let mut flags = buffer.scratch_flags();
-    flags.insert(ScratchFlags::HAS_GPOS_ATTACHMENT);
-    buffer.set_scratch_flags(flags);
-}
-
 /// Kerns a pair, and marks it, where its value is not 0.
 #[tactic(auto, unfolding(crate::specs::PairKerning::kerned))]
 fn kern_pair<A: Allocator + Copy>(
@@ -221,7 +192,7 @@ fn kern_at<A: Allocator + Copy>(
     let glyph = *buffer.info(place);
     let is_asked = meets(glyph.mask, run.kern_mask);
     let own = is_asked.then_some(place);
-    if !is_solid(glyph, run.skips) {
+    if !is_solid(&glyph, run.skips) {
         return left.or(own);
     }
     if is_asked {

@@ -4,7 +4,7 @@ ghost use Rattle.aat_buffer.specs.Clusters.{IsSmall};
 ghost use Rattle.aat_glyph.specs.Directions.{is_backward, is_horizontal};
 ghost use Rattle.aat_kerning.specs.PairKerning.{pair_kerning};
 ghost use Rattle.aat_kerning.specs.Positioning.{cursively_attached, in_processing_order, line_marked};
-ghost use Rattle.aat_kerning.specs.Positions.{IsPlaced, attached_as};
+ghost use Rattle.aat_kerning_machines.specs.Positions.{IsPlaced, attached_as};
 ghost use Rattle.aat_run.specs.Truth.{is_alike};
 
 use crate::pair_kerning::{PairRun, kern_pairs};
@@ -19,6 +19,13 @@ pub(crate) fn is_for_text(horizontal: bool, variable: bool, direction: Direction
     ensures { result ≡ (not variable && is_alike horizontal (is_horizontal direction)) }
 {
     !variable && horizontal == direction.is_horizontal()
+}
+
+/// Whether a subtable that is for a text is left out: one of pairs is, where kerning is not requested.
+pub(crate) fn is_left_out(is_pairs: bool, requested: bool) -> bool
+    ensures { result ≡ (is_pairs && not requested) }
+{
+    is_pairs && !requested
 }
 
 /// A position that is attached cursively to the glyph before it in processing order, which stands behind it in a

@@ -1,4 +1,4 @@
-//! Apple Advanced Typography: extended glyph substitution and kerning by pairs over a shaping buffer.
+//! Apple Advanced Typography: extended glyph substitution and kerning over a shaping buffer.
 #![tactic(auto)]
 
 mod aat_layout;
@@ -10,9 +10,12 @@ pub use aat_font as font;
 /// The numbers of the feature types and their selectors.
 pub use aat_font::constants;
 pub use aat_kerning::{
-    DELETED_GLYPH, has_kern_pairs_alone, has_kerx_pairs_alone, hb_aat_layout_position,
-    hb_aat_layout_remove_deleted_glyphs, hb_aat_layout_zero_width_deleted_glyphs,
-    hb_ot_layout_kern,
+    DELETED_GLYPH, KERN_SKIPS, KERX_SKIPS, has_kern_pairs_alone, has_kerx_pairs_alone,
+    hb_aat_layout_position, hb_aat_layout_remove_deleted_glyphs,
+    hb_aat_layout_zero_width_deleted_glyphs, hb_ot_layout_kern, is_solid,
+};
+pub use aat_kerning_machines::{
+    Driver1, Driver4, KerningRun, StateMachineDriver, StateTableDriver, drive_kern, drive_kerx,
 };
 pub use aat_kinds::{
     ContextualCtx, InsertionCtx, LIGATURE_SLOTS, LigatureCtx, MAX_CONTEXT_LENGTH, RearrangementCtx,
@@ -30,8 +33,9 @@ pub use aat_run::{AatError, drive, driver_context_t, hb_aat_apply_context_t, ran
 pub mod laws {
     pub use aat_kerning::laws::{
         alike_parts_are_kerned_apart, drivers_are_lawful, kerning_changes_little,
-        kerning_is_bounded, pairs_change_the_advances, parts_are_kerned_apart,
+        kerning_is_bounded, pairs_change_the_advances, parts_are_kerned_apart, staying_is_paid,
     };
+    pub use aat_kerning_machines::laws::kerning_runs_end;
     pub use aat_kinds::laws::{
         acts_keep_order, acts_keep_small, contexts_are_lawful, glyphs_are_kept,
         later_components_are_deleted,

@@ -1,12 +1,13 @@
 -- The advances before a place, one place after the other.
-use Rattle.std.proofs.Common.{◌≡◌, ℕ, ◌+◌, ◌<◌, Bool, true, false, List, [], length, get_or, pos, ◌+ℤ◌, Option, Some, None, option_map, unwrap_or, reverse, cond, refl, arith}
+use Rattle.std.proofs.Common.{◌≡◌, ℕ, ◌+◌, ◌<◌, Bool, true, false, List, [], length, get_or, pos, ◌+ℤ◌, ◌-ℤ◌, Option, Some, None, option_map, unwrap_or, reverse, take, cond, refl, ap, ◌∙◌, ℤ, arith}
+use Rattle.std.proofs.lemmas.Int.{ints}
 use Rattle.std.proofs.lemmas.List.{length-reverse}
 use Rattle.std.proofs.lemmas.List.Sums.{fold_more}
-use Rattle.aat_layout.specs.Advances.{advance}
+use Rattle.aat_layout.specs.Advances.{advance, all_advances}
 use Rattle.aat_layout.specs.Buffer.{Buffer, position_list, reversed, zero_position}
 use Rattle.aat_layout.specs.Cut.{ordered_line, ordered_positions}
 use Rattle.aat_layout.specs.Directions.{is_backward, is_horizontal}
-use Rattle.aat_line_breaker.specs.LineCut.{advance_before}
+use Rattle.aat_line_breaker.specs.LineCut.{advance_before, along}
 
 length_turned :
     {A : Type 0} (o : Option (List A)) → length (unwrap_or (option_map reverse o) []) ≡ length (unwrap_or o [])
@@ -29,11 +30,23 @@ length-ordered_line b = by_way (is_backward b.direction)
     by_way true = length-reverse b.line
     by_way false = refl
 
+less_sum : (s a : ℤ) → pos 0 -ℤ (s +ℤ a) ≡ (pos 0 -ℤ s) +ℤ (pos 0 -ℤ a)
+less_sum s a = omega (arith, ints)
+
+-- sums go along as their parts do
+along_more : (h : Bool) (s a : ℤ) → along h (s +ℤ a) ≡ along h s +ℤ along h a
+along_more true s a = refl
+along_more false s a = less_sum s a
+
 -- the advance of a glyph comes to those before it
 pub advance_more :
     (b : Buffer) (q : ℕ) → length (position_list b) ≡ length b.line → q < length b.line
     → advance_before (q + 1) b
-    ≡ advance_before q b +ℤ advance (is_horizontal b.direction) (get_or (ordered_positions b) q zero_position)
+    ≡ advance_before q b
+    +ℤ along (is_horizontal b.direction) (advance (is_horizontal b.direction) (get_or (ordered_positions b) q zero_position))
 advance_more b q placed low =
-    fold_more (λ s p. s +ℤ advance (is_horizontal b.direction) p) (pos 0) (ordered_positions b) q zero_position
-    (omega (arith, low, placed, length-ordered_positions b))
+    let h = is_horizontal b.direction in
+    ap (along h)
+    (fold_more (λ s p. s +ℤ advance h p) (pos 0) (ordered_positions b) q zero_position
+    (omega (arith, low, placed, length-ordered_positions b)))
+    ∙ along_more h (all_advances h (take q (ordered_positions b))) (advance h (get_or (ordered_positions b) q zero_position))

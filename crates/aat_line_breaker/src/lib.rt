@@ -1,9 +1,8 @@
-//! A line breaker: kerns a line by pairs and finds the last place within a limit of advance at which it may be cut.
+//! A line breaker: finds the last place within a limit of advance at which a kerned line may be cut, and kerns one.
 #![tactic(auto)]
 
 ghost use Rattle.std.specs.Prelude.{◌≡◌, ◌↔◌, false, IfErr, IfOk, IfSome, IsErrOf, IsSome, OnErr, OnOk};
 ghost use Rattle.aat_layout.specs.Clusters.{IsSmall};
-ghost use Rattle.aat_layout.specs.Cut.{IsCutPlace};
 ghost use Rattle.aat_layout.specs.Face.{kern_in, tables_of};
 ghost use Rattle.aat_layout.specs.Pairs.{kern_skips};
 ghost use Rattle.aat_layout.specs.Positioning.{AreKernPairs, kern_positioning};
@@ -14,22 +13,20 @@ mod place;
 #[cfg(test)]
 mod tests;
 
-use crate::place::last_fit;
+pub use crate::place::last_cut;
 use aat_layout::buffer::hb_buffer_t;
 use aat_layout::font::{hb_font_t, hb_ot_shape_plan_t};
-use aat_layout::{AatError, hb_ot_layout_kern};
+use aat_layout::{AatError, KERN_SKIPS, hb_ot_layout_kern};
 use std::alloc::Allocator;
 
 /// Kerns a line by the kerning table of a font, and answers the last place, in processing order, at which the line may
-/// be cut and the advances before which sum to at most `limit`; `None` where there is no such place. Both are in units
-/// of the font, along x in a row and along y in a column, as the positions have them after kerning. It looks for a
-/// place also where the whole line is within the limit.
+/// be cut and before which it goes no further than `limit`, as `last_cut` does; `None` where there is no such place.
+/// The limit is in units of the font, to the right in a row and down in a column, by the advances after kerning.
 ///
-/// A line may be cut before a glyph that kerning does not skip and that begins a cluster, unless of it and the glyph
-/// before it the one with the greater cluster is marked unsafe to break. There the two parts can be kerned by
-/// themselves, with the same plan and font and in buffers with the flags of this one, and have the positions that the
-/// line has: a caller sets the part before the place as it stands, and calls again with the glyphs from the place on and
-/// the positions that they had before.
+/// At the place the two parts can be kerned by themselves, with the same plan and font, and have the positions that
+/// the line has. Parts are the glyphs with the masks and the positions that they had before kerning, in buffers with
+/// the direction and the flags of this one. So a caller sets the part before the place as it stands, and calls again
+/// with the part from the place on as it was before.
 ///
 /// The place counts from the glyph that is kerned first: the first one of the buffer, and on a backward line the last.
 ///
@@ -53,12 +50,9 @@ pub fn kern_and_cut<A: Allocator + Copy>(
     ensures reason { IfErr result (λ error. error ≡ AatError.BufferFailed) }
     ensures unchanged { OnErr result (buffer.new ≡ buffer.old) }
     ensures kerned { OnOk result (buffer.new ≡ (kern_positioning plan.now.requested_kerning plan.now.kern_mask (kern_in (tables_of face.now).kern) buffer.old).buffer) }
-    ensures last { IfOk result (λ place. IsLast (IsFit limit buffer.new) place) }
-    ensures place { IfOk result (λ place. IfSome place (λ q. IsCutPlace kern_skips q buffer.old)) }
+    ensures last { IfOk result (λ place. IsLast (IsFit limit kern_skips buffer.new) place) }
     ensures apart { IfOk result (λ place. IfSome place (λ q. IsLeftOfPartsAt q (kern_positioning plan.now.requested_kerning plan.now.kern_mask (kern_in (tables_of face.now).kern)) buffer.old buffer.new)) }
 {
-    // there are as many positions as glyphs
-    let _placed = buffer.has_positions();
     hb_ot_layout_kern(plan, face, buffer)?;
-    Ok(last_fit(limit, buffer))
+    Ok(last_cut(limit, KERN_SKIPS, buffer))
 }

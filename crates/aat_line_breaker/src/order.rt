@@ -4,6 +4,8 @@ ghost use Rattle.aat_layout.specs.Advances.{advance};
 ghost use Rattle.aat_layout.specs.Buffer.{glyph_at, position_list, zero_position};
 ghost use Rattle.aat_layout.specs.Cut.{ordered_line, ordered_positions};
 ghost use Rattle.aat_layout.specs.Directions.{is_horizontal};
+ghost use Rattle.aat_layout.specs.Positions.{IsPlaced};
+ghost use Rattle.aat_line_breaker.specs.LineCut.{along};
 
 use aat_layout::buffer::{hb_buffer_t, hb_glyph_info_t};
 use std::alloc::Allocator;
@@ -11,7 +13,7 @@ use std::alloc::Allocator;
 /// Where in the buffer the glyph stands that is at this place in processing order.
 fn in_buffer<A: Allocator + Copy>(buffer: &hb_buffer_t<A>, place: usize) -> usize
     requires in_line { place < length buffer.now.line }
-    requires placed { length (position_list buffer.now) ≡ length buffer.now.line }
+    requires placed { IsPlaced buffer.now }
     ensures in_line { result < length buffer.now.line }
     ensures glyph { glyph_at buffer.now.line result ≡ glyph_at (ordered_line buffer.now) place }
     ensures position { slice_index_or (position_list buffer.now) result zero_position ≡ slice_index_or (ordered_positions buffer.now) place zero_position }
@@ -29,24 +31,25 @@ pub(crate) fn glyph_at<A: Allocator + Copy>(
     place: usize,
 ) -> hb_glyph_info_t
     requires in_line { place < length buffer.now.line }
-    requires placed { length (position_list buffer.now) ≡ length buffer.now.line }
+    requires placed { IsPlaced buffer.now }
     ensures { result ≡ glyph_at (ordered_line buffer.now) place }
 {
     *buffer.info(in_buffer(buffer, place))
 }
 
-/// The advance at a place in processing order: in x in a row, and in y in a column.
+/// How far the text goes by the glyph at a place in processing order: by its advance in x in a row, and in a column,
+/// where advances go down below 0, by 0 less its advance in y.
 pub(crate) fn advance_at<A: Allocator + Copy>(buffer: &hb_buffer_t<A>, place: usize) -> i64
     requires in_line { place < length buffer.now.line }
-    requires placed { length (position_list buffer.now) ≡ length buffer.now.line }
-    ensures value { result ≡ advance (is_horizontal buffer.now.direction) (slice_index_or (ordered_positions buffer.now) place zero_position) }
+    requires placed { IsPlaced buffer.now }
+    ensures value { result ≡ along (is_horizontal buffer.now.direction) (advance (is_horizontal buffer.now.direction) (slice_index_or (ordered_positions buffer.now) place zero_position)) }
     ensures low { negsuc 0x7FFF_FFFF ≤ℤ result }
-    ensures high { result ≤ℤ pos 0x7FFF_FFFF }
+    ensures high { result ≤ℤ pos 0x8000_0000 }
 {
     let position = buffer.pos(in_buffer(buffer, place));
     if buffer.direction().is_horizontal() {
         i64::from(position.x_advance)
     } else {
-        i64::from(position.y_advance)
+        0 - i64::from(position.y_advance)
     }
 }

@@ -1,35 +1,22 @@
 //! The places at which a kerned line may be cut.
-ghost use Rattle.std.specs.Prelude.{◌≡◌, ◌<◌, ◌↔◌, IsTrue, length};
-ghost use Rattle.aat_layout.specs.Buffer.{position_list};
-ghost use Rattle.aat_layout.specs.Pairs.{is_solid, kern_skips};
-ghost use Rattle.aat_line_breaker.specs.LineCut.{IsFit, IsLast, MayBeCut, advance_before};
+ghost use Rattle.std.specs.Prelude.{◌≡◌, ◌<◌, ◌↔◌, IfSome, IsTrue, List, length};
+ghost use Rattle.aat_layout.specs.Buffer.{Buffer};
+ghost use Rattle.aat_layout.specs.Cut.{IsCutPlace, IsLeftOfAlikeParts, PairsAlone};
+ghost use Rattle.aat_layout.specs.Outcome.{Outcome};
+ghost use Rattle.aat_layout.specs.Positioning.{Kerning};
+ghost use Rattle.aat_layout.specs.Positions.{IsPlaced};
+ghost use Rattle.aat_line_breaker.specs.LineCut.{IsFit, IsLast, IsLeftOfPartsAt, advance_before};
 
 use crate::order::{advance_at, glyph_at};
-use aat_layout::buffer::{glyph_flag, hb_buffer_t, hb_glyph_info_t};
+use aat_layout::buffer::{glyph_flag, hb_buffer_t};
+use aat_layout::is_solid;
 use std::alloc::Allocator;
 
-/// The property of a glyph that is a mark.
-const MARK: u16 = 0x0008;
-
-/// The property of a glyph that substitution has put in.
-const SUBSTITUTED: u16 = 0x0010;
-
-/// The property of a character that is drawn only where a font asks for that.
-const IGNORABLE: u16 = 0x0020;
-
-/// Whether kerning does not skip a glyph.
-fn is_solid(glyph: hb_glyph_info_t) -> bool
-    ensures { result ≡ is_solid kern_skips glyph }
-{
-    glyph.glyph_props & MARK == 0
-        && (glyph.unicode_props & IGNORABLE == 0 || glyph.glyph_props & SUBSTITUTED != 0)
-}
-
-/// Whether a kerned line may be cut at a place.
-fn may_be_cut<A: Allocator + Copy>(buffer: &hb_buffer_t<A>, place: usize) -> bool
+/// Whether a line may be cut at a place, where its kerning skips these glyph properties.
+fn may_be_cut<A: Allocator + Copy>(skips: u16, buffer: &hb_buffer_t<A>, place: usize) -> bool
     requires in_line { place < length buffer.now.line }
-    requires placed { length (position_list buffer.now) ≡ length buffer.now.line }
-    ensures { IsTrue result ↔ MayBeCut place buffer.now }
+    requires placed { IsPlaced buffer.now }
+    ensures { IsTrue result ↔ IsCutPlace skips place buffer.now }
 {
     if place == 0 {
         return false;
@@ -41,35 +28,61 @@ fn may_be_cut<A: Allocator + Copy>(buffer: &hb_buffer_t<A>, place: usize) -> boo
     } else {
         before
     };
-    is_solid(behind)
+    is_solid(&behind, skips)
         && behind.cluster != before.cluster
         && greater.mask & glyph_flag::UNSAFE_TO_BREAK == 0
 }
 
-/// Whether a kerned line may be cut at a place, and the advances before it are within the limit.
+/// Whether a kerned line may be cut at a place, before which it goes so far, and that is no further than the limit.
 fn fits<A: Allocator + Copy>(
     limit: i64,
+    skips: u16,
     advance: i64,
     buffer: &hb_buffer_t<A>,
     place: usize,
 ) -> bool
     requires in_line { place < length buffer.now.line }
-    requires placed { length (position_list buffer.now) ≡ length buffer.now.line }
+    requires placed { IsPlaced buffer.now }
     requires before { advance ≡ advance_before place buffer.now }
-    ensures { IsTrue result ↔ IsFit limit buffer.now place }
+    ensures { IsTrue result ↔ IsFit limit skips buffer.now place }
 {
-    advance <= limit && may_be_cut(buffer, place)
+    advance <= limit && may_be_cut(skips, buffer, place)
 }
 
-/// The last place at which a kerned line may be cut and that is within a limit of advance.
-pub(crate) fn last_fit<A: Allocator + Copy>(limit: i64, buffer: &hb_buffer_t<A>) -> Option<usize>
-    requires placed { length (position_list buffer.now) ≡ length buffer.now.line }
-    ensures { IsLast (IsFit limit buffer.now) result }
+/// The last place, in processing order, at which a kerned line may be cut and before which it goes no further than
+/// `limit`; `None` where there is no such place. It looks for a place also where the whole line is within the limit.
+///
+/// `skips` are the glyph properties that kerning skipped: `KERX_SKIPS` of a line that `hb_aat_layout_position` kerned,
+/// and `KERN_SKIPS` of one that `hb_ot_layout_kern` kerned.
+///
+/// The limit is in units of the font, and says how far the text goes before the place: to the right in a row, by the
+/// sum of the advances in x, and down in a column, where advances in y are usually below 0, by 0 less their sum.
+///
+/// A line may be cut before a glyph that kerning does not skip and that begins a cluster, unless of it and the glyph
+/// before it the one with the greater cluster is marked unsafe to break. Where all subtables that are for the text are
+/// of pairs, the two parts can be kerned by themselves there, and have the positions that the line has. Parts are the
+/// glyphs with the masks and the positions that they had before kerning, in buffers with the direction and the flags
+/// of the line's buffer. That follows from the clause `cut_alike` of the call that kerned the line.
+///
+/// The place counts from the glyph that is kerned first: the first one of the buffer, and on a backward line the last.
+///
+/// Each glyph has to have its position, which `has_positions` tells. It cannot be refused, changes nothing, takes no
+/// memory, and takes as many steps as the line is long.
+///
+/// Apple's TrueType Reference Manual, "The 'kerx' table" and "The 'kern' table".
+pub fn last_cut<A: Allocator + Copy>(
+    limit: i64,
+    skips: u16,
+    buffer: &hb_buffer_t<A>,
+) -> Option<usize>
+    requires placed { IsPlaced buffer.now }
+    ensures last { IsLast (IsFit limit skips buffer.now) result }
+    ensures apart { (ks : List Kerning) (kern : Buffer → Outcome) (line : Buffer) → PairsAlone ks line → IsLeftOfAlikeParts skips ks kern line buffer.now → IfSome result (λ q. IsLeftOfPartsAt q kern line buffer.now) }
 {
     let mut last = None;
     let mut advance: i64 = 0;
     for place in 0..buffer.len() {
-        if fits(limit, advance, buffer, place) {
+        if fits(limit, skips, advance, buffer, place) {
             last = Some(place);
         }
         advance += advance_at(buffer, place);

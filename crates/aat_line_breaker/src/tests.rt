@@ -1,31 +1,41 @@
 //! The line breaker on lines of four glyphs.
-use crate::kern_and_cut;
+use crate::{kern_and_cut, last_cut};
 use aat_layout::buffer::{BufferError, Direction, hb_buffer_t, hb_glyph_info_t};
 use aat_layout::font::{
     FaceTables, Kern, KernKind, KernSubtable, Pairs, hb_font_t, hb_ot_shape_plan_t,
 };
-use aat_layout::{AatError, has_kern_pairs_alone, hb_ot_layout_kern};
+use aat_layout::{AatError, KERX_SKIPS, has_kern_pairs_alone, hb_aat_layout_position};
 use std::alloc::{Allocator, Global};
 use std::process::Abort;
 use std::test::Fail;
 
-/// A line of glyphs with their clusters, each with an advance of 500, which all ask for kerning by the bit 8.
+/// A buffer of glyphs with their clusters, which all ask for kerning by the bit 8.
+fn glyphs_of(alloc: Global, glyphs: &[(u32, u32)]) -> Result<hb_buffer_t, BufferError> {
+    let mut buffer = hb_buffer_t::new(alloc, 16384, 16384);
+    for (glyph_id, cluster) in glyphs {
+        let glyph = hb_glyph_info_t::new(*glyph_id, *cluster);
+        buffer.add(hb_glyph_info_t { mask: 8, ..glyph })?;
+    }
+    Ok(buffer)
+}
+
+/// A line of these glyphs, each with an advance of 500, which goes down in a column.
 fn line_of(
     rt: &impl Abort,
     alloc: Global,
     direction: Direction,
     glyphs: &[(u32, u32)],
 ) -> Result<hb_buffer_t, BufferError> {
-    let mut buffer = hb_buffer_t::new(alloc, 16384, 16384);
-    for (glyph_id, cluster) in glyphs {
-        let glyph = hb_glyph_info_t::new(*glyph_id, *cluster);
-        buffer.add(hb_glyph_info_t { mask: 8, ..glyph })?;
-    }
+    let mut buffer = glyphs_of(alloc, glyphs)?;
     buffer.set_direction(direction);
     buffer.clear_positions()?;
     for i in 0..buffer.len() {
         assert!(rt; buffer.has_positions() && i < buffer.len());
-        buffer.pos_mut(i).x_advance = 500;
+        if direction.is_horizontal() {
+            buffer.pos_mut(i).x_advance = 500;
+        } else {
+            buffer.pos_mut(i).y_advance = -500;
+        }
     }
     Ok(buffer)
 }
@@ -113,5 +123,17 @@ fn a_backward_line_is_cut_from_its_last_glyph_on(rt: HostRuntime) -> Result<(), 
     let mut line = line_of(&rt, alloc, Direction::RightToLeft, &glyphs)?;
     assert_eq!(&rt; cut(&rt, alloc, &font, 1000, &mut line)?, Some(2));
     expect_positions(&rt, &line, &[(500, 0), (500, 0), (490, -10), (490, 0)]);
+    Ok(())
+}
+
+#[test]
+fn a_column_goes_down(rt: HostRuntime) -> Result<(), Fail> {
+    let alloc = rt.alloc();
+    let glyphs = [(1, 0), (2, 1), (3, 2), (4, 3)];
+    let mut line = line_of(&rt, alloc, Direction::TopToBottom, &glyphs)?;
+    assert!(&rt; line.all_glyphs_16() && line.has_positions());
+    hb_aat_layout_position(&plan_of(alloc), &font_of(alloc)?, &mut line)?;
+    assert_eq!(&rt; last_cut(499, KERX_SKIPS, &line), None);
+    assert_eq!(&rt; last_cut(600, KERX_SKIPS, &line), Some(1));
     Ok(())
 }

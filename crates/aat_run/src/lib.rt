@@ -17,3 +17,4 @@ pub use driver::{drive, run_machine};
 pub use driver_context::driver_context_t;
 pub use error::AatError;
 pub use ranges::{flags_in, is_on, range_flags_t};
+pub use turns::class_at_cursor;

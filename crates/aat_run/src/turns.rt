@@ -21,8 +21,9 @@ use aat_buffer::{hb_buffer_t, hb_mask_t};
 use aat_font::{ExtendedStateTable, GenericStateEntry, GlyphId};
 use std::alloc::Allocator;
 
-/// The class at the cursor: 0 at the end, and 1 of a glyph without a class.
-fn class_at_cursor<T: Copy, A: Allocator + Copy>(
+/// The class at the cursor: 0 at the end, and 1 of a glyph without a class. Each glyph id has to be at most 0xFFFF.
+/// Besides the search of the class it takes a bounded number of steps.
+pub fn class_at_cursor<T: Copy, A: Allocator + Copy>(
     machine: &ExtendedStateTable<T>,
     buffer: &hb_buffer_t<A>,
 ) -> u16

@@ -1,11 +1,7 @@
 //! Prints worked examples of Apple Advanced Typography, row by row.
 #![tactic(auto)]
 
-mod build;
-mod kerned;
 mod print;
-mod rows;
-mod stop;
 #[cfg(test)]
 mod tests;
 

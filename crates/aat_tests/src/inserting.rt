@@ -93,37 +93,67 @@ fn longest_run(alloc: Global) -> Result<Vec<GlyphId>, Fail> {
     Ok(glyphs)
 }
 
+/// A subtable that inserts at the end of the text and at the glyph 20.
+fn subtable_of(
+    alloc: Global,
+    at_end: GenericStateEntry<InsertionEntryData>,
+    at_20: GenericStateEntry<InsertionEntryData>,
+) -> Result<Subtable, Fail> {
+    let state = table_of(alloc, at_end, at_20)?;
+    let glyphs = longest_run(alloc)?;
+    let kind = SubtableKind::Insertion(InsertionSubtable { state, glyphs });
+    Ok(Subtable::new(kind, Coverage::ALL_DIRECTIONS, 1))
+}
+
+/// A font with only this subtable.
+fn face_of(alloc: Global, subtable: Subtable) -> Result<hb_font_t, Fail> {
+    let chain = Chain::new(1, Vec::new(alloc), vec![in alloc; subtable]?);
+    let morx = Morx::new(vec![in alloc; chain]?)?;
+    Ok(hb_font_t::from_tables(FaceTables::default().with_morx(morx)))
+}
+
 /// A font whose only subtable inserts at the end of the text and at the glyph 20.
 pub(crate) fn inserting_font(
     alloc: Global,
     at_end: GenericStateEntry<InsertionEntryData>,
     at_20: GenericStateEntry<InsertionEntryData>,
 ) -> Result<Inserting, Fail> {
-    let subtable = Subtable {
-        kind: SubtableKind::Insertion(InsertionSubtable {
-            state: table_of(alloc, at_end, at_20)?,
-            glyphs: longest_run(alloc)?,
-        }),
-        coverage: Coverage::ALL_DIRECTIONS,
-        feature_flags: 1,
-    };
-    let chain = Chain {
-        default_flags: 1,
-        features: Vec::new(alloc),
-        subtables: vec![in alloc; subtable]?,
-    };
-    let tables = FaceTables::default().with_morx(Morx::new(vec![in alloc; chain]?)?);
+    let face = face_of(alloc, subtable_of(alloc, at_end, at_20)?)?;
+    let table = table_of(alloc, at_end, at_20)?;
+    let glyphs = longest_run(alloc)?;
     Ok(Inserting {
-        table: table_of(alloc, at_end, at_20)?,
-        glyphs: longest_run(alloc)?,
-        face: hb_font_t::new(tables, None, None),
-        plan: hb_ot_shape_plan_t {
-            user_features: Vec::new(alloc),
-            apply_morx: true,
-            requested_kerning: false,
-            kern_mask: 0,
-        },
+        table,
+        glyphs,
+        face,
+        plan: hb_ot_shape_plan_t::new(Vec::new(alloc)),
     })
+}
+
+/// Drives the subtable over a line, and answers the turns.
+fn driven<A: Allocator + Copy>(
+    rt: &impl Abort,
+    font: &Inserting,
+    buffer: &mut hb_buffer_t<A>,
+) -> Result<u64, AatError> {
+    assert!(rt; buffer.all_glyphs_16());
+    let mut c = hb_aat_apply_context_t::new(&font.face, buffer);
+    let mut context = InsertionCtx::new(&font.glyphs);
+    drive(&font.table, &mut context, &mut c)?;
+    Ok(c.turns)
+}
+
+/// Applies the font to a line, and answers the turns.
+fn applied<A: Allocator + Copy>(
+    rt: &impl Abort,
+    alloc: Global,
+    font: &Inserting,
+    buffer: &mut hb_buffer_t<A>,
+) -> Result<u64, AatError> {
+    let map = hb_aat_map_t::default(alloc);
+    assert!(rt; buffer.all_glyphs_16() && map.is_whole());
+    let mut c = hb_aat_apply_context_t::new(&font.face, buffer);
+    apply(&mut c, &map)?;
+    Ok(c.turns)
 }
 
 /// Runs the subtable over a line by one of the calls, and answers the turns.
@@ -135,19 +165,11 @@ fn run_by<A: Allocator + Copy>(
     buffer: &mut hb_buffer_t<A>,
 ) -> Result<u64, AatError> {
     assert!(rt; buffer.all_glyphs_16());
-    if call == Call::Substitute {
-        return hb_aat_layout_substitute(alloc, &font.plan, &font.face, buffer);
+    match call {
+        Call::Drive => driven(rt, font, buffer),
+        Call::Apply => applied(rt, alloc, font, buffer),
+        Call::Substitute => hb_aat_layout_substitute(alloc, &font.plan, &font.face, buffer),
     }
-    let mut c = hb_aat_apply_context_t::new(&font.face, buffer);
-    if call == Call::Drive {
-        let mut context = InsertionCtx::new(&font.glyphs);
-        drive(&font.table, &mut context, &mut c)?;
-        return Ok(c.turns);
-    }
-    let map = hb_aat_map_t::default(alloc);
-    assert!(rt; map.is_whole());
-    apply(&mut c, &map)?;
-    Ok(c.turns)
 }
 
 /// What a run leaves.

@@ -3,11 +3,7 @@
 
 pub mod callers;
 #[cfg(test)]
-mod deleted_tests;
-#[cfg(test)]
 mod inserting;
-#[cfg(test)]
-mod kerning_tests;
 #[cfg(test)]
 mod longest_run_tests;
 #[cfg(test)]

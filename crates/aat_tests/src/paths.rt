@@ -6,7 +6,7 @@ pub use aat_layout::buffer::{
     ScratchFlags, UnicodeProps, glyph_flag, hb_buffer_t, hb_glyph_info_t, hb_mask_t,
 };
 pub use aat_layout::font::{
-    Chain, ChainFeature, ContextualEntryData, ContextualSubtable, Coverage, EntryData,
+    Ankr, Chain, ChainFeature, ContextualEntryData, ContextualSubtable, Coverage, EntryData,
     ExtendedStateTable, FaceTables, Feat, Feature, FeatureName, GenericStateEntry, GlyphId,
     InsertionEntryData, InsertionSubtable, Kern, KernEntryData, KernKind, KernMachine,
     KernSubtable, Kerx, KerxFormat, KerxSubtable, LigatureSubtable, Lookup, Morx, Pairs, Point,
@@ -14,11 +14,13 @@ pub use aat_layout::font::{
     hb_tag_t,
 };
 pub use aat_layout::{
-    AatError, ContextualCtx, DELETED_GLYPH, InsertionCtx, LIGATURE_SLOTS, LigatureCtx,
-    MAX_CONTEXT_LENGTH, RearrangementCtx, Turns, apply, apply_with, compile_flags, constants,
-    drive, driver_context_t, feature_info_t, feature_mappings, feature_order, feature_range_t,
-    has_kern_pairs_alone, has_kerx_pairs_alone, hb_aat_apply_context_t, hb_aat_feature_mapping_t,
-    hb_aat_layout_position, hb_aat_layout_remove_deleted_glyphs, hb_aat_layout_substitute,
-    hb_aat_layout_substitute_with, hb_aat_layout_zero_width_deleted_glyphs, hb_aat_map_builder_t,
-    hb_aat_map_t, hb_ot_layout_kern, range_flags_t,
+    AatError, ContextualCtx, DELETED_GLYPH, Driver1, Driver4, InsertionCtx, KERN_SKIPS, KERX_SKIPS,
+    KerningRun, LIGATURE_SLOTS, LigatureCtx, MAX_CONTEXT_LENGTH, RearrangementCtx,
+    StateMachineDriver, StateTableDriver, Turns, apply, apply_with, compile_flags, constants,
+    drive, drive_kern, drive_kerx, driver_context_t, feature_info_t, feature_mappings,
+    feature_order, feature_range_t, has_kern_pairs_alone, has_kerx_pairs_alone,
+    hb_aat_apply_context_t, hb_aat_feature_mapping_t, hb_aat_layout_position,
+    hb_aat_layout_remove_deleted_glyphs, hb_aat_layout_substitute, hb_aat_layout_substitute_with,
+    hb_aat_layout_zero_width_deleted_glyphs, hb_aat_map_builder_t, hb_aat_map_t, hb_ot_layout_kern,
+    is_solid, range_flags_t,
 };

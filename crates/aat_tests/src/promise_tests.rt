@@ -11,6 +11,7 @@ use aat_layout::font::{
 };
 use aat_layout::{apply_with, hb_aat_apply_context_t, hb_aat_layout_substitute, hb_aat_map_t};
 use std::alloc::Global;
+use std::process::Abort;
 use std::test::Fail;
 
 /// A request for the common ligatures: value, start, end.
@@ -94,72 +95,163 @@ fn turns_of(
     Ok(hb_aat_layout_substitute(alloc, &plan, font, buffer).ok())
 }
 
+/// The glyph at a place.
+fn glyph_at(buffer: &hb_buffer_t, place: usize) -> Option<hb_glyph_info_t> {
+    if place < buffer.len() {
+        Some(*buffer.info(place))
+    } else {
+        None
+    }
+}
+
+/// The glyph at a place, as it is compared.
+fn seen_at(buffer: &hb_buffer_t, place: usize) -> Option<Seen> {
+    match glyph_at(buffer, place) {
+        Some(glyph) => Some((glyph.glyph_id, glyph.cluster)),
+        None => None,
+    }
+}
+
 /// Whether a line has these glyphs.
 fn is_line(buffer: &hb_buffer_t, wanted: &[Seen]) -> bool {
+    for (place, glyph) in wanted.iter().enumerate() {
+        if seen_at(buffer, place) != Some(*glyph) {
+            return false;
+        }
+    }
     buffer.len() == wanted.len()
-        && (0..wanted.len()).all(|i| {
-            i < buffer.len() && (buffer.info(i).glyph_id, buffer.info(i).cluster) == wanted[i]
-        })
 }
 
 /// Whether two lines have the same glyphs, with their masks and properties.
 fn are_one_line(a: &hb_buffer_t, b: &hb_buffer_t) -> bool {
-    a.len() == b.len() && (0..a.len()).all(|i| i < a.len() && i < b.len() && a.info(i) == b.info(i))
+    for place in 0..a.len() {
+        if glyph_at(a, place) != glyph_at(b, place) {
+            return false;
+        }
+    }
+    a.len() == b.len()
 }
 
-/// A request for a feature off over one cluster leaves that one glyph, on a line whose clusters rise, on one whose
-/// clusters fall, and beside a further request where no glyph is.
-#[test]
-fn requests_act_where_they_are_made(rt: HostRuntime) -> Result<(), Fail> {
-    let alloc = rt.alloc();
+/// The line after substitution by a font, where that takes so many turns.
+fn substituted(
+    rt: &impl Abort,
+    alloc: Global,
+    font: &hb_font_t,
+    requests: &[Request],
+    mut buffer: hb_buffer_t,
+    turns: u64,
+) -> Result<hb_buffer_t, Fail> {
+    assert!(rt; turns_of(alloc, font, requests, &mut buffer)? == Some(turns));
+    Ok(buffer)
+}
+
+/// Asserts how many turns substitution by a font takes over a line, and what it leaves.
+fn assert_substituted(
+    rt: &impl Abort,
+    alloc: Global,
+    font: &hb_font_t,
+    requests: &[Request],
+    buffer: hb_buffer_t,
+    turns: u64,
+    wanted: &[Seen],
+) -> Result<(), Fail> {
+    let buffer = substituted(rt, alloc, font, requests, buffer, turns)?;
+    assert!(rt; is_line(&buffer, wanted));
+    Ok(())
+}
+
+/// A font whose only chain turns 5 into 9, but where common ligatures are off.
+fn ligating_font(alloc: Global) -> Result<hb_font_t, Fail> {
     let chain = chain_of(alloc, 1, OFF_CLEARS, Coverage::ALL_DIRECTIONS, (5, 9))?;
-    let font = font_of(alloc, vec![in alloc; chain]?)?;
-    let here: [Request; 1] = [(0, 1, 2)];
-    let elsewhere: [Request; 2] = [(0, 1, 2), (0, 7, 9)];
-    let rising: [Seen; 3] = [(5, 0), (5, 1), (5, 2)];
-    let falling: [Seen; 3] = [(5, 2), (5, 1), (5, 0)];
-    let mut buffer = line_of(alloc, Direction::LeftToRight, 16384, &falling)?;
-    assert!(rt; turns_of(alloc, &font, &here, &mut buffer)? == Some(3));
-    assert!(rt; is_line(&buffer, &[(9, 2), (5, 1), (9, 0)]));
-    let mut buffer = line_of(alloc, Direction::LeftToRight, 16384, &rising)?;
-    assert!(rt; turns_of(alloc, &font, &elsewhere, &mut buffer)? == Some(3));
+    font_of(alloc, vec![in alloc; chain]?)
+}
+
+/// A request for a feature off over the cluster 1, alone and beside a further request where no glyph is.
+const HERE: [Request; 1] = [(0, 1, 2)];
+
+const ALSO_ELSEWHERE: [Request; 2] = [(0, 1, 2), (0, 7, 9)];
+
+/// A request for a feature off over one cluster leaves that one glyph, on a line whose clusters fall.
+#[test]
+fn requests_act_on_falling_clusters(rt: HostRuntime) -> Result<(), Fail> {
+    let font = ligating_font(rt.alloc())?;
+    let line = [(5, 2), (5, 1), (5, 0)];
+    let wanted = [(9, 2), (5, 1), (9, 0)];
+    let buffer = line_of(rt.alloc(), Direction::LeftToRight, 16384, &line)?;
+    assert_substituted(&rt, rt.alloc(), &font, &HERE, buffer, 3, &wanted)
+}
+
+/// The line 5 at 0, 5 at 1, 5 at 2 after substitution, which takes three turns.
+fn rising_line(
+    rt: &impl Abort,
+    alloc: Global,
+    font: &hb_font_t,
+    requests: &[Request],
+) -> Result<hb_buffer_t, Fail> {
+    let line = line_of(
+        alloc,
+        Direction::LeftToRight,
+        16384,
+        &[(5, 0), (5, 1), (5, 2)],
+    )?;
+    substituted(rt, alloc, font, requests, line, 3)
+}
+
+/// Asserts that a request acts on a line whose clusters rise, and as well beside a further one where no glyph is.
+fn assert_rising(rt: &impl Abort, alloc: Global, font: &hb_font_t) -> Result<(), Fail> {
+    let buffer = rising_line(rt, alloc, font, &ALSO_ELSEWHERE)?;
     assert!(rt; is_line(&buffer, &[(9, 0), (5, 1), (9, 2)]) && buffer.max_ops() == 16384);
-    let mut alone = line_of(alloc, Direction::LeftToRight, 16384, &rising)?;
-    assert!(rt; turns_of(alloc, &font, &here, &mut alone)? == Some(3));
+    let alone = rising_line(rt, alloc, font, &HERE)?;
     assert!(rt; are_one_line(&alone, &buffer) && alone.max_ops() == buffer.max_ops());
     Ok(())
+}
+
+/// A request for a feature off over one cluster leaves that one glyph, on a line whose clusters rise.
+#[test]
+fn requests_act_on_rising_clusters(rt: HostRuntime) -> Result<(), Fail> {
+    let font = ligating_font(rt.alloc())?;
+    assert_rising(&rt, rt.alloc(), &font)
+}
+
+/// A font of two chains, of which common ligatures switch the first one off and the second one on.
+fn two_chains(alloc: Global) -> Result<hb_font_t, Fail> {
+    let mut chains = Vec::new(alloc);
+    let all = Coverage::ALL_DIRECTIONS;
+    chains.push(chain_of(alloc, 1, ON_CLEARS, all, (5, 9))?)?;
+    chains.push(chain_of(alloc, 0, ON_SETS, all, (5, 8))?)?;
+    font_of(alloc, chains)
 }
 
 /// One request switches the first chain off and the second one on over the same range of falling clusters: there the
 /// second chain acts alone, elsewhere the first.
 #[test]
 fn each_chain_has_its_ranges(rt: HostRuntime) -> Result<(), Fail> {
-    let alloc = rt.alloc();
+    let font = two_chains(rt.alloc())?;
+    let line = [(5, 3), (5, 2), (5, 1), (5, 0)];
+    let wanted = [(9, 3), (8, 2), (8, 1), (9, 0)];
+    let buffer = line_of(rt.alloc(), Direction::RightToLeft, 16384, &line)?;
+    assert_substituted(&rt, rt.alloc(), &font, &[(1, 1, 3)], buffer, 8, &wanted)
+}
+
+/// A font of two chains for horizontal text and a third one for vertical text.
+fn three_chains(alloc: Global) -> Result<hb_font_t, Fail> {
     let mut chains = Vec::new(alloc);
-    let all = Coverage::ALL_DIRECTIONS;
-    chains.push(chain_of(alloc, 1, ON_CLEARS, all, (5, 9))?)?;
-    chains.push(chain_of(alloc, 0, ON_SETS, all, (5, 8))?)?;
-    let font = font_of(alloc, chains)?;
-    let line: [Seen; 4] = [(5, 3), (5, 2), (5, 1), (5, 0)];
-    let mut buffer = line_of(alloc, Direction::RightToLeft, 16384, &line)?;
-    assert!(rt; turns_of(alloc, &font, &[(1, 1, 3)], &mut buffer)? == Some(8));
-    assert!(rt; is_line(&buffer, &[(9, 3), (8, 2), (8, 1), (9, 0)]));
-    Ok(())
+    for (coverage, glyph) in [
+        (Coverage::LOGICAL, 7),
+        (Coverage::LOGICAL, 8),
+        (Coverage::VERTICAL, 9),
+    ] {
+        chains.push(chain_of(alloc, 1, OFF_CLEARS, coverage, (5, glyph))?)?;
+    }
+    font_of(alloc, chains)
 }
 
 /// Of two chains for horizontal text and a third one for vertical text the third alone acts on a vertical line.
 #[test]
 fn orientation_is_asked_in_each_chain(rt: HostRuntime) -> Result<(), Fail> {
-    let alloc = rt.alloc();
-    let mut chains = Vec::new(alloc);
-    chains.push(chain_of(alloc, 1, OFF_CLEARS, Coverage::LOGICAL, (5, 7))?)?;
-    chains.push(chain_of(alloc, 1, OFF_CLEARS, Coverage::LOGICAL, (5, 8))?)?;
-    chains.push(chain_of(alloc, 1, OFF_CLEARS, Coverage::VERTICAL, (5, 9))?)?;
-    let font = font_of(alloc, chains)?;
-    let mut buffer = line_of(alloc, Direction::TopToBottom, 16384, &[(5, 0), (6, 1)])?;
-    assert!(rt; turns_of(alloc, &font, &[], &mut buffer)? == Some(2));
-    assert!(rt; is_line(&buffer, &[(9, 0), (6, 1)]));
-    Ok(())
+    let font = three_chains(rt.alloc())?;
+    let line = line_of(rt.alloc(), Direction::TopToBottom, 16384, &[(5, 0), (6, 1)])?;
+    assert_substituted(&rt, rt.alloc(), &font, &[], line, 2, &[(9, 0), (6, 1)])
 }
 
 /// An entry that goes to state 1: with two glyphs before the cursor, where it stays, or with none.
@@ -184,28 +276,44 @@ fn inserting(alloc: Global) -> Result<Subtable, Fail> {
         (1, 1, passing),
         (1, 4, passing),
     ];
-    let kind = SubtableKind::Insertion(InsertionSubtable {
-        state: ExtendedStateTable::new(alloc, 5, &[(6, 4)], &rules)?,
-        glyphs: Vec::from_slice(alloc, &[GlyphId(5), GlyphId(5)])?,
-    });
+    let state = ExtendedStateTable::new(alloc, 5, &[(6, 4)], &rules)?;
+    let glyphs = Vec::from_slice(alloc, &[GlyphId(5), GlyphId(5)])?;
+    let kind = SubtableKind::Insertion(InsertionSubtable { state, glyphs });
     Ok(Subtable::new(kind, Coverage::ALL_DIRECTIONS, 1))
+}
+
+/// A font of so many of those subtables.
+fn inserting_font(alloc: Global, count: u64) -> Result<hb_font_t, Fail> {
+    let mut subtables = Vec::new(alloc);
+    for _ in 0..count {
+        subtables.push(inserting(alloc)?)?;
+    }
+    let chain = Chain::new(1, Vec::new(alloc), subtables);
+    font_of(alloc, vec![in alloc; chain]?)
+}
+
+/// Asserts that so many of those subtables take four turns each over a 6 with a budget of 2, and leave three glyphs.
+fn assert_bounds_met(rt: &impl Abort, alloc: Global, count: u64) -> Result<(), Fail> {
+    let font = inserting_font(alloc, count)?;
+    let line = line_of(alloc, Direction::LeftToRight, 2, &[(6, 0)])?;
+    let turns = count.saturating_mul(4);
+    assert_substituted(
+        rt,
+        alloc,
+        &font,
+        &[],
+        line,
+        turns,
+        &[(5, 0), (5, 0), (6, 0)],
+    )
 }
 
 /// So many of those subtables take four turns each over a 6 with a budget of 2, and leave three glyphs: as many turns
 /// and as many glyphs as the bounds allow.
 #[test]
 fn bounds_are_met(rt: HostRuntime) -> Result<(), Fail> {
-    let alloc = rt.alloc();
     for count in [1u64, 2, 5] {
-        let mut subtables = Vec::new(alloc);
-        for _ in 0..count {
-            subtables.push(inserting(alloc)?)?;
-        }
-        let chain = Chain::new(1, Vec::new(alloc), subtables);
-        let font = font_of(alloc, vec![in alloc; chain]?)?;
-        let mut buffer = line_of(alloc, Direction::LeftToRight, 2, &[(6, 0)])?;
-        assert!(rt; turns_of(alloc, &font, &[], &mut buffer)? == Some(4 * count));
-        assert!(rt; is_line(&buffer, &[(5, 0), (5, 0), (6, 0)]));
+        assert_bounds_met(&rt, rt.alloc(), count)?;
     }
     Ok(())
 }
@@ -232,7 +340,27 @@ fn moving_entry(flags: u16) -> GenericStateEntry<()> {
     }
 }
 
-/// Runs a font over 10 11 12 with one slot and spans of `LONGEST` glyphs; the turns, and whether that line is left.
+/// The turns of a font over a line with one slot and spans of `LONGEST` glyphs.
+fn turns_with<const LONGEST: usize>(
+    alloc: Global,
+    font: &hb_font_t,
+    buffer: &mut hb_buffer_t,
+) -> Option<u64>
+    requires { 0 < LONGEST }
+{
+    let map = hb_aat_map_t::default(alloc);
+    if !(buffer.all_glyphs_16() && map.is_whole()) {
+        return None;
+    }
+    let mut context = hb_aat_apply_context_t::new(font, buffer);
+    if apply_with::<1, LONGEST>(&mut context, &map) == Ok(Some(())) {
+        Some(context.turns)
+    } else {
+        None
+    }
+}
+
+/// Whether a font takes four turns over 10 11 12 with one slot and spans of `LONGEST` glyphs, and leaves this line.
 fn runs_with<const LONGEST: usize>(
     alloc: Global,
     font: &hb_font_t,
@@ -240,24 +368,23 @@ fn runs_with<const LONGEST: usize>(
 ) -> Result<bool, Fail>
     requires { 0 < LONGEST }
 {
-    let map = hb_aat_map_t::default(alloc);
     let line: [Seen; 3] = [(10, 0), (11, 1), (12, 2)];
     let mut buffer = line_of(alloc, Direction::LeftToRight, 16384, &line)?;
-    if !(buffer.all_glyphs_16() && map.is_whole()) {
-        return Ok(false);
-    }
-    let mut context = hb_aat_apply_context_t::new(font, &mut buffer);
-    let answer = apply_with::<1, LONGEST>(&mut context, &map);
-    Ok(answer == Ok(Some(())) && context.turns == 4 && is_line(&buffer, wanted))
+    let turns = turns_with::<LONGEST>(alloc, font, &mut buffer);
+    Ok(turns == Some(4) && is_line(&buffer, wanted))
+}
+
+/// A font whose only subtable is that.
+fn moving_font(alloc: Global) -> Result<hb_font_t, Fail> {
+    let chain = Chain::new(1, Vec::new(alloc), vec![in alloc; moving(alloc)?]?);
+    font_of(alloc, vec![in alloc; chain]?)
 }
 
 /// A span of three glyphs is rearranged where the longest span has three, and stays where it has two.
 #[test]
 fn sizes_are_named(rt: HostRuntime) -> Result<(), Fail> {
-    let alloc = rt.alloc();
-    let chain = Chain::new(1, Vec::new(alloc), vec![in alloc; moving(alloc)?]?);
-    let font = font_of(alloc, vec![in alloc; chain]?)?;
-    assert!(rt; runs_with::<3>(alloc, &font, &[(11, 0), (12, 0), (10, 0)])?);
-    assert!(rt; runs_with::<2>(alloc, &font, &[(10, 0), (11, 1), (12, 2)])?);
+    let font = moving_font(rt.alloc())?;
+    assert!(rt; runs_with::<3>(rt.alloc(), &font, &[(11, 0), (12, 0), (10, 0)])?);
+    assert!(rt; runs_with::<2>(rt.alloc(), &font, &[(10, 0), (11, 1), (12, 2)])?);
     Ok(())
 }

@@ -188,7 +188,7 @@ fn line_with(
 }
 
 /// A scene that one of the calls runs.
-#[derive(Drop)]
+#[derive(Clone, Copy)]
 struct Trial<'a> {
     alloc: Global,
     call: Call,
@@ -230,6 +230,20 @@ impl<'a> Trial<'a> {
             Some(mut buffer) => Ok(Some(self.run(rt, &mut buffer)?)),
             None => Ok(None),
         }
+    }
+
+    /// Runs the call over the line of the scene with ample memory, which may grow by so many glyphs.
+    fn run_with_room(&self, rt: &impl Abort, spare: u32) -> Result<Outcome, Fail> {
+        match self.run_scene(rt, self.alloc, spare as usize)? {
+            Some(outcome) => Ok(outcome),
+            None => Err(Fail::new("the line got no memory")),
+        }
+    }
+
+    /// Runs the call over the line of the scene in a heap of so many bytes: nothing where the line gets no memory.
+    fn run_over(&self, rt: &impl Abort, size: usize) -> Result<Option<Outcome>, AllocError> {
+        let heap = LocalHeap::new(self.alloc, size)?;
+        self.run_scene(rt, &heap, MAX_LEN)
     }
 
     /// Runs the call over a line in a heap of which nothing is left until then.
@@ -280,13 +294,23 @@ impl<'a> Trial<'a> {
         Ok(done)
     }
 
+    /// Runs the call with ample memory over a line that is equal to this one.
+    fn run_from(&self, rt: &impl Abort, line: &[Seen]) -> Result<Outcome, Fail> {
+        let mut buffer = equal_line(self.alloc, line, self.scene.budget)?;
+        Ok(self.run(rt, &mut buffer)?)
+    }
+
+    /// Whether a line has all runs once more than the one before the run behind the first `done` ones.
+    fn is_repeated_line(&self, line: &[Seen], done: u32) -> Result<bool, Fail> {
+        Ok(line_with(self.alloc, self.scene, done, true)?.as_slice() == line)
+    }
+
     /// Asserts that the call gives the whole result over a line that is equal to one that was refused behind some runs.
     fn assert_whole_from(&self, rt: &impl Abort, line: &[Seen], done: u32) -> Result<(), Fail> {
-        let mut buffer = equal_line(self.alloc, line, self.scene.budget)?;
-        let outcome = self.run(rt, &mut buffer)?;
+        let outcome = self.run_from(rt, line)?;
         assert!(rt; outcome.answer == Ok(self.turns_over(line.len())));
         assert!(rt; outcome.is_successful && outcome.left == self.scene.left);
-        assert!(rt; outcome.line == line_with(self.alloc, self.scene, done, true)?);
+        assert!(rt; self.is_repeated_line(&outcome.line, done)?);
         Ok(())
     }
 
@@ -317,8 +341,7 @@ impl<'a> Trial<'a> {
     /// Runs the call over a heap of so many bytes, and answers how many runs went in: none at all where the line itself
     /// gets no memory.
     fn runs_over(&self, rt: &impl Abort, size: usize) -> Result<Option<u32>, Fail> {
-        let heap = LocalHeap::new(self.alloc, size)?;
-        match self.run_scene(rt, &heap, MAX_LEN)? {
+        match self.run_over(rt, size)? {
             Some(outcome) => Ok(Some(self.runs_of(rt, &outcome)?)),
             None => Ok(None),
         }
@@ -327,60 +350,84 @@ impl<'a> Trial<'a> {
     /// Over heaps of more and more room the call is refused at the first, the second and a later growth, until it has
     /// enough.
     fn assert_each_growth_refused(&self, rt: &impl Abort) -> Result<(), Fail> {
-        let mut refused_behind = Vec::new(self.alloc);
+        let (mut refusals, mut first, mut last) = (0u32, None, None);
         for step in 1..400usize {
             let runs = self.runs_over(rt, step * 128)?;
             if runs == Some(self.all_runs()) {
-                assert!(rt; refused_behind.len() >= self.all_runs().min(3) as usize);
-                assert!(rt; refused_behind.first() == Some(&0));
+                assert!(rt; refusals >= self.all_runs().min(3) && first == Some(0));
                 return Ok(());
             }
-            if let Some(done) = runs {
-                if refused_behind.last() != Some(&done) {
-                    refused_behind.push(done)?;
-                }
+            if runs.is_some() && runs != last {
+                first = if refusals == 0 { runs } else { first };
+                last = runs;
+                refusals = refusals.saturating_add(1);
             }
         }
         Err(Fail::new("every run was refused"))
     }
 
-    /// Runs the call without memory, and once more over the failed buffer with ample memory.
-    fn refused_and_repeated(&self, rt: &impl Abort) -> Result<Option<(Outcome, Outcome)>, Fail> {
-        let heap = LocalHeap::new(self.alloc, 65536)?;
-        match self.line(rt, &heap, MAX_LEN) {
-            Some(mut buffer) => {
-                let refused = self.run_without_memory(rt, &heap, &mut buffer)?;
-                buffer.set_max_ops(self.scene.budget);
-                Ok(Some((refused, self.run(rt, &mut buffer)?)))
-            }
-            None => Ok(None),
-        }
+    /// Runs the call over a line without memory, and once more over the failed buffer with ample memory.
+    fn run_twice<'h>(
+        &self,
+        rt: &impl Abort,
+        heap: &'h LocalHeap,
+        buffer: &mut hb_buffer_t<&'h LocalHeap>,
+    ) -> Result<(Outcome, Outcome), Fail> {
+        let refused = self.run_without_memory(rt, heap, buffer)?;
+        buffer.set_max_ops(self.scene.budget);
+        let repeated = self.run(rt, buffer)?;
+        Ok((refused, repeated))
+    }
+
+    /// Asserts that the first run was refused for want of memory, and what the call made again did.
+    fn assert_both(
+        &self,
+        rt: &impl Abort,
+        refused: &Outcome,
+        repeated: &Outcome,
+    ) -> Result<(), Fail> {
+        assert!(rt; refused.answer == Err(AatError::OutOfMemory));
+        assert!(rt; self.runs_before_refusal(rt, refused)? == 0);
+        self.assert_whole_from(rt, &refused.line, 0)?;
+        self.assert_repeated(rt, repeated)
+    }
+
+    /// Asserts over a line without memory that the first run is refused, and what the call made again does.
+    fn assert_twice<'h>(
+        &self,
+        rt: &impl Abort,
+        heap: &'h LocalHeap,
+        buffer: &mut hb_buffer_t<&'h LocalHeap>,
+    ) -> Result<(), Fail> {
+        let (refused, repeated) = self.run_twice(rt, heap, buffer)?;
+        self.assert_both(rt, &refused, &repeated)
     }
 
     /// Without memory the first run is refused; then the call is made again with ample memory.
     fn assert_refused_and_repeated(&self, rt: &impl Abort) -> Result<(), Fail> {
-        match self.refused_and_repeated(rt)? {
-            Some((refused, repeated)) => {
-                assert!(rt; refused.answer == Err(AatError::OutOfMemory));
-                assert!(rt; self.runs_before_refusal(rt, &refused)? == 0);
-                self.assert_whole_from(rt, &refused.line, 0)?;
-                self.assert_repeated(rt, &repeated)
-            }
+        let heap = LocalHeap::new(self.alloc, 65536)?;
+        match self.line(rt, &heap, MAX_LEN) {
+            Some(mut buffer) => self.assert_twice(rt, &heap, &mut buffer),
             None => Err(Fail::new("the line got no memory")),
         }
     }
 
     /// A line that may grow by so many glyphs has so many runs in it before one that is too long.
     fn assert_too_long(&self, rt: &impl Abort, spare: u32, runs: u32) -> Result<(), Fail> {
-        match self.run_scene(rt, self.alloc, spare as usize)? {
-            Some(outcome) => {
-                assert!(rt; outcome.answer == Err(AatError::TooLong));
-                assert!(rt;
-                    self.runs_before_refusal(rt, &outcome)? == runs,
-                    "room for {spare}"
-                );
-                self.assert_whole_from(rt, &outcome.line, runs)
-            }
+        let outcome = self.run_with_room(rt, spare)?;
+        assert!(rt; outcome.answer == Err(AatError::TooLong));
+        assert!(rt;
+            self.runs_before_refusal(rt, &outcome)? == runs,
+            "room for {spare}"
+        );
+        self.assert_whole_from(rt, &outcome.line, runs)
+    }
+
+    /// Runs the call over the line of the scene, which may grow by so many glyphs and gets no memory.
+    fn refused_outcome(&self, rt: &impl Abort, spare: u32) -> Result<Outcome, Fail> {
+        let heap = LocalHeap::new(self.alloc, 4096)?;
+        match self.line(rt, &heap, spare as usize) {
+            Some(mut buffer) => Ok(self.run_without_memory(rt, &heap, &mut buffer)?),
             None => Err(Fail::new("the line got no memory")),
         }
     }
@@ -392,27 +439,17 @@ impl<'a> Trial<'a> {
         spare: u32,
         error: AatError,
     ) -> Result<(), Fail> {
-        let heap = LocalHeap::new(self.alloc, 4096)?;
-        match self.line(rt, &heap, spare as usize) {
-            Some(mut buffer) => {
-                let outcome = self.run_without_memory(rt, &heap, &mut buffer)?;
-                assert!(rt; outcome.answer == Err(error), "room for {spare}");
-                assert!(rt; self.runs_before_refusal(rt, &outcome)? == 0);
-                Ok(())
-            }
-            None => Err(Fail::new("the line got no memory")),
-        }
+        let outcome = self.refused_outcome(rt, spare)?;
+        assert!(rt; outcome.answer == Err(error), "room for {spare}");
+        assert!(rt; self.runs_before_refusal(rt, &outcome)? == 0);
+        Ok(())
     }
 
     /// The greatest length is met exactly by two runs.
     fn assert_met_exactly(&self, rt: &impl Abort, spare: u32) -> Result<(), Fail> {
-        match self.run_scene(rt, self.alloc, spare as usize)? {
-            Some(outcome) => {
-                assert!(rt; outcome.is_successful);
-                self.assert_whole(rt, &outcome, 2)
-            }
-            None => Err(Fail::new("the line got no memory")),
-        }
+        let outcome = self.run_with_room(rt, spare)?;
+        assert!(rt; outcome.is_successful);
+        self.assert_whole(rt, &outcome, 2)
     }
 
     /// The greatest length is met exactly, and passed by one and by more, by the second run and by the first one. It is
@@ -472,6 +509,37 @@ enum Assertion {
     GreatestLength,
 }
 
+impl<'a> Trial<'a> {
+    /// Asserts this of the scene.
+    fn assert_scene(&self, rt: &impl Abort, assertion: Assertion) -> Result<(), Fail> {
+        match assertion {
+            Assertion::EachGrowth => self.assert_each_growth_refused(rt),
+            Assertion::Repeated => self.assert_refused_and_repeated(rt),
+            Assertion::GreatestLength => self.assert_greatest_length(rt),
+        }
+    }
+}
+
+/// Asserts this of a scene, by each of the calls.
+fn assert_by_each_call(
+    rt: &impl Abort,
+    alloc: Global,
+    scene: &Scene,
+    font: &Inserting,
+    assertion: Assertion,
+) -> Result<(), Fail> {
+    for call in CALLS {
+        let trial = Trial {
+            alloc,
+            call,
+            scene,
+            font,
+        };
+        trial.assert_scene(rt, assertion)?;
+    }
+    Ok(())
+}
+
 /// Asserts this of some scenes, by each of the calls.
 fn assert_scenes(
     rt: &impl Abort,
@@ -481,19 +549,7 @@ fn assert_scenes(
 ) -> Result<(), Fail> {
     for scene in scenes {
         let font = font_of(alloc, scene)?;
-        for call in CALLS {
-            let trial = Trial {
-                alloc,
-                call,
-                scene,
-                font: &font,
-            };
-            match assertion {
-                Assertion::EachGrowth => trial.assert_each_growth_refused(rt)?,
-                Assertion::Repeated => trial.assert_refused_and_repeated(rt)?,
-                Assertion::GreatestLength => trial.assert_greatest_length(rt)?,
-            }
-        }
+        assert_by_each_call(rt, alloc, scene, &font, assertion)?;
     }
     Ok(())
 }

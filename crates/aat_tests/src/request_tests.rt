@@ -9,7 +9,7 @@ use aat_layout::{
     hb_aat_apply_context_t, hb_aat_layout_substitute, hb_aat_map_builder_t, hb_aat_map_t,
 };
 use linked_list_allocator::LocalHeap;
-use std::alloc::{Allocator, Global};
+use std::alloc::{AllocError, Global};
 use std::cmp::Ordering;
 use std::process::Abort;
 use std::test::Fail;
@@ -34,15 +34,19 @@ fn ligatures(setting: u16, enable_flags: u32, disable_flags: u32) -> ChainFeatur
     ChainFeature::new(1, setting, enable_flags, disable_flags)
 }
 
-/// A font with one setting of ligatures, and one chain with these features that turns 5 into 9.
-fn face(alloc: Global, features: &[ChainFeature]) -> Result<hb_font_t, Fail> {
+/// A chain with these features that turns 5 into 9.
+fn chain_of(alloc: Global, features: &[ChainFeature]) -> Result<Chain, Fail> {
     let kind = SubtableKind::NonContextual(Lookup::new(alloc, &[(5, 9)])?);
     let subtable = Subtable::new(kind, Coverage::ALL_DIRECTIONS, 1);
-    let features = Vec::from_slice(alloc, features)?;
-    let chain = Chain::new(1, features, vec![in alloc; subtable]?);
-    let tables = FaceTables::default()
-        .with_morx(Morx::new(vec![in alloc; chain]?)?)
-        .with_feat(Feat::new(alloc, &[name(1)])?);
+    let subtables = vec![in alloc; subtable]?;
+    Ok(Chain::new(1, Vec::from_slice(alloc, features)?, subtables))
+}
+
+/// A font with one setting of ligatures, and one chain with these features that turns 5 into 9.
+fn face(alloc: Global, features: &[ChainFeature]) -> Result<hb_font_t, Fail> {
+    let morx = Morx::new(vec![in alloc; chain_of(alloc, features)?]?)?;
+    let feat = Feat::new(alloc, &[name(1)])?;
+    let tables = FaceTables::default().with_morx(morx).with_feat(feat);
     Ok(hb_font_t::from_tables(tables))
 }
 
@@ -77,94 +81,135 @@ fn is_line(buffer: &hb_buffer_t, wanted: [u32; 3]) -> bool {
     true
 }
 
-/// A map with the ranges of one request over 3 to 4.
-#[test]
-fn a_request_has_its_own_range(rt: HostRuntime) -> Result<(), Fail> {
-    let alloc = rt.alloc();
-    let face = face(alloc, &[ligatures(2, 2, u32::MAX)])?;
+/// A builder with a request for the common ligatures over 3 to 4.
+fn builder_of_one(rt: &impl Abort, alloc: Global, face: &hb_font_t) -> hb_aat_map_builder_t {
     let mut builder = hb_aat_map_builder_t::default(alloc);
     assert!(rt; builder.range() == (0, u32::MAX) && builder.features().is_empty());
-    assert!(rt; builder.add_feature(&face, &liga(1, 3, 5)) == Ok(Some(())));
-    assert_eq!(rt; builder.features().len(), 1);
+    assert!(rt; builder.add_feature(face, &liga(1, 3, 5)) == Ok(Some(())));
+    assert!(rt; builder.features().len() == 1);
+    builder
+}
+
+/// The map that a builder compiles.
+fn compiled(
+    rt: &impl Abort,
+    alloc: Global,
+    face: &hb_font_t,
+    builder: &mut hb_aat_map_builder_t,
+) -> hb_aat_map_t {
     let mut map = hb_aat_map_t::default(alloc);
     assert!(rt; map.is_whole() && map.chain_flags().is_empty());
-    assert!(rt; builder.compile(&face, &mut map) == Ok(()));
+    assert!(rt; builder.compile(face, &mut map) == Ok(()));
     assert!(rt; builder.range() == (5, 4294967295) && builder.current_features().is_empty());
+    map
+}
+
+/// Asserts that a map has one chain, with the ranges of one request over 3 to 4.
+fn assert_ranges(rt: &impl Abort, map: &hb_aat_map_t) {
     let wanted = [(0, 1), (2, 1), (3, 3), (4, 3), (5, 1), (u32::MAX, 1)];
     for (cluster, flags) in wanted {
-        assert_eq!(rt; map.flags_at(0, cluster), Some(flags), "at {cluster}");
+        assert!(rt; map.flags_at(0, cluster) == Some(flags), "at {cluster}");
     }
     assert!(rt; map.flags_at(1, 0).is_none() && map.is_whole());
     assert!(rt; map.chain_flags().len() == 1 && map.chain_flags()[0].len() == 3);
+}
+
+/// A map with the ranges of one request over 3 to 4.
+#[test]
+fn a_request_has_its_own_range(rt: HostRuntime) -> Result<(), Fail> {
+    let face = face(rt.alloc(), &[ligatures(2, 2, u32::MAX)])?;
+    let mut builder = builder_of_one(&rt, rt.alloc(), &face);
+    assert_ranges(&rt, &compiled(&rt, rt.alloc(), &face, &mut builder));
     Ok(())
+}
+
+/// Asserts that a builder compiles flags for the second of two fonts alone: that with the table.
+fn assert_flags_compiled(rt: &impl Abort, alloc: Global, without: &hb_font_t, with: &hb_font_t) {
+    let builder = hb_aat_map_builder_t::default(alloc);
+    let mut map = hb_aat_map_t::default(alloc);
+    assert!(rt; compile_flags(without, &builder, &mut map) == Ok(None));
+    assert!(rt; map.chain_flags().is_empty());
+    assert!(rt; compile_flags(with, &builder, &mut map) == Ok(Some(())) && map.is_whole());
+    assert!(rt; map.flags_at(0, 7) == Some(1));
 }
 
 #[test]
 fn a_range_of_a_builder_is_compiled(rt: HostRuntime) -> Result<(), Fail> {
-    let alloc = rt.alloc();
-    let builder = hb_aat_map_builder_t::default(alloc);
-    let mut map = hb_aat_map_t::default(alloc);
-    let without = alternates_face(alloc)?;
-    assert!(rt; compile_flags(&without, &builder, &mut map) == Ok(None));
-    assert!(rt; map.chain_flags().is_empty());
-    let face = face(alloc, &[ligatures(2, 2, u32::MAX)])?;
-    assert!(rt; compile_flags(&face, &builder, &mut map) == Ok(Some(())) && map.is_whole());
-    assert!(rt; map.flags_at(0, 7) == Some(1));
+    let without = alternates_face(rt.alloc())?;
+    let with = face(rt.alloc(), &[ligatures(2, 2, u32::MAX)])?;
+    assert_flags_compiled(&rt, rt.alloc(), &without, &with);
     Ok(())
+}
+
+/// The answer and the turns of a font over a line, by a map that is empty.
+fn applied(
+    rt: &impl Abort,
+    alloc: Global,
+    face: &hb_font_t,
+    buffer: &mut hb_buffer_t,
+) -> (Result<Option<()>, AatError>, u64) {
+    let map = hb_aat_map_t::default(alloc);
+    assert!(rt; buffer.all_glyphs_16() && map.is_whole());
+    let mut context = hb_aat_apply_context_t::new(face, buffer);
+    assert!(rt; context.turns == 0 && context.subtable_flags == 0 && context.range_flags.is_none());
+    let answer = apply(&mut context, &map);
+    (answer, context.turns)
 }
 
 #[test]
 fn an_empty_map_has_each_subtable_on(rt: HostRuntime) -> Result<(), Fail> {
-    let alloc = rt.alloc();
-    let face = face(alloc, &[ligatures(3, 0, 0)])?;
-    let map = hb_aat_map_t::default(alloc);
-    let mut buffer = buffer_of_fives(alloc)?;
-    assert!(rt; buffer.all_glyphs_16() && map.is_whole());
-    let mut context = hb_aat_apply_context_t::new(&face, &mut buffer);
-    assert!(rt; context.turns == 0 && context.subtable_flags == 0 && context.range_flags.is_none());
-    let answer = apply(&mut context, &map);
-    assert!(rt; answer == Ok(Some(())) && context.turns == 3);
+    let face = face(rt.alloc(), &[ligatures(3, 0, 0)])?;
+    let mut buffer = buffer_of_fives(rt.alloc())?;
+    assert!(rt; applied(&rt, rt.alloc(), &face, &mut buffer) == (Ok(Some(())), 3));
     assert!(rt; is_line(&buffer, [9, 9, 9]));
     Ok(())
 }
 
 #[test]
 fn a_font_without_the_table_answers_none(rt: HostRuntime) -> Result<(), Fail> {
-    let alloc = rt.alloc();
-    let face = alternates_face(alloc)?;
-    let map = hb_aat_map_t::default(alloc);
-    let mut buffer = buffer_of_fives(alloc)?;
-    assert!(rt; buffer.all_glyphs_16() && map.is_whole());
-    let mut context = hb_aat_apply_context_t::new(&face, &mut buffer);
-    let answer = apply(&mut context, &map);
-    assert!(rt; answer == Ok(None) && context.turns == 0);
+    let face = alternates_face(rt.alloc())?;
+    let mut buffer = buffer_of_fives(rt.alloc())?;
+    assert!(rt; applied(&rt, rt.alloc(), &face, &mut buffer) == (Ok(None), 0));
     Ok(())
+}
+
+/// The turns of a font over a line, with a request for the common ligatures off over 1.
+fn turns_without_ligatures(
+    rt: &impl Abort,
+    alloc: Global,
+    face: &hb_font_t,
+    buffer: &mut hb_buffer_t,
+) -> Result<u64, Fail> {
+    let plan = hb_ot_shape_plan_t::new(vec![in alloc; liga(0, 1, 2)]?);
+    assert!(rt; buffer.all_glyphs_16());
+    Ok(hb_aat_layout_substitute(alloc, &plan, face, buffer)?)
 }
 
 #[test]
 fn a_feature_acts_where_it_was_asked_for(rt: HostRuntime) -> Result<(), Fail> {
-    let alloc = rt.alloc();
-    let face = face(alloc, &[ligatures(3, 0, 0)])?;
-    let plan = hb_ot_shape_plan_t::new(vec![in alloc; liga(0, 1, 2)]?);
-    let mut buffer = buffer_of_fives(alloc)?;
-    assert!(rt; buffer.all_glyphs_16());
-    let answer = hb_aat_layout_substitute(alloc, &plan, &face, &mut buffer);
-    assert!(rt; answer == Ok(3) && is_line(&buffer, [9, 5, 9]));
+    let face = face(rt.alloc(), &[ligatures(3, 0, 0)])?;
+    let mut buffer = buffer_of_fives(rt.alloc())?;
+    assert!(rt; turns_without_ligatures(&rt, rt.alloc(), &face, &mut buffer)? == 3);
+    assert!(rt; is_line(&buffer, [9, 5, 9]));
     Ok(())
+}
+
+/// Asserts that an alternate of more than 16 bits is refused, and one of 16 bits appended.
+fn assert_alternates(rt: &impl Abort, face: &hb_font_t, builder: &mut hb_aat_map_builder_t) {
+    let refused = builder.add_feature(face, &aalt(65536));
+    assert!(rt; refused == Err(AatError::AaltValue(65536)) && builder.features().is_empty());
+    assert!(rt; builder.add_feature(face, &aalt(65535)) == Ok(None));
+    assert!(rt; builder.features().len() == 1);
+    let info = builder.features()[0].info;
+    assert!(rt; info.kind == 17 && info.setting == 65535 && info.is_exclusive);
 }
 
 #[test]
 fn alternates(rt: HostRuntime) -> Result<(), Fail> {
-    let alloc = rt.alloc();
-    let face = alternates_face(alloc)?;
-    let mut builder = hb_aat_map_builder_t::default(alloc);
-    let refused = builder.add_feature(&face, &aalt(65536));
-    assert!(rt; refused == Err(AatError::AaltValue(65536)) && builder.features().is_empty());
+    let face = alternates_face(rt.alloc())?;
+    let mut builder = hb_aat_map_builder_t::default(rt.alloc());
+    assert_alternates(&rt, &face, &mut builder);
     assert!(rt; AatError::AaltValue(65536).number() == 1);
-    assert!(rt; builder.add_feature(&face, &aalt(65535)) == Ok(None));
-    assert!(rt; builder.features().len() == 1);
-    let info = builder.features()[0].info;
-    assert!(rt; info.kind == 17 && info.setting == 65535 && info.is_exclusive);
     Ok(())
 }
 
@@ -202,11 +247,11 @@ fn names(rt: HostRuntime) -> Result<(), Fail> {
 
 /// Adds an alternate over a heap, and says whether it was appended. A refusal leaves the builder as
 /// it was, and the call made again is refused again.
-fn adds_over<A: Allocator + Copy>(rt: &impl Abort, alloc: A, face: &hb_font_t) -> bool {
-    let mut builder = hb_aat_map_builder_t::default(alloc);
+fn adds_over(rt: &impl Abort, heap: &LocalHeap, face: &hb_font_t) -> bool {
+    let mut builder = hb_aat_map_builder_t::default(heap);
     let answer = builder.add_feature(face, &aalt(65535));
     if answer == Ok(None) {
-        assert_eq!(rt; builder.features().len(), 1);
+        assert!(rt; builder.features().len() == 1);
         return true;
     }
     assert!(rt; answer == Err(AatError::OutOfMemory) && AatError::OutOfMemory.number() == 3);
@@ -217,10 +262,7 @@ fn adds_over<A: Allocator + Copy>(rt: &impl Abort, alloc: A, face: &hb_font_t) -
 }
 
 /// Requests three ranges, and says whether none of them was refused.
-fn adds_three<A: Allocator + Copy>(
-    builder: &mut hb_aat_map_builder_t<A>,
-    face: &hb_font_t,
-) -> bool {
+fn adds_three(builder: &mut hb_aat_map_builder_t<&LocalHeap>, face: &hb_font_t) -> bool {
     for feature in [liga(1, 0, 10), liga(0, 1, 10), liga(1, 2, 5)] {
         if builder.add_feature(face, &feature).is_err() {
             return false;
@@ -231,14 +273,14 @@ fn adds_three<A: Allocator + Copy>(
 
 /// Compiles three requests into an empty map, and says whether that was not refused. A refusal leaves the requests and
 /// empties the map.
-fn compiles<A: Allocator + Copy>(
+fn compiles<'h>(
     rt: &impl Abort,
-    builder: &mut hb_aat_map_builder_t<A>,
+    builder: &mut hb_aat_map_builder_t<&'h LocalHeap>,
     face: &hb_font_t,
-    map: &mut hb_aat_map_t<A>,
+    map: &mut hb_aat_map_t<&'h LocalHeap>,
 ) -> bool {
     let answer = builder.compile(face, map);
-    assert_eq!(rt; builder.features().len(), 3);
+    assert!(rt; builder.features().len() == 3);
     if answer == Ok(()) {
         assert!(rt; map.flags_at(0, 4) == Some(3) && map.flags_at(0, 5) == Some(5));
         return true;
@@ -249,17 +291,50 @@ fn compiles<A: Allocator + Copy>(
 
 /// Compiles three requests over a heap, and says whether that was not refused: nothing where a request
 /// is refused. The call made again after a refusal is refused again.
-fn compiles_over<A: Allocator + Copy>(rt: &impl Abort, alloc: A, face: &hb_font_t) -> Option<bool> {
-    let mut builder = hb_aat_map_builder_t::default(alloc);
+fn compiles_over(rt: &impl Abort, heap: &LocalHeap, face: &hb_font_t) -> Option<bool> {
+    let mut builder = hb_aat_map_builder_t::default(heap);
     if !adds_three(&mut builder, face) {
         return None;
     }
-    let mut map = hb_aat_map_t::default(alloc);
-    if compiles(rt, &mut builder, face, &mut map) {
-        return Some(true);
+    Some(compiles_at_once(rt, heap, face, &mut builder))
+}
+
+/// Compiles three requests into an empty map over a heap, and says whether that was not refused. The call made again
+/// after a refusal is refused again.
+fn compiles_at_once<'h>(
+    rt: &impl Abort,
+    heap: &'h LocalHeap,
+    face: &hb_font_t,
+    builder: &mut hb_aat_map_builder_t<&'h LocalHeap>,
+) -> bool {
+    let mut map = hb_aat_map_t::default(heap);
+    let is_compiled = compiles(rt, builder, face, &mut map);
+    if !is_compiled {
+        assert!(rt; !compiles(rt, builder, face, &mut map));
     }
-    assert!(rt; !compiles(rt, &mut builder, face, &mut map));
-    Some(false)
+    is_compiled
+}
+
+/// Whether an alternate is appended over a heap of so many bytes.
+fn adds_within(
+    rt: &impl Abort,
+    alloc: Global,
+    face: &hb_font_t,
+    size: usize,
+) -> Result<bool, AllocError> {
+    let heap = LocalHeap::new(alloc, size)?;
+    Ok(adds_over(rt, &heap, face))
+}
+
+/// Whether compiling is not refused over a heap of so many bytes: nothing where a request is refused.
+fn compiles_within(
+    rt: &impl Abort,
+    alloc: Global,
+    face: &hb_font_t,
+    size: usize,
+) -> Result<Option<bool>, AllocError> {
+    let heap = LocalHeap::new(alloc, size)?;
+    Ok(compiles_over(rt, &heap, face))
 }
 
 /// Each growth of a request is refused in turn, by a heap that is too small for it.
@@ -267,31 +342,31 @@ fn assert_requests_refused(rt: &impl Abort, alloc: Global) -> Result<(), Fail> {
     let face = alternates_face(alloc)?;
     let mut found = (0, 0);
     for step in 0..128usize {
-        let heap = LocalHeap::new(alloc, step * 16)?;
-        if adds_over(rt, &heap, &face) {
+        if adds_within(rt, alloc, &face, step * 16)? {
             found.0 = 1;
         } else {
             found.1 = 1;
         }
     }
-    assert_eq!(rt; found, (1, 1));
+    assert!(rt; found == (1, 1));
     Ok(())
 }
 
 /// Each growth of compiling is refused in turn.
 fn assert_compiling_refused(rt: &impl Abort, alloc: Global) -> Result<(), Fail> {
-    let features = [ligatures(2, 2, u32::MAX), ligatures(3, 4, u32::MAX)];
-    let face = face(alloc, &features)?;
+    let face = face(
+        alloc,
+        &[ligatures(2, 2, u32::MAX), ligatures(3, 4, u32::MAX)],
+    )?;
     let mut found = (0, 0);
     for step in 0..128usize {
-        let heap = LocalHeap::new(alloc, step * 16)?;
-        match compiles_over(rt, &heap, &face) {
+        match compiles_within(rt, alloc, &face, step * 16)? {
             Some(true) => found.0 = 1,
             Some(false) => found.1 = 1,
             None => {}
         }
     }
-    assert_eq!(rt; found, (1, 1));
+    assert!(rt; found == (1, 1));
     Ok(())
 }
 

@@ -6,7 +6,7 @@ use aat_layout::font::{
     hb_ot_shape_plan_t,
 };
 use aat_layout::{AatError, hb_aat_layout_substitute};
-use std::alloc::{Allocator, Global};
+use std::alloc::Global;
 use std::process::Abort;
 use std::test::Fail;
 
@@ -20,7 +20,7 @@ fn buffer_5_6_5(alloc: Global) -> Result<hb_buffer_t, BufferError> {
 }
 
 /// Whether the line has these glyph ids, clusters and masks.
-fn is_line<A: Allocator + Copy>(buffer: &hb_buffer_t<A>, wanted: &[(u32, u32, u32)]) -> bool {
+fn is_line(buffer: &hb_buffer_t, wanted: &[(u32, u32, u32)]) -> bool {
     if buffer.len() != wanted.len() {
         return false;
     }
@@ -54,13 +54,35 @@ fn face(alloc: Global, coverage: Coverage, feature_flags: u32) -> Result<hb_font
     Ok(hb_font_t::from_tables(FaceTables::default().with_morx(morx)))
 }
 
-fn plan(alloc: Global, apply_morx: bool) -> hb_ot_shape_plan_t {
-    hb_ot_shape_plan_t {
+/// A font without a table.
+fn empty_face() -> hb_font_t {
+    hb_font_t::from_tables(FaceTables::default())
+}
+
+/// A font with one such chain, by whose classes the glyph 9 is a mark.
+fn classifying_face(alloc: Global) -> Result<hb_font_t, Fail> {
+    let classes = Lookup::new(alloc, &[(9, 8)])?;
+    let morx = Morx::new(vec![in alloc; chain(alloc, Coverage::ALL_DIRECTIONS, 1)?]?)?;
+    let tables = FaceTables::default().with_morx(morx);
+    Ok(hb_font_t::new(tables, Some(classes), None))
+}
+
+/// The answer of substitution by a plan without requests.
+fn substitute(
+    rt: &impl Abort,
+    alloc: Global,
+    face: &hb_font_t,
+    apply_morx: bool,
+    buffer: &mut hb_buffer_t,
+) -> Result<u64, AatError> {
+    assert!(rt; buffer.all_glyphs_16());
+    let plan = hb_ot_shape_plan_t {
         user_features: Vec::new(alloc),
         apply_morx,
         requested_kerning: false,
         kern_mask: 0,
-    }
+    };
+    hb_aat_layout_substitute(alloc, &plan, face, buffer)
 }
 
 /// Substitutes 5 at 0, 6 at 1, 5 at 2, and asserts the line and the turns.
@@ -73,43 +95,56 @@ fn assert_substitutes(
     turns: u64,
 ) -> Result<(), Fail> {
     let mut buffer = buffer_5_6_5(alloc)?;
-    let plan = plan(alloc, apply_morx);
-    assert!(rt; buffer.all_glyphs_16());
-    let answer = hb_aat_layout_substitute(alloc, &plan, face, &mut buffer);
-    assert!(rt; answer == Ok(turns));
+    assert!(rt; substitute(rt, alloc, face, apply_morx, &mut buffer) == Ok(turns));
     assert!(rt; is_line(&buffer, wanted) && buffer.max_ops() == 16384);
     Ok(())
 }
 
+/// Where the subtable acts, 5 becomes 9, and each glyph is a turn.
 #[test]
 fn substitutes(rt: HostRuntime) -> Result<(), Fail> {
     let changed: [(u32, u32, u32); 3] = [(9, 0, 0), (6, 1, 0), (9, 2, 0)];
     let same: [(u32, u32, u32); 3] = [(5, 0, 0), (6, 1, 0), (5, 2, 0)];
-    let alloc = rt.alloc();
-    let on = face(alloc, Coverage::ALL_DIRECTIONS, 1)?;
-    let off = face(alloc, Coverage::ALL_DIRECTIONS, 2)?;
-    let vertical = face(alloc, Coverage::VERTICAL, 1)?;
-    let empty = hb_font_t::from_tables(FaceTables::default());
-    assert_substitutes(&rt, alloc, &on, true, &changed, 3)?;
-    assert_substitutes(&rt, alloc, &off, true, &same, 0)?;
-    assert_substitutes(&rt, alloc, &off, false, &changed, 3)?;
-    assert_substitutes(&rt, alloc, &vertical, true, &same, 0)?;
-    assert_substitutes(&rt, alloc, &vertical, false, &same, 0)?;
-    assert_substitutes(&rt, alloc, &empty, true, &same, 0)
+    let (on, off, vertical) = (
+        (Coverage::ALL_DIRECTIONS, 1),
+        (Coverage::ALL_DIRECTIONS, 2),
+        (Coverage::VERTICAL, 1),
+    );
+    for ((coverage, feature_flags), apply_morx, wanted, turns) in [
+        (on, true, changed, 3),
+        (off, true, same, 0),
+        (off, false, changed, 3),
+        (vertical, true, same, 0),
+        (vertical, false, same, 0),
+    ] {
+        let face = face(rt.alloc(), coverage, feature_flags)?;
+        assert_substitutes(&rt, rt.alloc(), &face, apply_morx, &wanted, turns)?;
+    }
+    Ok(())
 }
 
 #[test]
-fn a_failed_buffer_is_refused(rt: HostRuntime) -> Result<(), Fail> {
-    let face = face(rt.alloc(), Coverage::ALL_DIRECTIONS, 1)?;
-    let plan = plan(rt.alloc(), true);
-    let mut buffer = hb_buffer_t::new(rt.alloc(), 1, 16384);
+fn a_font_without_a_table_substitutes_nothing(rt: HostRuntime) -> Result<(), Fail> {
+    let same = [(5, 0, 0), (6, 1, 0), (5, 2, 0)];
+    assert_substitutes(&rt, rt.alloc(), &empty_face(), true, &same, 0)
+}
+
+/// A buffer that has failed, with the line 5 at 0.
+fn failed_buffer(rt: &impl Abort, alloc: Global) -> Result<hb_buffer_t, BufferError> {
+    let mut buffer = hb_buffer_t::new(alloc, 1, 16384);
     assert!(rt; buffer.is_empty() && buffer.is_successful());
     buffer.add(hb_glyph_info_t::new(5, 0))?;
     let refused = buffer.add(hb_glyph_info_t::new(5, 1));
     assert!(rt; refused == Err(BufferError::TooLong) && BufferError::TooLong.number() == 1);
     assert!(rt; is_line(&buffer, &[(5, 0, 0)]) && !buffer.is_successful());
-    assert!(rt; buffer.all_glyphs_16());
-    let answer = hb_aat_layout_substitute(rt.alloc(), &plan, &face, &mut buffer);
+    Ok(buffer)
+}
+
+#[test]
+fn a_failed_buffer_is_refused(rt: HostRuntime) -> Result<(), Fail> {
+    let face = face(rt.alloc(), Coverage::ALL_DIRECTIONS, 1)?;
+    let mut buffer = failed_buffer(&rt, rt.alloc())?;
+    let answer = substitute(&rt, rt.alloc(), &face, true, &mut buffer);
     assert!(rt; answer == Err(AatError::BufferFailed) && AatError::BufferFailed.number() == 4);
     assert!(rt; is_line(&buffer, &[(5, 0, 0)]) && buffer.max_ops() == 16384);
     Ok(())
@@ -117,28 +152,20 @@ fn a_failed_buffer_is_refused(rt: HostRuntime) -> Result<(), Fail> {
 
 #[test]
 fn positions_are_dropped(rt: HostRuntime) -> Result<(), Fail> {
-    let alloc = rt.alloc();
-    let plan = plan(alloc, true);
-    let empty = hb_font_t::from_tables(FaceTables::default());
-    let mut buffer = buffer_5_6_5(alloc)?;
+    let mut buffer = buffer_5_6_5(rt.alloc())?;
     buffer.clear_positions()?;
-    assert!(rt; buffer.has_positions() && buffer.all_glyphs_16());
-    let answer = hb_aat_layout_substitute(alloc, &plan, &empty, &mut buffer);
-    assert!(rt; answer == Ok(0) && !buffer.has_positions());
+    assert!(rt; buffer.has_positions());
+    assert!(rt; substitute(&rt, rt.alloc(), &empty_face(), true, &mut buffer) == Ok(0));
+    assert!(rt; !buffer.has_positions());
     Ok(())
 }
 
 #[test]
 fn properties_follow_the_classes(rt: HostRuntime) -> Result<(), Fail> {
-    let alloc = rt.alloc();
-    let plan = plan(alloc, true);
-    let morx = Morx::new(vec![in alloc; chain(alloc, Coverage::ALL_DIRECTIONS, 1)?]?)?;
-    let tables = FaceTables::default().with_morx(morx);
-    let face = hb_font_t::new(tables, Some(Lookup::new(alloc, &[(9, 8)])?), None);
-    let mut buffer = buffer_5_6_5(alloc)?;
-    assert!(rt; buffer.all_glyphs_16());
-    let answer = hb_aat_layout_substitute(alloc, &plan, &face, &mut buffer);
-    assert!(rt; answer == Ok(3) && buffer.len() == 3);
+    let face = classifying_face(rt.alloc())?;
+    let mut buffer = buffer_5_6_5(rt.alloc())?;
+    assert!(rt; substitute(&rt, rt.alloc(), &face, true, &mut buffer) == Ok(3));
+    assert!(rt; buffer.len() == 3);
     if buffer.len() == 3 {
         assert!(rt; buffer.info(0).glyph_props == 8 && buffer.info(1).glyph_props == 0);
     }

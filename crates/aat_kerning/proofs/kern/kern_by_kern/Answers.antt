@@ -1,41 +1,45 @@
-use Rattle.std.proofs.Common.{rules, ◌≡◌, ◌∙◌, true, false}
+use Rattle.std.proofs.Common.{rules, ◌≡◌, ◌∙◌, ap, sym, true, false, cond}
 use Rattle.aat_kerning.specs.Positioning.{is_for_text, kern_kerning}
 use Rattle.aat_run.specs.Outcome.{untouched}
-use Rattle.aat_kerning.proofs.Positioned.{asked_for_text, for_text, left_out, not_for_text, not_left_out}
+use Rattle.aat_kerning.proofs.Positioned.{asked_for_text, asked_outcome, for_text, passed_over}
 use Rattle.aat_kerning.proofs.kern.kern_by_kern.Goals as goal
 
 pub returns-then-not-is_for_text-clause-positioned : goal.returns-then-not-is_for_text-clause-positioned
-returns-then-not-is_for_text-clause-positioned g c =
+returns-then-not-is_for_text-clause-positioned g c turns =
     let b = c.args.buffer.now in
     let k = kern_kerning c.args.plan.now.kern_mask c.args.subtable.now in
     let answer : c.is_for_text.result ≡ false = search rules in
     let outside : is_for_text k b ≡ false =
     asked_for_text k b c.direction.result c.is_for_text.result false c.direction.ensures c.is_for_text.ensures answer in
-    not_for_text c.args.plan.now.requested_kerning k (record { buffer = b; turns = 0; is_attached = c.args.is_attached.now }) outside
+    passed_over c.args.plan.now.requested_kerning k b turns c.args.is_attached.now outside
 
-pub returns-then-not-plan-clause-positioned : goal.returns-then-not-plan-clause-positioned
-returns-then-not-plan-clause-positioned g c =
+pub returns-then-is_left_out-clause-positioned : goal.returns-then-is_left_out-clause-positioned
+returns-then-is_left_out-clause-positioned g c turns =
     let b = c.args.buffer.now in
     let d = c.attach_once.new.buffer in
     let k = kern_kerning c.args.plan.now.kern_mask c.args.subtable.now in
     let requested = c.args.plan.now.requested_kerning in
     let answer : c.is_for_text.result ≡ true = search rules in
-    let asked : requested ≡ false = search rules in
     let inside : is_for_text k b ≡ true =
     asked_for_text k b c.direction.result c.is_for_text.result true c.direction.ensures c.is_for_text.ensures answer in
-    for_text requested k (record { buffer = b; turns = 0; is_attached = c.args.is_attached.now }) d d c.attach_once.new.is_attached inside
-    c.attach_once.ensures.attached (left_out k.is_pairs requested (untouched d) (k.run d) c.requires.pairs asked) c.attach_once.ensures.noted
+    let left : c.is_left_out.result ≡ true = search rules in
+    for_text requested k (record { buffer = b; turns = turns; is_attached = c.args.is_attached.now }) d d 0 c.attach_once.new.is_attached inside
+    c.attach_once.ensures.attached
+    (sym (ap (λ t. cond t (untouched d) (k.run d)) left) ∙ asked_outcome requested k d c.is_of_kern_pairs.result c.is_left_out.result c.is_of_kern_pairs.ensures c.is_left_out.ensures)
+    c.attach_once.ensures.noted
 
 pub returns-clause-positioned : goal.returns-clause-positioned
-returns-clause-positioned g c =
+returns-clause-positioned g c turns =
     let b = c.args.buffer.now in
     let d = c.attach_once.new.buffer in
     let k = kern_kerning c.args.plan.now.kern_mask c.args.subtable.now in
     let requested = c.args.plan.now.requested_kerning in
     let answer : c.is_for_text.result ≡ true = search rules in
-    let asked : requested ≡ true = search rules in
     let inside : is_for_text k b ≡ true =
     asked_for_text k b c.direction.result c.is_for_text.result true c.direction.ensures c.is_for_text.ensures answer in
-    let ran : untouched c.run_kern.new.buffer ≡ k.run d = c.run_kern.ensures.run in
-    for_text requested k (record { buffer = b; turns = 0; is_attached = c.args.is_attached.now }) d c.run_kern.new.buffer c.attach_once.new.is_attached inside
-    c.attach_once.ensures.attached (ran ∙ not_left_out k.is_pairs requested (untouched d) (k.run d) asked) c.attach_once.ensures.noted
+    let stays : c.is_left_out.result ≡ false = search rules in
+    for_text requested k (record { buffer = b; turns = turns; is_attached = c.args.is_attached.now }) d c.run_kern.new.buffer c.run_kern.result c.attach_once.new.is_attached inside
+    c.attach_once.ensures.attached
+    (c.run_kern.ensures.run
+    ∙ (sym (ap (λ t. cond t (untouched d) (k.run d)) stays) ∙ asked_outcome requested k d c.is_of_kern_pairs.result c.is_left_out.result c.is_of_kern_pairs.ensures c.is_left_out.ensures))
+    c.attach_once.ensures.noted

@@ -1,31 +1,47 @@
-use Rattle.std.proofs.Common.{◌≤◌, ◌∙◌, ap, sym, length, List, arith}
+use Rattle.std.proofs.Common.{◌+◌, ◌≤◌, ◌<◌, ◌∙◌, ap, length, List, ℤ, subst, arith}
 use Rattle.std.proofs.lemmas.List.{take_all}
+use Rattle.std.specs.Option.{option_copied}
 use Rattle.aat_font.specs.declared.kerx.KerxSubtable.{KerxSubtable}
-use Rattle.aat_kerning.specs.Positioning.{Positioned, kerx_kerning, positioned}
-use Rattle.aat_kerning.proofs.Positioned.{positioned_so_far, so_far_all, so_far_more}
+use Rattle.aat_run.specs.Budget.{operations_left}
+use Rattle.aat_run.proofs.FewTurns.{few_operations}
+use Rattle.aat_kerning.specs.Positioning.{Positioned, kerx_kerning}
+use Rattle.aat_kerning.proofs.KerningLawsHold.{few_turns, kerx_each_paid}
+use Rattle.aat_kerning.proofs.Positioned.{positioned_so_far, so_far_all, so_far_next}
 use Rattle.aat_kerning.proofs.kerx.position_by_kerx.Goals as goal
+
+pub overflow_add-turns : goal.overflow_add-turns
+overflow_add-turns g c =
+    let kerning = kerx_kerning c.args.plan.now.kern_mask (option_copied c.args.ankr) in
+    let b = c.args.buffer.now in
+    let turns = c.loop-subtable.turns + c.kern_by_kerx-turns.result in
+    let now : Positioned = record { buffer = c.kern_by_kerx-turns.new.buffer; turns = turns; is_attached = c.kern_by_kerx-turns.new.is_attached } in
+    let spent : operations_left b.max_ops < 0x80000000 =
+    subst (λ (z : ℤ). operations_left z < 0x80000000) c.max_ops-budget.ensures (few_operations c.max_ops-budget.result c.max_ops-budget.type_inv) in
+    let few : turns < 0x800000000000 =
+    few_turns c.args.plan.now.requested_kerning kerning c.args.subtables.now (c.loop-subtable.subtable-index + 1) b now (kerx_each_paid c.args.plan.now.kern_mask (option_copied c.args.ankr))
+    (so_far_next c.args.plan.now.requested_kerning kerning c.args.subtables.now c.loop-subtable.subtable-index c.subtable-item.result b _ now
+    c.loop-subtable-test.true c.subtable-item.is c.loop-subtable.invariant.same (c.kern_by_kerx-turns.ensures.positioned c.loop-subtable.turns))
+    c.requires.few (omega (arith, c.len-length.ensures.count, c.len-length.ensures.small)) spent in
+    omega (arith, few)
 
 pub loop-subtable-preserved : goal.loop-subtable-preserved
 loop-subtable-preserved g c =
-    let requested = c.args.plan.now.requested_kerning in
-    let kern_mask = c.args.plan.now.kern_mask in
-    let x = c.subtable-item.result in
     record {
-      same = λ points.
-          c.kern_by_kerx.ensures.positioned points
-          ∙ ap (λ (s : Positioned). positioned requested (kerx_kerning kern_mask points x) s) (c.loop-subtable.invariant.same points)
-          ∙ sym (so_far_more requested (kerx_kerning kern_mask points) c.args.subtables.now c.loop-subtable.subtable-index x c.args.buffer.now c.loop-subtable-test.true c.subtable-item.is);
-      ids = c.kern_by_kerx.ensures.ids;
-      placed = c.kern_by_kerx.ensures.placed;
+      same =
+          so_far_next c.args.plan.now.requested_kerning (kerx_kerning c.args.plan.now.kern_mask (option_copied c.args.ankr)) c.args.subtables.now c.loop-subtable.subtable-index c.subtable-item.result
+          c.args.buffer.now _ _ c.loop-subtable-test.true c.subtable-item.is c.loop-subtable.invariant.same
+          (c.kern_by_kerx-turns.ensures.positioned c.loop-subtable.turns);
+      ids = c.kern_by_kerx-turns.ensures.ids;
+      placed = c.kern_by_kerx-turns.ensures.placed;
     }
 
 pub returns : goal.returns
-returns g c points =
+returns g c =
     let requested = c.args.plan.now.requested_kerning in
-    let kerning = kerx_kerning c.args.plan.now.kern_mask points in
+    let kerning = kerx_kerning c.args.plan.now.kern_mask (option_copied c.args.ankr) in
     let subtables = c.args.subtables.now in
     let b = c.args.buffer.now in
     let past : length subtables ≤ c.loop-subtable.subtable-index = omega (arith, c.loop-subtable-test.false) in
-    so_far_all requested kerning subtables b c.loop-subtable.buffer c.reorder-2.new.buffer c.loop-subtable.is_attached
-    (c.loop-subtable.invariant.same points ∙ ap (λ (ys : List KerxSubtable). positioned_so_far requested kerning ys b) (take_all c.loop-subtable.subtable-index subtables past))
+    so_far_all requested kerning subtables b c.loop-subtable.buffer c.reorder-2.new.buffer c.loop-subtable.turns c.loop-subtable.is_attached
+    (c.loop-subtable.invariant.same ∙ ap (λ (ys : List KerxSubtable). positioned_so_far requested kerning ys b) (take_all c.loop-subtable.subtable-index subtables past))
     c.reorder-2.ensures

@@ -6,7 +6,7 @@ use Rattle.std.proofs.lemmas.Int.{to_z-of_z}
 use mir.Val.{of_z, to_z}
 use Rattle.aat_glyph.specs.Directions.{is_horizontal}
 use Rattle.aat_kerning.specs.PairKerning.{half}
-use Rattle.aat_kerning.specs.Positions.{with_advance, with_shift}
+use Rattle.aat_kerning_machines.specs.Positions.{with_advance, with_shift}
 use Rattle.aat_kerning.proofs.InStream.{in_stream_by}
 use Rattle.aat_kerning.proofs.pair_kerning.kern_in_stream.Goals as goal
 

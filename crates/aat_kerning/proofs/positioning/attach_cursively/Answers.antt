@@ -3,7 +3,7 @@ use Rattle.aat_buffer.specs.Buffer.{position_list}
 use Rattle.aat_glyph.specs.Directions.{is_backward}
 use Rattle.aat_glyph.specs.declared.glyph.Direction.{Direction}
 use Rattle.aat_glyph.specs.declared.glyph.GlyphPosition.{GlyphPosition}
-use Rattle.aat_kerning.specs.Positions.{attached_as}
+use Rattle.aat_kerning_machines.specs.Positions.{attached_as}
 use Rattle.aat_kerning.proofs.Attached.{attached_all, attached_more, attached_none, attached_places}
 use Rattle.aat_kerning.proofs.positioning.attach_cursively.Goals as goal
 

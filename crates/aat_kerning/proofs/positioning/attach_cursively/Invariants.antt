@@ -1,6 +1,6 @@
 use Rattle.std.proofs.Common.{◌≡◌, pos, negsuc, cond}
 use Rattle.aat_glyph.specs.Directions.{is_backward}
-use Rattle.aat_kerning.specs.Positions.{attached_as}
+use Rattle.aat_kerning_machines.specs.Positions.{attached_as}
 use Rattle.aat_kerning.proofs.Attached.{on_first_positions}
 use Rattle.aat_kerning.proofs.positioning.attach_cursively.Given as goal
 

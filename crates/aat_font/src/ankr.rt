@@ -1,0 +1,76 @@
+//! The anchor point table.
+ghost use Rattle.std.specs.Prelude.{◌≡◌, IfOk, IfErr, OnOk, None, slice_get};
+ghost use Rattle.aat_font.specs.AnchorPoints.{glyph_of_row, points_in_rows, listed_point};
+ghost use Rattle.aat_font.specs.Keys.{first_fall};
+ghost use Rattle.aat_font.specs.TableErrors.{RefusesFall};
+
+use crate::entries::Point;
+use crate::error::TableError;
+use crate::keys::{Keyed, first_fall, row_in};
+use crate::plan::GlyphId;
+use std::marker::Model;
+
+/// The anchor points of glyphs, in units of the font. A contract sees it as `Points`, the list of the glyphs, each with
+/// the list of its points.
+///
+/// Apple's TrueType Reference Manual, "The 'ankr' table".
+#[derive(Drop)]
+pub struct Ankr {
+    rows: Vec<(u16, Vec<Point>)>,
+}
+
+impl Model for Ankr {
+    ghost use Rattle.aat_font.specs.AnchorPoints.{Points, glyph_of_row, points_in_rows};
+    ghost use Rattle.aat_font.specs.Keys.{IsRising};
+
+    ghost Value = { Points };
+
+    ghost view = { λ m. points_in_rows m.rows.items };
+
+    ghost invariant = { λ m. IsRising glyph_of_row m.rows.items };
+}
+
+impl Ankr {
+    /// Makes the table of rows of a glyph and its points, which have to rise strictly by glyph, and which are kept as
+    /// they are handed in. Takes no memory.
+    ///
+    /// Refused as 1, `NotRising`, with the place of the first row that is not above the one before it, and never else.
+    /// The rows are then dropped.
+    pub fn new(rows: Vec<(u16, Vec<Point>)>) -> Result<Ankr, TableError>
+        ensures ok { IfOk result (λ ankr. ankr ≡ points_in_rows rows.items) }
+        ensures rising { OnOk result (first_fall glyph_of_row rows.items ≡ None) }
+        ensures refused { IfErr result (RefusesFall (first_fall glyph_of_row rows.items)) }
+    {
+        if let Some(place) = first_fall(&rows) {
+            return Err(TableError::NotRising(place));
+        }
+        Ok(Ankr { rows })
+    }
+
+    /// The point that is listed for a glyph at an index, if there is one. The glyph is found by bisection.
+    pub fn point(&self, glyph: GlyphId, index: u16) -> Option<Point>
+        ensures { result ≡ listed_point self.now glyph.0 index }
+    {
+        match row_in(&self.rows, glyph.0 as u32) {
+            Some(row) => point_at(&row.1, index),
+            None => None,
+        }
+    }
+}
+
+/// The point at an index, if there is one.
+fn point_at(points: &[Point], index: u16) -> Option<Point>
+    ensures { result ≡ slice_get points.now index }
+{
+    points.get(index as usize).copied()
+}
+
+impl Keyed for (u16, Vec<Point>) {
+    ghost use Rattle.aat_font.specs.AnchorPoints.{glyph_of_row};
+
+    ghost key_of = { glyph_of_row };
+
+    fn key(&self) -> u32 {
+        self.0 as u32
+    }
+}

@@ -1,0 +1,12 @@
+//! Worked examples of the tables as theorems. This call does nothing: what is proved is its contract.
+ghost use Rattle.aat_font.specs.TableExamples.{ClassesAreAsListed, EntriesAreByRule, FaultsComeInOrder, EqualKeysFall, PairsAreOrdered, PointsAreListed};
+
+/// The definitions of tables compute to the examples.
+pub fn examples()
+    ensures classes { ClassesAreAsListed }
+    ensures entries { EntriesAreByRule }
+    ensures faults { FaultsComeInOrder }
+    ensures falls { EqualKeysFall }
+    ensures pairs { PairsAreOrdered }
+    ensures points { PointsAreListed }
+{}

@@ -1,0 +1,19 @@
+use Rattle.std.proofs.Common.{rules, ◌≡◌, ◌∙◌, ap, false}
+use Rattle.std.specs.Option.{option_copied}
+use Rattle.aat_font.specs.Table.{TableValue}
+use Rattle.aat_font.specs.declared.entries.EntryData.{EntryData}
+use Rattle.aat_font.specs.declared.state_table.GenericStateEntry.{GenericStateEntry}
+use Rattle.aat_kerning_machines.specs.Anchors.{Held, actionable, anchor_driver, held_act}
+use Rattle.aat_kerning_machines.specs.KerningMachine.{driver_from, driver_run}
+use Rattle.aat_kerning_machines.specs.facts.AnchorRuns.{anchors_are_driven}
+use Rattle.aat_kerning.proofs.kerx.run_anchors.Goals as goal
+
+pub returns-clause-run : goal.returns-clause-run
+returns-clause-run g c =
+    let table = c.machine.inside.state_table in
+    let pairs = c.args.machine.now.anchor_points in
+    let same : table ≡ c.args.machine.now.state_table = search rules in
+    c.drive_kerx.ensures.run
+    ∙ ap (λ (h : Held). driver_run false table (driver_from actionable (held_act pairs) h) c.args.buffer.now) c.new-driver.ensures
+    ∙ anchors_are_driven (option_copied c.args.ankr) pairs false table c.args.buffer.now
+    ∙ ap (λ (t : TableValue (GenericStateEntry EntryData)). driver_run false t (anchor_driver (option_copied c.args.ankr) pairs) c.args.buffer.now) same

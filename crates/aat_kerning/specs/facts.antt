@@ -1,3 +1,0 @@
-pub mod AnchorLaws
-pub mod StackLaws
-pub mod Writes

@@ -1,0 +1,141 @@
+//! The run of a kerning machine over a line, by any driver.
+ghost use Rattle.std.specs.Prelude.{◌≡◌, ◌+◌, ◌<◌, ◌≤◌, ◌^◌, false, true, length};
+ghost use Rattle.aat_buffer.specs.Clusters.{IsSmall};
+ghost use Rattle.aat_kerning_machines.specs.KerningMachine.{driver_from, driver_run, kerning_whole};
+ghost use Rattle.aat_kerning_machines.specs.Positions.{IsPlaced};
+ghost use Rattle.aat_kerning_machines.specs.inside.Places.{machine_by};
+ghost use Rattle.aat_run.specs.Budget.{operations_left, potential};
+ghost use Rattle.aat_run.specs.inside.Places.{IsRun, first};
+
+use crate::kerning_turns::turn_once;
+use crate::place::Place;
+use crate::state_table_driver::StateTableDriver;
+use aat_buffer::hb_buffer_t;
+use aat_font::{ExtendedStateTable, hb_ot_shape_plan_t};
+use std::alloc::Allocator;
+
+/// What the run of a kerning machine is given besides the line and its driver.
+#[derive(Clone, Copy)]
+pub struct KerningRun<'a, Table, E: Copy> {
+    /// The classes of glyphs, and the entry of each state and class.
+    pub state_table: &'a ExtendedStateTable<E>,
+    /// What the entries name by their indexes: the subtable itself, with its values or anchor points.
+    pub table: &'a Table,
+    /// Whether the values go across the line.
+    pub has_cross_stream: bool,
+    /// How many values stand together for each one that the machine takes, of which the first one counts. 0 means 1.
+    pub tuple_count: u32,
+    /// The plan, for the bits of a glyph's mask at which it is kerned.
+    pub plan: &'a hb_ot_shape_plan_t,
+}
+
+/// Takes turns until one ends, and answers their number.
+fn run_turns<Table, E: Copy, D: StateTableDriver<Table, E>, A: Allocator + Copy>(
+    run: &KerningRun<Table, E>,
+    pays_first: bool,
+    driver: &mut D,
+    buffer: &mut hb_buffer_t<A>,
+) -> u64
+    requires fit { D.fits driver.old buffer.old.cursor (length buffer.old.line) }
+    requires ids { IsSmall buffer.old }
+    requires placed { IsPlaced buffer.old }
+    ensures run { IsRun (kerning_whole (machine_by pays_first run.now.state_table.now D.actionable (D.act run.now.table.now run.now.has_cross_stream run.now.plan.now.kern_mask run.now.tuple_count)) (first buffer.old driver.old)) buffer.new driver.new result }
+    ensures paid { result + operations_left buffer.new.max_ops ≤ potential buffer.old + 1 }
+    ensures ids { IsSmall buffer.new }
+    ensures placed { IsPlaced buffer.new }
+{
+    // how long the line is and how large the budget, so that the count of turns fits
+    let _length = buffer.len();
+    let _budget = buffer.max_ops();
+    let mut place = Place { state: 0, turns: 0 };
+    while turn_once(run, pays_first, driver, buffer, &mut place) {}
+    place.turns
+}
+
+/// Runs a machine over a line from the front, and answers the number of turns. `drive_kerx` has the rules.
+#[tactic(auto, unfolding(crate::specs::KerningMachine::driver_run))]
+fn run_machine<Table, E: Copy, D: StateTableDriver<Table, E>, A: Allocator + Copy>(
+    run: &KerningRun<Table, E>,
+    pays_first: bool,
+    driver: &mut D,
+    buffer: &mut hb_buffer_t<A>,
+) -> u64
+    requires fit { D.fits driver.old 0 (length buffer.old.line) }
+    requires ids { IsSmall buffer.old }
+    requires placed { IsPlaced buffer.old }
+    ensures run { record { buffer = buffer.new; turns = result } ≡ driver_run pays_first run.now.state_table.now (driver_from D.actionable (D.act run.now.table.now run.now.has_cross_stream run.now.plan.now.kern_mask run.now.tuple_count) driver.old) buffer.old }
+    ensures paid { result + operations_left buffer.new.max_ops ≤ length buffer.old.line + 1 + operations_left buffer.old.max_ops }
+    ensures few { result < 2 ^ 62 }
+    ensures ids { IsSmall buffer.new }
+    ensures placed { IsPlaced buffer.new }
+{
+    // how long the line is and how large the budget, so that the turns are few
+    let _length = buffer.len();
+    let _budget = buffer.max_ops();
+    buffer.sync();
+    let turns = run_turns(run, pays_first, driver, buffer);
+    buffer.sync();
+    turns
+}
+
+/// Runs a machine of a `kerx` subtable over a line from the front, in state 0 and with the registers that its driver
+/// has, and answers the number of turns.
+///
+/// Each turn takes the entry at the state and the class of the glyph at the cursor: class 1 for a glyph without one,
+/// and class 0 at the end of the line. A missing entry ends the run. Behind the first glyph and before the end, where
+/// the state is not 0, an entry that is actionable, goes to a state that is not 0 or advances marks the glyphs before
+/// and at the cursor, between which the line may not be broken. Where two glyphs or more are left, the entry at the
+/// state and class 0 is looked at: a missing one ends the run, and one that is actionable marks the glyph at the
+/// cursor and the one behind it. Then the driver does the act of the turn's entry, whose state is the new one. At the
+/// end of the line the run ends then; else the cursor moves on where the entry advances or the budget is 0 or less,
+/// and then one operation is paid for. The cursor is at the front afterwards.
+///
+/// The driver has to fit at the front, each glyph id has to be at most 0xFFFF, which `all_glyphs_16` tells, and each
+/// glyph has to have its position, as `has_positions` tells. It is never refused, and a buffer that had failed before
+/// is run as any other.
+///
+/// A turn takes a bounded number of steps but for its act and the searches in the table, which bisect it. Each turn
+/// beyond the number of glyphs and one more has been paid for from the budget. No memory is taken.
+///
+/// Apple's TrueType Reference Manual, "The 'kerx' table", formats 1 and 4, and the section on state tables in "Font
+/// Tables".
+pub fn drive_kerx<Table, E: Copy, D: StateTableDriver<Table, E>, A: Allocator + Copy>(
+    run: &KerningRun<Table, E>,
+    driver: &mut D,
+    buffer: &mut hb_buffer_t<A>,
+) -> u64
+    requires fit { D.fits driver.old 0 (length buffer.old.line) }
+    requires ids { IsSmall buffer.old }
+    requires placed { IsPlaced buffer.old }
+    ensures run { record { buffer = buffer.new; turns = result } ≡ driver_run false run.now.state_table.now (driver_from D.actionable (D.act run.now.table.now run.now.has_cross_stream run.now.plan.now.kern_mask run.now.tuple_count) driver.old) buffer.old }
+    ensures paid { result + operations_left buffer.new.max_ops ≤ length buffer.old.line + 1 + operations_left buffer.old.max_ops }
+    ensures few { result < 2 ^ 62 }
+    ensures ids { IsSmall buffer.new }
+    ensures placed { IsPlaced buffer.new }
+{
+    let pays_first = false;
+    run_machine(run, pays_first, driver, buffer)
+}
+
+/// Runs a machine of a `kern` subtable over a line from the front, and answers the number of turns. All is as
+/// `drive_kerx` has it, but for the payment: before the end of the line an operation is paid for behind the act, and
+/// then the cursor moves on where the entry advances or what is left of the budget is 0 or less.
+///
+/// Apple's TrueType Reference Manual, "The 'kern' table", format 1, and the section on state tables in "Font Tables".
+pub fn drive_kern<Table, E: Copy, D: StateTableDriver<Table, E>, A: Allocator + Copy>(
+    run: &KerningRun<Table, E>,
+    driver: &mut D,
+    buffer: &mut hb_buffer_t<A>,
+) -> u64
+    requires fit { D.fits driver.old 0 (length buffer.old.line) }
+    requires ids { IsSmall buffer.old }
+    requires placed { IsPlaced buffer.old }
+    ensures run { record { buffer = buffer.new; turns = result } ≡ driver_run true run.now.state_table.now (driver_from D.actionable (D.act run.now.table.now run.now.has_cross_stream run.now.plan.now.kern_mask run.now.tuple_count) driver.old) buffer.old }
+    ensures paid { result + operations_left buffer.new.max_ops ≤ length buffer.old.line + 1 + operations_left buffer.old.max_ops }
+    ensures few { result < 2 ^ 62 }
+    ensures ids { IsSmall buffer.new }
+    ensures placed { IsPlaced buffer.new }
+{
+    let pays_first = true;
+    run_machine(run, pays_first, driver, buffer)
+}

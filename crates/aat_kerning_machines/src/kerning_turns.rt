@@ -1,0 +1,242 @@
+//! One turn of a kerning machine, by its parts: the marks before the cursor, the look ahead, the act, and what follows
+//! it.
+ghost use Rattle.std.specs.Prelude.{◌≡◌, ◌+◌, ◌<◌, ◌^◌, ◌==◌, ◌&&◌, ◌||◌, if◌then◌else◌, Bool, Some, length, not};
+ghost use Rattle.aat_buffer.specs.Buffer.{Buffer};
+ghost use Rattle.aat_buffer.specs.Clusters.{IsSmall};
+ghost use Rattle.aat_buffer.specs.Marks.{unsafe_to_break};
+ghost use Rattle.aat_font.specs.Entries.{goes_on};
+ghost use Rattle.aat_font.specs.Table.{TableValue, entry_of};
+ghost use Rattle.aat_font.specs.declared.state_table.GenericStateEntry.{GenericStateEntry};
+ghost use Rattle.aat_kerning_machines.specs.KerningMachine.{break_marked_behind, kerning_acted, kerning_by_entry, kerning_marked, kerning_turn, looked_ahead, moved_on};
+ghost use Rattle.aat_kerning_machines.specs.Positions.{IsPlaced};
+ghost use Rattle.aat_kerning_machines.specs.inside.Places.{config, machine_by};
+ghost use Rattle.aat_run.specs.Budget.{paid};
+ghost use Rattle.aat_run.specs.Context.{Moved, is_at_end};
+ghost use Rattle.aat_run.specs.inside.Places.{turn_of};
+
+use crate::kerning_run::KerningRun;
+use crate::place::Place;
+use crate::state_table_driver::StateTableDriver;
+use aat_buffer::hb_buffer_t;
+use aat_font::GenericStateEntry;
+use aat_run::class_at_cursor;
+use std::alloc::Allocator;
+
+/// Takes an operation from the budget.
+fn pay<A: Allocator + Copy>(buffer: &mut hb_buffer_t<A>)
+    ensures { buffer.new ≡ paid 1 buffer.old }
+{
+    let max_ops = buffer.max_ops();
+    buffer.set_max_ops(max_ops.saturating_sub(1));
+}
+
+/// Moves the cursor over a glyph where an entry advances, and where the budget is used up.
+fn move_on<A: Allocator + Copy>(buffer: &mut hb_buffer_t<A>, does_advance: bool)
+    requires { buffer.old.cursor < length buffer.old.line }
+    ensures { buffer.new ≡ moved_on does_advance buffer.old }
+{
+    if does_advance || buffer.max_ops() <= 0 {
+        buffer.next_glyph();
+    }
+}
+
+/// Moves on from a glyph and pays for the turn, or pays first.
+fn step<A: Allocator + Copy>(buffer: &mut hb_buffer_t<A>, does_advance: bool, pays_first: bool)
+    requires { buffer.old.cursor < length buffer.old.line }
+    ensures { buffer.new ≡ (if pays_first then moved_on does_advance (paid 1 buffer.old) else paid 1 (moved_on does_advance buffer.old)) }
+{
+    if pays_first {
+        pay(buffer);
+        move_on(buffer, does_advance);
+    } else {
+        move_on(buffer, does_advance);
+        pay(buffer);
+    }
+}
+
+/// What follows an act: whether the run goes on.
+fn settle<A: Allocator + Copy>(
+    buffer: &mut hb_buffer_t<A>,
+    does_advance: bool,
+    pays_first: bool,
+) -> bool
+    ensures goes { result ≡ not (is_at_end buffer.old) }
+    ensures settled { buffer.new ≡ (if is_at_end buffer.old then buffer.old else (if pays_first then moved_on does_advance (paid 1 buffer.old) else paid 1 (moved_on does_advance buffer.old))) }
+    ensures line { buffer.new.line ≡ buffer.old.line }
+    ensures positions { buffer.new.positions ≡ buffer.old.positions }
+{
+    if buffer.backtrack_len() >= buffer.len() {
+        return false;
+    }
+    step(buffer, does_advance, pays_first);
+    true
+}
+
+/// The act of an entry and its state: whether the run goes on.
+#[tactic(auto, unfolding(crate::specs::KerningMachine::kerning_acted, crate::specs::KerningMachine::kerning_settled))]
+fn act<Table, E: Copy, D: StateTableDriver<Table, E>, A: Allocator + Copy>(
+    run: &KerningRun<Table, E>,
+    pays_first: bool,
+    driver: &mut D,
+    buffer: &mut hb_buffer_t<A>,
+    entry: &GenericStateEntry<E>,
+    place: &mut Place,
+) -> bool
+    requires fit { D.fits driver.old buffer.old.cursor (length buffer.old.line) }
+    requires ids { IsSmall buffer.old }
+    requires placed { IsPlaced buffer.old }
+    ensures turn { kerning_acted (machine_by pays_first run.now.state_table.now D.actionable (D.act run.now.table.now run.now.has_cross_stream run.now.plan.now.kern_mask run.now.tuple_count)) entry.now (config buffer.old driver.old place.old) ≡ turn_of result (config buffer.new driver.new place.new) }
+    ensures ids { IsSmall buffer.new }
+    ensures placed { IsPlaced buffer.new }
+{
+    driver.transition(
+        run.table,
+        entry,
+        run.has_cross_stream,
+        run.tuple_count,
+        run.plan,
+        buffer,
+    );
+    place.state = entry.new_state;
+    settle(buffer, entry.has_advance(), pays_first)
+}
+
+/// Marks the glyphs from one place up to another: no line break is safe between them.
+fn mark<A: Allocator + Copy>(buffer: &mut hb_buffer_t<A>, start: usize, end: usize)
+    requires ids { IsSmall buffer.old }
+    ensures marked { buffer.new ≡ unsafe_to_break buffer.old (Some start) (Some end) }
+    ensures length { length buffer.new.line ≡ length buffer.old.line }
+    ensures cursor { buffer.new.cursor ≡ buffer.old.cursor }
+    ensures positions { buffer.new.positions ≡ buffer.old.positions }
+    ensures ids { IsSmall buffer.new }
+{
+    buffer.unsafe_to_break(Some(start), Some(end));
+}
+
+/// Marks the glyphs at the cursor and behind it.
+fn mark_behind<A: Allocator + Copy>(buffer: &mut hb_buffer_t<A>)
+    requires ids { IsSmall buffer.old }
+    ensures marked { buffer.new ≡ break_marked_behind buffer.old }
+    ensures length { length buffer.new.line ≡ length buffer.old.line }
+    ensures cursor { buffer.new.cursor ≡ buffer.old.cursor }
+    ensures positions { buffer.new.positions ≡ buffer.old.positions }
+    ensures ids { IsSmall buffer.new }
+{
+    // how long the line is, so that the end fits
+    let _length = buffer.len();
+    let p = buffer.backtrack_len();
+    mark(buffer, p, p + 2);
+}
+
+/// Whether what stood before the cursor can matter to an entry that is taken in a state.
+fn depends_on_before<Table, E: Copy, D: StateTableDriver<Table, E>>(
+    driver: &D,
+    entry: &GenericStateEntry<E>,
+    state: u16,
+) -> bool
+    ensures { result ≡ (not (state == 0) && (D.actionable entry.now || (not (entry.now.new_state == 0) || goes_on entry.now))) }
+{
+    state != 0 && (driver.is_actionable(entry) || entry.new_state != 0 || entry.has_advance())
+}
+
+/// Marks the glyphs before and at the cursor where what stood before can matter.
+#[tactic(auto, unfolding(crate::specs::KerningMachine::kerning_marked))]
+fn mark_before<Table, E: Copy, D: StateTableDriver<Table, E>, A: Allocator + Copy>(
+    driver: &D,
+    buffer: &mut hb_buffer_t<A>,
+    entry: &GenericStateEntry<E>,
+    place: Place,
+)
+    requires ids { IsSmall buffer.old }
+    ensures marked { (pays_first : Bool) (table : TableValue (GenericStateEntry E)) (act : GenericStateEntry E → D → Buffer → Moved D) → buffer.new ≡ kerning_marked (machine_by pays_first table D.actionable act) entry.now (config buffer.old driver.now place) }
+    ensures length { length buffer.new.line ≡ length buffer.old.line }
+    ensures cursor { buffer.new.cursor ≡ buffer.old.cursor }
+    ensures positions { buffer.new.positions ≡ buffer.old.positions }
+    ensures ids { IsSmall buffer.new }
+{
+    let p = buffer.backtrack_len();
+    if 0 < p && p < buffer.len() {
+        if depends_on_before(driver, entry, place.state) {
+            mark(buffer, p - 1, p + 1);
+        }
+    }
+}
+
+/// The look at the end of the text, behind the glyph at the cursor, and then the act of an entry.
+#[tactic(auto, unfolding(crate::specs::KerningMachine::looked_ahead))]
+fn look_ahead<Table, E: Copy, D: StateTableDriver<Table, E>, A: Allocator + Copy>(
+    run: &KerningRun<Table, E>,
+    pays_first: bool,
+    driver: &mut D,
+    buffer: &mut hb_buffer_t<A>,
+    entry: &GenericStateEntry<E>,
+    place: &mut Place,
+) -> bool
+    requires fit { D.fits driver.old buffer.old.cursor (length buffer.old.line) }
+    requires ids { IsSmall buffer.old }
+    requires placed { IsPlaced buffer.old }
+    ensures turn { looked_ahead (machine_by pays_first run.now.state_table.now D.actionable (D.act run.now.table.now run.now.has_cross_stream run.now.plan.now.kern_mask run.now.tuple_count)) entry.now (entry_of run.now.state_table.now place.old.state 0) (config buffer.old driver.old place.old) ≡ turn_of result (config buffer.new driver.new place.new) }
+    ensures ids { IsSmall buffer.new }
+    ensures placed { IsPlaced buffer.new }
+{
+    match run.state_table.entry(place.state, 0) {
+        Some(at_end) => {
+            if driver.is_actionable(&at_end) {
+                mark_behind(buffer);
+            }
+            act(run, pays_first, driver, buffer, entry, place)
+        }
+        None => false,
+    }
+}
+
+/// What an entry does, by how many glyphs are left.
+#[tactic(auto, unfolding(crate::specs::KerningMachine::kerning_by_entry))]
+fn take_entry<Table, E: Copy, D: StateTableDriver<Table, E>, A: Allocator + Copy>(
+    run: &KerningRun<Table, E>,
+    pays_first: bool,
+    driver: &mut D,
+    buffer: &mut hb_buffer_t<A>,
+    entry: &GenericStateEntry<E>,
+    place: &mut Place,
+) -> bool
+    requires fit { D.fits driver.old buffer.old.cursor (length buffer.old.line) }
+    requires ids { IsSmall buffer.old }
+    requires placed { IsPlaced buffer.old }
+    ensures turn { kerning_by_entry (machine_by pays_first run.now.state_table.now D.actionable (D.act run.now.table.now run.now.has_cross_stream run.now.plan.now.kern_mask run.now.tuple_count)) (Some entry.now) (config buffer.old driver.old place.old) ≡ turn_of result (config buffer.new driver.new place.new) }
+    ensures ids { IsSmall buffer.new }
+    ensures placed { IsPlaced buffer.new }
+{
+    mark_before(&*driver, buffer, entry, *place);
+    let len = buffer.len();
+    if buffer.backtrack_len() + 1 < len {
+        look_ahead(run, pays_first, driver, buffer, entry, place)
+    } else {
+        act(run, pays_first, driver, buffer, entry, place)
+    }
+}
+
+/// One turn: whether the run goes on.
+#[tactic(auto, unfolding(crate::specs::KerningMachine::kerning_turn, crate::specs::KerningMachine::kerning_by_entry))]
+pub(crate) fn turn_once<Table, E: Copy, D: StateTableDriver<Table, E>, A: Allocator + Copy>(
+    run: &KerningRun<Table, E>,
+    pays_first: bool,
+    driver: &mut D,
+    buffer: &mut hb_buffer_t<A>,
+    place: &mut Place,
+) -> bool
+    requires fit { D.fits driver.old buffer.old.cursor (length buffer.old.line) }
+    requires ids { IsSmall buffer.old }
+    requires placed { IsPlaced buffer.old }
+    requires turns { place.old.turns + 1 < 2 ^ 64 }
+    ensures turn { kerning_turn (machine_by pays_first run.now.state_table.now D.actionable (D.act run.now.table.now run.now.has_cross_stream run.now.plan.now.kern_mask run.now.tuple_count)) (config buffer.old driver.old place.old) ≡ turn_of result (config buffer.new driver.new place.new) }
+    ensures ids { IsSmall buffer.new }
+    ensures placed { IsPlaced buffer.new }
+{
+    place.turns += 1;
+    let class = class_at_cursor(run.state_table, buffer);
+    match run.state_table.entry(place.state, class) {
+        Some(entry) => take_entry(run, pays_first, driver, buffer, &entry, place),
+        None => false,
+    }
+}

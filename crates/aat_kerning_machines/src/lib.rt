@@ -1,0 +1,23 @@
+//! The machines of kerning: what their entries do, by a stack of places or by anchor points, and the run of a state
+//! table over a line.
+#![tactic(auto)]
+
+mod attachment;
+mod driver1;
+mod driver4;
+mod kerning_run;
+mod kerning_turns;
+#[doc(hidden)]
+pub mod laws;
+mod place;
+mod stack;
+mod stack_values;
+mod state_machine_driver;
+mod state_table_driver;
+
+pub use attachment::{meets, note_attachment};
+pub use driver1::Driver1;
+pub use driver4::Driver4;
+pub use kerning_run::{KerningRun, drive_kern, drive_kerx};
+pub use state_machine_driver::StateMachineDriver;
+pub use state_table_driver::StateTableDriver;

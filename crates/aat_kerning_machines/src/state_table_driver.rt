@@ -1,0 +1,70 @@
+//! What a kerning machine runs: the registers of a state table, and what its entries do to positions.
+ghost use Rattle.std.specs.Prelude.{◌≡◌, length};
+
+use aat_buffer::hb_buffer_t;
+use aat_font::{GenericStateEntry, hb_ot_shape_plan_t};
+use std::alloc::Allocator;
+
+/// One kind of kerning machine over a line: its registers, and what an entry of its table does to positions. A run of
+/// a kerning machine takes every driver that meets this trait, and knows of it what stands here alone.
+///
+/// `Table` has what the entries name by their indexes, as values or anchor points, and `E` is what an entry has beside
+/// a state and flags. An entry is found by the state and the class of the glyph at the cursor; at the end of the line,
+/// class 0.
+///
+/// Whoever writes a driver gives the ghost members and proves the clauses of its calls, and then the laws, which hold
+/// for every entry, whatever its numbers, and for all registers that fit:
+///
+/// - `keeps_fit`, `passes_fit`: an act that leaves the cursor before the end leaves registers that fit, and so does a
+///   cursor that moves over a glyph;
+/// - `positions_alone`: an act changes positions and the scratch flag `HAS_GPOS_ATTACHMENT` alone: line, cursor,
+///   budget, the number of positions and every setting stay.
+///
+/// Apple's TrueType Reference Manual, "The 'kerx' table", formats 1 and 4, and "The 'kern' table", format 1.
+pub trait StateTableDriver<Table, E: Copy> {
+    ghost use Rattle.std.specs.Prelude.{ℕ, Bool};
+    ghost use Rattle.aat_buffer.specs.Buffer.{Buffer};
+    ghost use Rattle.aat_buffer.specs.Clusters.{IsSmall};
+    ghost use Rattle.aat_font.specs.declared.state_table.GenericStateEntry.{GenericStateEntry};
+    ghost use Rattle.aat_kerning_machines.specs.KerningLaws.{ChangesPositionsAlone};
+    ghost use Rattle.aat_kerning_machines.specs.Positions.{IsPlaced};
+    ghost use Rattle.aat_run.specs.Context.{Moved};
+    ghost use Rattle.aat_run.specs.Laws.{KeepsFit, PassesFit};
+
+    /// The registers fit a cursor and a length: the places that are used without a question lie on the line.
+    ghost fits: { Self → ℕ → ℕ → Type 0 };
+
+    /// What `is_actionable` answers of an entry.
+    ghost actionable: { GenericStateEntry E → Bool };
+
+    /// The act of an entry, by the table, whether its values go across the line, the kern mask and the tuple count:
+    /// the registers and the buffer that `transition` leaves.
+    ghost act: { Table → Bool → ℕ → ℕ → GenericStateEntry E → Self → Buffer → Moved Self };
+
+    /// Whether the entry does something beside going to its state, so that the line may not be broken there.
+    fn is_actionable(&self, entry: &GenericStateEntry<E>) -> bool
+        ensures { result ≡ actionable entry.now };
+
+    /// Does what the entry says. The state, and the cursor's step over the glyph, are the run's. The registers have to
+    /// fit, each glyph id has to be at most 0xFFFF, and each glyph has to have its position, as `has_positions` tells.
+    /// It takes no memory and always succeeds.
+    fn transition<A: Allocator + Copy>(
+        &mut self,
+        aat: &Table,
+        entry: &GenericStateEntry<E>,
+        has_cross_stream: bool,
+        tuple_count: u32,
+        plan: &hb_ot_shape_plan_t,
+        buffer: &mut hb_buffer_t<A>,
+    )
+        requires fit { fits self.old buffer.old.cursor (length buffer.old.line) }
+        requires ids { IsSmall buffer.old }
+        requires placed { IsPlaced buffer.old }
+        ensures act { record { registers = self.new; buffer = buffer.new } ≡ act aat.now has_cross_stream plan.now.kern_mask tuple_count entry.now self.old buffer.old };
+
+    ghost keeps_fit: { (table : Table) (is_cross : Bool) (kern_mask tuple_count : ℕ) → KeepsFit (act table is_cross kern_mask tuple_count) fits };
+
+    ghost passes_fit: { PassesFit fits };
+
+    ghost positions_alone: { (table : Table) (is_cross : Bool) (kern_mask tuple_count : ℕ) → ChangesPositionsAlone (act table is_cross kern_mask tuple_count) fits };
+}
