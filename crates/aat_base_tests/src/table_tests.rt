@@ -1,6 +1,8 @@
 //! Each call once with ample memory, at the ends of its range, and each refusal.
 
 mod ankr;
+mod dense;
+mod ends;
 mod kerning;
 mod numbers;
 

@@ -4,7 +4,7 @@ use Rattle.std.proofs.lemmas.List.{drop_all, append-nil, get_or-append-add, get_
 use Rattle.std.proofs.lemmas.List.Edits.{remove-append_right}
 use Rattle.std.proofs.lemmas.Option.{slice_get_read}
 use Rattle.std.proofs.lemmas.Bool.{cases_eq}
-use Rattle.std.specs.List.{All, slice_get, copy_within, insert, remove}
+use Rattle.std.specs.List.{All, slice_get, copy_within, insert, refill, remove, slice_range}
 use Rattle.aat_buffer.specs.inside.Gap.{around_gap}
 
 -- the gap moves to the right
@@ -54,6 +54,10 @@ whole_line xs i j e = rw (drop_all j xs (omega arith)) (append-nil (take i xs))
 pub length-around_gap : {X : Type 0} (xs : List X) (i j : ℕ) → i ≤ j → j ≤ length xs → length (around_gap xs i j) ≡ i + (length xs - j)
 length-around_gap xs i j le within = omega (arith, length-append (take i xs) (drop j xs), length-take-le i xs (omega arith), length-drop j xs)
 
+-- other cells, as many, in which the gap stands at the same places
+pub line_length : {X : Type 0} (xs ys : List X) (i j : ℕ) → i ≤ j → j ≤ length xs → length ys ≡ length xs → length (around_gap ys i j) ≡ length (around_gap xs i j)
+line_length xs ys i j le within same = length-around_gap ys i j le (omega (arith, same)) ∙ rw same (sym (length-around_gap xs i j le within))
+
 -- a read before the gap
 pub read_before_gap : {X : Type 0} (xs : List X) (i j k : ℕ) (x : X) → k < i → i ≤ j → j ≤ length xs → x ≡ get_or xs k x → slice_get (around_gap xs i j) k ≡ Some x
 read_before_gap xs i j k x lt le within e =
@@ -73,3 +77,11 @@ all_parts_first P b c all = λ k d h. rw (get_or_append_left b c d k h) at (all 
 -- and behind it
 pub all_parts_second : {X : Type 0} (P : X → Type 0) (b c : List X) → All P (b ++ c) → All P c
 all_parts_second P b c all = λ k d h. rw (get_or-append-add b c k d) at (all (length b + k) d (omega (arith, length-append b c)))
+
+-- the cells behind the gap are written anew, as many as there are
+pub rest_written : {X : Type 0} (xs ws : List X) (i j n : ℕ) → n ≡ length xs → i ≤ j → j ≤ length xs → around_gap (take n ((take j xs ++ (ws ++ drop (length ws) (drop j xs))) ++ drop (length (take j xs ++ (ws ++ drop (length ws) (drop j xs)))) xs)) i j ≡ take i (around_gap xs i j) ++ refill (length (around_gap xs i j) - i) (drop i (around_gap xs i j)) ws
+rest_written xs ws i j n e le within = same_lists _ _ (search (rules, places)) (λ k d h. grind (arith, places))
+
+-- the cells behind the gap are the line from its place on
+pub rest_read : {X : Type 0} (xs : List X) (i j n : ℕ) → n ≡ length xs → i ≤ j → j ≤ length xs → slice_range xs j n ≡ drop i (around_gap xs i j)
+rest_read xs i j n e le within = same_lists _ _ (search (rules, places)) (λ k d h. grind (arith, places))

@@ -1,4 +1,6 @@
+pub mod Changed
 pub mod Examples
+pub mod Filled
 pub mod Gap
 pub mod Lowering
 pub mod Pending

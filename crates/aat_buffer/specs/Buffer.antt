@@ -1,5 +1,6 @@
 -- What a buffer is to its callers, and what each plain call leaves of it.
 use Rattle.std.specs.Prelude.{min, option_map, pos, reverse, replicate, unwrap_or, ◌+◌, remove, insert, ◌-◌, nat_lt, if◌then◌else◌, ℕ, ℤ, ◌≤◌, Bool, true, false, List, [], ◌∷◌, ◌++◌, Option, Some, None, length, take, drop, slice_index_or, slice_set}
+use Rattle.std.specs.List.{refill}
 use Rattle.aat_glyph.specs.declared.glyph.hb_glyph_info_t.{hb_glyph_info_t}
 use Rattle.aat_glyph.specs.declared.glyph.GlyphPosition.{GlyphPosition}
 use Rattle.aat_glyph.specs.declared.glyph.Direction.{Direction}
@@ -79,6 +80,11 @@ glyph_at gs i = slice_index_or gs i no_glyph
 -- the record r stands at place i
 abbrev pub with_info : Buffer → ℕ → hb_glyph_info_t → Buffer
 with_info b i r = record b { line = slice_set b.line i r }
+
+-- the glyphs from the cursor on are ws, which are as many
+abbrev pub with_from_cursor : Buffer → List hb_glyph_info_t → Buffer
+with_from_cursor b ws =
+    record b { line = take b.cursor b.line ++ refill (length b.line - b.cursor) (drop b.cursor b.line) ws }
 
 -- the glyph at place i gets the glyph id g
 abbrev pub with_glyph_id : Buffer → ℕ → ℕ → Buffer
@@ -163,3 +169,9 @@ position_at b i = slice_index_or (position_list b) i zero_position
 -- the position r stands at place i
 abbrev pub with_position : Buffer → ℕ → GlyphPosition → Buffer
 with_position b i r = record b { positions = Some (slice_set (position_list b) i r) }
+
+-- the positions from the cursor on are ws, which are as many
+abbrev pub with_positions_from_cursor : Buffer → List GlyphPosition → Buffer
+with_positions_from_cursor b ws =
+    let qs = position_list b in
+    record b { positions = Some (take b.cursor qs ++ refill (length qs - b.cursor) (drop b.cursor qs) ws) }

@@ -1,4 +1,5 @@
 pub mod Carried
+pub mod Changes
 pub mod Gap
 pub mod Inside
 pub mod Lending

@@ -1,10 +1,12 @@
 //! The buffer: a line of glyphs with a cursor.
-ghost use Rattle.std.specs.Prelude.{◌≡◌, ◌+◌, ◌-◌, ◌<◌, ◌≤◌, ◌↔◌, length, slice_get, is_some, IsTrue, IsOk, OnOk, OnErr, IfErr, IfSome, IsErrOf, All, vec_len};
+ghost use Rattle.std.specs.Prelude.{◌≡◌, ◌+◌, ◌-◌, ◌<◌, ◌≤◌, ◌↔◌, ◌++◌, drop, length, map, slice_get, slice_range, is_some, IsTrue, IsOk, OnOk, OnErr, IfErr, IfSome, IsSome, IsErrOf, All, vec_len};
 ghost use Rattle.std.specs.Bool.{OnTrue};
 ghost use Rattle.std.specs.Borrow.{sem};
 ghost use Rattle.aat_buffer.specs.Buffer.{Buffer, empty_buffer, added, failed, with_cursor, with_line, without_positions, skipped, replaced, reversed, with_zero_positions, position_list, position_at, output, model_at, glyph_at, with_info, Is16Bit, with_direction, with_cluster_level, with_flags, with_scratch_flags, with_max_ops, with_positions, with_glyphs_in};
+ghost use Rattle.aat_buffer.specs.Marks.{on_line_span};
+ghost use Rattle.aat_buffer.specs.inside.Changes.{ChangesBy};
 ghost use Rattle.aat_buffer.specs.inside.Carried.{items_of};
-ghost use Rattle.aat_buffer.specs.inside.Lending.{LendsInfo, LendsCur, LendsPosition};
+ghost use Rattle.aat_buffer.specs.inside.Lending.{LendsInfo, LendsCur, LendsFromCursor, LendsPosition, LendsPositions};
 
 use crate::gap_line::GapLine;
 use aat_glyph::{
@@ -236,6 +238,42 @@ impl<A: Allocator + Copy> hb_buffer_t<A> {
         self.line.get_mut(i)
     }
 
+    /// The glyphs from the cursor on, to be written: all of the line where the cursor is at the start.
+    pub fn from_cursor_mut(&mut self) -> &mut [hb_glyph_info_t]
+        ensures* writes_back { sem 𝓛 (LendsFromCursor A.row A.Allocator self.entry result) }
+        ensures value { result.now ≡ drop self.old.cursor self.old.line }
+    {
+        self.line.rest_mut()
+    }
+
+    /// The glyphs from place `start` up to place `end`: those before the cursor, and those from it on.
+    pub(crate) fn parts(&self, start: usize, end: usize) -> (&[hb_glyph_info_t], &[hb_glyph_info_t])
+        requires ordered { start ≤ end }
+        requires in_line { end ≤ length self.now.line }
+        ensures { result.0.now ++ result.1.now ≡ slice_range self.now.line start end }
+    {
+        self.line.parts(start, end)
+    }
+
+    /// Puts in place of each glyph from place `start` up to place `end` what `change` makes of it, in as many steps
+    /// as those are.
+    pub(crate) fn change_span<F: Fn(&hb_glyph_info_t) -> hb_glyph_info_t>(
+        &mut self,
+        start: usize,
+        end: usize,
+        change: F,
+    )
+    where
+        F: Drop,
+        requires ordered { start ≤ end }
+        requires in_line { end ≤ length self.old.line }
+        requires callable { F.IsAlwaysCallable change }
+        ensures after { (f : hb_glyph_info_t → hb_glyph_info_t) → ChangesBy F.Fn change f → self.new ≡ on_line_span (map f) start end self.old }
+        ensures count { length self.new.line ≡ length self.old.line }
+    {
+        self.line.change(start, end, &change);
+    }
+
     /// The glyph at place `i`, by value.
     pub(crate) fn glyph(&self, i: usize) -> hb_glyph_info_t
         requires { i < length self.now.line }
@@ -465,6 +503,19 @@ impl<A: Allocator + Copy> hb_buffer_t<A> {
         ensures read { result.now ≡ position_at self.old i }
     {
         &mut self.positions[i]
+    }
+
+    /// The glyphs from the cursor on, with their positions, to be written: those of all of the line where the cursor is
+    /// at the start. Positions have to stand.
+    pub fn positions_from_cursor_mut(&mut self) -> (&[hb_glyph_info_t], &mut [GlyphPosition])
+        requires { IsSome self.old.positions }
+        ensures* writes_back { sem 𝓛 (LendsPositions A.row A.Allocator self.entry result.1) }
+        ensures glyphs { result.0.now ≡ drop self.old.cursor self.old.line }
+        ensures positions { result.1.now ≡ drop self.old.cursor (position_list self.old) }
+        ensures placed { length result.1.now ≡ length result.0.now }
+    {
+        let cursor = self.line.cursor();
+        (self.line.rest(), self.positions.slice_mut(cursor..))
     }
 
     /// Takes the positions out, so that none stand.

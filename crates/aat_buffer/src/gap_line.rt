@@ -1,10 +1,12 @@
 //! How a line of glyphs is kept: in one vector, whose unused cells stand at the cursor.
-ghost use Rattle.std.specs.Prelude.{◌≡◌, ◌+◌, ◌-◌, ◌<◌, ◌≤◌, ◌^◌, ◌↔◌, ◌++◌, All, Some, IfOk, IsTrue, OnOk, OnErr, drop, length, reverse, slice_get, take, vec_len};
+ghost use Rattle.std.specs.Prelude.{◌≡◌, ◌+◌, ◌-◌, ◌<◌, ◌≤◌, ◌^◌, ◌↔◌, ◌++◌, All, Some, IfOk, IsTrue, OnOk, OnErr, drop, length, map, reverse, slice_get, slice_range, take, vec_len};
 ghost use Rattle.std.specs.Borrow.{sem};
 ghost use Rattle.aat_buffer.specs.Buffer.{Is16Bit};
 ghost use Rattle.aat_buffer.specs.inside.Gap.{around_gap};
-ghost use Rattle.aat_buffer.specs.inside.Line.{Line, empty_line, moved_to, turned_line, with_all_inserted, with_inserted, with_last, without_current};
-ghost use Rattle.aat_buffer.specs.inside.LineLending.{LendsGlyph};
+ghost use Rattle.aat_buffer.specs.inside.Line.{Line, empty_line, moved_to, turned_line, with_all_inserted, with_changed, with_inserted, with_last, without_current};
+ghost use Rattle.aat_buffer.specs.Marks.{on_span};
+ghost use Rattle.aat_buffer.specs.inside.Changes.{ChangesBy};
+ghost use Rattle.aat_buffer.specs.inside.LineLending.{LendsGlyph, LendsRest};
 
 use aat_glyph::hb_glyph_info_t;
 use std::alloc::{AllocError, Allocator};
@@ -85,6 +87,56 @@ impl<A: Allocator + Copy> GapLine<A> {
             let cell = i + (self.gap_end - self.gap_start);
             &mut self.cells[cell]
         }
+    }
+
+    /// The glyphs from the cursor on.
+    pub(crate) fn rest(&self) -> &[hb_glyph_info_t]
+        ensures { result.now ≡ drop self.now.cursor self.now.glyphs }
+    {
+        &self.cells[self.gap_end..]
+    }
+
+    /// The glyphs from place `start` up to place `end`: those before the cursor, and those from it on.
+    pub(crate) fn parts(&self, start: usize, end: usize) -> (&[hb_glyph_info_t], &[hb_glyph_info_t])
+        requires ordered { start ≤ end }
+        requires in_line { end ≤ length self.now.glyphs }
+        ensures { result.0.now ++ result.1.now ≡ slice_range self.now.glyphs start end }
+    {
+        cell_parts(&self.cells, self.gap_start, self.gap_end, start, end)
+    }
+
+    /// The glyphs from the cursor on, to be written.
+    pub(crate) fn rest_mut(&mut self) -> &mut [hb_glyph_info_t]
+        ensures* writes_back { sem 𝓛 (LendsRest A.row A.Allocator self.entry result) }
+        ensures value { result.now ≡ drop self.old.cursor self.old.glyphs }
+    {
+        self.cells.slice_mut(self.gap_end..)
+    }
+
+    /// Puts in place of each glyph from place `start` up to place `end` what `change` makes of it, in as many steps
+    /// as those are.
+    #[tactic(auto, using(crate::proofs::Gap::line_length))]
+    pub(crate) fn change<F: Fn(&hb_glyph_info_t) -> hb_glyph_info_t>(
+        &mut self,
+        start: usize,
+        end: usize,
+        change: &F,
+    )
+        requires ordered { start ≤ end }
+        requires in_line { end ≤ length self.old.glyphs }
+        requires callable { F.IsAlwaysCallable change.now }
+        ensures after { (f : hb_glyph_info_t → hb_glyph_info_t) → ChangesBy F.Fn change.now f → self.new ≡ with_changed self.old f start end }
+        ensures len { length self.new.glyphs ≡ length self.old.glyphs }
+        ensures cursor { self.new.cursor ≡ self.old.cursor }
+    {
+        change_cells(
+            self.cells.as_mut_slice(),
+            self.gap_start,
+            self.gap_end,
+            start,
+            end,
+            change,
+        );
     }
 
     /// Moves the cursor over one glyph.
@@ -176,6 +228,67 @@ impl<A: Allocator + Copy> GapLine<A> {
         ensures { IsTrue result ↔ All Is16Bit self.now.glyphs }
     {
         cells_16(&self.cells, self.gap_start, self.gap_end)
+    }
+}
+
+/// The glyphs of a span of the line: those before the gap, and those behind it.
+#[tactic(auto, using(crate::proofs::Changed::read_parts))]
+fn cell_parts(
+    cells: &[hb_glyph_info_t],
+    gap_start: usize,
+    gap_end: usize,
+    start: usize,
+    end: usize,
+) -> (&[hb_glyph_info_t], &[hb_glyph_info_t])
+    requires gap { gap_start ≤ gap_end }
+    requires in_cells { gap_end ≤ length cells.now }
+    requires ordered { start ≤ end }
+    requires in_line { end ≤ gap_start + (length cells.now - gap_end) }
+    ensures { result.0.now ++ result.1.now ≡ slice_range (around_gap cells.now gap_start gap_end) start end }
+{
+    let gap = gap_end - gap_start;
+    let front = &cells[start.min(gap_start)..end.min(gap_start)];
+    let rest = &cells[start.max(gap_start) + gap..end.max(gap_start) + gap];
+    (front, rest)
+}
+
+/// Puts in place of the glyphs of a span of the line what `change` makes of them: of those before the gap, and of those
+/// behind it.
+fn change_cells<F: Fn(&hb_glyph_info_t) -> hb_glyph_info_t>(
+    cells: &mut [hb_glyph_info_t],
+    gap_start: usize,
+    gap_end: usize,
+    start: usize,
+    end: usize,
+    change: &F,
+)
+    requires gap { gap_start ≤ gap_end }
+    requires in_cells { gap_end ≤ length cells.old }
+    requires ordered { start ≤ end }
+    requires in_line { end ≤ gap_start + (length cells.old - gap_end) }
+    requires callable { F.IsAlwaysCallable change.now }
+    ensures after { (f : hb_glyph_info_t → hb_glyph_info_t) → ChangesBy F.Fn change.now f → around_gap cells.new gap_start gap_end ≡ on_span (map f) start end (around_gap cells.old gap_start gap_end) }
+    ensures len { length cells.new ≡ length cells.old }
+{
+    let gap = gap_end - gap_start;
+    change_all(&mut cells[start.min(gap_start)..end.min(gap_start)], change);
+    change_all(
+        &mut cells[start.max(gap_start) + gap..end.max(gap_start) + gap],
+        change,
+    );
+}
+
+/// Puts in place of each glyph what `change` makes of it.
+fn change_all<F: Fn(&hb_glyph_info_t) -> hb_glyph_info_t>(
+    glyphs: &mut [hb_glyph_info_t],
+    change: &F,
+)
+    requires { F.IsAlwaysCallable change.now }
+    ensures after { (f : hb_glyph_info_t → hb_glyph_info_t) → ChangesBy F.Fn change.now f → glyphs.new ≡ map f glyphs.old }
+    ensures len { length glyphs.new ≡ length glyphs.old }
+{
+    for glyph in glyphs.iter_mut() {
+        *glyph = change(glyph);
     }
 }
 

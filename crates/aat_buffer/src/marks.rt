@@ -1,5 +1,5 @@
 //! Marks and merges, written over the calls that read and write a glyph at a place.
-ghost use Rattle.std.specs.Prelude.{◌≡◌, ◌+◌, ◌-◌, ◌<◌, ◌≤◌, map, length, slice_range};
+ghost use Rattle.std.specs.Prelude.{◌≡◌, ◌+◌, ◌-◌, ◌<◌, ◌≤◌, fold, map, min, length, slice_range};
 ghost use Rattle.aat_buffer.specs.Buffer.{with_line};
 ghost use Rattle.aat_buffer.specs.Marks.{on_line_span, least_of, marked_above, with_mask_bits, break_marked, concat_marked, unsafe_to_break, unsafe_to_concat, with_cluster, run_after, run_before, merged, merged_out, merge_clusters, merge_out_clusters};
 
@@ -86,17 +86,14 @@ impl<A: Allocator + Copy> hb_buffer_t<A> {
     }
 
     /// The least cluster of a span.
-    #[tactic(auto, using(crate::proofs::Spans::least_more))]
     fn least_cluster(&self, start: usize, end: usize) -> u32
         requires some { start < end }
         requires in_line { end ≤ length self.now.line }
         ensures { result ≡ least_of (slice_range self.now.line start end) }
     {
-        let mut least = self.glyph(start).cluster;
-        for i in start + 1..end {
-            least = least.min(self.glyph(i).cluster);
-        }
-        least
+        let first = self.glyph(start).cluster;
+        let (front, rest) = self.parts(start, end);
+        least_with(rest, least_with(front, first))
     }
 
     fn mark_break_span(&mut self, start: usize, end: usize)
@@ -109,40 +106,31 @@ impl<A: Allocator + Copy> hb_buffer_t<A> {
         self.mark_above(start, end, least);
     }
 
-    #[tactic(auto, using(crate::proofs::Spans::written_none))]
     fn mark_above(&mut self, start: usize, end: usize, least: u32)
         requires ordered { start ≤ end }
         requires in_line { end ≤ length self.old.line }
         ensures after { self.new ≡ on_line_span (map (marked_above least 3)) start end self.old }
         ensures count { length self.new.line ≡ length self.old.line }
     {
-        for i in start..end {
-            self.set_glyph(i, break_marked_glyph(self.glyph(i), least));
-        }
+        self.change_span(start, end, |glyph| break_marked_glyph(*glyph, least));
     }
 
-    #[tactic(auto, using(crate::proofs::Spans::written_none))]
     fn mark_concat_span(&mut self, start: usize, end: usize)
         requires ordered { start ≤ end }
         requires in_line { end ≤ length self.old.line }
         ensures after { self.new ≡ on_line_span concat_marked start end self.old }
         ensures count { length self.new.line ≡ length self.old.line }
     {
-        for i in start..end {
-            self.set_glyph(i, concat_marked_glyph(self.glyph(i)));
-        }
+        self.change_span(start, end, |glyph| concat_marked_glyph(*glyph));
     }
 
-    #[tactic(auto, using(crate::proofs::Spans::written_none))]
     fn set_cluster(&mut self, start: usize, end: usize, cluster: u32)
         requires ordered { start ≤ end }
         requires in_line { end ≤ length self.old.line }
         ensures after { self.new ≡ on_line_span (map (with_cluster cluster)) start end self.old }
         ensures count { length self.new.line ≡ length self.old.line }
     {
-        for i in start..end {
-            self.set_glyph(i, clustered_glyph(self.glyph(i), cluster));
-        }
+        self.change_span(start, end, |glyph| clustered_glyph(*glyph, cluster));
     }
 
     /// The place at which the glyphs from place `end` on stop to have this cluster.
@@ -219,6 +207,15 @@ impl<A: Allocator + Copy> hb_buffer_t<A> {
             least,
         );
     }
+}
+
+/// The least of a cluster and those of some glyphs.
+fn least_with(glyphs: &[hb_glyph_info_t], cluster: u32) -> u32
+    ensures { result ≡ fold (λ m g. min m g.cluster) cluster glyphs.now }
+{
+    glyphs
+        .iter()
+        .fold(cluster, |least, glyph| least.min(glyph.cluster))
 }
 
 fn break_marked_glyph(glyph: hb_glyph_info_t, least: u32) -> hb_glyph_info_t

@@ -201,7 +201,6 @@ impl<A: Allocator + Copy> hb_buffer_t<A> {
         }
     }
 
-    #[tactic(auto, using(crate::proofs::Spans::written_none))]
     fn write_run(&mut self, first: usize, last: usize)
         requires ordered { first ≤ last }
         requires in_line { last < length self.old.line }
@@ -209,9 +208,7 @@ impl<A: Allocator + Copy> hb_buffer_t<A> {
         ensures count { length self.new.line ≡ length self.old.line }
     {
         let like = self.glyph(last);
-        for i in first..last {
-            self.set_glyph(i, with_cluster_and_flags(self.glyph(i), like));
-        }
+        self.change_span(first, last, |glyph| with_cluster_and_flags(*glyph, like));
     }
 }
 

@@ -1,46 +1,42 @@
-//! A caller of the layer: small capitals over a range of a line of four glyphs.
+//! A caller: shapes a text of four glyphs with small capitals over two of them, and prints where it may be broken.
 #![tactic(auto)]
 
-use aat_layout::buffer::{hb_buffer_t, hb_glyph_info_t};
-use aat_layout::font::{
-    Chain, ChainFeature, Coverage, FaceTables, Feat, Feature, FeatureName, Lookup, Morx, Subtable,
-    SubtableKind, hb_font_t, hb_ot_shape_plan_t, hb_tag_t,
-};
-use aat_layout::{AatError, hb_aat_layout_substitute};
-use anyhow::{Result, bail, ensure};
-use std::alloc::Global;
+mod font;
 
-/// A font whose small capitals turn glyph 5 into glyph 9.
-fn small_capitals(alloc: Global) -> Result<hb_font_t> {
-    let kind = SubtableKind::NonContextual(Lookup::new(alloc, &[(5, 9)])?);
-    let subtable = Subtable::new(kind, Coverage::ALL_DIRECTIONS, 1);
-    let setting = ChainFeature::new(37, 1, 1, 0xFFFF_FFFF);
-    let chain = Chain::new(0, vec![in alloc; setting]?, vec![in alloc; subtable]?);
-    let morx = Morx::new(vec![in alloc; chain]?)?;
-    let feat = Feat::new(alloc, &[FeatureName::new(37, 2, true)])?;
-    Ok(hb_font_t::from_tables(FaceTables::default().with_morx(morx).with_feat(feat)))
+use aat_layout::AatError;
+use aat_layout::buffer::Direction;
+use aat_layout::font::{Feature, hb_tag_t};
+use aat_shaper::{ShapedGlyph, TextGlyph, shape_text};
+use anyhow::{Result, bail};
+use font::font_of;
+
+/// Prints glyphs, and a bar before each at which the line may be broken.
+fn print_glyphs(rt: &impl Print, glyphs: &[ShapedGlyph]) -> Result<()> {
+    for glyph in glyphs {
+        let bar = if glyph.may_break_before { '|' } else { ' ' };
+        let (id, cluster) = (glyph.glyph_id, glyph.cluster);
+        let (advance, offset) = (glyph.position.x_advance, glyph.position.x_offset);
+        println!(rt; "{bar} glyph {id} cluster {cluster} advance {advance} offset {offset}")?;
+    }
+    Ok(())
 }
 
 fn main(rt: HostRuntime) -> Result<()> {
     let alloc = rt.alloc();
-    let font = small_capitals(alloc)?;
-    let mut buffer = hb_buffer_t::new(alloc, 1000, 16384);
-    for (glyph_id, cluster) in [(5, 0), (5, 1), (6, 2), (5, 3)] {
-        buffer.add(hb_glyph_info_t::new(glyph_id, cluster))?;
-    }
-    ensure!(buffer.all_glyphs_16(), "a glyph id past 0xFFFF");
-    let feature = Feature::new(hb_tag_t::from_bytes(b"smcp"), 1, 1..3);
-    let plan = hb_ot_shape_plan_t::new(vec![in alloc; feature]?);
-    match hb_aat_layout_substitute(alloc, &plan, &font, &mut buffer) {
-        Ok(turns) => println!(rt; "turns {turns}")?,
+    let text = [
+        TextGlyph::new(5, 0),
+        TextGlyph::new(5, 1),
+        TextGlyph::new(6, 2),
+        TextGlyph::new(5, 3),
+    ];
+    let small_capitals = Feature::new(hb_tag_t::from_bytes(b"smcp"), 1, 1..3);
+    let features = vec![in alloc; small_capitals]?;
+    let font = font_of(alloc)?;
+    match shape_text(alloc, &font, Direction::LeftToRight, &text, features) {
+        Ok(glyphs) => print_glyphs(&rt, &glyphs),
         Err(AatError::AaltValue(value)) => bail!("no alternate {value}"),
-        Err(AatError::TooLong) => bail!("the line became too long"),
-        Err(AatError::OutOfMemory) => bail!("no memory for substitution"),
-        Err(AatError::BufferFailed) => bail!("the buffer had failed before"),
+        Err(AatError::TooLong) => bail!("the text is too long"),
+        Err(AatError::OutOfMemory) => bail!("no memory for shaping"),
+        Err(AatError::BufferFailed) => unreachable!(),
     }
-    for i in 0..buffer.len() {
-        let glyph = buffer.info(i);
-        println!(rt; "glyph {} cluster {}", glyph.glyph_id, glyph.cluster)?;
-    }
-    Ok(())
 }

@@ -1,4 +1,10 @@
 pub mod AnchorRows
+pub mod DenseAnswers
 pub mod Falls
+pub mod Filling
+pub mod LeftParts
+pub mod PageAnswers
+pub mod Rising
 pub mod RuleFaults
 pub mod Search
+pub mod Walks

@@ -13,3 +13,4 @@ pub mod Table
 pub mod TableErrors
 pub mod TableExamples
 pub mod facts
+pub mod inside

@@ -2,7 +2,9 @@
 #![tactic(auto)]
 
 mod ankr;
+mod cells;
 pub mod constants;
+mod dense;
 mod entries;
 mod error;
 mod face;
@@ -10,13 +12,16 @@ mod feat;
 mod kern;
 mod kerx;
 pub mod keys;
+mod lefts;
 mod lookup;
 mod morx;
+mod pages;
 mod pairs;
 mod plan;
 mod state_table;
 mod subtables;
 mod tag;
+mod walk;
 #[doc(hidden)]
 pub mod worked;
 

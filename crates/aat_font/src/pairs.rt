@@ -6,6 +6,7 @@ ghost use Rattle.aat_font.specs.TableErrors.{RefusesRising};
 
 use crate::error::TableError;
 use crate::keys::{Keyed, first_fall, row_at};
+use crate::lefts::Lefts;
 use crate::plan::GlyphId;
 use std::alloc::{Allocator, Global};
 use std::marker::Model;
@@ -17,26 +18,28 @@ use std::marker::Model;
 #[derive(Drop)]
 pub struct Pairs<A: Allocator = Global> {
     pairs: Vec<(u16, u16, i16), A>,
+    lefts: Lefts<A>,
 }
 
 impl<A: Allocator> Model for Pairs<A> {
     ghost use Rattle.std.specs.Prelude.{List, ℕ, ℤ};
     ghost use Rattle.aat_font.specs.Keys.{IsRising};
     ghost use Rattle.aat_font.specs.Pairs.{key_of_pair};
+    ghost use Rattle.aat_font.specs.inside.Lefts.{AreStarts};
 
     ghost Value = { List (ℕ × ℕ × ℤ) };
 
     ghost view = { λ m. m.pairs.items };
 
-    ghost invariant = { λ m. IsRising key_of_pair m.pairs.items };
+    ghost invariant = { λ m. IsRising key_of_pair m.pairs.items × AreStarts m.lefts.lowest m.lefts.starts.items m.pairs.items };
 }
 
-impl<A: Allocator> Pairs<A> {
+impl<A: Allocator + Copy> Pairs<A> {
     /// Makes the table of pairs of a left glyph, a right glyph and their value, which have to rise strictly by the left
     /// glyph, then by the right one.
     ///
     /// Refused as 1, `NotRising`, with the place of the first pair that is not above the one before it, and else as 5,
-    /// `OutOfMemory`, where the copy gets no memory.
+    /// `OutOfMemory`, where the copy or the starts beside it get no memory.
     pub fn new(alloc: A, pairs: &[(u16, u16, i16)]) -> Result<Pairs<A>, TableError>
         ensures ok { IfOk result (λ table. table ≡ pairs.now) }
         ensures rising { OnOk result (first_fall key_of_pair pairs.now ≡ None) }
@@ -47,14 +50,18 @@ impl<A: Allocator> Pairs<A> {
         }
         Ok(Pairs {
             pairs: Vec::from_slice(alloc, pairs)?,
+            lefts: Lefts::over(alloc, pairs)?,
         })
     }
+}
 
-    /// The value of a left and a right glyph, if they have one, found by bisection.
+impl<A: Allocator> Pairs<A> {
+    /// The value of a left and a right glyph, if they have one, found by bisection among the pairs of the left glyph.
     pub fn glyphs_kerning(&self, left: GlyphId, right: GlyphId) -> Option<i16>
         ensures { result ≡ kerning_of self.now left.0 right.0 }
     {
-        row_at(&self.pairs, pair_key(left.0, right.0)).map(|pair| pair.2)
+        let pairs = self.lefts.pairs_of(&self.pairs, left.0);
+        row_at(pairs, pair_key(left.0, right.0)).map(|pair| pair.2)
     }
 }
 

@@ -1,15 +1,20 @@
 //! State tables: the class of each glyph, and what a machine does at a state and a class.
-ghost use Rattle.std.specs.Prelude.{◌≡◌, ◌+◌, ◌*◌, IfOk, IfErr, OnOk, None, option_map};
+ghost use Rattle.std.specs.Prelude.{◌≡◌, ◌+◌, ◌*◌, ◌/◌, ◌%◌, ◌<◌, ◌≤◌, ℕ, IfOk, IfErr, OnOk, None, option_map, length, slice_index_or};
 ghost use Rattle.aat_font.specs.Entries.{has_flag, goes_on};
-ghost use Rattle.aat_font.specs.Table.{class_of, entry_of, table_value};
+ghost use Rattle.aat_font.specs.Keys.{IsRising};
+ghost use Rattle.aat_font.specs.Table.{class_of, entry_of, known_class, rule_key, table_value};
 ghost use Rattle.aat_font.specs.Table.{first_out_of_range, earlier_fault, rules_fault, table_fault};
 ghost use Rattle.aat_font.specs.TableErrors.{RefusesFault};
+ghost use Rattle.aat_font.specs.inside.Dense.{ruled_entry, state_count, AnswersAsRules, RulesBelow};
+ghost use Rattle.aat_font.specs.inside.Walks.{AreBelow, AreNotBelow};
 
+use crate::cells::cell_at;
 use crate::error::TableError;
 use crate::keys::{Keyed, first_fall, row_at};
-use crate::lookup::value_of_pair;
+use crate::lookup::Lookup;
 use crate::plan::GlyphId;
-use std::alloc::{Allocator, Global};
+use crate::walk::{row_here, walk_to};
+use std::alloc::{AllocError, Allocator, Global};
 use std::marker::Model;
 
 /// The smallest number of classes. The manual gives the first four their meaning: 0 is the end of
@@ -25,6 +30,9 @@ const DELETED_GLYPH: u16 = 0xFFFF;
 
 /// The class of the deleted glyph, which the manual keeps for it: a table lists no glyph under it.
 const DELETED_CLASS: u16 = 2;
+
+/// The largest number of cells of a grid of states by classes. A table with more of them searches its rules.
+const MAX_CELLS: usize = 65536;
 
 /// What a machine does at a state and a class.
 ///
@@ -76,20 +84,23 @@ impl<T: Copy> GenericStateEntry<T> {
 #[derive(Drop)]
 pub struct ExtendedStateTable<T: Copy, A: Allocator = Global> {
     class_count: u16,
-    classes: Vec<(u16, u16), A>,
+    classes: Lookup<A>,
     rules: Vec<(u16, u16, GenericStateEntry<T>), A>,
+    grid: Vec<Option<GenericStateEntry<T>>, A>,
 }
 
 impl<T: Copy, A: Allocator> Model for ExtendedStateTable<T, A> {
-    ghost use Rattle.aat_font.specs.Keys.{IsRising, first};
+    ghost use Rattle.std.specs.Prelude.{◌<◌};
+    ghost use Rattle.aat_font.specs.Keys.{IsRising};
     ghost use Rattle.aat_font.specs.Table.{TableValue, rule_key};
+    ghost use Rattle.aat_font.specs.inside.Dense.{AnswersAsRules};
     ghost use Rattle.aat_font.specs.declared.state_table.GenericStateEntry.{GenericStateEntry};
 
     ghost Value = { TableValue (GenericStateEntry T) };
 
-    ghost view = { λ m. record { class_count = m.class_count; classes = m.classes.items; rules = m.rules.items } };
+    ghost view = { λ m. record { class_count = m.class_count; classes = m.classes; rules = m.rules.items } };
 
-    ghost invariant = { λ m. IsRising first m.classes.items × IsRising rule_key m.rules.items };
+    ghost invariant = { λ m. (1 < m.class_count) × IsRising rule_key m.rules.items × AnswersAsRules m.class_count m.grid.items m.rules.items };
 }
 
 impl<T: Copy, A: Allocator + Copy> ExtendedStateTable<T, A> {
@@ -101,7 +112,7 @@ impl<T: Copy, A: Allocator + Copy> ExtendedStateTable<T, A> {
     /// place of the first pair that is not above the one before it; else at the first rule that is
     /// not above the one before it, as 1, `NotRising`, or whose class is not below the number, as
     /// 3, `ClassOutOfRange`, with its place, 1 before 3 at one place; and else as 5, `OutOfMemory`,
-    /// where a copy gets no memory.
+    /// where a copy, or an array or a grid beside it, gets no memory.
     pub fn new(
         alloc: A,
         class_count: u16,
@@ -123,14 +134,15 @@ impl<T: Copy, A: Allocator + Copy> ExtendedStateTable<T, A> {
         }
         Ok(ExtendedStateTable {
             class_count,
-            classes: Vec::from_slice(alloc, classes)?,
+            classes: Lookup::of_rising(alloc, classes)?,
             rules: Vec::from_slice(alloc, rules)?,
+            grid: grid_over(alloc, class_count, rules)?,
         })
     }
 }
 
 impl<T: Copy, A: Allocator> ExtendedStateTable<T, A> {
-    /// The class of a glyph, if it has one, found by bisection. The class of the deleted glyph,
+    /// The class of a glyph, if it has one, found as the value of a lookup. The class of the deleted glyph,
     /// 0xFFFF, is always 2.
     pub fn class(&self, glyph: GlyphId) -> Option<u16>
         ensures { result ≡ class_of self.now glyph.0 }
@@ -138,21 +150,124 @@ impl<T: Copy, A: Allocator> ExtendedStateTable<T, A> {
         if glyph.0 == DELETED_GLYPH {
             return Some(DELETED_CLASS);
         }
-        value_of_pair(&self.classes, glyph.0)
+        self.classes.value(glyph)
     }
 
-    /// The entry of a state and a class, if there is a rule for them, found by bisection. A class
-    /// that is not below the number of classes is taken as 1.
+    /// The entry of a state and a class, if there is a rule for them, found in a grid of states by classes where that
+    /// has at most 65,536 cells up to the highest state with a rule, and else by bisection. A class that is not below
+    /// the number of classes is taken as 1.
     pub fn entry(&self, state: u16, class: u16) -> Option<GenericStateEntry<T>>
         ensures { result ≡ entry_of self.now state class }
     {
-        let class = if class < self.class_count {
-            class
-        } else {
-            OUT_OF_BOUNDS
-        };
-        row_at(&self.rules, rule_key(state, class)).map(|rule| rule.2)
+        let class = known_class(self.class_count, class);
+        if self.grid.as_slice().is_empty() {
+            return ruled_entry(&self.rules, state, class);
+        }
+        let row = state as usize * self.class_count as usize;
+        cell_at(&self.grid, row + class as usize)
     }
+}
+
+/// The class as which one is taken: itself where it is below the number of classes, and else 1.
+fn known_class(class_count: u16, class: u16) -> u16
+    ensures known { result ≡ known_class class_count class }
+    ensures below { 1 < class_count → result < class_count }
+{
+    if class < class_count {
+        class
+    } else {
+        OUT_OF_BOUNDS
+    }
+}
+
+/// The entry that rising rules have for a state and a class, found by bisection.
+fn ruled_entry<T: Copy>(
+    rules: &[(u16, u16, GenericStateEntry<T>)],
+    state: u16,
+    class: u16,
+) -> Option<GenericStateEntry<T>>
+    requires { IsRising rule_key rules.now }
+    ensures { result ≡ ruled_entry rules.now state class }
+{
+    row_at(rules, rule_key(state, class)).map(|rule| rule.2)
+}
+
+/// The grid of rising rules, in which each state up to the highest with a rule has a cell for each class, or an empty
+/// one where these were more than `MAX_CELLS` cells.
+fn grid_over<T: Copy, A: Allocator>(
+    alloc: A,
+    class_count: u16,
+    rules: &[(u16, u16, GenericStateEntry<T>)],
+) -> Result<Vec<Option<GenericStateEntry<T>>, A>, AllocError>
+    requires rising { IsRising rule_key rules.now }
+    requires classes { 0 < class_count }
+    ensures answers { IfOk result (λ grid. AnswersAsRules class_count grid.items rules.now) }
+    ensures long { IfOk result (λ grid. length grid.items ≡ state_count class_count rules.now * class_count) }
+{
+    let states = state_count(class_count, rules);
+    let cells = cells_of(alloc, class_count, states, rules)?;
+    Ok(cells)
+}
+
+/// The number of states up to the highest with a rule, or 0 where there is no rule, and where they have more than
+/// `MAX_CELLS` cells.
+fn state_count<T: Copy>(class_count: u16, rules: &[(u16, u16, GenericStateEntry<T>)]) -> usize
+    requires { IsRising rule_key rules.now }
+    ensures count { result ≡ state_count class_count rules.now }
+    ensures small { result * class_count ≤ 65536 }
+    ensures below { 0 < result → RulesBelow result rules.now }
+{
+    if rules.is_empty() {
+        return 0;
+    }
+    let highest = rules[rules.len() - 1].key() / 65536;
+    let states = highest as usize + 1;
+    if states * class_count as usize > MAX_CELLS {
+        return 0;
+    }
+    states
+}
+
+/// The entries that rising rules have for each class of so many states, state by state, in one walk over the rules.
+fn cells_of<T: Copy, A: Allocator>(
+    alloc: A,
+    class_count: u16,
+    states: usize,
+    rules: &[(u16, u16, GenericStateEntry<T>)],
+) -> Result<Vec<Option<GenericStateEntry<T>>, A>, AllocError>
+    requires rising { IsRising rule_key rules.now }
+    requires classes { 0 < class_count }
+    requires small { states * class_count ≤ 65536 }
+    ensures long { IfOk result (λ cells. length cells.items ≡ states * class_count) }
+    ensures entries { IfOk result (λ cells. (place : ℕ) → place < states * class_count → slice_index_or cells.items place None ≡ ruled_entry rules.now (place / class_count) (place % class_count)) }
+{
+    let width = class_count as usize;
+    let count = states * width;
+    let mut cells = Vec::with_capacity(alloc, count)?;
+    let mut at = 0;
+    for place in 0..count {
+        let state = (place / width) as u16;
+        let class = (place % width) as u16;
+        at = walk_to(rules, at, rule_key(state, class));
+        cells.push(entry_here(rules, at, state, class))?;
+    }
+    Ok(cells)
+}
+
+/// The entry that rising rules have for a state and a class, if they have one, at the place to which a walk to these
+/// has come.
+fn entry_here<T: Copy>(
+    rules: &[(u16, u16, GenericStateEntry<T>)],
+    place: usize,
+    state: u16,
+    class: u16,
+) -> Option<GenericStateEntry<T>>
+    requires rising { IsRising rule_key rules.now }
+    requires below { AreBelow rule_key rules.now place (state * 65536 + class) }
+    requires above { AreNotBelow rule_key rules.now place (state * 65536 + class) }
+    ensures { result ≡ ruled_entry rules.now state class }
+{
+    row_here(rules, place, rule_key(state, class)).map(|rule| rule.2)
 }
 
 /// The number by which rules rise.

@@ -20,14 +20,43 @@ fn chain_of(alloc: Global, default_flags: u32, feature_flags: &[u32]) -> Result<
     Ok(Chain::new(default_flags, vec![in alloc; ligatures]?, subtables))
 }
 
-/// A font of these chains, with settings of ligatures and of character alternatives.
+/// The settings of ligatures and of character alternatives.
+const NAMES: [FeatureName; 2] = [
+    FeatureName {
+        kind: 1,
+        settings: 4,
+        exclusive: false,
+    },
+    FeatureName {
+        kind: 17,
+        settings: 2,
+        exclusive: true,
+    },
+];
+
+/// The tables of a font of these chains.
+fn tables_of(chains: Vec<Chain>) -> Result<FaceTables, Fail> {
+    Ok(FaceTables::default().with_morx(Morx::new(chains)?))
+}
+
+/// A font of these chains, with names of features.
 fn font_of(alloc: Global, chains: Vec<Chain>) -> Result<hb_font_t, Fail> {
-    let feat = Feat::new(
-        alloc,
-        &[FeatureName::new(1, 4, false), FeatureName::new(17, 2, true)],
-    )?;
-    let morx = Morx::new(chains)?;
-    Ok(hb_font_t::from_tables(FaceTables::default().with_morx(morx).with_feat(feat)))
+    let tables = tables_of(chains)?;
+    Ok(hb_font_t::from_tables(tables.with_feat(Feat::new(alloc, &NAMES)?)))
+}
+
+/// A font of one chain, whose default flags are 1.
+fn font_of_one(alloc: Global, feature_flags: &[u32]) -> Result<hb_font_t, Fail> {
+    let chain = chain_of(alloc, 1, feature_flags)?;
+    font_of(alloc, vec![in alloc; chain]?)
+}
+
+/// Two chains.
+fn two_chains(alloc: Global) -> Result<Vec<Chain>, Fail> {
+    let first = chain_of(alloc, 1, &[1])?;
+    let mut chains = vec![in alloc; first]?;
+    chains.push(chain_of(alloc, 0, &[4, 2, 6])?)?;
+    Ok(chains)
 }
 
 /// The text of the table of a font, with ligatures over the clusters 3 and 4.
@@ -37,25 +66,26 @@ fn text_of(alloc: Global, font: &hb_font_t) -> Result<String, Fail> {
     Ok(format!(in alloc; "{}", Table(&ranges))?)
 }
 
+/// Asserts the text of the table of a font.
+fn assert_text(rt: &impl Abort, alloc: Global, font: &hb_font_t, wanted: &str) -> Result<(), Fail> {
+    assert_eq!(rt; text_of(alloc, font)?.as_str(), wanted);
+    Ok(())
+}
+
 #[test]
 fn ligatures_are_on_over_two_clusters(rt: HostRuntime) -> Result<(), Fail> {
-    let alloc = rt.alloc();
-    let font = font_of(alloc, vec![in alloc; chain_of(alloc, 1, &[1, 2])?]?)?;
+    let font = font_of_one(rt.alloc(), &[1, 2])?;
     let wanted = "\
 chain       first        last       flags  on
     0           0           2  0x00000001  0
     0           3           4  0x00000003  0  1
     0           5         end  0x00000001  0";
-    assert_eq!(&rt; text_of(alloc, &font)?.as_str(), wanted);
-    Ok(())
+    assert_text(&rt, rt.alloc(), &font, wanted)
 }
 
 #[test]
 fn each_chain_has_all_clusters(rt: HostRuntime) -> Result<(), Fail> {
-    let alloc = rt.alloc();
-    let mut chains = vec![in alloc; chain_of(alloc, 1, &[1])?]?;
-    chains.push(chain_of(alloc, 0, &[4, 2, 6])?)?;
-    let font = font_of(alloc, chains)?;
+    let font = font_of(rt.alloc(), two_chains(rt.alloc())?)?;
     let wanted = "\
 chain       first        last       flags  on
     0           0           2  0x00000001  0
@@ -64,16 +94,14 @@ chain       first        last       flags  on
     1           0           2  0x00000000
     1           3           4  0x00000002  1  2
     1           5         end  0x00000000";
-    assert_eq!(&rt; text_of(alloc, &font)?.as_str(), wanted);
-    Ok(())
+    assert_text(&rt, rt.alloc(), &font, wanted)
 }
 
 #[test]
 fn a_value_that_is_no_setting_is_refused(rt: HostRuntime) -> Result<(), Fail> {
-    let alloc = rt.alloc();
-    let font = font_of(alloc, vec![in alloc; chain_of(alloc, 1, &[1])?]?)?;
+    let font = font_of_one(rt.alloc(), &[1])?;
     let alternates = Feature::new(hb_tag_t::from_bytes(b"aalt"), 65536, 0..u32::MAX);
-    let refused = inspect(alloc, &font, &[alternates]).err();
+    let refused = inspect(rt.alloc(), &font, &[alternates]).err();
     assert_eq!(&rt; refused, Some(AatError::AaltValue(65536)));
     Ok(())
 }

@@ -1,8 +1,8 @@
 //! Deleted glyphs: they take no room, or they go.
-ghost use Rattle.std.specs.Prelude.{◌≡◌, ◌≢◌, ◌==◌, All, filter, not};
+ghost use Rattle.std.specs.Prelude.{◌≡◌, ◌≢◌, ◌==◌, All, filter, length, not};
 ghost use Rattle.aat_buffer.specs.Clusters.{ids};
 ghost use Rattle.aat_buffer.specs.Removal.{is_deleted, removed};
-ghost use Rattle.aat_kerning.specs.Zeroing.{zeroed, zeroed_position};
+ghost use Rattle.aat_kerning.specs.Zeroing.{zeroed, zeroed_position, zeroed_positions};
 
 use aat_buffer::{GlyphPosition, hb_buffer_t, hb_glyph_info_t};
 use std::alloc::Allocator;
@@ -27,6 +27,17 @@ fn zeroed_position(glyph: hb_glyph_info_t, position: GlyphPosition) -> GlyphPosi
     }
 }
 
+/// Leaves the positions of deleted glyphs no room: each glyph has its position at the same place.
+fn zero_deleted(glyphs: &[hb_glyph_info_t], positions: &mut [GlyphPosition])
+    requires { length positions.old ≡ length glyphs.now }
+    ensures zeroed { positions.new ≡ zeroed_positions glyphs.now positions.old }
+    ensures len { length positions.new ≡ length positions.old }
+{
+    for i in 0..positions.len() {
+        positions[i] = zeroed_position(glyphs[i], positions[i]);
+    }
+}
+
 /// Sets both advances and both offsets of each deleted glyph to 0. What it is attached to stays, and so does all
 /// else. Where no positions stand (`has_positions` tells it), nothing changes.
 ///
@@ -37,11 +48,11 @@ pub fn hb_aat_layout_zero_width_deleted_glyphs<A: Allocator + Copy>(buffer: &mut
     if !buffer.has_positions() {
         return;
     }
-    for i in 0..buffer.len() {
-        let glyph = *buffer.info(i);
-        let position = buffer.pos_mut(i);
-        *position = zeroed_position(glyph, *position);
-    }
+    let cursor = buffer.backtrack_len();
+    buffer.sync();
+    let (glyphs, positions) = buffer.positions_from_cursor_mut();
+    zero_deleted(glyphs, positions);
+    buffer.move_to(cursor);
 }
 
 /// Takes the deleted glyphs out, with their positions, and puts the cursor at the start. The others keep their

@@ -2,8 +2,8 @@ pub mod KindsKeep
 pub mod LaterDeleted
 pub mod LawsHold
 pub mod Ligating
-pub mod Lists
 pub mod OrderOfKinds
 pub mod Parts
+pub mod Passed
 pub mod Putting
 pub mod Refusals

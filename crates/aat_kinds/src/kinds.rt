@@ -11,7 +11,7 @@ use crate::noncontextual::replace_all;
 use crate::run::SubtableRun;
 use aat_buffer::hb_buffer_t;
 use aat_font::SubtableKind;
-use aat_run::AatError;
+use aat_run::{AatError, is_nowhere_on};
 use std::alloc::Allocator;
 
 /// Runs a subtable by its kind, and answers the turns. A ligature machine gets `SLOTS` slots, and a span of
@@ -51,7 +51,9 @@ pub fn run_kind<const SLOTS: usize, const LONGEST: usize, A: Allocator + Copy>(
         SubtableKind::Ligature(subtable) => run_ligature::<SLOTS, A>(run, subtable, buffer),
         SubtableKind::NonContextual(lookup) => {
             let turns = buffer.len() as u64;
-            replace_all(run, lookup, buffer);
+            if !is_nowhere_on(run.ranges, run.feature_flags) {
+                replace_all(run, lookup, buffer);
+            }
             Ok(turns)
         }
         SubtableKind::Insertion(subtable) => run_insertion(run, subtable, buffer),

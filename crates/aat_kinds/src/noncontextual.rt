@@ -1,15 +1,16 @@
 //! Noncontextual subtables: each glyph by itself gets its value of a lookup.
-ghost use Rattle.std.specs.Prelude.{◌≡◌, ◌≤◌, All, ℕ, Bool};
+ghost use Rattle.std.specs.Prelude.{◌≡◌, ◌≤◌, All, ℕ, Bool, length};
 ghost use Rattle.aat_buffer.specs.Buffer.{Is16Bit, with_line};
 ghost use Rattle.aat_buffer.specs.Clusters.{IsSmall};
 ghost use Rattle.aat_font.specs.Face.{glyph_classes_of};
-ghost use Rattle.aat_run.specs.Ranges.{switch_for};
+ghost use Rattle.aat_run.specs.Ranges.{IsGapless, switch_for};
 ghost use Rattle.aat_kinds.specs.Values.{with_looked_up_value, noncontextual};
 
 use crate::run::SubtableRun;
 use crate::values::props_after;
 use aat_buffer::{hb_buffer_t, hb_glyph_info_t};
 use aat_font::{GlyphId, Lookup, hb_font_t};
+use aat_run::{is_on_from, range_flags_t, ranges_to_ask};
 use std::alloc::Allocator;
 
 /// A glyph with its value of a lookup, where it has one and the subtable is on.
@@ -36,20 +37,42 @@ fn replacement(
     }
 }
 
-/// Gives each glyph of a line that is on at its own cluster its value.
-#[tactic(auto, using(crate::proofs::Lists::map_line_step))]
+/// Gives each of some glyphs that is on at its own cluster, by some ranges, its value. A range is looked for only where
+/// the one that was found last does not hold the cluster.
+fn replace_glyphs(
+    run: &SubtableRun,
+    ranges: &[range_flags_t],
+    lookup: &Lookup,
+    glyphs: &mut [hb_glyph_info_t],
+)
+    requires ids { All Is16Bit glyphs.old }
+    requires gapless { IsGapless ranges.now }
+    ensures replaced { glyphs.new ≡ noncontextual ((switch_for ranges.now).is_on run.now.feature_flags) (glyph_classes_of run.now.face.now) lookup.now glyphs.old }
+    ensures ids { All Is16Bit glyphs.new }
+    ensures len { length glyphs.new ≡ length glyphs.old }
+{
+    let mut found = None;
+    for glyph in glyphs.iter_mut() {
+        let is_on = is_on_from(ranges, run.feature_flags, &mut found, glyph.cluster);
+        *glyph = replacement(run.face, lookup, is_on, *glyph);
+    }
+}
+
+/// Gives each glyph of a line that is on at its own cluster its value. The line is one slice while the cursor is at
+/// the start, and no cluster is asked where each range switches the subtable on.
 pub(crate) fn replace_all<A: Allocator + Copy>(
     run: &SubtableRun,
     lookup: &Lookup,
     buffer: &mut hb_buffer_t<A>,
 )
-    requires { IsSmall buffer.old }
+    requires ids { IsSmall buffer.old }
+    requires gapless { IsGapless run.now.ranges.now }
     ensures replaced { buffer.new ≡ with_line buffer.old (noncontextual ((switch_for run.now.ranges.now).is_on run.now.feature_flags) (glyph_classes_of run.now.face.now) lookup.now buffer.old.line) }
     ensures ids { IsSmall buffer.new }
 {
-    for i in 0..buffer.len() {
-        let glyph = buffer.info_mut(i);
-        let is_on = run.is_on(glyph.cluster);
-        *glyph = replacement(run.face, lookup, is_on, *glyph);
-    }
+    let asked = ranges_to_ask(run.ranges, run.feature_flags);
+    let cursor = buffer.backtrack_len();
+    buffer.sync();
+    replace_glyphs(run, asked, lookup, buffer.from_cursor_mut());
+    buffer.move_to(cursor);
 }

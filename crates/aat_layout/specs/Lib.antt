@@ -12,6 +12,7 @@ pub use Rattle.aat_run.specs.Budget
 pub use Rattle.aat_run.specs.Driven
 pub use Rattle.aat_run.specs.Laws
 pub use Rattle.aat_run.specs.Outcome
+pub use Rattle.aat_run.specs.RangeOf
 pub use Rattle.aat_run.specs.Ranges
 pub use Rattle.aat_run.specs.Switches
 pub use Rattle.aat_run.specs.declared.error.AatError

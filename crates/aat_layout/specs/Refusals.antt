@@ -74,13 +74,13 @@ RefusesSubstitutionWith z plan face b BufferFailed = b.successful ≡ false
 abbrev pub RefusesSubstitution : hb_ot_shape_plan_t → hb_font_t → Buffer → AatError → Type 0
 RefusesSubstitution plan face b error = RefusesSubstitutionWith (sizes_for face) plan face b error
 
--- what a refused substitution with sizes leaves: nothing changed, unless it was refused in the middle of a run that
--- makes the line longer
+-- what a refused substitution with sizes leaves: nothing changed, of want of memory only where the plan wants it; or it
+-- was refused in the middle of a run that makes the line longer
 abbrev pub LeavesBehindWith : Sizes → hb_ot_shape_plan_t → hb_font_t → Buffer → Buffer → AatError → Type 0
 LeavesBehindWith z plan face old new (AaltValue value) = new ≡ old
 LeavesBehindWith z plan face old new TooLong = IsRefused old new
 LeavesBehindWith z plan face old new OutOfMemory =
-    (new ≡ old) ⊎ (IsRefused old new × IsTrue (grows_with z plan face old))
+    ((new ≡ old) × IsTrue (wants_memory plan face)) ⊎ (IsRefused old new × IsTrue (grows_with z plan face old))
 LeavesBehindWith z plan face old new BufferFailed = new ≡ old
 
 -- the same with the usual sizes

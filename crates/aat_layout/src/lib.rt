@@ -26,7 +26,10 @@ pub use aat_map::{
     hb_aat_feature_mapping_t, hb_aat_map_builder_t, hb_aat_map_t,
 };
 pub use aat_morx::{apply, apply_with};
-pub use aat_run::{AatError, drive, driver_context_t, hb_aat_apply_context_t, range_flags_t};
+pub use aat_run::{
+    AatError, drive, driver_context_t, ends_at_last, hb_aat_apply_context_t, range_flags_t,
+    range_of,
+};
 
 /// The laws of the definitions as theorems.
 #[doc(hidden)]
@@ -54,4 +57,5 @@ pub mod worked {
     pub use aat_morx::worked::{
         contextual_rows, insertion_rows, ligature_rows, rearrangement_rows, substitution_examples,
     };
+    pub use aat_run::worked::places_of_ranges;
 }

@@ -86,54 +86,94 @@ fn expect_positions<A: Allocator + Copy>(
     }
 }
 
-#[test]
-fn the_parts_have_the_positions_of_the_line(rt: HostRuntime) -> Result<(), Fail> {
-    let alloc = rt.alloc();
-    let font = font_of(alloc)?;
-    let glyphs = [(1, 0), (2, 1), (3, 2), (4, 3)];
-    let mut line = line_of(&rt, alloc, Direction::LeftToRight, &glyphs)?;
-    assert_eq!(&rt; cut(&rt, alloc, &font, 1000, &mut line)?, Some(2));
-    expect_positions(&rt, &line, &[(490, 0), (490, -10), (505, 0), (505, 5)]);
-    let mut first = line_of(&rt, alloc, Direction::LeftToRight, &glyphs[..2])?;
-    cut(&rt, alloc, &font, 1000, &mut first)?;
-    expect_positions(&rt, &first, &[(490, 0), (490, -10)]);
-    let mut second = line_of(&rt, alloc, Direction::LeftToRight, &glyphs[2..])?;
-    cut(&rt, alloc, &font, 1000, &mut second)?;
-    expect_positions(&rt, &second, &[(505, 0), (505, 5)]);
+/// A line that is kerned and broken.
+#[derive(Clone, Copy)]
+struct Line {
+    direction: Direction,
+    /// Its glyphs, with their clusters.
+    glyphs: &'static [(u32, u32)],
+    limit: i64,
+    /// Where it may be cut.
+    place: Option<usize>,
+    /// The advance and the offset of each glyph.
+    positions: &'static [(i32, i32)],
+}
+
+/// The four glyphs, and where kerning leaves them.
+const WHOLE: Line = Line {
+    direction: Direction::LeftToRight,
+    glyphs: &[(1, 0), (2, 1), (3, 2), (4, 3)],
+    limit: 1000,
+    place: Some(2),
+    positions: &[(490, 0), (490, -10), (505, 0), (505, 5)],
+};
+
+const LINES: [Line; 7] = [
+    WHOLE,
+    // its parts have the positions of the whole
+    Line {
+        glyphs: &[(1, 0), (2, 1)],
+        place: None,
+        positions: &[(490, 0), (490, -10)],
+        ..WHOLE
+    },
+    Line {
+        glyphs: &[(3, 2), (4, 3)],
+        place: None,
+        positions: &[(505, 0), (505, 5)],
+        ..WHOLE
+    },
+    // the limit is included
+    Line {
+        limit: 979,
+        place: None,
+        ..WHOLE
+    },
+    Line {
+        limit: 980,
+        ..WHOLE
+    },
+    Line {
+        limit: 1_000_000,
+        ..WHOLE
+    },
+    // a backward line is cut from its last glyph on
+    Line {
+        direction: Direction::RightToLeft,
+        glyphs: &[(5, 3), (3, 2), (2, 1), (1, 0)],
+        positions: &[(500, 0), (500, 0), (490, -10), (490, 0)],
+        ..WHOLE
+    },
+];
+
+/// Asserts where a line may be cut, and where its glyphs stand.
+fn assert_cut(rt: &impl Abort, alloc: Global, font: &hb_font_t, line: &Line) -> Result<(), Fail> {
+    let mut buffer = line_of(rt, alloc, line.direction, line.glyphs)?;
+    assert!(rt; cut(rt, alloc, font, line.limit, &mut buffer) == Ok(line.place));
+    expect_positions(rt, &buffer, line.positions);
     Ok(())
 }
 
 #[test]
-fn the_limit_is_included(rt: HostRuntime) -> Result<(), Fail> {
-    let alloc = rt.alloc();
-    let font = font_of(alloc)?;
-    for (limit, wanted) in [(979, None), (980, Some(2)), (1_000_000, Some(2))] {
-        let glyphs = [(1, 0), (2, 1), (3, 2), (4, 3)];
-        let mut line = line_of(&rt, alloc, Direction::LeftToRight, &glyphs)?;
-        assert_eq!(&rt; cut(&rt, alloc, &font, limit, &mut line)?, wanted);
+fn lines_are_cut(rt: HostRuntime) -> Result<(), Fail> {
+    let font = font_of(rt.alloc())?;
+    for line in &LINES {
+        assert_cut(&rt, rt.alloc(), &font, line)?;
     }
     Ok(())
 }
 
-#[test]
-fn a_backward_line_is_cut_from_its_last_glyph_on(rt: HostRuntime) -> Result<(), Fail> {
-    let alloc = rt.alloc();
-    let font = font_of(alloc)?;
-    let glyphs = [(5, 3), (3, 2), (2, 1), (1, 0)];
-    let mut line = line_of(&rt, alloc, Direction::RightToLeft, &glyphs)?;
-    assert_eq!(&rt; cut(&rt, alloc, &font, 1000, &mut line)?, Some(2));
-    expect_positions(&rt, &line, &[(500, 0), (500, 0), (490, -10), (490, 0)]);
+/// Asserts where a column may be cut.
+fn assert_column_cut(rt: &impl Abort, alloc: Global, font: &hb_font_t) -> Result<(), Fail> {
+    let mut line = line_of(rt, alloc, Direction::TopToBottom, WHOLE.glyphs)?;
+    assert!(rt; line.all_glyphs_16() && line.has_positions());
+    assert!(rt; hb_aat_layout_position(&plan_of(alloc), font, &mut line).is_ok());
+    assert!(rt; last_cut(499, KERX_SKIPS, &line).is_none());
+    assert!(rt; last_cut(600, KERX_SKIPS, &line) == Some(1));
     Ok(())
 }
 
 #[test]
 fn a_column_goes_down(rt: HostRuntime) -> Result<(), Fail> {
-    let alloc = rt.alloc();
-    let glyphs = [(1, 0), (2, 1), (3, 2), (4, 3)];
-    let mut line = line_of(&rt, alloc, Direction::TopToBottom, &glyphs)?;
-    assert!(&rt; line.all_glyphs_16() && line.has_positions());
-    hb_aat_layout_position(&plan_of(alloc), &font_of(alloc)?, &mut line)?;
-    assert_eq!(&rt; last_cut(499, KERX_SKIPS, &line), None);
-    assert_eq!(&rt; last_cut(600, KERX_SKIPS, &line), Some(1));
-    Ok(())
+    assert_column_cut(&rt, rt.alloc(), &font_of(rt.alloc())?)
 }

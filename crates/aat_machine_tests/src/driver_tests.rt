@@ -5,7 +5,9 @@ ghost use Rattle.aat_run.specs.Ranges.{IsGapless};
 use crate::driver_contexts::{CountingCtx, PuttingCtx};
 use aat_buffer::{BufferError, hb_buffer_t, hb_glyph_info_t};
 use aat_font::{ExtendedStateTable, FaceTables, GenericStateEntry, TableError, hb_font_t};
-use aat_run::{AatError, drive, hb_aat_apply_context_t, range_flags_t, run_machine};
+use aat_run::{
+    AatError, drive, ends_at_last, hb_aat_apply_context_t, range_flags_t, range_of, run_machine,
+};
 use linked_list_allocator::LocalHeap;
 use std::alloc::{Allocator, Global};
 use std::process::Abort;
@@ -75,6 +77,18 @@ fn range(flags: u32, cluster_first: u32, cluster_last: u32) -> range_flags_t
     }
 }
 
+/// The place of the range that holds a cluster, where ranges end at the last cluster and it takes at most so many
+/// probes.
+fn place_within(ranges: &[range_flags_t], cluster: u32, most: u32) -> Option<usize>
+    requires { IsGapless ranges.now }
+{
+    if !ends_at_last(ranges) {
+        return None;
+    }
+    let (place, probes) = range_of(ranges, cluster);
+    if probes <= most { Some(place) } else { None }
+}
+
 /// Whether the line has these glyph ids, clusters and masks.
 fn is_line<A: Allocator + Copy>(buffer: &hb_buffer_t<A>, wanted: &[(u32, u32, u32)]) -> bool {
     if buffer.len() != wanted.len() {
@@ -126,6 +140,26 @@ fn put_over<A: Allocator + Copy>(
     Some(run_machine(machine, &mut context, buffer, &[], 1))
 }
 
+/// A range is found in at most as many probes as the number of ranges has binary digits: three of five ranges, and one
+/// of one. Ranges that end early are not asked.
+#[test]
+fn a_range_is_found_in_few_probes(rt: HostRuntime) -> Result<(), Fail> {
+    let ranges = [
+        range(3, 0, 0),
+        range(3, 1, 1),
+        range(3, 2, 4),
+        range(5, 5, 9),
+        range(1, 10, u32::MAX),
+    ];
+    assert!(rt; place_within(&ranges, 1, 3) == Some(1));
+    assert!(rt; place_within(&ranges, 7, 3) == Some(3));
+    assert!(rt; place_within(&ranges, u32::MAX, 3) == Some(4));
+    assert!(rt; place_within(&[range(1, 0, u32::MAX)], 7, 1) == Some(0));
+    assert!(rt; place_within(&[range(1, 0, 7)], 7, 1).is_none());
+    assert!(rt; place_within(&[], 0, 1).is_none());
+    Ok(())
+}
+
 /// A context of the tests' own is driven over an apply context with ranges: it acts where a cluster is on,
 /// the turns are added, the cursor is at the front and the positions are kept.
 #[test]
@@ -171,6 +205,30 @@ fn few_ranges(rt: HostRuntime) -> Result<(), Fail> {
     let ranges = [range(2, 0, u32::MAX)];
     assert!(rt; count_over(&machine, &mut buffer, &ranges) == Some((7, 3)));
     assert!(rt; count_over(&machine, &mut buffer, &[]) == Some((7, 3)));
+    Ok(())
+}
+
+/// A machine that no range switches on passes the line, in a turn for each glyph and one more.
+#[test]
+fn on_under_no_range(rt: HostRuntime) -> Result<(), Fail> {
+    let machine = acting(rt.alloc(), 0, 7)?;
+    let mut buffer = line_of(rt.alloc(), 100, 16384, &[(5, 0), (5, 1), (5, 2)])?;
+    let ranges = [range(2, 0, 0), range(4, 1, u32::MAX)];
+    assert!(rt; count_over(&machine, &mut buffer, &ranges) == Some((5, 4)));
+    assert!(rt; is_line(&buffer, &[(5, 0, 0), (5, 1, 0), (5, 2, 0)]));
+    assert!(rt; buffer.backtrack_len() == 0 && buffer.max_ops() == 16384);
+    Ok(())
+}
+
+/// One that each range switches on acts everywhere, and one that one of them does acts there.
+#[test]
+fn on_under_each_range(rt: HostRuntime) -> Result<(), Fail> {
+    let machine = acting(rt.alloc(), 0, 7)?;
+    let mut buffer = line_of(rt.alloc(), 100, 16384, &[(5, 0), (5, 1), (5, 2)])?;
+    let ranges = [range(1, 0, 0), range(3, 1, u32::MAX)];
+    assert!(rt; count_over(&machine, &mut buffer, &ranges) == Some((8, 4)));
+    let ranges = [range(2, 0, 1), range(1, 2, u32::MAX)];
+    assert!(rt; count_over(&machine, &mut buffer, &ranges) == Some((6, 4)));
     Ok(())
 }
 

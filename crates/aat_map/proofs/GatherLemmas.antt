@@ -31,17 +31,11 @@ placed_step :
 placed_step true q r qs later n e = rw (one_more n) (ap (λ l. q ∷ l) e)
 placed_step false q r qs later n e = refl
 
-placed_behind :
+pub placed_behind :
     (qs : List feature_range_t) (r : feature_range_t)
     → insert qs (prefix_len (λ q. nat_le q.start r.start) qs) r ≡ placed_by_start qs r
 placed_behind [] r = refl
 placed_behind (q ∷ qs) r = placed_step (nat_le q.start r.start) q r qs (placed_by_start qs r) (prefix_len (λ q. nat_le q.start r.start) qs) (placed_behind qs r)
-
--- an insert behind the requests that start no later
-pub placed_at :
-    (qs ys : List feature_range_t) (r : feature_range_t) (i : ℕ)
-    → i ≡ length (take_while (λ q. nat_le q.start r.start) qs) → ys ≡ insert qs i r → ys ≡ placed_by_start qs r
-placed_at qs ys r i e is = is ∙ ap (λ j. insert qs j r) (e ∙ length-prefix_len _ qs) ∙ placed_behind qs r
 
 removed_step :
     (b : Bool) (q : feature_info_t) (qs later : List feature_info_t) (n : ℕ) → remove qs n ≡ later
@@ -78,21 +72,21 @@ record OneGroup (a b : feature_info_t) : Type 0 where
   exclusive : a.is_exclusive ≡ b.is_exclusive
   setting : group_setting a ≡ group_setting b
 
-same_bool_is : (a b : Bool) → is_alike a b ≡ true → a ≡ b
+pub same_bool_is : (a b : Bool) → is_alike a b ≡ true → a ≡ b
 same_bool_is true true h = refl
 same_bool_is true false h = cc
 same_bool_is false true h = cc
 same_bool_is false false h = refl
 
-same_bool_self : (a : Bool) → is_alike a a ≡ true
+pub same_bool_self : (a : Bool) → is_alike a a ≡ true
 same_bool_self true = refl
 same_bool_self false = refl
 
-both : (a b : Bool) → (a && b) ≡ true → (a ≡ true) × (b ≡ true)
+pub both : (a b : Bool) → (a && b) ≡ true → (a ≡ true) × (b ≡ true)
 both true b h = (refl, h)
 both false b h = cc
 
-both_made : (a b : Bool) → a ≡ true → b ≡ true → (a && b) ≡ true
+pub both_made : (a b : Bool) → a ≡ true → b ≡ true → (a && b) ≡ true
 both_made a b p q = rw (p, q) refl
 
 group_opened : (a b : feature_info_t) → in_group a b ≡ true → OneGroup a b
@@ -107,7 +101,7 @@ group_made a b h =
     (both_made (is_alike a.is_exclusive b.is_exclusive) _ (rw h.exclusive (same_bool_self b.is_exclusive)) (grind (arith, nat_tests, h.setting)))
 
 -- one group with one is one group with the other
-group_trans : (a b c : feature_info_t) → in_group a b ≡ true → in_group b c ≡ true → in_group a c ≡ true
+pub group_trans : (a b c : feature_info_t) → in_group a b ≡ true → in_group b c ≡ true → in_group a c ≡ true
 group_trans a b c h k =
     let p = group_opened a b h in
     let q = group_opened b c k in
@@ -131,7 +125,7 @@ any_filtered :
 any_filtered p q [] h = refl
 any_filtered p q (x ∷ xs) h = filtered_step (p x) (q x) x q (filter p xs) xs refl (h x) (any_filtered p q xs h)
 
-kept_step :
+pub kept_step :
     (b c : Bool) (x : feature_info_t) (p : feature_info_t → Bool) → p x ≡ not b
     → filter p (cond c [] (x ∷ [])) ≡ cond (b || c) [] (x ∷ [])
 kept_step true true x p e = refl
@@ -139,11 +133,11 @@ kept_step true false x p e = rw e refl
 kept_step false true x p e = refl
 kept_step false false x p e = rw e refl
 
-apart_is : (c : Bool) → (c ≡ true → ⊥) → not c ≡ true
+pub apart_is : (c : Bool) → (c ≡ true → ⊥) → not c ≡ true
 apart_is true f = absurd (f refl)
 apart_is false f = refl
 
-any_kept_step :
+pub any_kept_step :
     (b : Bool) (i x : feature_info_t) (ks : List feature_info_t) → in_group i x ≡ b
     → (b || list_any (λ j. in_group j x) (filter (λ j. not (in_group i j)) ks)) ≡ (b || list_any (λ j. in_group j x) ks)
 any_kept_step true i x ks e = refl
@@ -180,7 +174,7 @@ not_true : (b : Bool) → not b ≡ true → b ≡ false
 not_true true h = cc
 not_true false h = refl
 
-not_group_sym : (a b : feature_info_t) (c : Bool) → in_group a b ≡ c → in_group b a ≡ false → in_group a b ≡ false
+pub not_group_sym : (a b : feature_info_t) (c : Bool) → in_group a b ≡ c → in_group b a ≡ false → in_group a b ≡ false
 not_group_sym a b true e h = absurd (true_not_false (sym (group_sym a b e) ∙ h))
 not_group_sym a b false e h = e
 

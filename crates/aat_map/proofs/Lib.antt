@@ -1,9 +1,14 @@
+pub mod ByStart
 pub mod CompileLemmas
 pub mod CompiledLemmas
 pub mod CutLemmas
+pub mod FirstLemmas
 pub mod GatherLemmas
+pub mod KeptFirsts
 pub mod MapLemmas
 pub mod OneRange
 pub mod SpanLemmas
 pub mod StartLemmas
+pub mod TakenOut
 pub mod Truth
+pub mod WalkLemmas

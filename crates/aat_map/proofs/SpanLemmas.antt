@@ -15,7 +15,7 @@ use Rattle.aat_run.specs.Ranges.{last_cluster, next_start}
 use Rattle.aat_map.specs.Live.{kept_at, has_setting, requested_at, by_start, live, live_among}
 use Rattle.aat_map.specs.Map.{list_at, resized, with_ranges}
 use Rattle.aat_map.specs.Spans.{spans}
-use Rattle.aat_map.specs.inside.CompiledSpans.{span_range, ranges_over, compiled_lists, RiseFromZero, IsLastSpan}
+use Rattle.aat_map.specs.inside.CompiledSpans.{flags_for, all_flags_for, range_with, ranges_with, span_range, ranges_over, compiled_lists, RiseFromZero, IsLastSpan}
 
 -- a span that another follows ends before it
 pub span_inner :
@@ -102,6 +102,23 @@ ranges_alike requests chains b s moved first last =
     let same = settings_alike s.0 requests b.current_features moved in
     let alike : compiled_range b ≡ (λ c. span_range requests c s) = λ i c. record { flags = flags_by (same i) c.default_flags c.features.items; cluster_first = first i; cluster_last = last i } in
     ap (λ f. map f chains) alike
+
+-- the ranges of the flags that a builder's settings give each chain are its ranges
+ranges_with_flags :
+    (chains : List Chain) (b : Builder) (s : ℕ × ℕ) → b.range_first ≡ s.0 → b.range_last ≡ s.1
+    → ranges_with s (all_flags_for b.current_features chains) ≡ compiled_ranges b chains
+ranges_with_flags [] b s first last = refl
+ranges_with_flags (c ∷ cs) b s first last =
+    let one : range_with s (flags_for b.current_features c) ≡ compiled_range b c =
+    λ i. record { flags = flags_for b.current_features c; cluster_first = sym first i; cluster_last = sym last i } in
+    ap (λ r. r ∷ ranges_with s (all_flags_for b.current_features cs)) one
+    ∙ ap (λ rs. compiled_range b c ∷ rs) (ranges_with_flags cs b s first last)
+
+pub ranges_of_flags :
+    (chains : List Chain) (b : Builder) (s : ℕ × ℕ) (flags : List ℕ)
+    → flags ≡ all_flags_for b.current_features chains → b.range_first ≡ s.0 → b.range_last ≡ s.1
+    → ranges_with s flags ≡ compiled_ranges b chains
+ranges_of_flags chains b s flags is first last = ap (ranges_with s) is ∙ ranges_with_flags chains b s first last
 
 -- no ranges for each chain
 empty_lists :

@@ -103,7 +103,7 @@ fn compiled_range<A: Allocator + Copy>(
 }
 
 /// The flags that settings give a chain: the default ones, changed by its features in their order.
-fn flags_of(settings: &[feature_info_t], chain: &Chain) -> hb_mask_t
+pub(crate) fn flags_of(settings: &[feature_info_t], chain: &Chain) -> hb_mask_t
     ensures { result ≡ flags_by (has_setting settings.now) chain.now.default_flags chain.now.features.items }
 {
     let mut flags = chain.default_flags;

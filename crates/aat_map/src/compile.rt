@@ -1,24 +1,29 @@
 //! Compiling requests into the flags of each chain, range by range.
-ghost use Rattle.std.specs.Prelude.{◌≡◌, ◌<◌, ◌≤◌, ℕ, [], length, slice_get, slice_index_or, All, IsTrue, Some};
+ghost use Rattle.std.specs.Prelude.{◌≡◌, ◌<◌, ◌≤◌, ℕ, [], length, slice_get, slice_index_or, All, IsTrue, IsPermutation, Some};
 ghost use Rattle.std.specs.Prelude.{IfErr, OnOk, OnErr};
 ghost use Rattle.std.specs.List.{list_all};
 ghost use Rattle.aat_font.specs.Face.{tables_of, chains_in};
 ghost use Rattle.aat_run.specs.Ranges.{last_cluster, is_whole_list, next_start};
 ghost use Rattle.aat_map.specs.Builder.{AreKeptAt};
 ghost use Rattle.aat_map.specs.Compiled.{HaveFlags, IsLastStart};
-ghost use Rattle.aat_map.specs.Live.{by_start};
+ghost use Rattle.aat_map.specs.Live.{by_start, kept_at};
 ghost use Rattle.aat_map.specs.Map.{AreStarts, range_starts, with_ranges, list_at};
 ghost use Rattle.aat_map.specs.Spans.{spans};
 ghost use Rattle.aat_map.specs.SwitchedChains.{switched_by, by_requests};
-ghost use Rattle.aat_map.specs.inside.CompiledSpans.{ranges_over, compiled_lists};
+ghost use Rattle.aat_map.specs.inside.CompiledSpans.{all_flags_for, ranges_over, compiled_lists};
 ghost use Rattle.aat_map.specs.inside.CompiledSpans.{RiseFromZero, IsLastSpan, IsCompiled};
+ghost use Rattle.aat_map.specs.inside.Firsts.{present};
+ghost use Rattle.aat_map.specs.inside.Walked.{AreWalked};
 
 use crate::builder::hb_aat_map_builder_t;
-use crate::chain_flags::push_ranges;
-use crate::feature::feature_range_t;
-use crate::gather::{by_start, kept_of, live_at};
+use crate::feature::{feature_info_t, feature_range_t};
+use crate::gather::{by_start, count_up_to, kept_of};
+use crate::live::live_at_start;
 use crate::map::hb_aat_map_t;
+use crate::remembered::{flags_of_chains, push_flags, renew};
 use crate::starts::starts_of;
+use crate::walk::{by_end, count_ending, go_on};
+use aat_buffer::hb_mask_t;
 use aat_font::{Chain, hb_font_t};
 use aat_run::AatError;
 use std::alloc::Allocator;
@@ -78,12 +83,13 @@ fn compile_ranges<A: Allocator + Copy>(
 {
     let alloc = builder.allocator();
     let ordered = by_start(alloc, builder.features())?;
+    let ending = by_end(alloc, &ordered)?;
     let starts = starts_of(alloc, builder.features())?;
     map.resize(chains.len())?;
-    compile_spans(builder, chains, map, &ordered, &starts)
+    compile_spans(builder, chains, map, &ordered, &ending, &starts)
 }
 
-/// Compiles the range of each start in turn.
+/// Compiles the range of each start in turn, in one walk over what starts and what ends.
 ///
 /// Neighbours with equal flags are not joined. A chain of one range switches a subtable once, for the
 /// whole text, and leaves one that is off out of the run; with more ranges each turn asks the range of
@@ -94,9 +100,11 @@ fn compile_spans<A: Allocator + Copy>(
     chains: &[Chain],
     map: &mut hb_aat_map_t<A>,
     ordered: &[feature_range_t],
+    ending: &[feature_range_t],
     starts: &[u32],
 ) -> Result<(), AatError>
     requires ordered { ordered.now ≡ by_start builder.old.features }
+    requires walked { AreWalked ordered.now ending.now }
     requires starts { RiseFromZero starts.now }
     requires lists { map.old ≡ compiled_lists builder.old.features chains.now [] }
     ensures lists { OnOk result (map.new ≡ compiled_lists builder.old.features chains.now (spans starts.now)) }
@@ -106,8 +114,13 @@ fn compile_spans<A: Allocator + Copy>(
     ensures requests { builder.new.features ≡ builder.old.features }
     ensures err { IfErr result (λ e. e ≡ AatError.OutOfMemory) }
 {
+    let mut live = live_at_start(builder.allocator(), ordered)?;
+    let mut flags = flags_of_chains(builder.allocator(), chains, builder.current_features())?;
+    let mut passed = (count_up_to(ordered, 0), count_ending(ending, 0));
     for i in 0..starts.len() {
-        compile_span(builder, chains, map, ordered, span_at(starts, i))?;
+        let span = span_at(starts, i);
+        passed = go_on(&mut live, passed, ordered, ending, span.0)?;
+        compile_span(builder, chains, map, &live.firsts, &mut flags, span)?;
     }
     Ok(())
 }
@@ -127,18 +140,21 @@ fn span_at(starts: &[u32], i: usize) -> (u32, u32)
     }
 }
 
-/// Compiles one range, which follows the others.
+/// Compiles one range, which follows the others, from the first of each group that is live there.
 fn compile_span<A: Allocator + Copy>(
     builder: &mut hb_aat_map_builder_t<A>,
     chains: &[Chain],
     map: &mut hb_aat_map_t<A>,
-    ordered: &[feature_range_t],
+    firsts: &[Option<feature_info_t>],
+    flags: &mut Vec<hb_mask_t, A>,
     span: (u32, u32),
 ) -> Result<(), AatError>
-    requires ordered { ordered.now ≡ by_start builder.old.features }
+    requires kept { IsPermutation (kept_at span.0 builder.old.features) (present firsts.now) }
     requires span { span.0 ≤ span.1 }
     requires follows { (k : ℕ) → k < length chains.now → next_start (list_at map.old k) ≡ span.0 }
     requires lists { length map.old ≡ length chains.now }
+    requires flags { flags.old.items ≡ all_flags_for builder.old.current_features chains.now }
+    ensures flags { OnOk result (flags.new.items ≡ all_flags_for builder.new.current_features chains.now) }
     ensures ok { OnOk result (map.new ≡ with_ranges (ranges_over builder.old.features chains.now span) map.old) }
     ensures current { OnOk result (AreKeptAt span.0 builder.old.features builder.new.current_features) }
     ensures range { OnOk result ((builder.new.range_first ≡ span.0) × (builder.new.range_last ≡ span.1)) }
@@ -146,8 +162,8 @@ fn compile_span<A: Allocator + Copy>(
     ensures err { IfErr result (λ e. e ≡ AatError.OutOfMemory) }
 {
     let alloc = builder.allocator();
-    let live = live_at(alloc, ordered, span.0)?;
-    let kept = kept_of(alloc, &live)?;
+    let kept = kept_of(alloc, firsts)?;
+    renew(flags, chains, builder.current_features(), &kept)?;
     builder.set_range(span, kept);
-    push_ranges(chains, builder, map)
+    push_flags(flags, span, map)
 }

@@ -1,14 +1,18 @@
 //! Gathering the requests that count at a cluster, and the clusters where that changes.
-ghost use Rattle.std.specs.Prelude.{◌≡◌, ◌≤◌, [], ◌∷◌, ◌++◌, if◌then◌else◌, length, filter, take_while, nat_le, not};
+ghost use Rattle.std.specs.Prelude.{◌≡◌, ◌≤◌, [], ◌∷◌, ◌++◌, if◌then◌else◌, length, take_while, nat_le, not};
 ghost use Rattle.std.specs.Prelude.{IfOk, IfErr, OnOk, IsPermutation};
-ghost use Rattle.aat_map.specs.Live.{by_start, placed_by_start, infos, has_begun, live_among, without_earliest};
+ghost use Rattle.std.specs.Prelude.{List};
+ghost use Rattle.aat_map.specs.declared.feature.feature_info_t.{feature_info_t};
+ghost use Rattle.aat_map.specs.Live.{by_start, admitted, infos, without_earliest};
 ghost use Rattle.aat_map.specs.Live.{is_equal, kept, in_group, IsRisingByGroup};
+ghost use Rattle.aat_map.specs.inside.Firsts.{present};
 ghost use Rattle.std.specs.List.{list_any};
 
 use crate::feature::{feature_info_t, feature_order, feature_range_t};
 use aat_run::AatError;
 use std::alloc::Allocator;
 use std::cmp::Ordering;
+use std::collections::VecDeque;
 
 /// The admitted requests by start, and where starts are equal in the order of adding.
 ///
@@ -21,77 +25,40 @@ pub(crate) fn by_start<A: Allocator + Copy>(
     ensures ok { IfOk result (λ ordered. ordered.items ≡ by_start requests.now) }
     ensures err { IfErr result (λ e. e ≡ AatError.OutOfMemory) }
 {
-    let mut ordered = Vec::new(alloc);
-    for request in requests {
-        if request.start < request.end {
-            place(&mut ordered, *request)?;
-        }
-    }
+    let mut ordered = admitted(alloc, requests)?;
+    ordered.sort_by_key(|r| r.start)?;
     Ok(ordered)
 }
 
-/// Puts a request behind those that start no later.
-#[tactic(auto, using(crate::proofs::GatherLemmas::placed_at))]
-fn place<A: Allocator>(
-    ordered: &mut Vec<feature_range_t, A>,
-    request: feature_range_t,
-) -> Result<(), AatError>
-    ensures ok { OnOk result (ordered.new.items ≡ placed_by_start ordered.old.items request) }
+/// The requests whose start is below their end, in the order of adding.
+fn admitted<A: Allocator + Copy>(
+    alloc: A,
+    requests: &[feature_range_t],
+) -> Result<Vec<feature_range_t, A>, AatError>
+    ensures ok { IfOk result (λ list. list.items ≡ admitted requests.now) }
     ensures err { IfErr result (λ e. e ≡ AatError.OutOfMemory) }
 {
-    let at = count_up_to(ordered, request.start);
-    ordered.insert(at, request)?;
-    Ok(())
+    let mut list = Vec::new(alloc);
+    for request in requests {
+        if request.start < request.end {
+            list.push(*request)?;
+        }
+    }
+    Ok(list)
 }
 
 /// How many requests in front start no later than a cluster.
-fn count_up_to(ordered: &[feature_range_t], start: u32) -> usize
+pub(crate) fn count_up_to(ordered: &[feature_range_t], start: u32) -> usize
     ensures count { result ≡ length (take_while (λ q. nat_le q.start start) ordered.now) }
     ensures within { result ≤ length ordered.now }
 {
     ordered.iter().take_while(|q| q.start <= start).count()
 }
 
-/// What is live at a cluster, of requests that are ordered by start.
-pub(crate) fn live_at<A: Allocator + Copy>(
-    alloc: A,
-    ordered: &[feature_range_t],
-    cluster: u32,
-) -> Result<Vec<feature_info_t, A>, AatError>
-    ensures ok { IfOk result (λ list. list.items ≡ live_among cluster ordered.now) }
-    ensures err { IfErr result (λ e. e ≡ AatError.OutOfMemory) }
-{
-    let mut list = begun_at(alloc, ordered, cluster)?;
-    for request in ordered {
-        if request.end <= cluster && request.end != u32::MAX {
-            take_out(&mut list, &request.info);
-        }
-    }
-    Ok(list)
-}
-
-/// What has begun at a cluster.
-fn begun_at<A: Allocator + Copy>(
-    alloc: A,
-    ordered: &[feature_range_t],
-    cluster: u32,
-) -> Result<Vec<feature_info_t, A>, AatError>
-    ensures ok { IfOk result (λ list. list.items ≡ infos (filter (has_begun cluster) ordered.now)) }
-    ensures err { IfErr result (λ e. e ≡ AatError.OutOfMemory) }
-{
-    let mut list = Vec::new(alloc);
-    for request in ordered {
-        if request.start <= cluster {
-            list.push(request.info)?;
-        }
-    }
-    Ok(list)
-}
-
 /// Takes out the earliest that is equal to one. Equal requests ask for the same, so which of them ends
 /// shows only in the order in which groups are looked through.
 #[tactic(auto, using(crate::proofs::GatherLemmas::taken_out, crate::proofs::GatherLemmas::none_taken_out))]
-fn take_out<A: Allocator>(list: &mut Vec<feature_info_t, A>, info: &feature_info_t)
+pub(crate) fn take_out<A: Allocator>(list: &mut VecDeque<feature_info_t, A>, info: &feature_info_t)
     ensures { list.new.items ≡ without_earliest list.old.items info.now }
 {
     let at = count_of_others(list, info);
@@ -101,48 +68,77 @@ fn take_out<A: Allocator>(list: &mut Vec<feature_info_t, A>, info: &feature_info
 }
 
 /// How many settings in front are not equal to one.
-fn count_of_others(list: &[feature_info_t], info: &feature_info_t) -> usize
-    ensures count { result ≡ length (take_while (λ i. not (is_equal i info.now)) list.now) }
-    ensures within { result ≤ length list.now }
+fn count_of_others<A: Allocator>(list: &VecDeque<feature_info_t, A>, info: &feature_info_t) -> usize
+    ensures count { result ≡ length (take_while (λ i. not (is_equal i info.now)) list.now.items) }
+    ensures within { result ≤ length list.now.items }
 {
     list.iter().take_while(|i| !is_equal(i, info)).count()
 }
 
 /// Whether two settings are equal in kind, setting and exclusiveness.
-fn is_equal(a: &feature_info_t, b: &feature_info_t) -> bool
+pub(crate) fn is_equal(a: &feature_info_t, b: &feature_info_t) -> bool
     ensures { result ≡ is_equal a.now b.now }
 {
     a == b
 }
 
-/// Of each group the first, in the order of groups.
+/// What is there of the first of each group, in the order of groups.
 pub(crate) fn kept_of<A: Allocator + Copy>(
     alloc: A,
-    list: &[feature_info_t],
+    firsts: &[Option<feature_info_t>],
 ) -> Result<Vec<feature_info_t, A>, AatError>
-    ensures kept { IfOk result (λ firsts. IsPermutation (kept list.now) firsts.items) }
-    ensures rising { IfOk result (λ firsts. IsRisingByGroup firsts.items) }
+    ensures kept { IfOk result (λ list. IsPermutation (present firsts.now) list.items) }
+    ensures rising { IfOk result (λ list. (xs : List feature_info_t) → IsPermutation (kept xs) (present firsts.now)
+        → IsRisingByGroup list.items) }
     ensures err { IfErr result (λ e. e ≡ AatError.OutOfMemory) }
 {
-    let mut firsts = first_of_groups(alloc, list)?;
-    firsts.sort_unstable_by(|a, b| feature_order(a, b));
-    Ok(firsts)
+    let mut list = present(alloc, firsts)?;
+    list.sort_unstable_by(|a, b| feature_order(a, b));
+    Ok(list)
 }
 
-/// Of each group the first.
-#[tactic(auto, using(crate::proofs::GatherLemmas::kept_step_at))]
-fn first_of_groups<A: Allocator + Copy>(
+/// What is there of the first of each group.
+fn present<A: Allocator + Copy>(
     alloc: A,
-    list: &[feature_info_t],
+    firsts: &[Option<feature_info_t>],
 ) -> Result<Vec<feature_info_t, A>, AatError>
-    ensures ok { IfOk result (λ firsts. firsts.items ≡ kept list.now) }
+    ensures ok { IfOk result (λ list. list.items ≡ present firsts.now) }
     ensures err { IfErr result (λ e. e ≡ AatError.OutOfMemory) }
 {
-    let mut firsts = Vec::new(alloc);
-    for info in list {
-        push_first(&mut firsts, *info)?;
+    let mut list = Vec::new(alloc);
+    for first in firsts {
+        push_present(&mut list, first)?;
     }
-    Ok(firsts)
+    Ok(list)
+}
+
+/// Puts a setting last, if there is one.
+fn push_present<A: Allocator>(
+    list: &mut Vec<feature_info_t, A>,
+    first: &Option<feature_info_t>,
+) -> Result<(), AatError>
+    ensures ok { OnOk result (list.new.items ≡ list.old.items ++ present (first.now ∷ [])) }
+    ensures err { IfErr result (λ e. e ≡ AatError.OutOfMemory) }
+{
+    if let Some(info) = first {
+        list.push(*info)?;
+    }
+    Ok(())
+}
+
+/// Of each group of requests the first.
+pub(crate) fn groups_of<A: Allocator + Copy>(
+    alloc: A,
+    requests: &[feature_range_t],
+) -> Result<Vec<feature_info_t, A>, AatError>
+    ensures ok { IfOk result (λ groups. groups.items ≡ kept (infos requests.now)) }
+    ensures err { IfErr result (λ e. e ≡ AatError.OutOfMemory) }
+{
+    let mut groups = Vec::new(alloc);
+    for request in requests {
+        push_first(&mut groups, request.info)?;
+    }
+    Ok(groups)
 }
 
 /// Puts a setting last where its group is new.
@@ -169,7 +165,7 @@ fn has_group(list: &[feature_info_t], info: &feature_info_t) -> bool
 }
 
 /// Whether two settings are of one group.
-fn is_one_group(a: &feature_info_t, b: &feature_info_t) -> bool
+pub(crate) fn is_one_group(a: &feature_info_t, b: &feature_info_t) -> bool
     ensures { result ≡ in_group a.now b.now }
 {
     feature_order(a, b) == Ordering::Equal

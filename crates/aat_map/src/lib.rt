@@ -7,9 +7,12 @@ mod chain_flags;
 mod compile;
 mod feature;
 mod gather;
+mod live;
 mod map;
 mod mapping;
+mod remembered;
 mod starts;
+mod walk;
 #[doc(hidden)]
 pub mod worked;
 

@@ -7,7 +7,7 @@ ghost use Rattle.aat_run.specs.Ranges.{is_whole_list, next_start, IsGapless};
 ghost use Rattle.aat_map.specs.inside.MapLists.{lists};
 
 use aat_buffer::hb_mask_t;
-use aat_run::{AatError, flags_in, range_flags_t};
+use aat_run::{AatError, ends_at_last, flags_in, range_flags_t, range_of};
 use std::alloc::{Allocator, Global};
 use std::marker::Model;
 
@@ -50,11 +50,18 @@ impl<A: Allocator + Copy> hb_aat_map_t<A> {
     }
 
     /// The flags of a chain at a cluster: those of the range that holds it, and none where there is no
-    /// such list or range. The ranges are looked through from the first one.
+    /// such list or range. Ranges that end at the last cluster there can be are bisected, and others are
+    /// looked through from the first one.
     pub fn flags_at(&self, chain: usize, cluster: u32) -> Option<hb_mask_t>
         ensures { result ≡ flags_at self.now chain cluster }
     {
-        flags_in(self.list(chain), cluster)
+        let ranges = self.ranges(chain);
+        if ends_at_last(ranges) {
+            let (place, _) = range_of(ranges, cluster);
+            Some(ranges[place].flags)
+        } else {
+            flags_in(ranges, cluster)
+        }
     }
 
     /// Whether each list is empty or ends at the last cluster there can be.

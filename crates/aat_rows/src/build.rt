@@ -16,18 +16,20 @@ use aat_layout::font::{
 use aat_layout::hb_aat_map_builder_t;
 use std::alloc::Global;
 
-/// The longest line of a row.
-pub(crate) const MAX_LEN: usize = 16384;
-
 /// The flags that a subtable is on at.
 const FEATURE_FLAGS: u32 = 1;
 
 /// The font of a description.
 pub(crate) fn face_of(alloc: Global, font: &FontData) -> Result<hb_font_t, Stop> {
+    Ok(hb_font_t::from_tables(tables_of(alloc, font)?))
+}
+
+/// The tables of a description.
+pub(crate) fn tables_of(alloc: Global, font: &FontData) -> Result<FaceTables, Stop> {
     let chain = chain_of(alloc, font)?;
     let mut tables = FaceTables::default().with_morx(Morx::new(vec![in alloc; chain]?)?);
     tables.feat = feat_of(alloc, font.names)?;
-    Ok(hb_font_t::from_tables(tables))
+    Ok(tables)
 }
 
 /// The one chain of a font.
@@ -239,11 +241,16 @@ pub(crate) fn plan_of(alloc: Global, requests: &[Request]) -> Result<hb_ot_shape
     Ok(hb_ot_shape_plan_t::new(user_features))
 }
 
-/// A buffer with a line and a budget.
-pub(crate) fn buffer_of(alloc: Global, line: &[Run], max_ops: i32) -> Result<hb_buffer_t, Stop>
+/// A buffer with a line, a greatest length, in glyphs, and a budget.
+pub(crate) fn buffer_of(
+    alloc: Global,
+    line: &[Run],
+    max_len: u16,
+    max_ops: i32,
+) -> Result<hb_buffer_t, Stop>
     ensures { IfOk result IsSmall }
 {
-    let mut buffer = hb_buffer_t::new(alloc, MAX_LEN, max_ops);
+    let mut buffer = hb_buffer_t::new(alloc, max_len as usize, max_ops);
     for run in line {
         add_run(&mut buffer, run)?;
     }

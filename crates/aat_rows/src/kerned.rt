@@ -2,8 +2,8 @@
 ghost use Rattle.std.specs.Prelude.{IfOk, IsSome};
 ghost use Rattle.aat_layout.specs.Clusters.{IsSmall};
 
-use crate::build::{MAX_LEN, table_of};
-use crate::rows::{KernData, KerningTable, KerxData, Placed, TableData};
+use crate::build::table_of;
+use crate::rows::{KernData, KerningTable, KerxData, MAX_LEN, Placed, TableData};
 use crate::stop::Stop;
 use aat_layout::buffer::{hb_buffer_t, hb_glyph_info_t, hb_mask_t};
 use aat_layout::font::{
@@ -29,7 +29,7 @@ pub(crate) fn kerned_face_of(alloc: Global, table: &KerningTable) -> Result<hb_f
 }
 
 /// A kerning table of one horizontal subtable, along the line.
-fn kern_of(alloc: Global, kind: &KernData) -> Result<Kern, Stop> {
+pub(crate) fn kern_of(alloc: Global, kind: &KernData) -> Result<Kern, Stop> {
     let kind = match kind {
         KernData::Pairs(pairs) => KernKind::Pairs(Pairs::new(alloc, pairs)?),
         KernData::Machine(state, values) => KernKind::Machine(KernMachine {
@@ -127,10 +127,14 @@ pub(crate) fn placed_buffer_of(
 }
 
 /// A buffer with a budget and a line of glyphs, each of which asks for kerning.
-fn asking_buffer_of(alloc: Global, line: &[Placed], max_ops: i32) -> Result<hb_buffer_t, Stop>
+pub(crate) fn asking_buffer_of(
+    alloc: Global,
+    line: &[Placed],
+    max_ops: i32,
+) -> Result<hb_buffer_t, Stop>
     ensures { IfOk result IsSmall }
 {
-    let mut buffer = hb_buffer_t::new(alloc, MAX_LEN, max_ops);
+    let mut buffer = hb_buffer_t::new(alloc, MAX_LEN as usize, max_ops);
     for placed in line {
         buffer.add(hb_glyph_info_t {
             mask: KERN_MASK,

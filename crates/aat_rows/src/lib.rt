@@ -5,6 +5,7 @@ mod build;
 mod kerned;
 mod print;
 mod rows;
+mod shaped;
 mod stop;
 
 pub use print::print_chosen;

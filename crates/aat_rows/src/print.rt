@@ -3,11 +3,13 @@ ghost use Rattle.std.specs.Prelude.{◌<◌, length};
 ghost use Rattle.aat_layout.specs.Clusters.{IsSmall};
 
 use crate::build::{buffer_of, builder_of, face_of, feature_of, plan_of, set_advances};
-use crate::kerned::{kerned_face_of, kerning_plan_of, placed_buffer_of};
+use crate::kerned::{asking_buffer_of, kerned_face_of, kerning_plan_of, placed_buffer_of};
 use crate::rows::{
     Addition, After, Compilation, FROM_7, FROM_13, FROM_19, FROM_25, FROM_31, Kerning,
-    KerningTable, MAX_OPS, Part, Row, Run, Shown, Sizes, Substitution, TO_6, Zeroing,
+    KerningTable, MAX_LEN, MAX_OPS, Part, Row, Run, Shaping, Shown, Sizes, Substitution, TO_6,
+    Zeroing,
 };
+use crate::shaped::{shaped_face_of, shaping_plan_of};
 use crate::stop::Stop;
 use aat_layout::buffer::{glyph_flag, hb_buffer_t};
 use aat_layout::font::{hb_font_t, hb_ot_shape_plan_t};
@@ -17,6 +19,7 @@ use aat_layout::{
     hb_aat_layout_zero_width_deleted_glyphs, hb_aat_map_builder_t, hb_aat_map_t, hb_ot_layout_kern,
     range_flags_t,
 };
+use aat_shaping::shape;
 use std::alloc::Global;
 use std::io::Write;
 
@@ -77,11 +80,13 @@ fn print_part<W: Write>(alloc: Global, part: &Part, out: &mut W) -> Result<(), S
     writeln!(out, "row {}", part.name)?;
     match &part.shown {
         Shown::Substitution(shown) => print_substitution(alloc, shown, out),
+        Shown::Refusals(shown) => print_refusals(alloc, shown, out),
         Shown::Compilation(shown) => print_compilation(alloc, shown, out),
         Shown::Addition(shown) => print_addition(alloc, shown, out),
         Shown::Kerning(shown) => print_kerning(alloc, shown, out),
         Shown::Zeroing(shown) => print_zeroing(alloc, shown, out),
         Shown::Removal(line) => print_removal(alloc, line, out),
+        Shown::Shaping(shown) => print_shaping(alloc, shown, out),
     }
 }
 
@@ -92,15 +97,76 @@ fn print_substitution<W: Write>(
     out: &mut W,
 ) -> Result<(), Stop> {
     let face = face_of(alloc, &shown.font)?;
-    let mut buffer = buffer_of(alloc, shown.line, shown.max_ops)?;
-    buffer.set_direction(shown.direction);
     let plan = plan_of(alloc, shown.requests)?;
-    let turns = substitute(alloc, &plan, &face, &shown.sizes, &mut buffer)?;
+    print_substituted(alloc, shown, &plan, &face, out)
+}
+
+/// Substitutes the line by a plan and a font.
+fn print_substituted<W: Write>(
+    alloc: Global,
+    shown: &Substitution,
+    plan: &hb_ot_shape_plan_t,
+    face: &hb_font_t,
+    out: &mut W,
+) -> Result<(), Stop> {
+    let mut buffer = buffer_of(alloc, shown.line, shown.max_len, shown.max_ops)?;
+    buffer.set_direction(shown.direction);
+    let turns = substitute(alloc, plan, face, &shown.sizes, &mut buffer)?;
     match shown.after {
         After::Nothing => (),
         After::Removal => hb_aat_layout_remove_deleted_glyphs(&mut buffer),
     }
     print_buffer(&buffer, turns, out)
+}
+
+/// Substitutes a line twice, where each call is refused, and prints the number of each error: 2 for a line that would
+/// become longer than its greatest length, and 4 for a buffer that has failed.
+fn print_refusals<W: Write>(alloc: Global, shown: &Substitution, out: &mut W) -> Result<(), Stop> {
+    let face = face_of(alloc, &shown.font)?;
+    let plan = plan_of(alloc, shown.requests)?;
+    print_refused(alloc, shown, &plan, &face, out)
+}
+
+/// Substitutes the line by a plan and a font, twice.
+fn print_refused<W: Write>(
+    alloc: Global,
+    shown: &Substitution,
+    plan: &hb_ot_shape_plan_t,
+    face: &hb_font_t,
+    out: &mut W,
+) -> Result<(), Stop> {
+    let mut buffer = buffer_of(alloc, shown.line, shown.max_len, shown.max_ops)?;
+    buffer.set_direction(shown.direction);
+    print_calls(alloc, plan, face, &shown.sizes, &mut buffer, out)
+}
+
+/// Substitutes a line twice, and prints the number of the error of each call that is refused.
+fn print_calls<W: Write>(
+    alloc: Global,
+    plan: &hb_ot_shape_plan_t,
+    face: &hb_font_t,
+    sizes: &Sizes,
+    buffer: &mut hb_buffer_t,
+    out: &mut W,
+) -> Result<(), Stop>
+    requires { IsSmall buffer.old }
+{
+    let first = substitute(alloc, plan, face, sizes, buffer);
+    print_refusal(first, out)?;
+    let second = substitute(alloc, plan, face, sizes, buffer);
+    print_refusal(second, out)
+}
+
+/// Prints the number of the error of a refused call, and nothing of a call that answers.
+fn print_refusal<W: Write>(answer: Result<Turns, AatError>, out: &mut W) -> Result<(), Stop> {
+    match answer {
+        Ok(_) => Ok(()),
+        Err(AatError::OutOfMemory) => Err(Stop::from(AatError::OutOfMemory)),
+        Err(error) => {
+            writeln!(out, "error {}", error.number())?;
+            Ok(())
+        }
+    }
 }
 
 /// Substitutes a line by a plan with sizes, and answers the turns.
@@ -112,6 +178,7 @@ fn substitute(
     buffer: &mut hb_buffer_t,
 ) -> Result<Turns, AatError>
     requires { IsSmall buffer.old }
+    ensures { IsSmall buffer.new }
 {
     match sizes {
         Sizes::Usual => hb_aat_layout_substitute(alloc, plan, face, buffer),
@@ -138,8 +205,18 @@ fn print_compilation<W: Write>(
 ) -> Result<(), Stop> {
     let face = face_of(alloc, &shown.font)?;
     let mut builder = builder_of(alloc, &face, shown.requests)?;
+    print_compiled(alloc, &face, &mut builder, out)
+}
+
+/// Compiles the requests of a builder and prints the ranges of each chain.
+fn print_compiled<W: Write>(
+    alloc: Global,
+    face: &hb_font_t,
+    builder: &mut hb_aat_map_builder_t,
+    out: &mut W,
+) -> Result<(), Stop> {
     let mut map = hb_aat_map_t::default(alloc);
-    builder.compile(&face, &mut map)?;
+    builder.compile(face, &mut map)?;
     for ranges in map.chain_flags() {
         print_ranges(ranges, out)?;
     }
@@ -171,12 +248,23 @@ fn print_addition<W: Write>(alloc: Global, shown: &Addition, out: &mut W) -> Res
 fn print_kerning<W: Write>(alloc: Global, shown: &Kerning, out: &mut W) -> Result<(), Stop> {
     let face = kerned_face_of(alloc, &shown.table)?;
     let plan = kerning_plan_of(alloc, shown.requested_kerning);
+    print_kerned(alloc, shown, &plan, &face, out)
+}
+
+/// Kerns the line by a plan and a font.
+fn print_kerned<W: Write>(
+    alloc: Global,
+    shown: &Kerning,
+    plan: &hb_ot_shape_plan_t,
+    face: &hb_font_t,
+    out: &mut W,
+) -> Result<(), Stop> {
     let mut buffer = placed_buffer_of(alloc, shown.line, shown.max_ops)?;
     buffer.set_direction(shown.direction);
     let turns = match &shown.table {
-        KerningTable::Kern(_) => hb_ot_layout_kern(&plan, &face, &mut buffer)?,
+        KerningTable::Kern(_) => hb_ot_layout_kern(plan, face, &mut buffer)?,
         KerningTable::Kerx(_) | KerningTable::KerxWithPoints(_, _) => {
-            hb_aat_layout_position(&plan, &face, &mut buffer)?
+            hb_aat_layout_position(plan, face, &mut buffer)?
         }
     };
     print_buffer(&buffer, turns, out)
@@ -184,7 +272,7 @@ fn print_kerning<W: Write>(alloc: Global, shown: &Kerning, out: &mut W) -> Resul
 
 /// Gives the glyphs of a line positions, takes the room from its deleted glyphs, and prints it.
 fn print_zeroing<W: Write>(alloc: Global, shown: &Zeroing, out: &mut W) -> Result<(), Stop> {
-    let mut buffer = buffer_of(alloc, shown.line, MAX_OPS)?;
+    let mut buffer = buffer_of(alloc, shown.line, MAX_LEN, MAX_OPS)?;
     set_advances(&mut buffer, shown.x_advance)?;
     hb_aat_layout_zero_width_deleted_glyphs(&mut buffer);
     print_buffer(&buffer, 0, out)
@@ -192,9 +280,30 @@ fn print_zeroing<W: Write>(alloc: Global, shown: &Zeroing, out: &mut W) -> Resul
 
 /// Removes the deleted glyphs of a line, and prints it.
 fn print_removal<W: Write>(alloc: Global, line: &[Run], out: &mut W) -> Result<(), Stop> {
-    let mut buffer = buffer_of(alloc, line, MAX_OPS)?;
+    let mut buffer = buffer_of(alloc, line, MAX_LEN, MAX_OPS)?;
     hb_aat_layout_remove_deleted_glyphs(&mut buffer);
     print_buffer(&buffer, 0, out)
+}
+
+/// Shapes a line, and prints it with the turns and the budget.
+fn print_shaping<W: Write>(alloc: Global, shown: &Shaping, out: &mut W) -> Result<(), Stop> {
+    let face = shaped_face_of(alloc, shown)?;
+    let plan = shaping_plan_of(alloc, shown.apply_morx);
+    print_shaped(alloc, shown, &plan, &face, out)
+}
+
+/// Shapes the line by a plan and a font.
+fn print_shaped<W: Write>(
+    alloc: Global,
+    shown: &Shaping,
+    plan: &hb_ot_shape_plan_t,
+    face: &hb_font_t,
+    out: &mut W,
+) -> Result<(), Stop> {
+    let mut buffer = asking_buffer_of(alloc, shown.line, MAX_OPS)?;
+    buffer.set_direction(shown.direction);
+    let turns = shape(alloc, plan, face, &mut buffer)?;
+    print_buffer(&buffer, turns, out)
 }
 
 /// Prints a line, a glyph to a line of text, and then the turns and the budget that is left.

@@ -38,6 +38,7 @@ macro_rules! substituted {
                 requests: &[],
                 line: $line,
                 direction: Direction::$direction,
+                max_len: MAX_LEN,
                 max_ops: $max_ops,
                 sizes: Sizes::$sizes,
                 after: After::Nothing,
@@ -140,15 +141,17 @@ mod ligature;
 mod pairs;
 mod rearrangement;
 mod requests;
+mod shaped;
 
 use contextual::{ROW_10, ROW_35};
 use deleted::ROW_19;
-use insertion::{ROW_13, ROW_14, ROW_25, ROW_27, ROW_33};
+use insertion::{ROW_13, ROW_14, ROW_25, ROW_27, ROW_30, ROW_33};
 use kerning_machines::{ROW_18, ROW_21, ROW_29, ROW_34};
 use ligature::{ROW_11, ROW_12, ROW_24, ROW_31, ROW_32, ROW_37};
 use pairs::{ROW_15, ROW_16, ROW_17, ROW_20, ROW_28};
 use rearrangement::{ROW_8, ROW_9, ROW_22, ROW_23, ROW_26, ROW_36};
 use requests::{ROW_1, ROW_2, ROW_3, ROW_4, ROW_5, ROW_6, ROW_7};
+use shaped::ROW_38;
 
 /// A worked row: its number, and its parts in their order.
 pub(crate) struct Row {
@@ -166,6 +169,8 @@ pub(crate) struct Part {
 pub(crate) enum Shown {
     /// A line that is substituted.
     Substitution(Substitution),
+    /// A line whose substitution is refused, and then refused again.
+    Refusals(Substitution),
     /// Requests that are compiled.
     Compilation(Compilation),
     /// A request that is added to a new builder.
@@ -176,6 +181,8 @@ pub(crate) enum Shown {
     Zeroing(Zeroing),
     /// A line whose deleted glyphs are removed, run by run.
     Removal(&'static [Run]),
+    /// A line that is shaped.
+    Shaping(Shaping),
 }
 
 /// A line that is substituted under requests.
@@ -187,6 +194,8 @@ pub(crate) struct Substitution {
     pub(crate) line: &'static [Run],
     /// The direction of the line.
     pub(crate) direction: Direction,
+    /// The greatest length of the line, in glyphs.
+    pub(crate) max_len: u16,
     /// The budget of the buffer.
     pub(crate) max_ops: i32,
     pub(crate) sizes: Sizes,
@@ -294,6 +303,21 @@ pub(crate) struct Zeroing {
     pub(crate) x_advance: i32,
 }
 
+/// A line that is shaped, where kerning is requested.
+pub(crate) struct Shaping {
+    pub(crate) font: FontData,
+    /// The advances of glyphs, in font units.
+    pub(crate) advances: &'static [(u16, u16)],
+    /// How the one horizontal subtable of the kerning table kerns.
+    pub(crate) kern: KernData,
+    /// Whether the plan applies the font's substitution.
+    pub(crate) apply_morx: bool,
+    /// The line, glyph by glyph. Its glyphs have the advances of the font.
+    pub(crate) line: &'static [Placed],
+    /// The direction of the line.
+    pub(crate) direction: Direction,
+}
+
 /// A font with one chain, and perhaps with feature names.
 pub(crate) struct FontData {
     /// The flags that the chain begins with.
@@ -369,6 +393,9 @@ pub(crate) struct Request {
     pub(crate) end: u32,
 }
 
+/// The usual greatest length of the line of a row, in glyphs.
+pub(crate) const MAX_LEN: u16 = 16384;
+
 /// The usual budget of a row.
 pub(crate) const MAX_OPS: i32 = 16384;
 
@@ -392,7 +419,9 @@ pub(crate) static FROM_13: [Row; 6] = [ROW_13, ROW_14, ROW_15, ROW_16, ROW_17, R
 pub(crate) static FROM_19: [Row; 6] = [ROW_19, ROW_20, ROW_21, ROW_22, ROW_23, ROW_24];
 
 /// The rows from 25 to 30.
-pub(crate) static FROM_25: [Row; 5] = [ROW_25, ROW_26, ROW_27, ROW_28, ROW_29];
+pub(crate) static FROM_25: [Row; 6] = [ROW_25, ROW_26, ROW_27, ROW_28, ROW_29, ROW_30];
 
 /// The rows from 31 on.
-pub(crate) static FROM_31: [Row; 7] = [ROW_31, ROW_32, ROW_33, ROW_34, ROW_35, ROW_36, ROW_37];
+pub(crate) static FROM_31: [Row; 8] = [
+    ROW_31, ROW_32, ROW_33, ROW_34, ROW_35, ROW_36, ROW_37, ROW_38,
+];

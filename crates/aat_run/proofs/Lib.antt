@@ -1,4 +1,6 @@
+pub mod Bisected
 pub mod Coming
+pub mod Digits
 pub mod FewTurns
 pub mod FloorUnseen
 pub mod FoundRanges

@@ -1,28 +1,42 @@
 -- A run of the turns from the front is the run of the machine.
-use Rattle.std.proofs.Common.{◌≡◌, ℕ, ◌≤◌, Bool, true, false, cond, length, ap, ◌∙◌, arith}
+use Rattle.std.proofs.Common.{◌≡◌, ℕ, ◌+◌, ◌≤◌, Bool, true, false, cond, length, ap, sym, ◌∙◌, arith}
 use Rattle.aat_buffer.specs.Buffer.{Buffer, with_cursor, without_positions}
 use Rattle.aat_font.specs.Table.{TableValue}
 use Rattle.aat_font.specs.declared.state_table.GenericStateEntry.{GenericStateEntry}
-use Rattle.aat_run.specs.Context.{Context, Config, machine_of, start}
-use Rattle.aat_run.specs.Driven.{machine_run, IsRefusal}
+use Rattle.aat_run.specs.Context.{Context, Machine, machine_of, start}
+use Rattle.aat_run.specs.Driven.{machine_run, outcome_of, IsRefusal}
 use Rattle.aat_run.specs.Laws.{KeepsFit, PassesFit, Pays, KeepsLength}
 use Rattle.aat_run.specs.Machine.{whole}
+use Rattle.aat_run.specs.Outcome.{Outcome}
 use Rattle.aat_run.specs.declared.error.AatError.{AatError}
 use Rattle.aat_run.specs.declared.error.AatError.TheVariants.{AaltValue, TooLong, OutOfMemory, BufferFailed}
 use Rattle.aat_run.specs.facts.MachineRuns.{whole_in_place}
-use Rattle.aat_run.specs.inside.Places.{first, IsRun}
+use Rattle.aat_run.specs.facts.OffRuns.{passed_over}
+use Rattle.aat_run.specs.inside.Places.{first}
 
 -- the buffer before the turns, behind them, and with the cursor back at the front
-pub ran : {T R : Type 0} (on : ℕ → Bool) (table : TableValue (GenericStateEntry T)) (x : Context R (GenericStateEntry T)) (b begun turned last : Buffer) (r : R) (turns : ℕ) (in_place : Bool)
-    → in_place ≡ x.in_place → begun ≡ with_cursor (cond in_place b (without_positions b)) 0 → IsRun (whole (machine_of on table x) (first begun x.fresh)) turned r turns → last ≡ with_cursor turned 0
-    → record { buffer = last; turns = turns } ≡ machine_run on table x b
+pub ran : {T R : Type 0} (on : ℕ → Bool) (table : TableValue (GenericStateEntry T)) (x : Context R (GenericStateEntry T)) (b begun turned last : Buffer) (turns : ℕ) (in_place : Bool)
+    → in_place ≡ x.in_place → begun ≡ with_cursor (cond in_place b (without_positions b)) 0
+    → ◌≡◌ {A = Outcome} (record { buffer = with_cursor turned 0; turns = turns }) (outcome_of (whole (machine_of on table x) (first begun x.fresh)))
+    → last ≡ with_cursor turned 0 → record { buffer = last; turns = turns } ≡ machine_run on table x b
 unfolding machine_run
-ran on table x b begun turned last r turns in_place place begins run ends =
+ran on table x b begun turned last turns in_place place begins run ends =
     let from : begun ≡ (start x.in_place b x.fresh).buffer = begins ∙ ap (λ p. with_cursor (cond p b (without_positions b)) 0) place in
-    let same : whole (machine_of on table x) (first begun x.fresh) ≡ whole (machine_of on table x) (start x.in_place b x.fresh) = ap (λ (d : Buffer). whole (machine_of on table x) (first d x.fresh)) from in
-    let line = ends ∙ ap (λ (d : Buffer). with_cursor d 0) (run.buffer ∙ ap (λ (c : Config _). c.buffer) same) in
-    let count = run.counted ∙ ap (λ (c : Config _). c.turns) same in
-    λ i. record { buffer = line i; turns = count i }
+    ap {B = Outcome} (λ (d : Buffer). record { buffer = d; turns = turns }) ends
+    ∙ run
+    ∙ ap (λ (d : Buffer). outcome_of (whole (machine_of on table x) (first d x.fresh))) from
+
+-- a run that is off at each cluster leaves the buffer, in a turn for each glyph and one more
+pub ran_past : {R E : Type 0} (m : Machine R E) (b : Buffer) (r : R) (n : ℕ) → ((x : ℕ) → m.on x ≡ false) → b.cursor ≡ 0 → n ≡ length b.line
+    → ◌≡◌ {A = Outcome} (record { buffer = with_cursor b 0; turns = n + 1 }) (outcome_of (whole m (first b r)))
+ran_past m b r n nowhere front count =
+    let over = passed_over m nowhere (first b r) front in
+    let turns : n + 1 ≡ (whole m (first b r)).turns = omega (arith, count, over.counted) in
+    λ i. record { buffer = sym over.buffer i; turns = turns i }
+
+-- and the registers
+pub kept_past : {R E : Type 0} (m : Machine R E) (b : Buffer) (r : R) → ((x : ℕ) → m.on x ≡ false) → b.cursor ≡ 0 → r ≡ (whole m (first b r)).registers
+kept_past m b r nowhere front = sym (passed_over m nowhere (first b r) front).registers
 
 -- a context that keeps the number of glyphs, over a line that has at most its greatest length, is never refused
 module _ {T R : Type 0} (on : ℕ → Bool) (table : TableValue (GenericStateEntry T)) (x : Context R (GenericStateEntry T)) (fits : R → ℕ → ℕ → Type 0)

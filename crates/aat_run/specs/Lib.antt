@@ -8,10 +8,13 @@ pub mod LayoutErrors
 pub mod Laws
 pub mod Machine
 pub mod Outcome
+pub mod RangeExamples
+pub mod RangeOf
 pub mod Ranges
 pub mod Rows
 pub mod Safe
 pub mod Switches
+pub mod Throughout
 pub mod Truth
 pub mod facts
 pub mod inside

@@ -1,11 +1,14 @@
 pub mod DrivenRuns
+pub mod Held
 pub mod InOrder
 pub mod InPlace
 pub mod MachineRuns
+pub mod OffRuns
 pub mod OrderedRuns
 pub mod Runs
 pub mod SafeBranches
 pub mod Settings
 pub mod Switched
+pub mod ThroughoutHolds
 pub mod Turns
 pub mod Views

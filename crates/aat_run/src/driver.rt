@@ -4,7 +4,7 @@ ghost use Rattle.aat_buffer.specs.Buffer.{with_cursor, without_positions};
 ghost use Rattle.aat_buffer.specs.Clusters.{IsSmall};
 ghost use Rattle.aat_run.specs.Budget.{potential};
 ghost use Rattle.aat_run.specs.Context.{machine_with};
-ghost use Rattle.aat_run.specs.Driven.{IsRefusal, IsRefused, context_from, machine_run, registers_behind, positions_behind};
+ghost use Rattle.aat_run.specs.Driven.{IsRefusal, IsRefused, context_from, machine_run, outcome_of, registers_behind, positions_behind};
 ghost use Rattle.aat_run.specs.Laws.{IsBounded, SameSettings};
 ghost use Rattle.aat_run.specs.Machine.{whole};
 ghost use Rattle.aat_run.specs.Ranges.{IsGapless, is_driven_on, ranges_of};
@@ -14,7 +14,7 @@ use crate::aat_layout_common::hb_aat_apply_context_t;
 use crate::driver_context::driver_context_t;
 use crate::error::AatError;
 use crate::place::Place;
-use crate::ranges::range_flags_t;
+use crate::ranges::{is_nowhere_on, range_flags_t, ranges_to_ask};
 use crate::turns::turn_once;
 use aat_buffer::{hb_buffer_t, hb_mask_t};
 use aat_font::ExtendedStateTable;
@@ -69,6 +69,33 @@ fn begin<A: Allocator + Copy>(buffer: &mut hb_buffer_t<A>, in_place: bool)
     buffer.sync();
 }
 
+/// Takes turns from the front until one ends, and answers their number. Where no range switches the machine on, each
+/// turn would pass a glyph: then there is one for each glyph and one more, and the line is passed over.
+fn take_turns<T: Copy, C: driver_context_t<T>, A: Allocator + Copy>(
+    machine: &ExtendedStateTable<T>,
+    context: &mut C,
+    buffer: &mut hb_buffer_t<A>,
+    ranges: &[range_flags_t],
+    feature_flags: hb_mask_t,
+) -> Result<u64, AatError>
+    requires front { buffer.old.cursor ≡ 0 }
+    requires fit { C.fits context.old 0 (length buffer.old.line) }
+    requires ids { IsSmall buffer.old }
+    requires gapless { IsGapless ranges.now }
+    ensures run { IfOk result (λ turns. record { buffer = with_cursor buffer.new 0; turns = turns } ≡ outcome_of (whole (machine_with (is_driven_on ranges.now feature_flags) machine.now C.advances C.actionable C.act) (first buffer.old context.old))) }
+    ensures registers { OnOk result (context.new ≡ (whole (machine_with (is_driven_on ranges.now feature_flags) machine.now C.advances C.actionable C.act) (first buffer.old context.old)).registers) }
+    ensures few { IfOk result (λ turns. turns ≤ potential buffer.old + 1) }
+    ensures ids { OnOk result (IsSmall buffer.new) }
+    ensures reason { IfErr result (IsRefusal buffer.old (whole (machine_with (is_driven_on ranges.now feature_flags) machine.now C.advances C.actionable C.act) (first buffer.old context.old)).buffer) }
+    ensures refused { OnErr result (IsRefused buffer.old buffer.new) }
+{
+    if ranges.len() > 1 && is_nowhere_on(ranges, feature_flags) {
+        return Ok(buffer.len() as u64 + 1);
+    }
+    let asked = ranges_to_ask(ranges, feature_flags);
+    run_turns(machine, context, buffer, asked, feature_flags)
+}
+
 /// Runs a state table over a line in a context, from the front, and answers the number of turns. `drive` has the
 /// rules.
 ///
@@ -103,7 +130,7 @@ pub fn run_machine<T: Copy, C: driver_context_t<T>, A: Allocator + Copy>(
     let _most = buffer.max_len();
     let _budget = buffer.max_ops();
     begin(buffer, context.in_place());
-    let turns = run_turns(machine, context, buffer, ranges, feature_flags)?;
+    let turns = take_turns(machine, context, buffer, ranges, feature_flags)?;
     buffer.sync();
     Ok(turns)
 }
@@ -133,8 +160,11 @@ pub fn run_machine<T: Copy, C: driver_context_t<T>, A: Allocator + Copy>(
 /// line, cursor, positions and budget is as before, the registers are any, and no turns are added. A buffer that had
 /// failed before is run as any other.
 ///
-/// A turn takes a bounded number of steps but for its act, the searches in the table, which bisect it, and the walk
-/// to the range of a cluster that lies outside the range that was found last. No memory is taken but by the act.
+/// A turn takes a bounded number of steps but for its act, the searches in the table, which bisect it, and the search
+/// for the range of a cluster that lies outside the range that was found last, which bisects ranges that end at the
+/// last cluster there can be and walks through others. A run looks at each range at most twice before its turns: where
+/// no range switches the machine on it passes the line over, and where each does no turn asks for a range. No memory is
+/// taken but by the act.
 ///
 /// Apple's TrueType Reference Manual, "The 'morx' table", and the section on state tables in "Font Tables".
 pub fn drive<T: Copy, C: driver_context_t<T>, A: Allocator + Copy>(

@@ -11,10 +11,15 @@ pub mod laws;
 mod place;
 mod ranges;
 mod turns;
+#[doc(hidden)]
+pub mod worked;
 
 pub use aat_layout_common::hb_aat_apply_context_t;
 pub use driver::{drive, run_machine};
 pub use driver_context::driver_context_t;
 pub use error::AatError;
-pub use ranges::{flags_in, is_on, range_flags_t};
+pub use ranges::{
+    ends_at_last, flags_in, is_everywhere_on, is_nowhere_on, is_on, is_on_from, range_flags_t,
+    range_of, ranges_to_ask,
+};
 pub use turns::class_at_cursor;

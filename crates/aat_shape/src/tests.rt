@@ -1,5 +1,6 @@
 //! What is printed, and what a failed write does.
 mod row_texts;
+mod shaping_tests;
 
 use crate::print::run;
 use row_texts::ROWS;
@@ -118,7 +119,7 @@ fn assert_refused_in_turn(
 /// One row of each thing that rows show, and of each list of rows.
 #[test]
 fn a_refused_write_ends_with_1(rt: HostRuntime) -> Result<(), Fail> {
-    for number in ["3", "7", "11", "18", "19", "29", "37"] {
+    for number in ["3", "7", "11", "18", "19", "30", "37", "38"] {
         assert_refused_in_turn(&rt, rt.alloc(), &[number], 0)?;
     }
     assert_refused_in_turn(&rt, rt.alloc(), &["0"], 2)

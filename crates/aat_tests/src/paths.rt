@@ -17,10 +17,10 @@ pub use aat_layout::{
     AatError, ContextualCtx, DELETED_GLYPH, Driver1, Driver4, InsertionCtx, KERN_SKIPS, KERX_SKIPS,
     KerningRun, LIGATURE_SLOTS, LigatureCtx, MAX_CONTEXT_LENGTH, RearrangementCtx,
     StateMachineDriver, StateTableDriver, Turns, apply, apply_with, compile_flags, constants,
-    drive, drive_kern, drive_kerx, driver_context_t, feature_info_t, feature_mappings,
-    feature_order, feature_range_t, has_kern_pairs_alone, has_kerx_pairs_alone,
+    drive, drive_kern, drive_kerx, driver_context_t, ends_at_last, feature_info_t,
+    feature_mappings, feature_order, feature_range_t, has_kern_pairs_alone, has_kerx_pairs_alone,
     hb_aat_apply_context_t, hb_aat_feature_mapping_t, hb_aat_layout_position,
     hb_aat_layout_remove_deleted_glyphs, hb_aat_layout_substitute, hb_aat_layout_substitute_with,
     hb_aat_layout_zero_width_deleted_glyphs, hb_aat_map_builder_t, hb_aat_map_t, hb_ot_layout_kern,
-    is_solid, range_flags_t,
+    is_solid, range_flags_t, range_of,
 };

@@ -375,3 +375,73 @@ fn refused_memory_of_requests(rt: HostRuntime) -> Result<(), Fail> {
     assert_requests_refused(&rt, rt.alloc())?;
     assert_compiling_refused(&rt, rt.alloc())
 }
+
+/// The font of many requests: ligatures on enable 2, and off 4.
+fn switched_face(alloc: Global) -> Result<hb_font_t, Fail> {
+    face(
+        alloc,
+        &[ligatures(2, 2, u32::MAX), ligatures(3, 4, u32::MAX)],
+    )
+}
+
+/// Adds so many requests, ligatures off and on by turns, of 25 clusters each from every tenth cluster on, and from the
+/// first one again behind so many clusters.
+fn add_many(
+    rt: &impl Abort,
+    face: &hb_font_t,
+    builder: &mut hb_aat_map_builder_t,
+    count: u32,
+    clusters: u32,
+) {
+    let mut start = 0u32;
+    for i in 0..count {
+        let feature = liga(i & 1, start, start.saturating_add(25));
+        assert!(rt; builder.add_feature(face, &feature) == Ok(Some(())));
+        start = start.saturating_add(10);
+        if start >= clusters {
+            start = 0;
+        }
+    }
+}
+
+/// Asserts the flags within each ten clusters: of the live requests that counts which starts first, up to the fifth
+/// cluster the one two before, and from there on the one before.
+fn assert_many(rt: &impl Abort, map: &hb_aat_map_t, clusters: u32) {
+    for ten in 2..clusters / 10 {
+        let cluster = ten.saturating_mul(10);
+        let later = cluster.saturating_add(5);
+        let (first, then) = if ten & 1 == 0 { (5, 3) } else { (3, 5) };
+        assert!(rt; map.flags_at(0, cluster) == Some(first), "at {cluster}");
+        assert!(rt; map.flags_at(0, later) == Some(then), "at {later}");
+    }
+    assert!(rt; map.flags_at(0, u32::MAX) == Some(1) && map.is_whole());
+}
+
+/// Compiles so many requests over so many clusters, and asks flags in each ten of them.
+fn compile_many(rt: &impl Abort, alloc: Global, count: u32, clusters: u32) -> Result<(), Fail> {
+    let face = switched_face(alloc)?;
+    let mut builder = hb_aat_map_builder_t::default(alloc);
+    add_many(rt, &face, &mut builder, count, clusters);
+    let mut map = hb_aat_map_t::default(alloc);
+    assert!(rt; builder.compile(&face, &mut map) == Ok(()));
+    assert_many(rt, &map, clusters);
+    Ok(())
+}
+
+#[test]
+fn many_requests_200(rt: HostRuntime) -> Result<(), Fail> {
+    for _ in 0..100u32 {
+        compile_many(&rt, rt.alloc(), 200, 2000)?;
+    }
+    Ok(())
+}
+
+#[test]
+fn many_requests_20000_over_200000(rt: HostRuntime) -> Result<(), Fail> {
+    compile_many(&rt, rt.alloc(), 20000, 200_000)
+}
+
+#[test]
+fn many_requests_20000_over_2000(rt: HostRuntime) -> Result<(), Fail> {
+    compile_many(&rt, rt.alloc(), 20000, 2000)
+}

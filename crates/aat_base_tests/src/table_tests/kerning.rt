@@ -23,9 +23,9 @@ fn values_of_pairs(rt: HostRuntime) -> Result<(), Fail> {
         (65535, 0, None),
         (65535, 65535, Some(32767)),
     ];
-    for (left, right, value) in wanted {
-        let found = pairs.glyphs_kerning(GlyphId(left), GlyphId(right));
-        assert!(rt; found == value, "at {left} {right}");
+    for (left, right, value) in &wanted {
+        let found = pairs.glyphs_kerning(GlyphId(*left), GlyphId(*right));
+        assert!(rt; found == *value, "at {left} {right}");
     }
     let empty = Pairs::new(alloc, &[])?;
     assert!(rt; empty.glyphs_kerning(GlyphId(0), GlyphId(0)).is_none());
@@ -61,16 +61,20 @@ fn kerx_machine(alloc: Global) -> Result<ExtendedStateTable<EntryData>, TableErr
 }
 
 fn stack(alloc: Global) -> Result<KerxFormat, Fail> {
+    let values = Vec::from_slice(alloc, &[20, -32768])?;
+    let state_table = kerx_machine(alloc)?;
     Ok(KerxFormat::Format1(Subtable1 {
-        state_table: kerx_machine(alloc)?,
-        values: vec![in alloc; 20, -32768]?,
+        state_table,
+        values,
     }))
 }
 
 fn anchors(alloc: Global) -> Result<KerxFormat, Fail> {
+    let anchor_points = Vec::from_slice(alloc, &[(0, 0), (7, 65535)])?;
+    let state_table = kerx_machine(alloc)?;
     Ok(KerxFormat::Format4(Subtable4 {
-        state_table: kerx_machine(alloc)?,
-        anchor_points: vec![in alloc; (0, 0), (7, 65535)]?,
+        state_table,
+        anchor_points,
     }))
 }
 
@@ -173,17 +177,28 @@ fn many_subtables(rt: HostRuntime) -> Result<(), Fail> {
 #[test]
 fn fonts_with_kerning(rt: HostRuntime) -> Result<(), Fail> {
     let alloc = rt.alloc();
-    let tables = FaceTables::default()
-        .with_kerx(Kerx::new(kerx_subtables(alloc, 1)?)?)
-        .with_kern(Kern::new(kern_subtables(alloc, 2)?)?);
-    let font = hb_font_t::from_tables(tables);
-    let kerx = font.tables().kerx.as_ref();
-    assert!(rt; kerx.is_some_and(|kerx| kerx.subtables().len() == 1));
-    let kern = font.tables().kern.as_ref();
-    assert!(rt; kern.is_some_and(|kern| kern.subtables().len() == 2));
-    let bare = FaceTables::default();
-    assert!(rt; bare.kerx.is_none() && bare.kern.is_none());
+    let kern = Kern::new(kern_subtables(alloc, 2)?)?;
+    let kerx = Kerx::new(kerx_subtables(alloc, 1)?)?;
+    let font = font_of(kerx, kern);
+    assert!(rt; kerx_count(&font) == Some(1) && kern_count(&font) == Some(2));
+    let bare = hb_font_t::from_tables(FaceTables::default());
+    assert!(rt; kerx_count(&bare).is_none() && kern_count(&bare).is_none());
     Ok(())
+}
+
+/// A font with both tables of kerning.
+fn font_of(kerx: Kerx, kern: Kern) -> hb_font_t {
+    hb_font_t::from_tables(FaceTables::default().with_kerx(kerx).with_kern(kern))
+}
+
+/// How many subtables of `kerx` a font has, if it has the table.
+fn kerx_count(font: &hb_font_t) -> Option<usize> {
+    Some(font.tables().kerx.as_ref()?.subtables().len())
+}
+
+/// How many subtables of `kern` a font has, if it has the table.
+fn kern_count(font: &hb_font_t) -> Option<usize> {
+    Some(font.tables().kern.as_ref()?.subtables().len())
 }
 
 /// What a subtable tells besides how it kerns.

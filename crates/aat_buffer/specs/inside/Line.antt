@@ -1,5 +1,7 @@
 -- What a line of glyphs with a cursor is to the buffer that holds it.
-use Rattle.std.specs.Prelude.{ℕ, List, [], ◌∷◌, ◌++◌, ◌+◌, drop, insert, length, remove, reverse, slice_set, take}
+use Rattle.std.specs.Prelude.{ℕ, List, [], ◌∷◌, ◌++◌, ◌+◌, ◌-◌, drop, insert, length, map, remove, reverse, slice_set, take}
+use Rattle.std.specs.List.{refill}
+use Rattle.aat_buffer.specs.Marks.{on_span}
 use Rattle.aat_glyph.specs.declared.glyph.hb_glyph_info_t.{hb_glyph_info_t}
 
 -- the glyphs, and the place of the cursor
@@ -18,6 +20,15 @@ moved_to l p = record l { cursor = p }
 -- the record r stands at place i
 abbrev pub with_glyph : Line → ℕ → hb_glyph_info_t → Line
 with_glyph l i r = record l { glyphs = slice_set l.glyphs i r }
+
+-- the glyphs from place i up to place j are changed by f
+abbrev pub with_changed : Line → (hb_glyph_info_t → hb_glyph_info_t) → ℕ → ℕ → Line
+with_changed l f i j = record l { glyphs = on_span (map f) i j l.glyphs }
+
+-- the glyphs from the cursor on are ws, which are as many
+abbrev pub with_rest : Line → List hb_glyph_info_t → Line
+with_rest l ws =
+    record l { glyphs = take l.cursor l.glyphs ++ refill (length l.glyphs - l.cursor) (drop l.cursor l.glyphs) ws }
 
 -- r goes last
 abbrev pub with_last : Line → hb_glyph_info_t → Line

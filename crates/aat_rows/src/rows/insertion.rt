@@ -1,8 +1,8 @@
 //! The rows of insertion.
 
 use super::{
-    After, CoverageData, FontData, KindData, LIGATURES, MAX_OPS, Part, Row, Run, Shown, Sizes,
-    Substitution, SubtableData, TableData,
+    After, CoverageData, FontData, KindData, LIGATURES, MAX_LEN, MAX_OPS, Part, Row, Run, Shown,
+    Sizes, Substitution, SubtableData, TableData,
 };
 use aat_layout::buffer::Direction;
 use aat_layout::font::{GenericStateEntry, GlyphId, InsertionEntryData};
@@ -129,11 +129,51 @@ pub(super) const ROW_27: Row = Row {
             requests: &[],
             line: &[run!(5, 3)],
             direction: Direction::LeftToRight,
+            max_len: MAX_LEN,
             max_ops: 3,
             sizes: Sizes::Usual,
             after: After::Nothing,
         }),
     }],
+};
+
+/// The line of row 13a with a greatest length and its budget.
+macro_rules! two_within {
+    ($max_len:literal) => {
+        Substitution {
+            font: FontData {
+                default_flags: 1,
+                features: &[],
+                subtables: &[SubtableData {
+                    kind: two_before!(4, 0),
+                    coverage: CoverageData::AllDirections,
+                }],
+                names: Some(LIGATURES),
+            },
+            requests: &[],
+            line: &[run!(5, 3)],
+            direction: Direction::LeftToRight,
+            max_len: $max_len,
+            max_ops: 2,
+            sizes: Sizes::Usual,
+            after: After::Nothing,
+        }
+    };
+}
+
+/// A line that would become too long, and is refused from then on, and one that just fits.
+pub(super) const ROW_30: Row = Row {
+    number: "30",
+    parts: &[
+        Part {
+            name: "30a",
+            shown: Shown::Refusals(two_within!(2)),
+        },
+        Part {
+            name: "30b",
+            shown: Shown::Substitution(two_within!(3)),
+        },
+    ],
 };
 
 /// Insertion at the end of the line.

@@ -1,8 +1,8 @@
 //! The rows of ligatures.
 
 use super::{
-    After, CoverageData, FontData, KindData, LIGATURES, LigatureData, MAX_OPS, Part, Request, Row,
-    Run, Shown, Sizes, Substitution, SubtableData, TableData,
+    After, CoverageData, FontData, KindData, LIGATURES, LigatureData, MAX_LEN, MAX_OPS, Part,
+    Request, Row, Run, Shown, Sizes, Substitution, SubtableData, TableData,
 };
 use aat_layout::buffer::Direction;
 use aat_layout::font::{ChainFeature, GenericStateEntry, GlyphId};
@@ -44,7 +44,7 @@ macro_rules! pair {
 }
 
 /// The two glyphs are joined in state 1 alone.
-const PAIR: &[SubtableData] = &[SubtableData {
+pub(super) const PAIR: &[SubtableData] = &[SubtableData {
     kind: pair!(&[rule!(0, 4, 1, HOLD, NONE), rule!(1, 5, 0, JOIN, 0)]),
     coverage: CoverageData::AllDirections,
 }];
@@ -77,6 +77,7 @@ macro_rules! joined {
                 requests: &[],
                 line: &[run!(10, 0), run!(11, 1)],
                 direction: Direction::LeftToRight,
+                max_len: MAX_LEN,
                 max_ops: MAX_OPS,
                 sizes: Sizes::$sizes,
                 after: After::$after,
@@ -111,6 +112,7 @@ pub(super) const ROW_12: Row = Row {
             requests: &[request!(b"liga", 0, 1, 2)],
             line: &[run!(10, 0), run!(50, 1), run!(11, 2)],
             direction: Direction::LeftToRight,
+            max_len: MAX_LEN,
             max_ops: MAX_OPS,
             sizes: Sizes::Usual,
             after: After::Nothing,

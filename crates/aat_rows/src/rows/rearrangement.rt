@@ -1,8 +1,8 @@
 //! The rows of rearrangement.
 
 use super::{
-    After, CoverageData, FontData, KindData, LIGATURES, MAX_OPS, Part, Row, Run, Shown, Sizes,
-    Substitution, SubtableData, TableData,
+    After, CoverageData, FontData, KindData, LIGATURES, MAX_LEN, MAX_OPS, Part, Row, Run, Shown,
+    Sizes, Substitution, SubtableData, TableData,
 };
 use aat_layout::buffer::Direction;
 use aat_layout::font::GenericStateEntry;

@@ -1,8 +1,8 @@
 //! The rows of noncontextual substitution and of requests.
 
 use super::{
-    Addition, After, Compilation, CoverageData, FontData, KindData, LIGATURES, MAX_OPS, Part,
-    Request, Row, Run, Shown, Sizes, Substitution, SubtableData,
+    Addition, After, Compilation, CoverageData, FontData, KindData, LIGATURES, MAX_LEN, MAX_OPS,
+    Part, Request, Row, Run, Shown, Sizes, Substitution, SubtableData,
 };
 use aat_layout::buffer::Direction;
 use aat_layout::font::{ChainFeature, FeatureName};
@@ -86,6 +86,7 @@ pub(super) const ROW_2: Row = Row {
             requests: &[request!(b"liga", 0, 1, 2)],
             line: &[run!(5, 0), run!(5, 1), run!(5, 2)],
             direction: Direction::LeftToRight,
+            max_len: MAX_LEN,
             max_ops: MAX_OPS,
             sizes: Sizes::Usual,
             after: After::Nothing,
@@ -167,6 +168,7 @@ pub(super) const ROW_6: Row = Row {
             requests: &[request!(b"liga", 1, 0, u32::MAX)],
             line: &[run!(5, u32::MAX)],
             direction: Direction::LeftToRight,
+            max_len: MAX_LEN,
             max_ops: MAX_OPS,
             sizes: Sizes::Usual,
             after: After::Nothing,

@@ -449,6 +449,17 @@ const ROW_29: &str = "\
     2 1 0 500 0 0 0\n\
     turns 3 budget 16382\n";
 
+/// The text of row 30.
+const ROW_30: &str = "\
+    row 30a\n\
+    error 2\n\
+    error 4\n\
+    row 30b\n\
+    7 3 0\n\
+    8 3 0\n\
+    5 3 0\n\
+    turns 2 budget 0\n";
+
 /// The text of row 31.
 const ROW_31: &str = "\
     row 31\n\
@@ -635,8 +646,18 @@ const ROW_37: &str = "\
     65535 0 0\n\
     turns 3 budget 16384\n";
 
+/// The text of row 38.
+const ROW_38: &str = "\
+    row 38a\n\
+    20 0 0 575 0 0 0\n\
+    12 2 3 375 0 -25 0\n\
+    turns 4 budget 16384\n\
+    row 38b\n\
+    20 0 0 0 -600 0 0\n\
+    turns 0 budget 16384\n";
+
 /// The rows that are built, in their order, each with its number and its text.
-pub(super) const ROWS: [(&str, &str); 36] = [
+pub(super) const ROWS: [(&str, &str); 38] = [
     ("1", ROW_1),
     ("2", ROW_2),
     ("3", ROW_3),
@@ -666,6 +687,7 @@ pub(super) const ROWS: [(&str, &str); 36] = [
     ("27", ROW_27),
     ("28", ROW_28),
     ("29", ROW_29),
+    ("30", ROW_30),
     ("31", ROW_31),
     ("32", ROW_32),
     ("33", ROW_33),
@@ -673,4 +695,5 @@ pub(super) const ROWS: [(&str, &str); 36] = [
     ("35", ROW_35),
     ("36", ROW_36),
     ("37", ROW_37),
+    ("38", ROW_38),
 ];

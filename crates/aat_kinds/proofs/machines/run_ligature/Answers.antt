@@ -2,7 +2,6 @@ use Rattle.std.proofs.Common.{◌∙◌, ap, sym, ℕ, Bool, false}
 use Rattle.aat_font.specs.Entries.{goes_on}
 use Rattle.aat_font.specs.Subtables.{LigatureTables}
 use Rattle.aat_run.specs.Driven.{context_from, machine_run}
-use Rattle.aat_run.specs.Outcome.{Outcome}
 use Rattle.aat_run.specs.Ranges.{is_driven_on, switch_for}
 use Rattle.aat_run.specs.facts.Switched.{driven_is_switched}
 use Rattle.aat_kinds.specs.Ligature.{Held, held_actionable, held_act, fresh}

@@ -3,7 +3,5 @@ use Rattle.aat_font.specs.Keys.{first}
 use Rattle.aat_font.specs.facts.Falls.{rising}
 use Rattle.aat_font.proofs.lookup.Lookup.new.Goals as goal
 
-pub invariant_of-result : goal.invariant_of-result
-invariant_of-result g c =
-    let none = sym c.first_fall.ensures ∙ c.in_default.is in
-    rw c.in_ok-from_slice.ensures.items (rising first c.args.pairs.now none)
+pub of_rising-requires : goal.of_rising-requires
+of_rising-requires g c = rising first c.args.pairs.now (sym c.first_fall.ensures ∙ c.in_default.is)

@@ -1,0 +1,194 @@
+//! Running a workload, and what comes out of it.
+ghost use Rattle.std.specs.Prelude.{IsSome, IsTrue};
+ghost use Rattle.std.specs.List.{list_all};
+ghost use Rattle.aat_layout.specs.Clusters.{IsSmall};
+ghost use Rattle.aat_layout.specs.Ranges.{is_whole_list};
+
+use crate::checksum::{checksum_of, checksum_of_map};
+use crate::kerned::{kerned_face_of, plan_of};
+use crate::lines::{builder_of, line_of, map_of, placed_line_of};
+use crate::stop::Stop;
+use crate::substituted::face_of;
+use crate::workloads::{Kerned, Size, Substituted, Work};
+use aat_layout::buffer::hb_buffer_t;
+use aat_layout::font::{hb_font_t, hb_ot_shape_plan_t};
+use aat_layout::{
+    AatError, apply, hb_aat_apply_context_t, hb_aat_layout_position, hb_aat_map_builder_t,
+    hb_aat_map_t, hb_ot_layout_kern,
+};
+use std::alloc::Global;
+use std::time::{Clock, Duration, Instant};
+
+/// What came out of a round.
+#[derive(Clone, Copy)]
+pub(crate) struct Outcome {
+    /// The turns, 0 of a compilation.
+    pub(crate) turns: u64,
+    /// The budget that is left, 0 of a compilation.
+    pub(crate) budget: i32,
+    /// The checksum of the line, or of the map.
+    pub(crate) checksum: u64,
+    /// How long the call took.
+    pub(crate) time: Duration,
+}
+
+/// Runs a workload in so many rounds, and at least once, each with tables and a line of its own, and answers the round
+/// whose call took the least time.
+pub(crate) fn least<R: Clock>(
+    rt: &R,
+    alloc: Global,
+    work: &Work,
+    size: &Size,
+    rounds: u32,
+) -> Result<Outcome, Stop> {
+    let mut best = round(rt, alloc, work, size)?;
+    for _ in 1..rounds {
+        let next = round(rt, alloc, work, size)?;
+        if next.time < best.time {
+            best = next;
+        }
+    }
+    Ok(best)
+}
+
+/// A round of a workload.
+fn round<R: Clock>(rt: &R, alloc: Global, work: &Work, size: &Size) -> Result<Outcome, Stop> {
+    match work {
+        Work::Substitution(subtables, requests) => {
+            substitution(rt, alloc, subtables, *requests, size)
+        }
+        Work::Kerning(subtable) => kerning(rt, alloc, subtable, size),
+        Work::Compilation => compilation(rt, alloc, size),
+    }
+}
+
+/// What came out of a call on a line.
+fn outcome_of(buffer: &hb_buffer_t, turns: u64, time: Duration) -> Outcome {
+    Outcome {
+        turns,
+        budget: buffer.max_ops(),
+        checksum: checksum_of(buffer),
+        time,
+    }
+}
+
+/// A line that is substituted under the map of so many requests.
+fn substitution<R: Clock>(
+    rt: &R,
+    alloc: Global,
+    subtables: &Substituted,
+    requests: u32,
+    size: &Size,
+) -> Result<Outcome, Stop> {
+    let face = face_of(alloc, subtables)?;
+    let map = map_of(alloc, &face, requests, size)?;
+    let mut buffer = line_of(alloc, size)?;
+    let (turns, time) = timed_substitution(rt, &face, &map, &mut buffer)?;
+    Ok(outcome_of(&buffer, turns, time))
+}
+
+/// Substitutes a line under a map, and answers the turns and the time.
+fn timed_substitution<R: Clock>(
+    rt: &R,
+    face: &hb_font_t,
+    map: &hb_aat_map_t,
+    buffer: &mut hb_buffer_t,
+) -> Result<(u64, Duration), Stop>
+    requires ids { IsSmall buffer.old }
+    requires whole { IsTrue (list_all is_whole_list map.now) }
+{
+    let start = Instant::now(rt)?;
+    let turns = substitute(face, map, buffer)?;
+    let time = start.elapsed(rt)?;
+    Ok((turns, time))
+}
+
+/// Substitutes a line under a map, and answers the turns.
+fn substitute(
+    face: &hb_font_t,
+    map: &hb_aat_map_t,
+    buffer: &mut hb_buffer_t,
+) -> Result<u64, AatError>
+    requires ids { IsSmall buffer.old }
+    requires whole { IsTrue (list_all is_whole_list map.now) }
+{
+    let mut context = hb_aat_apply_context_t::new(face, buffer);
+    apply(&mut context, map)?;
+    Ok(context.turns)
+}
+
+/// A line that is kerned.
+fn kerning<R: Clock>(
+    rt: &R,
+    alloc: Global,
+    subtable: &Kerned,
+    size: &Size,
+) -> Result<Outcome, Stop> {
+    let face = kerned_face_of(alloc, subtable)?;
+    let plan = plan_of(alloc);
+    let mut buffer = placed_line_of(alloc, size)?;
+    let (turns, time) = timed_kerning(rt, subtable, &plan, &face, &mut buffer)?;
+    Ok(outcome_of(&buffer, turns, time))
+}
+
+/// Kerns a line, and answers the turns and the time.
+fn timed_kerning<R: Clock>(
+    rt: &R,
+    subtable: &Kerned,
+    plan: &hb_ot_shape_plan_t,
+    face: &hb_font_t,
+    buffer: &mut hb_buffer_t,
+) -> Result<(u64, Duration), Stop>
+    requires ids { IsSmall buffer.old }
+    requires placed { IsSome buffer.old.positions }
+{
+    let start = Instant::now(rt)?;
+    let turns = kern(subtable, plan, face, buffer)?;
+    let time = start.elapsed(rt)?;
+    Ok((turns, time))
+}
+
+/// Kerns a line by the table in which the subtable stands, and answers the turns.
+fn kern(
+    subtable: &Kerned,
+    plan: &hb_ot_shape_plan_t,
+    face: &hb_font_t,
+    buffer: &mut hb_buffer_t,
+) -> Result<u64, AatError>
+    requires ids { IsSmall buffer.old }
+    requires placed { IsSome buffer.old.positions }
+{
+    match subtable {
+        Kerned::KernPairs | Kerned::KernMachine => hb_ot_layout_kern(plan, face, buffer),
+        Kerned::KerxPairs | Kerned::KerxMachine | Kerned::KerxAnchors => {
+            hb_aat_layout_position(plan, face, buffer)
+        }
+    }
+}
+
+/// Requests that are compiled.
+fn compilation<R: Clock>(rt: &R, alloc: Global, size: &Size) -> Result<Outcome, Stop> {
+    let face = face_of(alloc, &Substituted::NonContextual)?;
+    let mut builder = builder_of(alloc, &face, size.count, size)?;
+    let mut map = hb_aat_map_t::default(alloc);
+    let time = timed_compilation(rt, &face, &mut builder, &mut map)?;
+    Ok(Outcome {
+        turns: 0,
+        budget: 0,
+        checksum: checksum_of_map(&map),
+        time,
+    })
+}
+
+/// Compiles requests, and answers the time.
+fn timed_compilation<R: Clock>(
+    rt: &R,
+    face: &hb_font_t,
+    builder: &mut hb_aat_map_builder_t,
+    map: &mut hb_aat_map_t,
+) -> Result<Duration, Stop> {
+    let start = Instant::now(rt)?;
+    builder.compile(face, map)?;
+    let time = start.elapsed(rt)?;
+    Ok(time)
+}

@@ -1,0 +1,153 @@
+//! The workloads, as descriptions of what is measured.
+
+/// A workload: its name, what it does, and in which sizes.
+pub(crate) struct Workload {
+    pub(crate) name: &'static str,
+    pub(crate) work: Work,
+    pub(crate) sizes: &'static [Size],
+}
+
+/// What a workload does.
+pub(crate) enum Work {
+    /// Lines are substituted, under this many requests.
+    Substitution(Substituted, u32),
+    /// Lines are kerned.
+    Kerning(Kerned),
+    /// Requests are compiled.
+    Compilation,
+}
+
+/// By which subtables a line is substituted.
+#[derive(Drop)]
+pub(crate) enum Substituted {
+    /// Eight noncontextual subtables of 200 pairs.
+    NonContextual,
+    /// A machine of 16 classes and 24 states that joins glyphs.
+    Ligature,
+    /// A machine that replaces glyphs by 12 lookups.
+    Contextual,
+    /// A machine that puts glyphs in another order.
+    Rearrangement,
+    /// A machine that inserts glyphs.
+    Insertion,
+}
+
+/// By which subtable a line is kerned.
+pub(crate) enum Kerned {
+    /// 4,000 pairs of the kerning table.
+    KernPairs,
+    /// 4,000 pairs of the extended kerning table, format 0.
+    KerxPairs,
+    /// A machine of the kerning table that pushes and acts.
+    KernMachine,
+    /// A machine of the extended kerning table that pushes and acts, format 1.
+    KerxMachine,
+    /// A machine of the extended kerning table that attaches glyphs, format 4.
+    KerxAnchors,
+}
+
+/// A size of a workload.
+pub(crate) struct Size {
+    /// How many glyphs a line has, or how many requests are compiled.
+    pub(crate) count: u32,
+    /// The budget of a line.
+    pub(crate) max_ops: i32,
+    /// How many clusters a request starts behind the one before it.
+    pub(crate) stride: u32,
+    /// How many clusters a request has.
+    pub(crate) span: u32,
+    /// Of how many rounds the least time counts.
+    pub(crate) rounds: u32,
+}
+
+/// The lines, each with a budget of 64 operations for a glyph, and at least 16384.
+const LINES: &[Size] = &[
+    Size {
+        count: 20,
+        max_ops: 16384,
+        stride: 2,
+        span: 1,
+        rounds: 200,
+    },
+    Size {
+        count: 2_000,
+        max_ops: 128_000,
+        stride: 10,
+        span: 5,
+        rounds: 50,
+    },
+    Size {
+        count: 200_000,
+        max_ops: 12_800_000,
+        stride: 1_000,
+        span: 500,
+        rounds: 5,
+    },
+];
+
+/// A number of requests, of which two or three hold a cluster.
+macro_rules! requests {
+    ($count:literal, $rounds:literal) => {
+        Size {
+            count: $count,
+            max_ops: 0,
+            stride: 10,
+            span: 25,
+            rounds: $rounds,
+        }
+    };
+}
+
+/// The numbers of requests.
+const REQUESTS: &[Size] = &[
+    requests!(20, 200),
+    requests!(200, 50),
+    requests!(2_000, 10),
+    requests!(20_000, 3),
+];
+
+/// So many requests of a substituted line make 370 ranges.
+const OF_370_RANGES: u32 = 185;
+
+/// A workload of substituted lines: its name, its subtables, and the number of requests.
+macro_rules! substitution {
+    ($name:literal, $subtables:ident, $requests:expr) => {
+        Workload {
+            name: $name,
+            work: Work::Substitution(Substituted::$subtables, $requests),
+            sizes: LINES,
+        }
+    };
+}
+
+/// A workload of kerned lines: its name and its subtable.
+macro_rules! kerning {
+    ($name:literal, $subtable:ident) => {
+        Workload {
+            name: $name,
+            work: Work::Kerning(Kerned::$subtable),
+            sizes: LINES,
+        }
+    };
+}
+
+/// The workloads, in the order in which they are printed.
+pub(crate) static WORKLOADS: [Workload; 13] = [
+    substitution!("noncontextual", NonContextual, 0),
+    substitution!("ligatures", Ligature, 0),
+    substitution!("contextual", Contextual, 0),
+    substitution!("rearrangement", Rearrangement, 0),
+    substitution!("insertion", Insertion, 0),
+    substitution!("noncontextual-ranges", NonContextual, OF_370_RANGES),
+    substitution!("ligatures-ranges", Ligature, OF_370_RANGES),
+    kerning!("kern-pairs", KernPairs),
+    kerning!("kerx-pairs", KerxPairs),
+    kerning!("kern-machine", KernMachine),
+    kerning!("kerx-machine", KerxMachine),
+    kerning!("kerx-anchors", KerxAnchors),
+    Workload {
+        name: "compiling",
+        work: Work::Compilation,
+        sizes: REQUESTS,
+    },
+];

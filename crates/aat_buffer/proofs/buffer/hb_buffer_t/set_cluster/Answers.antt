@@ -1,7 +1,0 @@
-use Rattle.std.proofs.Common.{arith}
-use Rattle.aat_buffer.specs.Marks.{with_cluster}
-use Rattle.aat_buffer.proofs.Spans.{written_more}
-use Rattle.aat_buffer.proofs.buffer.hb_buffer_t.set_cluster.Goals as goal
-
-pub loop-i-preserved : goal.loop-i-preserved
-loop-i-preserved g c = written_more (with_cluster c.args.cluster) _ _ _ _ _ _ _ (omega arith) (omega arith) c.loop-i.invariant c.glyph.ensures c.clustered_glyph.ensures c.set_glyph.ensures

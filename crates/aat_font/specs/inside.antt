@@ -1,0 +1,3 @@
+pub mod Dense
+pub mod Lefts
+pub mod Walks

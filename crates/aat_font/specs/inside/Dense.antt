@@ -1,0 +1,85 @@
+-- Arrays that answer as the rows of a table do. No contract but those of the tables and their arrays cites this.
+use Rattle.std.specs.Prelude.{◌≡◌, ◌+◌, ◌*◌, ◌-◌, ◌/◌, ◌%◌, ◌==◌, ◌<◌, ◌≤◌, ℕ, Bool, List, ◌&&◌, Option, None, Some, if◌then◌else◌, nat_lt, nat_le, length, slice_get, slice_index_or, option_map}
+use Rattle.std.specs.List.{list_any}
+use Rattle.aat_font.specs.declared.dense.Dense.{Dense}
+use Rattle.aat_font.specs.declared.dense.Dense.TheVariants.{Array, Pages, Search}
+use Rattle.aat_font.specs.Keys.{first, value_in, at_key}
+use Rattle.aat_font.specs.Table.{Rule, rule_key}
+
+-- the value of a glyph in an array over the glyphs from the lowest on, none outside it
+abbrev pub value_over : ℕ → List (Option ℕ) → ℕ → Option ℕ
+value_over lowest cells glyph = if nat_lt glyph lowest then None else slice_index_or cells (glyph - lowest) None
+
+-- an array answers as pairs do
+abbrev pub AnswersOver : ℕ → List (Option ℕ) → List (ℕ × ℕ) → Type 0
+AnswersOver lowest cells pairs = (glyph : ℕ) → value_over lowest cells glyph ≡ value_in pairs glyph
+
+-- what stands at a place of a page whose cells begin at a start, nothing where the page is not kept
+abbrev pub on_page : List (Option ℕ) → Option ℕ → ℕ → Option ℕ
+on_page cells None place = None
+on_page cells (Some start) place = slice_index_or cells (start + place) None
+
+-- the value of a glyph on pages of 256 glyphs
+abbrev pub value_on_pages : List (Option ℕ) → List (Option ℕ) → ℕ → Option ℕ
+value_on_pages starts cells glyph = on_page cells (slice_index_or starts (glyph / 256) None) (glyph % 256)
+
+-- whether one of the 256 glyphs from the lowest on is among those of pairs
+abbrev pub page_holds : List (ℕ × ℕ) → ℕ → Bool
+page_holds pairs lowest = list_any (λ p. nat_le lowest p.0 && nat_lt p.0 (lowest + 256)) pairs
+
+-- each page that is kept has its 256 cells
+abbrev pub AreKept : List (Option ℕ) → List (Option ℕ) → Type 0
+AreKept starts cells =
+    (page start : ℕ) → slice_index_or starts page None ≡ Some start → start + 256 ≤ length cells
+
+-- pages answer as pairs do
+abbrev pub AnswersOnPages : List (Option ℕ) → List (Option ℕ) → List (ℕ × ℕ) → Type 0
+AnswersOnPages starts cells pairs =
+    (glyph : ℕ) → glyph < 65536 → value_on_pages starts cells glyph ≡ value_in pairs glyph
+
+-- an array or pages answer as pairs do; a search needs nothing
+abbrev pub AnswersAsPairs : {A : Type 0} → Dense A → List (ℕ × ℕ) → Type 0
+AnswersAsPairs (Array array) pairs = AnswersOver array.lowest array.cells.items pairs
+AnswersAsPairs (Pages pages) pairs = AnswersOnPages pages.starts.items pages.cells.items pairs
+AnswersAsPairs Search pairs = Unit
+
+-- the number of glyphs from that of the first pair to that of the last
+abbrev pub span_of_pairs : List (ℕ × ℕ) → ℕ
+span_of_pairs pairs =
+    first (slice_index_or pairs (length pairs - 1) (0, 0)) - first (slice_index_or pairs 0 (0, 0)) + 1
+
+-- the number of cells of an array: one for each glyph of the span, and none where these are many times the pairs
+abbrev pub span_count : List (ℕ × ℕ) → ℕ
+span_count pairs =
+    if length pairs == 0 then 0 else if nat_lt (length pairs) (span_of_pairs pairs / 32) then 0 else span_of_pairs pairs
+
+-- the glyph of each pair is one of so many from the lowest on
+abbrev pub PairsWithin : ℕ → ℕ → List (ℕ × ℕ) → Type 0
+PairsWithin lowest count pairs =
+    (i : ℕ) (d : ℕ × ℕ) → i < length pairs
+    → (lowest ≤ first (slice_index_or pairs i d)) × (first (slice_index_or pairs i d) < lowest + count)
+
+-- the entry that rules have for a state and a class, if there is one
+abbrev pub ruled_entry : {E : Type 0} → List (Rule E) → ℕ → ℕ → Option E
+ruled_entry rules state class = option_map (λ r. r.2) (at_key rule_key rules (state * 65536 + class))
+
+-- the number of states of a grid up to that of a rule, none where they have more than 65,536 cells
+abbrev pub states_to : {E : Type 0} → ℕ → Option (Rule E) → ℕ
+states_to class_count None = 0
+states_to class_count (Some rule) =
+    if nat_lt 65536 ((rule_key rule / 65536 + 1) * class_count) then 0 else rule_key rule / 65536 + 1
+
+-- the number of states of a grid: up to that of the last rule, none without rules
+abbrev pub state_count : {E : Type 0} → ℕ → List (Rule E) → ℕ
+state_count class_count rules = states_to class_count (slice_get rules (length rules - 1))
+
+-- the state of each rule is below a number
+abbrev pub RulesBelow : {E : Type 0} → ℕ → List (Rule E) → Type 0
+RulesBelow {E} states rules =
+    (i : ℕ) (d : Rule E) → i < length rules → rule_key (slice_index_or rules i d) < states * 65536
+
+-- a grid of states by classes answers as rules do, unless it is empty
+abbrev pub AnswersAsRules : {E : Type 0} → ℕ → List (Option E) → List (Rule E) → Type 0
+AnswersAsRules class_count cells rules =
+    0 < length cells → (state class : ℕ) → class < class_count
+    → slice_index_or cells (state * class_count + class) None ≡ ruled_entry rules state class

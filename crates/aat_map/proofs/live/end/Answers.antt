@@ -1,0 +1,18 @@
+use Rattle.std.proofs.Common.{◌∙◌, arith}
+use Rattle.aat_map.proofs.FirstLemmas.{ended_set, ended_not_put}
+use Rattle.aat_map.proofs.live.end.Goals as goal
+
+pub returns-then-place-len-clause-firsts : goal.returns-then-place-len-clause-firsts
+returns-then-place-len-clause-firsts g c =
+    let live = c.args.live.now in
+    ended_set live.groups.items live.active.items c.take_out.new.list.items live.firsts.items c.args.info.now c.index.result.now c.place_of-place.result c.first_of.result
+    c.requires.firsts c.requires.apart c.take_out.ensures (rw c.deref.ensures.value at c.place_of-place.ensures.count)
+    c.index.ensures c.first_of.ensures
+
+pub returns-else-place-len-clause-firsts : goal.returns-else-place-len-clause-firsts
+returns-else-place-len-clause-firsts g c =
+    let live = c.args.live.now in
+    c.requires.firsts
+    ∙ ended_not_put live.groups.items live.active.items c.take_out.new.list.items c.args.info.now c.place_of-place.result
+    c.take_out.ensures (rw c.deref.ensures.value at c.place_of-place.ensures.count)
+    (omega (arith, c.len.ensures, c.if-place-len.false))

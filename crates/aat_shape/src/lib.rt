@@ -1,0 +1,9 @@
+//! The layer as one call, and the printing of worked examples of Apple Advanced Typography, row by row.
+#![tactic(auto)]
+
+mod print;
+#[cfg(test)]
+mod tests;
+
+pub use aat_shaping::shape;
+pub use print::run;

@@ -1,0 +1,2 @@
+pub mod ShapedText
+pub mod inside

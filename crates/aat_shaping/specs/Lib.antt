@@ -1,0 +1,4 @@
+pub mod RefusedShaping
+pub mod ShapedOrder
+pub mod Shaping
+pub mod ShapingRows

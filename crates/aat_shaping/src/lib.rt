@@ -1,0 +1,10 @@
+//! Shaping: substitution, advances, kerning and the removal of deleted glyphs, in one call.
+#![tactic(auto)]
+
+#[doc(hidden)]
+pub mod laws;
+mod shaping;
+#[doc(hidden)]
+pub mod worked;
+
+pub use shaping::shape;
