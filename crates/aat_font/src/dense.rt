@@ -8,8 +8,8 @@ use crate::keys::row_at;
 use crate::pages::{GlyphPages, page_count};
 use std::alloc::{AllocError, Allocator};
 
-/// The largest number of cells that an array or pages have for each pair. Where the glyphs lie further apart, their
-/// memory would be many times that of the pairs, and these are searched instead.
+/// The largest number of cells that an array or pages have for each pair, the quotient rounded down. Where the glyphs
+/// lie further apart, their memory would be many times that of the pairs, and these are searched instead.
 const CELLS_A_PAIR: usize = 32;
 
 /// The smallest number of pairs for each page of 256 cells.
@@ -36,8 +36,9 @@ pub(crate) struct GlyphArray<A: Allocator> {
 }
 
 impl<A: Allocator + Copy> Dense<A> {
-    /// How the values of pairs are found, which rise strictly by glyph: in an array where its cells are at most
-    /// `CELLS_A_PAIR` for each pair, else on pages where theirs are, and else by bisection. Fails where cells get no
+    /// How the values of pairs are found, which rise strictly by glyph: in an array where its cells, by
+    /// `CELLS_A_PAIR` and rounded down, are no more than the pairs, else on pages where theirs are at most
+    /// `CELLS_A_PAIR` for each pair, and else by bisection. Fails where cells get no
     /// memory.
     pub(crate) fn over(alloc: A, pairs: &[(u16, u16)]) -> Result<Dense<A>, AllocError>
         requires { IsRising first pairs.now }
@@ -104,8 +105,8 @@ impl<A: Allocator> GlyphArray<A> {
     }
 }
 
-/// The lowest glyph of rising pairs and the number of glyphs from there to the highest, or no glyphs where these are
-/// more than `CELLS_A_PAIR` for each pair.
+/// The lowest glyph of rising pairs and the number of glyphs from there to the highest, or no glyphs where these, by
+/// `CELLS_A_PAIR` and rounded down, are more than the pairs.
 fn span_of(pairs: &[(u16, u16)]) -> (u16, usize)
     requires { IsRising first pairs.now }
     ensures count { result.1 ≡ span_count pairs.now }

@@ -20,7 +20,7 @@ pub enum TableError {
     /// 4: there are more than 65,535 subtables.
     #[error("there are more than 65535 subtables")]
     TooManySubtables,
-    /// 5: memory is wanting for a copy of a slice.
+    /// 5: memory is wanting for a copy of a slice, or for an array, pages, a grid or starts beside it.
     #[error("out of memory")]
     OutOfMemory,
 }

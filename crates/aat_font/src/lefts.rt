@@ -8,7 +8,8 @@ use crate::keys::Keyed;
 use crate::walk::walk_to;
 use std::alloc::{AllocError, Allocator};
 
-/// The largest number of starts for each pair. Where the left glyphs lie further apart, all pairs are searched.
+/// The largest number of starts for each pair, the quotient rounded down. Where the left glyphs lie further apart, all
+/// pairs are searched.
 const STARTS_A_PAIR: usize = 8;
 
 /// The number of right glyphs, and of keys of one left glyph.
@@ -90,8 +91,8 @@ fn part_of(pairs: &[(u16, u16, i16)], start: usize, end: usize) -> &[(u16, u16, 
     &pairs[start..end]
 }
 
-/// The lowest left glyph of rising pairs and the number of glyphs from there to the highest, or no glyphs where these
-/// are more than `STARTS_A_PAIR` for each pair.
+/// The lowest left glyph of rising pairs and the number of glyphs from there to the highest, or no glyphs where these,
+/// by `STARTS_A_PAIR` and rounded down, are more than the pairs.
 fn lefts_of(pairs: &[(u16, u16, i16)]) -> (u16, usize)
     requires { IsRising key_of_pair pairs.now }
     ensures count { result.1 ≡ left_count pairs.now }

@@ -56,7 +56,8 @@ impl<A: Allocator + Copy> Pairs<A> {
 }
 
 impl<A: Allocator> Pairs<A> {
-    /// The value of a left and a right glyph, if they have one, found by bisection among the pairs of the left glyph.
+    /// The value of a left and a right glyph, if they have one, found by bisection among the pairs of the left glyph,
+    /// or among all where the left glyphs do not lie close.
     pub fn glyphs_kerning(&self, left: GlyphId, right: GlyphId) -> Option<i16>
         ensures { result ≡ kerning_of self.now left.0 right.0 }
     {

@@ -41,8 +41,8 @@ impl Feature {
 pub struct hb_ot_shape_plan_t {
     /// The requests of the user, in their order.
     pub user_features: Vec<Feature>,
-    /// Whether the requests choose what the extended glyph metamorphosis table does. Without it,
-    /// each of its subtables is on everywhere.
+    /// Whether the requests choose what the extended glyph metamorphosis table does. Without it, a call that only
+    /// substitutes has each of its subtables on everywhere, and the call that shapes does not substitute.
     pub apply_morx: bool,
     /// Whether kerning is asked for.
     pub requested_kerning: bool,

@@ -94,8 +94,9 @@ fn run_machine<Table, E: Copy, D: StateTableDriver<Table, E>, A: Allocator + Cop
 /// glyph has to have its position, as `has_positions` tells. It is never refused, and a buffer that had failed before
 /// is run as any other.
 ///
-/// A turn takes a bounded number of steps but for its act and the searches in the table, which bisect it. Each turn
-/// beyond the number of glyphs and one more has been paid for from the budget. No memory is taken.
+/// A turn takes a bounded number of steps but for its act and the look-ups in the table, which search by bisection
+/// where it has no array, pages or grid. Each turn beyond the number of glyphs and one more has been paid for from the
+/// budget. No memory is taken.
 ///
 /// Apple's TrueType Reference Manual, "The 'kerx' table", formats 1 and 4, and the section on state tables in "Font
 /// Tables".

@@ -52,9 +52,9 @@ impl<A: Allocator + Copy> hb_aat_map_builder_t<A> {
 
     /// Adds the request that a feature of the user makes, by the names of the font's features.
     ///
-    /// Answers whether the feature is known: `None` for a font without feature names, for a tag that
-    /// no row of [`feature_mappings`](crate::feature_mappings) has, and for alternates that are
-    /// appended. A feature that the font does not have with settings appends nothing.
+    /// Answers whether the feature is known: `None` for a font without feature names, for a tag
+    /// other than `aalt` that no row of [`feature_mappings`](crate::feature_mappings) has, and for
+    /// alternates that are appended. A feature that the font does not have with settings appends nothing.
     ///
     /// Refused as 1, `AaltValue`, where the font has character alternatives and the value of `aalt`
     /// is above 65535, and else as 3, `OutOfMemory`, where the request gets no memory. After a

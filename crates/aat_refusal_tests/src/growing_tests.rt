@@ -2,8 +2,11 @@
 //! filled, and where the call is refused it is emptied and the call made again.
 
 use crate::hoard::{HEAP, Hoard};
-use crate::rows::line_over;
-use aat_layout::buffer::{BufferError, GlyphPosition, hb_buffer_t, hb_glyph_info_t};
+use crate::rows::{Settings, line_over};
+use aat_layout::buffer::{
+    BufferError, BufferFlags, Direction, GlyphPosition, HB_BUFFER_CLUSTER_LEVEL_CHARACTERS,
+    ScratchFlags, hb_buffer_t, hb_glyph_info_t,
+};
 use linked_list_allocator::LocalHeap;
 use std::alloc::{AllocError, Global};
 use std::process::Abort;
@@ -28,11 +31,12 @@ enum Call {
     Positions,
 }
 
-/// A line before a call: its glyphs and its cursor.
+/// A line before a call: its glyphs, its cursor and its settings.
 #[derive(Drop)]
 struct Before {
     glyphs: Vec<hb_glyph_info_t>,
     cursor: usize,
+    settings: Settings,
 }
 
 /// The glyph that `add` and `insert_glyphs` put in.
@@ -90,6 +94,7 @@ impl Before {
         Ok(Before {
             glyphs,
             cursor: buffer.backtrack_len(),
+            settings: Settings::of(buffer),
         })
     }
 
@@ -132,10 +137,10 @@ impl Before {
         }
     }
 
-    /// Asserts that a line and its cursor are as before.
+    /// Asserts that a line, its cursor and its settings are as before.
     fn assert_same(&self, rt: &impl Abort, buffer: &Line) {
         assert!(rt; buffer.len() == self.glyphs.len() && buffer.backtrack_len() == self.cursor);
-        assert!(rt; buffer.max_ops() == MAX_OPS);
+        assert!(rt; buffer.max_ops() == MAX_OPS && Settings::of(buffer) == self.settings);
         for place in 0..buffer.len() {
             assert!(rt; *buffer.info(place) == self.at(place));
         }
@@ -147,6 +152,7 @@ impl Before {
         assert!(rt; buffer.backtrack_len() == self.cursor.saturating_add(moved));
         assert!(rt; buffer.len() == self.glyphs.len().saturating_add(1));
         assert!(rt; !buffer.has_positions() && buffer.max_ops() == MAX_OPS);
+        assert!(rt; Settings::of(buffer) == self.settings);
         for place in 0..buffer.len() {
             assert!(rt; *buffer.info(place) == self.glyph_after(call, place));
         }
@@ -228,13 +234,25 @@ fn is_refused_placed<'h>(
     Ok(is_refused(rt, alloc, heap, buffer, call, blocks)?)
 }
 
-/// Makes a call many times over one line, with the cursor behind its first glyph, while so many blocks are left of the
-/// heap, and says how often it was refused.
+/// An empty line for `add`, and for the other calls one of two glyphs with the cursor behind its first one, with
+/// settings that a new buffer has not.
+fn line_for<'h>(rt: &impl Abort, heap: &'h LocalHeap, call: Call) -> Result<Line<'h>, BufferError> {
+    let glyphs = [(5, 0, 0), (5, 1, 0)];
+    let count = if call == Call::Add { 0 } else { 2 };
+    let mut buffer = line_over(heap, &glyphs[..count], MAX_OPS)?;
+    buffer.set_direction(Direction::BottomToTop);
+    buffer.set_cluster_level(HB_BUFFER_CLUSTER_LEVEL_CHARACTERS);
+    buffer.set_flags(BufferFlags::PRODUCE_UNSAFE_TO_CONCAT);
+    buffer.set_scratch_flags(ScratchFlags::HAS_GPOS_ATTACHMENT);
+    assert!(rt; buffer.len() == count);
+    buffer.move_to(count / 2);
+    Ok(buffer)
+}
+
+/// Makes a call many times over one line while so many blocks are left of the heap, and says how often it was refused.
 fn refusals_of(rt: &impl Abort, alloc: Global, call: Call, blocks: usize) -> Result<usize, Fail> {
     let heap = LocalHeap::new(alloc, HEAP)?;
-    let mut buffer = line_over(&heap, &[(5, 0, 0), (5, 1, 0)], MAX_OPS)?;
-    assert!(rt; buffer.len() == 2);
-    buffer.move_to(1);
+    let mut buffer = line_for(rt, &heap, call)?;
     let mut refusals = 0usize;
     for _ in 0..TIMES {
         if is_refused_placed(rt, alloc, &heap, &mut buffer, call, blocks)? {
@@ -244,12 +262,12 @@ fn refusals_of(rt: &impl Abort, alloc: Global, call: Call, blocks: usize) -> Res
     Ok(refusals)
 }
 
-/// Each growth asks for memory once, and is refused where nothing or too little is left. The line grows four times at
-/// least where glyphs are added, and twice where they go in at the cursor.
+/// Each growth asks for memory once, and is refused where nothing or too little is left. The line grows five times at
+/// least where glyphs are added, with its first glyph too, and twice where they go in at the cursor.
 #[test]
 fn each_growth_of_a_buffer_refused(rt: HostRuntime) -> Result<(), Fail> {
     let calls = [
-        (Call::Add, 4),
+        (Call::Add, 5),
         (Call::Copy, 2),
         (Call::Output, 2),
         (Call::Insert, 2),

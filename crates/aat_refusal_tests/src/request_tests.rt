@@ -223,7 +223,8 @@ fn blocks_to_compile(
 }
 
 /// Row 5. A block more is left each time, until nothing is refused. `compile` takes a list of the requests in their
-/// order, one by their ends, one of the starts, one of what is live, one of what is kept and the map's two.
+/// order, one by their ends, one of the starts, those of what is live, of groups and of their firsts, one of what is
+/// kept, one of flags, the map's two, and what sorting takes.
 #[test]
 fn each_growth_of_compiling_refused(rt: HostRuntime) -> Result<(), Fail> {
     let face = face_of_row_5(rt.alloc())?;

@@ -1,6 +1,8 @@
 //! The fonts, requests and lines of worked rows.
 
-use aat_layout::buffer::{BufferError, hb_buffer_t, hb_glyph_info_t};
+use aat_layout::buffer::{
+    BufferError, BufferFlags, Direction, ScratchFlags, hb_buffer_t, hb_glyph_info_t,
+};
 use aat_layout::font::{
     Chain, ChainFeature, Coverage, ExtendedStateTable, FaceTables, Feat, Feature, FeatureName,
     GenericStateEntry, GlyphId, InsertionEntryData, InsertionSubtable, LigatureSubtable, Morx,
@@ -167,6 +169,29 @@ pub(crate) fn line_over<A: Allocator + Copy>(
         })?;
     }
     Ok(buffer)
+}
+
+/// What a buffer has beside its line, its positions, its cursor and its budget.
+#[derive(Clone, Copy, PartialEq)]
+pub(crate) struct Settings {
+    direction: Direction,
+    cluster_level: u8,
+    flags: BufferFlags,
+    scratch_flags: ScratchFlags,
+    max_len: usize,
+}
+
+impl Settings {
+    /// Those of a buffer.
+    pub(crate) fn of<A: Allocator + Copy>(buffer: &hb_buffer_t<A>) -> Settings {
+        Settings {
+            direction: buffer.direction(),
+            cluster_level: buffer.cluster_level(),
+            flags: buffer.flags(),
+            scratch_flags: buffer.scratch_flags(),
+            max_len: buffer.max_len(),
+        }
+    }
 }
 
 /// The glyphs of a line.

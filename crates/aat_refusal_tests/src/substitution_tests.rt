@@ -2,7 +2,8 @@
 
 use crate::hoard::{HEAP, Hoard};
 use crate::rows::{
-    Glyph, MAX_LEN, assert_line, face_of_row_12, face_of_row_13, glyphs_of, line_over, request,
+    Glyph, MAX_LEN, Settings, assert_line, face_of_row_12, face_of_row_13, glyphs_of, line_over,
+    request,
 };
 use aat_layout::buffer::hb_buffer_t;
 use aat_layout::font::{hb_font_t, hb_ot_shape_plan_t};
@@ -104,12 +105,17 @@ impl Shaping {
         buffer: &mut hb_buffer_t<A>,
     ) -> Result<(), AllocError> {
         let left = glyphs_of(alloc, buffer)?;
-        let (budget, cursor) = (buffer.max_ops(), buffer.backtrack_len());
+        let (budget, cursor, settings) = (
+            buffer.max_ops(),
+            buffer.backtrack_len(),
+            Settings::of(buffer),
+        );
         assert!(rt; buffer.all_glyphs_16() && buffer.len() <= MAX_LEN);
         assert!(rt; self.run(rt, memory, buffer) == Err(AatError::BufferFailed));
         assert!(rt; AatError::BufferFailed.number() == 4 && !buffer.is_successful());
         assert_line(rt, buffer, &left, budget);
         assert!(rt; buffer.backtrack_len() == cursor && !buffer.has_positions());
+        assert!(rt; Settings::of(buffer) == settings);
         Ok(())
     }
 
@@ -124,7 +130,9 @@ impl Shaping {
         buffer: &mut hb_buffer_t<A>,
         blocks: usize,
     ) -> Result<Refused, AllocError> {
+        let settings = Settings::of(buffer);
         let answer = self.run_filled(rt, alloc, heap, memory, buffer, blocks)?;
+        assert!(rt; Settings::of(buffer) == settings);
         if answer == Ok(2) {
             assert_line(rt, buffer, &SEVEN_EIGHT_FIVE, 0);
             return Ok(Refused::Nowhere);

@@ -160,11 +160,11 @@ pub fn run_machine<T: Copy, C: driver_context_t<T>, A: Allocator + Copy>(
 /// line, cursor, positions and budget is as before, the registers are any, and no turns are added. A buffer that had
 /// failed before is run as any other.
 ///
-/// A turn takes a bounded number of steps but for its act, the searches in the table, which bisect it, and the search
-/// for the range of a cluster that lies outside the range that was found last, which bisects ranges that end at the
-/// last cluster there can be and walks through others. A run looks at each range at most twice before its turns: where
-/// no range switches the machine on it passes the line over, and where each does no turn asks for a range. No memory is
-/// taken but by the act.
+/// A turn takes a bounded number of steps but for its act, the look-ups in the table, which search by bisection where
+/// it has no array, pages or grid, and the search for the range of a cluster that lies outside the range that was found
+/// last, which bisects ranges that end at the last cluster there can be and walks through others. A run looks at each
+/// range at most twice before its turns: where no range switches the machine on it passes the line over, and where each
+/// does no turn asks for a range. No memory is taken but by the act.
 ///
 /// Apple's TrueType Reference Manual, "The 'morx' table", and the section on state tables in "Font Tables".
 pub fn drive<T: Copy, C: driver_context_t<T>, A: Allocator + Copy>(

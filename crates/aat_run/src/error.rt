@@ -12,11 +12,11 @@ pub enum AatError {
     /// 1: a request for alternates has this value, which is no setting, since it is above 65535.
     #[error("the value {0} is no alternate")]
     AaltValue(u32),
-    /// 2: the line would pass its greatest length. The buffer has failed then.
+    /// 2: the line would pass its greatest length. A buffer that was handed in has failed then.
     #[error("the line would be too long")]
     TooLong,
-    /// 3: memory is wanting. In the middle of a run the buffer has failed then; else what was asked for is as it was,
-    /// and a map that was to be compiled is empty.
+    /// 3: memory is wanting. In the middle of a run, or where positions get none, the buffer has failed then; else what
+    /// was asked for is as it was, and a map that was to be compiled is empty.
     #[error("out of memory")]
     OutOfMemory,
     /// 4: the buffer had failed before. Nothing changes.

@@ -103,7 +103,7 @@ pub fn is_everywhere_on(ranges: &[range_flags_t], feature_flags: hb_mask_t) -> b
 }
 
 /// The ranges that have to be asked whether a subtable is on at a cluster: none where it is on everywhere. It looks at
-/// each range at most once.
+/// each range at most once. The ranges have to follow one another from 0 without a gap.
 pub fn ranges_to_ask(ranges: &[range_flags_t], feature_flags: hb_mask_t) -> &[range_flags_t]
     requires { IsGapless ranges.now }
     ensures gapless { IsGapless result.now }
@@ -196,6 +196,8 @@ pub(crate) fn is_driven_on(
 
 /// Whether a subtable with some feature flags is on at a cluster, with the range that was found last: always where no
 /// range is compiled. The range is looked for only where the one that was found last does not hold the cluster.
+/// The ranges have to follow one another from 0 without a gap, and what was found last has to be none, or what an
+/// earlier question of the same ranges left.
 pub fn is_on_from(
     ranges: &[range_flags_t],
     feature_flags: hb_mask_t,

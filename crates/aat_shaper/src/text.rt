@@ -64,7 +64,8 @@ pub struct ShapedGlyph {
 /// The line may be broken before a glyph that has another cluster than the glyph before it, where of these two the one
 /// with the greater cluster is not marked `UNSAFE_TO_BREAK`; elsewhere both parts would have to be shaped again. It may
 /// not be broken before its first glyph. These are the marks that machines and kerning set; nothing is proved here of
-/// the two parts shaped apart. The glyphs are in the order of the line, whatever the direction is.
+/// the two parts shaped apart. The glyphs are in the order of the line, whatever the direction is: nothing is turned
+/// round, and in a backward direction kerning takes the last glyph of the text first.
 ///
 /// No glyph that is handed out is 0xFFFF. Where the clusters of the text never fall, those that are handed out never
 /// fall either. A line has at most 16384 glyphs, and a budget of as many operations.

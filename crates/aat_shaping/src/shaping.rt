@@ -46,7 +46,7 @@ use std::alloc::Allocator;
 /// what it leaves: as 1, `AaltValue`, and nothing changes; as 2, `TooLong`, and the buffer has failed; as 3,
 /// `OutOfMemory`, and either nothing changes or, in the middle of a run, the buffer has failed. At last as 3 where the
 /// positions get no memory: the buffer has failed then, no positions stand, and its line is the one that substitution
-/// leaves. Nothing behind that can be refused.
+/// leaves, or where the plan does not apply it the line as it was. Nothing behind that can be refused.
 ///
 /// Apple's TrueType Reference Manual, "The 'morx' table", "The 'kerx' table" and "The 'kern' table".
 pub fn shape<H: Allocator + Copy, A: Allocator + Copy>(

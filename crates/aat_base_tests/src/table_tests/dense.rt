@@ -1,4 +1,5 @@
-//! Lookups whose answers stand in an array or on pages, and state tables whose answers stand in a grid or are searched.
+//! Lookups by an array and by a search, the memory of pages, and state tables whose answers stand in a grid or are
+//! searched.
 use super::is_made;
 use aat_font::{ExtendedStateTable, GenericStateEntry, GlyphId, Lookup};
 use linked_list_allocator::LocalHeap;
