@@ -1,4 +1,4 @@
--- Lists that rise by a key, as the tables of a font do.
+-- Lists that rise by a key, as the tables of a font and kept settings do.
 use Rattle.std.specs.Prelude.{ℕ, ◌+◌, ◌<◌, List, [], ◌∷◌, length, if◌then◌else◌, ◌==◌, nat_lt, slice_index_or, Some, None, Option, find, option_map}
 
 module _ {X : Type 0} (key : X → ℕ) where

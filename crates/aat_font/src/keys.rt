@@ -1,8 +1,8 @@
-//! Rows that rise by a key, as the tables of a font keep them: how they are tested and searched.
+//! Rows that rise by a key, as those of the tables of a font and kept settings: how they are tested and searched.
 ghost use Rattle.std.specs.Prelude.{◌≡◌, option_copied};
 ghost use Rattle.aat_font.specs.Keys.{IsRising, at_key, first_fall};
 
-/// A row of a table, with the number by which its rows rise.
+/// A row, with the number by which rows rise.
 pub trait Keyed {
     ghost use Rattle.std.specs.Prelude.{◌≡◌, ℕ};
 

@@ -4,8 +4,6 @@
 
 mod ranges;
 mod table;
-#[cfg(test)]
-mod tests;
 
 pub use ranges::{InspectedRange, inspect};
 pub use table::Table;

@@ -37,8 +37,8 @@ fn replacement(
     }
 }
 
-/// Gives each of some glyphs that is on at its own cluster, by some ranges, its value. A range is looked for only where
-/// the one that was found last does not hold the cluster.
+/// Gives each of some glyphs that is on at its own cluster, by some ranges, its value. A range is searched for only
+/// where it is neither the one that was found last nor beside it.
 fn replace_glyphs(
     run: &SubtableRun,
     ranges: &[range_flags_t],
@@ -51,9 +51,9 @@ fn replace_glyphs(
     ensures ids { All Is16Bit glyphs.new }
     ensures len { length glyphs.new ≡ length glyphs.old }
 {
-    let mut found = None;
+    let mut place = 0;
     for glyph in glyphs.iter_mut() {
-        let is_on = is_on_from(ranges, run.feature_flags, &mut found, glyph.cluster);
+        let is_on = is_on_from(ranges, run.feature_flags, &mut place, glyph.cluster);
         *glyph = replacement(run.face, lookup, is_on, *glyph);
     }
 }

@@ -10,8 +10,6 @@ ghost use Rattle.aat_line_breaker.specs.LineCut.{IsFit, IsLast, IsLeftOfPartsAt}
 
 mod order;
 mod place;
-#[cfg(test)]
-mod tests;
 
 pub use crate::place::last_cut;
 use aat_layout::buffer::hb_buffer_t;

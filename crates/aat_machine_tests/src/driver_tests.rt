@@ -2,8 +2,8 @@
 ghost use Rattle.std.specs.Prelude.{◌≡◌, ◌≤◌};
 ghost use Rattle.aat_run.specs.Ranges.{IsGapless};
 
-use crate::driver_contexts::{CountingCtx, PuttingCtx};
 use aat_buffer::{BufferError, hb_buffer_t, hb_glyph_info_t};
+use aat_driver_contexts::{CountingCtx, PuttingCtx};
 use aat_font::{ExtendedStateTable, FaceTables, GenericStateEntry, TableError, hb_font_t};
 use aat_run::{
     AatError, drive, ends_at_last, hb_aat_apply_context_t, range_flags_t, range_of, run_machine,

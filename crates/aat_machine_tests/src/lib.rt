@@ -1,7 +1,6 @@
-//! The tests of the driver, over contexts of their own, and of the four contexts of the layer.
+//! The tests of the driver, over the tests' own contexts, and of the four contexts of the layer.
 #![tactic(auto)]
 
-pub mod driver_contexts;
 #[cfg(test)]
 mod driver_tests;
 #[cfg(test)]

@@ -5,6 +5,7 @@ pub mod CutLemmas
 pub mod FirstLemmas
 pub mod GatherLemmas
 pub mod KeptFirsts
+pub mod KeptSearch
 pub mod MapLemmas
 pub mod OneRange
 pub mod SpanLemmas

@@ -1,6 +1,8 @@
 //! The flags of the chains, remembered from range to range.
 ghost use Rattle.std.specs.Prelude.{◌≡◌, ◌<◌, ◌≤◌, ℕ, length, true, IfOk, IfErr, OnOk};
+ghost use Rattle.aat_font.specs.Keys.{IsRising};
 ghost use Rattle.aat_run.specs.Ranges.{next_start};
+ghost use Rattle.aat_map.specs.Live.{group_key};
 ghost use Rattle.aat_map.specs.Map.{list_at, with_ranges};
 ghost use Rattle.aat_map.specs.inside.CompiledSpans.{all_flags_for, range_with, ranges_with};
 
@@ -13,15 +15,16 @@ use aat_font::Chain;
 use aat_run::{AatError, range_flags_t};
 use std::alloc::Allocator;
 
-/// Brings the flags of the chains from the settings that were kept to those that are. They are computed anew only
-/// where others are kept.
+/// Brings the flags of the chains from the settings that were kept to those that are, which rise by group. They are
+/// computed anew only where others are kept.
 pub(crate) fn renew<A: Allocator + Copy>(
     flags: &mut Vec<hb_mask_t, A>,
     chains: &[Chain],
     was: &[feature_info_t],
     now: &[feature_info_t],
 ) -> Result<(), AatError>
-    requires { flags.old.items ≡ all_flags_for was.now chains.now }
+    requires flags { flags.old.items ≡ all_flags_for was.now chains.now }
+    requires rising { IsRising group_key now.now }
     ensures ok { OnOk result (flags.new.items ≡ all_flags_for now.now chains.now) }
     ensures err { IfErr result (λ e. e ≡ AatError.OutOfMemory) }
 {
@@ -48,12 +51,13 @@ fn are_same(a: &[feature_info_t], b: &[feature_info_t]) -> bool
     true
 }
 
-/// The flags that settings give each chain.
+/// The flags that settings, which rise by group, give each chain.
 pub(crate) fn flags_of_chains<A: Allocator>(
     alloc: A,
     chains: &[Chain],
     settings: &[feature_info_t],
 ) -> Result<Vec<hb_mask_t, A>, AatError>
+    requires { IsRising group_key settings.now }
     ensures ok { IfOk result (λ flags. flags.items ≡ all_flags_for settings.now chains.now) }
     ensures err { IfErr result (λ e. e ≡ AatError.OutOfMemory) }
 {

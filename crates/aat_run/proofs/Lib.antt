@@ -3,5 +3,4 @@ pub mod Coming
 pub mod Digits
 pub mod FewTurns
 pub mod FloorUnseen
-pub mod FoundRanges
 pub mod Ran

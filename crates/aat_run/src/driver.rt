@@ -41,7 +41,7 @@ fn run_turns<T: Copy, C: driver_context_t<T>, A: Allocator + Copy>(
     // how long the line is and how large the budget, so that the count of turns fits
     let _length = buffer.len();
     let _budget = buffer.max_ops();
-    let mut found = None;
+    let mut last_range = 0;
     let mut place = Place {
         state: 0,
         last: 0,
@@ -53,7 +53,7 @@ fn run_turns<T: Copy, C: driver_context_t<T>, A: Allocator + Copy>(
         buffer,
         ranges,
         feature_flags,
-        &mut found,
+        &mut last_range,
         &mut place,
     )? {}
     Ok(place.turns)
@@ -161,10 +161,10 @@ pub fn run_machine<T: Copy, C: driver_context_t<T>, A: Allocator + Copy>(
 /// failed before is run as any other.
 ///
 /// A turn takes a bounded number of steps but for its act, the look-ups in the table, which search by bisection where
-/// it has no array, pages or grid, and the search for the range of a cluster that lies outside the range that was found
-/// last, which bisects ranges that end at the last cluster there can be and walks through others. A run looks at each
-/// range at most twice before its turns: where no range switches the machine on it passes the line over, and where each
-/// does no turn asks for a range. No memory is taken but by the act.
+/// it has no array, pages or grid, and the search for the range of a cluster that lies neither in the range that was
+/// found last nor in one beside it, which bisects ranges that end at the last cluster there can be and walks through
+/// others. A run looks at each range at most twice before its turns: where no range switches the machine on it passes
+/// the line over, and where each does no turn asks for a range. No memory is taken but by the act.
 ///
 /// Apple's TrueType Reference Manual, "The 'morx' table", and the section on state tables in "Font Tables".
 pub fn drive<T: Copy, C: driver_context_t<T>, A: Allocator + Copy>(

@@ -1,11 +1,10 @@
 //! Ranges of clusters with the flags of a chain, and how they switch a subtable.
-ghost use Rattle.std.specs.Prelude.{◌≡◌, ◌<◌, ◌≤◌, IsTrue, [], false, find, length};
+ghost use Rattle.std.specs.Prelude.{◌≡◌, ◌<◌, ◌≤◌, IfSome, IsTrue, [], false, find, length};
 ghost use Rattle.std.specs.List.{list_all, list_any};
 ghost use Rattle.aat_run.specs.RangeOf.{binary_digits, ends_at_last, is_held_at};
 ghost use Rattle.aat_run.specs.Ranges.{IsGapless, flags_in, holds, is_driven_on, switch_for};
 ghost use Rattle.aat_run.specs.Switches.{meets};
 ghost use Rattle.aat_run.specs.Throughout.{is_everywhere_on, is_nowhere_on};
-ghost use Rattle.aat_run.specs.inside.Places.{IsFound};
 
 use aat_buffer::hb_mask_t;
 
@@ -128,92 +127,116 @@ impl range_flags_t {
     }
 }
 
-/// The first range that holds a cluster, if there is one.
-fn range_with(ranges: &[range_flags_t], cluster: u32) -> Option<range_flags_t>
+/// The first range that holds a cluster, if there is one, whose place is kept then: found by a walk.
+fn range_with(ranges: &[range_flags_t], place: &mut usize, cluster: u32) -> Option<range_flags_t>
     ensures { result ≡ find (holds cluster) ranges.now }
 {
-    for range in ranges {
+    for (i, range) in ranges.iter().enumerate() {
         if range.holds(cluster) {
+            *place = i;
             return Some(*range);
         }
     }
     None
 }
 
-/// The range that holds a cluster, if there is one: found by bisection where the ranges end at the last cluster there
-/// can be, and else by a walk from the first one.
-fn range_at(ranges: &[range_flags_t], cluster: u32) -> Option<range_flags_t>
+/// Whether the range at a place holds a cluster. Past the end there is none.
+fn is_held_at(ranges: &[range_flags_t], place: usize, cluster: u32) -> bool
+    ensures { result ≡ is_held_at ranges.now place cluster }
+{
+    match ranges.get(place) {
+        Some(range) => range.holds(cluster),
+        None => false,
+    }
+}
+
+/// The place of the range that holds a cluster, where it is this one or one beside it.
+fn place_near(ranges: &[range_flags_t], place: usize, cluster: u32) -> Option<usize>
+    ensures within { IfSome result (λ near. near < length ranges.now) }
+    ensures held { IfSome result (λ near. IsTrue (is_held_at ranges.now near cluster)) }
+{
+    let behind = place.saturating_add(1);
+    let before = place.saturating_sub(1);
+    if is_held_at(ranges, place, cluster) {
+        Some(place)
+    } else if is_held_at(ranges, behind, cluster) {
+        Some(behind)
+    } else if is_held_at(ranges, before, cluster) {
+        Some(before)
+    } else {
+        None
+    }
+}
+
+/// The range that holds a cluster, if there is one, whose place is kept then: found by bisection where the ranges end
+/// at the last cluster there can be, and else by a walk from the first one.
+fn range_at(ranges: &[range_flags_t], place: &mut usize, cluster: u32) -> Option<range_flags_t>
     requires { IsGapless ranges.now }
     ensures { result ≡ find (holds cluster) ranges.now }
 {
     if ends_at_last(ranges) {
-        let (place, _) = range_of(ranges, cluster);
-        Some(ranges[place])
+        let (found, _) = range_of(ranges, cluster);
+        *place = found;
+        Some(ranges[found])
     } else {
-        range_with(ranges, cluster)
+        range_with(ranges, place, cluster)
     }
 }
 
-/// The range that holds a cluster, if there is one. It is looked for only where the one that was found last does
-/// not hold the cluster.
-fn range_from(
-    ranges: &[range_flags_t],
-    found: Option<range_flags_t>,
-    cluster: u32,
-) -> Option<range_flags_t>
-    requires gapless { IsGapless ranges.now }
-    requires found { IsFound ranges.now found }
-    ensures range { result ≡ find (holds cluster) ranges.now }
-    ensures found { IsFound ranges.now result }
+/// The range that holds a cluster, if there is one, whose place is kept then. It is searched for only where it is
+/// neither at the place that was kept nor beside it.
+fn range_from(ranges: &[range_flags_t], place: &mut usize, cluster: u32) -> Option<range_flags_t>
+    requires { IsGapless ranges.now }
+    ensures { result ≡ find (holds cluster) ranges.now }
 {
-    match found {
-        Some(range) if range.holds(cluster) => found,
-        _ => range_at(ranges, cluster),
+    match place_near(ranges, *place, cluster) {
+        Some(near) => {
+            *place = near;
+            Some(ranges[near])
+        }
+        None => range_at(ranges, place, cluster),
     }
 }
 
-/// Whether a machine with some feature flags is on at a cluster, with the range that was found last.
+/// Whether a machine with some feature flags is on at a cluster, with a place at which its range is looked for
+/// first.
 pub(crate) fn is_driven_on(
     ranges: &[range_flags_t],
     feature_flags: hb_mask_t,
-    found: &mut Option<range_flags_t>,
+    place: &mut usize,
     cluster: u32,
 ) -> bool
-    requires gapless { IsGapless ranges.now }
-    requires found { IsFound ranges.now found.old }
-    ensures on { result ≡ is_driven_on ranges.now feature_flags cluster }
-    ensures found { IsFound ranges.now found.new }
+    requires { IsGapless ranges.now }
+    ensures { result ≡ is_driven_on ranges.now feature_flags cluster }
 {
     if ranges.len() < 2 {
         return true;
     }
-    *found = range_from(ranges, *found, cluster);
-    match found {
+    match range_from(ranges, place, cluster) {
         Some(range) => range.flags & feature_flags != 0,
         None => false,
     }
 }
 
-/// Whether a subtable with some feature flags is on at a cluster, with the range that was found last: always where no
-/// range is compiled. The range is looked for only where the one that was found last does not hold the cluster.
-/// The ranges have to follow one another from 0 without a gap, and what was found last has to be none, or what an
-/// earlier question of the same ranges left.
+/// Whether a subtable with some feature flags is on at a cluster: always where no range is compiled. The ranges have to
+/// follow one another from 0 without a gap.
+///
+/// The place is best that of the range that an earlier question of the same ranges found, and becomes that of the one
+/// that holds this cluster, where there is one. A search is made only where the range is neither there nor beside it.
+/// Any place is allowed, and the answer does not depend on it.
 pub fn is_on_from(
     ranges: &[range_flags_t],
     feature_flags: hb_mask_t,
-    found: &mut Option<range_flags_t>,
+    place: &mut usize,
     cluster: u32,
 ) -> bool
-    requires gapless { IsGapless ranges.now }
-    requires found { IsFound ranges.now found.old }
-    ensures on { result ≡ (switch_for ranges.now).is_on feature_flags cluster }
-    ensures found { IsFound ranges.now found.new }
+    requires { IsGapless ranges.now }
+    ensures { result ≡ (switch_for ranges.now).is_on feature_flags cluster }
 {
     if ranges.is_empty() {
         return true;
     }
-    *found = range_from(ranges, *found, cluster);
-    match found {
+    match range_from(ranges, place, cluster) {
         Some(range) => range.flags & feature_flags != 0,
         None => false,
     }

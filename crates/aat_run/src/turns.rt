@@ -11,7 +11,7 @@ ghost use Rattle.aat_run.specs.Machine.{left_by, stepped, marked, acted, by_entr
 ghost use Rattle.aat_run.specs.Ranges.{IsGapless, is_driven_on};
 ghost use Rattle.aat_run.specs.Safe.{is_safe};
 ghost use Rattle.aat_run.specs.inside.Branches.{does_alike, restarts_alike};
-ghost use Rattle.aat_run.specs.inside.Places.{config, turn_of, IsFound};
+ghost use Rattle.aat_run.specs.inside.Places.{config, turn_of};
 
 use crate::driver_context::driver_context_t;
 use crate::error::AatError;
@@ -231,22 +231,20 @@ pub(crate) fn turn_once<T: Copy, C: driver_context_t<T>, A: Allocator + Copy>(
     buffer: &mut hb_buffer_t<A>,
     ranges: &[range_flags_t],
     feature_flags: hb_mask_t,
-    found: &mut Option<range_flags_t>,
+    last_range: &mut usize,
     place: &mut Place,
 ) -> Result<bool, AatError>
     requires fit { C.fits context.old buffer.old.cursor (length buffer.old.line) }
     requires ids { IsSmall buffer.old }
     requires gapless { IsGapless ranges.now }
-    requires found { IsFound ranges.now found.old }
     requires turns { place.old.turns + 1 < 2 ^ 64 }
     ensures turn { IfOk result (λ goes. turn (machine_with (is_driven_on ranges.now feature_flags) machine.now C.advances C.actionable C.act) (config buffer.old context.old place.old) ≡ turn_of goes (config buffer.new context.new place.new)) }
     ensures ids { OnOk result (IsSmall buffer.new) }
     ensures reason { IfErr result (IsRefusal buffer.old (left_by (turn (machine_with (is_driven_on ranges.now feature_flags) machine.now C.advances C.actionable C.act) (config buffer.old context.old place.old))).buffer) }
     ensures refused { OnErr result (IsRefused buffer.old buffer.new) }
-    ensures found { IsFound ranges.now found.new }
 {
     count(buffer, place);
-    if is_driven_on(ranges, feature_flags, found, place.last) {
+    if is_driven_on(ranges, feature_flags, last_range, place.last) {
         act_by_entry(machine, context, buffer, place)
     } else if buffer.backtrack_len() < buffer.len() {
         place.state = 0;

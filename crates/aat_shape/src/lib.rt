@@ -2,8 +2,6 @@
 #![tactic(auto)]
 
 mod print;
-#[cfg(test)]
-mod tests;
 
 pub use aat_shaping::shape;
 pub use print::run;

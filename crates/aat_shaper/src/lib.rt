@@ -2,8 +2,6 @@
 //! come out, with their positions and where the line may be broken.
 #![tactic(auto)]
 
-#[cfg(test)]
-mod tests;
 mod text;
 
 pub use text::{ShapedGlyph, TextGlyph, shape_text};

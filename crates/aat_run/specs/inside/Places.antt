@@ -1,11 +1,9 @@
--- Where a run stands, and the range that was found last.
-use Rattle.std.specs.Prelude.{◌≡◌, ℕ, Bool, true, false, List, Option, Some, None, find}
+-- Where a run stands.
+use Rattle.std.specs.Prelude.{◌≡◌, ℕ, Bool, true, false}
 use Rattle.aat_buffer.specs.Buffer.{Buffer}
 use Rattle.aat_run.specs.Context.{Config}
 use Rattle.aat_run.specs.Machine.{Turn, Ends, Goes}
-use Rattle.aat_run.specs.Ranges.{holds}
 use Rattle.aat_run.specs.declared.place.Place.{Place}
-use Rattle.aat_run.specs.declared.ranges.range_flags_t.{range_flags_t}
 
 -- a buffer, registers and a place make up where a run stands
 abbrev pub config : {R : Type 0} → Buffer → R → Place → Config R
@@ -15,11 +13,6 @@ config b r place = record { buffer = b; registers = r; state = place.state; last
 abbrev pub turn_of : {C : Type 0} → Bool → C → Turn C
 turn_of true d = Goes d
 turn_of false d = Ends d
-
--- a range that was found is the one that is found for each cluster that it holds
-abbrev pub IsFound : List range_flags_t → Option range_flags_t → Type 0
-IsFound ranges None = Unit {0}
-IsFound ranges (Some r) = (x : ℕ) → holds x r ≡ true → find (holds x) ranges ≡ Some r
 
 -- a run begins in state 0, with no glyph looked at and no turn taken
 abbrev pub first : {R : Type 0} → Buffer → R → Config R

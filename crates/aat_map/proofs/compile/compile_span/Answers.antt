@@ -5,6 +5,7 @@ use Rattle.aat_map.specs.Live.{kept_at, live}
 use Rattle.std.proofs.lemmas.List.Sorted.{IsPermutation-trans}
 use Rattle.aat_map.specs.Map.{with_ranges}
 use Rattle.aat_map.specs.inside.CompiledSpans.{all_flags_for}
+use Rattle.aat_map.proofs.KeptSearch.{rising_by_key}
 use Rattle.aat_map.proofs.SpanLemmas.{ranges_alike, ranges_of_flags}
 use Rattle.aat_map.proofs.compile.compile_span.Goals as goal
 
@@ -34,3 +35,15 @@ returns-clause-current g c =
       rising = rw current (c.in_ok-kept.ensures.rising (live x requests) c.requires.kept);
     })
     c.push_flags.ensures.ok
+
+pub renew-requires-clause-rising : goal.renew-requires-clause-rising
+renew-requires-clause-rising g c =
+    let x = c.args.span.0 in
+    let requests = c.args.builder.now.features in
+    rw c.deref.ensures.value (rising_by_key c.in_ok-kept.kept.items (c.in_ok-kept.ensures.rising (live x requests) c.requires.kept))
+
+pub set_range-requires-clause-rising : goal.set_range-requires-clause-rising
+set_range-requires-clause-rising g c =
+    let x = c.args.span.0 in
+    let requests = c.args.builder.now.features in
+    rising_by_key c.in_ok-kept.kept.items (c.in_ok-kept.ensures.rising (live x requests) c.requires.kept)

@@ -26,7 +26,7 @@ loop-preserved g c =
     let new = config c.turn_once.new.buffer c.turn_once.new.context c.turn_once.new.place in
     let goes : turn m old ≡ Goes new = rw c.if-branch.true at c.in_ok-turn_once.ensures.turn in
     let come = goes_on m context.fits laws.keeps_fit laws.passes_fit laws.pays laws.lengthens laws.keeps_settings (first c.args.buffer.now c.args.context.now) old c.loop.invariant.come new goes in
-    record { come = come.1; ids = c.in_ok-turn_once.ensures.ids; found = c.turn_once.ensures.found }
+    record { come = come.1; ids = c.in_ok-turn_once.ensures.ids }
 
 pub returns-clause-run : goal.returns-clause-run
 returns-clause-run g c =

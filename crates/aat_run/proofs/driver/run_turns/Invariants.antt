@@ -2,7 +2,7 @@ use Rattle.aat_buffer.specs.Clusters.{IsSmall}
 use Rattle.aat_run.specs.Budget.{potential}
 use Rattle.aat_run.specs.Context.{machine_with}
 use Rattle.aat_run.specs.Ranges.{is_driven_on}
-use Rattle.aat_run.specs.inside.Places.{config, first, IsFound}
+use Rattle.aat_run.specs.inside.Places.{config, first}
 use Rattle.aat_run.specs.inside.Standing.{HasCome}
 use Rattle.aat_run.proofs.driver.run_turns.Given as goal
 
@@ -13,7 +13,6 @@ invariant-loop g l =
     record {
       come : HasCome m context.fits (first l.fn.buffer l.fn.context) (config l.buffer l.context l.place);
       ids : IsSmall l.buffer;
-      found : IsFound l.fn.ranges l.found;
     }
 
 abbrev pub decreases-loop : goal.decreases-loop

@@ -5,4 +5,4 @@ use Rattle.aat_run.proofs.ranges.range_at.Goals as goal
 
 pub returns-then-ends_at_last : goal.returns-then-ends_at_last
 returns-then-ends_at_last c =
-    sym (found_there c.args.ranges.now c.range_of-place.result.0 c.args.cluster no_range c.requires c.range_of-place.ensures.within c.range_of-place.ensures.place)
+    sym (found_there c.args.ranges.now c.range_of-found.result.0 c.args.cluster no_range c.requires c.range_of-found.ensures.within c.range_of-found.ensures.place)

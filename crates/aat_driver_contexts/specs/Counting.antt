@@ -4,7 +4,7 @@ use Rattle.aat_buffer.specs.Buffer.{Buffer, glyph_at, with_info}
 use Rattle.aat_font.specs.Entries.{is_present}
 use Rattle.aat_font.specs.declared.state_table.GenericStateEntry.{GenericStateEntry}
 use Rattle.aat_run.specs.Context.{Moved}
-use Rattle.aat_machine_tests.specs.declared.driver_contexts.CountingCtx.{CountingCtx}
+use Rattle.aat_driver_contexts.specs.declared.counting.CountingCtx.{CountingCtx}
 
 abbrev pub Entry : Type 0
 Entry = GenericStateEntry ℕ

@@ -1,5 +1,5 @@
 //! The inspector on fonts of one and of two chains.
-use crate::{InspectedRange, Table, inspect};
+use aat_inspector::{InspectedRange, Table, inspect};
 use aat_layout::AatError;
 use aat_layout::font::{
     Chain, ChainFeature, Coverage, FaceTables, Feat, Feature, FeatureName, Lookup, Morx, Subtable,

@@ -1,8 +1,7 @@
 //! What is printed, and what a failed write does.
 mod row_texts;
-mod shaping_tests;
 
-use crate::print::run;
+use aat_shape::run;
 use row_texts::ROWS;
 use std::alloc::Global;
 use std::io::{self, Write};

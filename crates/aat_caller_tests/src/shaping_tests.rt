@@ -1,12 +1,9 @@
-//! Shaping where memory is wanting, and with a request for alternates that is no setting.
-use crate::shape;
+//! Shaping where memory is wanting, with a request for alternates that is no setting, and of a buffer that had failed.
+use crate::joining::font_of;
 use aat_layout::buffer::{BufferError, Direction, hb_buffer_t, hb_glyph_info_t};
-use aat_layout::font::{
-    Chain, Coverage, ExtendedStateTable, FaceTables, Feat, Feature, FeatureName, GenericStateEntry,
-    GlyphId, Kern, KernKind, KernSubtable, LigatureSubtable, Lookup, Morx, Pairs, Subtable,
-    SubtableKind, hb_font_t, hb_ot_shape_plan_t, hb_tag_t,
-};
+use aat_layout::font::{Feature, hb_font_t, hb_ot_shape_plan_t, hb_tag_t};
 use aat_layout::{AatError, Turns};
+use aat_shape::shape;
 use linked_list_allocator::LocalHeap;
 use std::alloc::{Allocator, Global};
 use std::process::Abort;
@@ -23,90 +20,6 @@ const JOINED: [Seen; 3] = [(20, 0, 8), (65535, 0, 8), (12, 2, 8)];
 
 /// What shaping leaves of it, where the pair is marked unsafe to break.
 const SHAPED: [Seen; 2] = [(20, 0, 8), (12, 2, 11)];
-
-/// The rule of a state and a class: the state that follows, flags and the first action.
-macro_rules! rule {
-    ($state:literal, $class:literal, $new_state:literal, $flags:literal, $extra:literal) => {
-        (
-            $state,
-            $class,
-            GenericStateEntry {
-                new_state: $new_state,
-                flags: $flags,
-                extra: $extra,
-            },
-        )
-    };
-}
-
-/// In state 0 the class 4 is held, and in state 1 the class 5 is joined with it; all else goes to state 0.
-const RULES: [(u16, u16, GenericStateEntry<u16>); 12] = [
-    rule!(0, 0, 0, 0, 0xFFFF),
-    rule!(0, 1, 0, 0, 0xFFFF),
-    rule!(0, 2, 0, 0, 0xFFFF),
-    rule!(0, 3, 0, 0, 0xFFFF),
-    rule!(0, 4, 1, 0x8000, 0xFFFF),
-    rule!(0, 5, 0, 0, 0xFFFF),
-    rule!(1, 0, 0, 0, 0xFFFF),
-    rule!(1, 1, 0, 0, 0xFFFF),
-    rule!(1, 2, 0, 0, 0xFFFF),
-    rule!(1, 3, 0, 0, 0xFFFF),
-    rule!(1, 4, 0, 0, 0xFFFF),
-    rule!(1, 5, 0, 0xA000, 0),
-];
-
-/// The names of the features that the font has: ligatures and alternates.
-const NAMES: [FeatureName; 2] = [
-    FeatureName {
-        kind: 1,
-        settings: 1,
-        exclusive: false,
-    },
-    FeatureName {
-        kind: 17,
-        settings: 1,
-        exclusive: true,
-    },
-];
-
-/// The glyphs 10 and 11 become 20, and 11 is deleted.
-fn joining(alloc: Global) -> Result<Subtable, Fail> {
-    let tables = LigatureSubtable {
-        state: ExtendedStateTable::new(alloc, 6, &[(10, 4), (11, 5)], &RULES)?,
-        ligature_actions: Vec::from_slice(alloc, &[0x3FFFFFF6, 0xBFFFFFF6])?,
-        components: Vec::from_slice(alloc, &[0, 0])?,
-        ligatures: Vec::from_slice(alloc, &[GlyphId(20)])?,
-    };
-    let kind = SubtableKind::Ligature(tables);
-    Ok(Subtable::new(kind, Coverage::ALL_DIRECTIONS, 1))
-}
-
-/// A substitution table of the one subtable, which is on.
-fn morx_of(alloc: Global) -> Result<Morx, Fail> {
-    let chain = Chain {
-        default_flags: 1,
-        features: Vec::new(alloc),
-        subtables: vec![in alloc; joining(alloc)?]?,
-    };
-    Ok(Morx::new(vec![in alloc; chain]?)?)
-}
-
-/// A kerning table that moves 20 and 12 together.
-fn kern_of(alloc: Global) -> Result<Kern, Fail> {
-    let pairs = Pairs::new(alloc, &[(20, 12, -50)])?;
-    let subtable = KernSubtable::new(KernKind::Pairs(pairs), true);
-    Ok(Kern::new(vec![in alloc; subtable]?)?)
-}
-
-/// A font of both tables, with advances.
-fn font_of(alloc: Global) -> Result<hb_font_t, Fail> {
-    let tables = FaceTables::default()
-        .with_morx(morx_of(alloc)?)
-        .with_kern(kern_of(alloc)?)
-        .with_feat(Feat::new(alloc, &NAMES)?);
-    let advances = Lookup::new(alloc, &[(12, 400), (20, 600), (65535, 300)])?;
-    Ok(hb_font_t::new(tables, None, Some(advances)))
-}
 
 /// A plan that requests kerning by the bit 8, and applies substitution or does not.
 fn plan_of(user_features: Vec<Feature>, apply_morx: bool) -> hb_ot_shape_plan_t {
@@ -249,7 +162,7 @@ fn shapes_buffer_within(
 /// Each request for memory beside the buffer is refused in turn, until a run meets no refusal.
 #[test]
 fn refused_memory_of_the_map(rt: HostRuntime) -> Result<(), Fail> {
-    let face = font_of(rt.alloc())?;
+    let face = font_of(rt.alloc(), 1)?;
     let plan = plan_of(Vec::new(rt.alloc()), true);
     for step in 0..256usize {
         if shapes_within(&rt, rt.alloc(), &plan, &face, step * 16)? {
@@ -263,7 +176,7 @@ fn refused_memory_of_the_map(rt: HostRuntime) -> Result<(), Fail> {
 /// So is each request for memory of the buffer that shaping makes.
 #[test]
 fn refused_memory_of_positions(rt: HostRuntime) -> Result<(), Fail> {
-    let face = font_of(rt.alloc())?;
+    let face = font_of(rt.alloc(), 1)?;
     let plan = plan_of(Vec::new(rt.alloc()), true);
     let mut was_refused = false;
     for step in 0..256usize {
@@ -291,7 +204,7 @@ fn column_shaped(
     alloc: Global,
     apply_morx: bool,
 ) -> Result<(Result<Turns, AatError>, hb_buffer_t), Fail> {
-    let face = font_of(alloc)?;
+    let face = font_of(alloc, 1)?;
     let plan = plan_with_alternate(alloc, apply_morx)?;
     let mut buffer = buffer_of(alloc, &[(20, 0, 8)])?;
     buffer.set_direction(Direction::TopToBottom);
@@ -338,7 +251,7 @@ fn assert_failed_is_refused(
 
 #[test]
 fn failed_buffer_is_refused(rt: HostRuntime) -> Result<(), Fail> {
-    let face = font_of(rt.alloc())?;
+    let face = font_of(rt.alloc(), 1)?;
     assert_failed_is_refused(&rt, rt.alloc(), &face, true)?;
     assert_failed_is_refused(&rt, rt.alloc(), &face, false)
 }

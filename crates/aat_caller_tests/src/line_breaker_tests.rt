@@ -1,10 +1,10 @@
 //! The line breaker on lines of four glyphs.
-use crate::{kern_and_cut, last_cut};
 use aat_layout::buffer::{BufferError, Direction, hb_buffer_t, hb_glyph_info_t};
 use aat_layout::font::{
     FaceTables, Kern, KernKind, KernSubtable, Pairs, hb_font_t, hb_ot_shape_plan_t,
 };
 use aat_layout::{AatError, KERX_SKIPS, has_kern_pairs_alone, hb_aat_layout_position};
+use aat_line_breaker::{kern_and_cut, last_cut};
 use std::alloc::{Allocator, Global};
 use std::process::Abort;
 use std::test::Fail;

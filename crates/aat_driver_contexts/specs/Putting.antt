@@ -5,7 +5,7 @@ use Rattle.aat_font.specs.Entries.{is_present}
 use Rattle.aat_font.specs.declared.state_table.GenericStateEntry.{GenericStateEntry}
 use Rattle.aat_run.specs.Budget.{paid, has_overspent}
 use Rattle.aat_run.specs.Context.{Moved}
-use Rattle.aat_machine_tests.specs.declared.driver_contexts.PuttingCtx.{PuttingCtx}
+use Rattle.aat_driver_contexts.specs.declared.putting.PuttingCtx.{PuttingCtx}
 
 abbrev pub Entry : Type 0
 Entry = GenericStateEntry ℕ

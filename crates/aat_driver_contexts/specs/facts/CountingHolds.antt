@@ -7,8 +7,8 @@ use Rattle.aat_buffer.specs.facts.Order.{Kept, kept_refl, kept_set}
 use Rattle.aat_run.specs.Context.{Moved}
 use Rattle.aat_run.specs.Laws.{KeepsFit, PassesFit, Pays, Bounded, Lengthens, KeepsPlaceWhere, KeepsLengthWhere, MakesNoPositions, KeepsSettings, SameSettings, KeepsClusterOrder}
 use Rattle.aat_run.specs.facts.InPlace.{Keeps, KeepsAll, pays_in_place, bounded_in_place, lengthens_in_place}
-use Rattle.aat_machine_tests.specs.Counting.{Entry, IsFit, actionable, masked, act}
-use Rattle.aat_machine_tests.specs.declared.driver_contexts.CountingCtx.{CountingCtx}
+use Rattle.aat_driver_contexts.specs.Counting.{Entry, IsFit, actionable, masked, act}
+use Rattle.aat_driver_contexts.specs.declared.counting.CountingCtx.{CountingCtx}
 
 of_act : (P : Buffer → Type 0) (e : Entry) (r : CountingCtx) (b : Buffer) → P b → P (masked b) → P (act e r b).buffer
 of_act P e r b p q = chosen (λ (m : Moved CountingCtx). P m.buffer) (actionable e r b.cursor (length b.line)) (record { registers = record { count = min (r.count + 1) 0xFFFFFFFF }; buffer = masked b }) (record { registers = r; buffer = b }) (λ _. q) (λ _. p)

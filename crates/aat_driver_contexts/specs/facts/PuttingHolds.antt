@@ -18,8 +18,8 @@ use Rattle.aat_font.specs.Entries.{is_present}
 use Rattle.aat_run.specs.Budget.{paid, has_overspent, operations_left, potential, extent}
 use Rattle.aat_run.specs.Context.{Moved}
 use Rattle.aat_run.specs.Laws.{KeepsFit, PassesFit, Pays, Bounded, Lengthens, KeepsPlaceWhere, KeepsLengthWhere, MakesNoPositions, KeepsSettings, SameSettings, KeepsClusterOrder}
-use Rattle.aat_machine_tests.specs.Putting.{Entry, IsFit, actionable, put, act}
-use Rattle.aat_machine_tests.specs.declared.driver_contexts.PuttingCtx.{PuttingCtx}
+use Rattle.aat_driver_contexts.specs.Putting.{Entry, IsFit, actionable, put, act}
+use Rattle.aat_driver_contexts.specs.declared.putting.PuttingCtx.{PuttingCtx}
 
 -- the glyph that is put in
 abbrev like : ℕ → Buffer → hb_glyph_info_t

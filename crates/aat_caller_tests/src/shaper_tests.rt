@@ -1,12 +1,9 @@
 //! The shaper on short texts.
-use crate::{ShapedGlyph, TextGlyph, shape_text};
+use crate::joining::font_of;
 use aat_layout::AatError;
 use aat_layout::buffer::Direction;
-use aat_layout::font::{
-    Chain, ChainFeature, Coverage, ExtendedStateTable, FaceTables, Feat, Feature, FeatureName,
-    GenericStateEntry, GlyphId, Kern, KernKind, KernSubtable, LigatureSubtable, Lookup, Morx,
-    Pairs, Subtable, SubtableKind, hb_font_t, hb_tag_t,
-};
+use aat_layout::font::{Feature, hb_font_t, hb_tag_t};
+use aat_shaper::{ShapedGlyph, TextGlyph, shape_text};
 use std::alloc::Global;
 use std::process::Abort;
 use std::test::Fail;
@@ -93,88 +90,6 @@ const TEXTS: [Text; 5] = [
         wanted: &[(12, 1, 375, -25, false), (20, 0, 575, 0, false)],
     },
 ];
-
-/// The rule of a state and a class: the state that follows, flags and the first action.
-macro_rules! rule {
-    ($state:literal, $class:literal, $new_state:literal, $flags:literal, $extra:literal) => {
-        (
-            $state,
-            $class,
-            GenericStateEntry {
-                new_state: $new_state,
-                flags: $flags,
-                extra: $extra,
-            },
-        )
-    };
-}
-
-/// In state 0 the class 4 is held, and in state 1 the class 5 is joined with it; all else goes to state 0.
-const RULES: [(u16, u16, GenericStateEntry<u16>); 12] = [
-    rule!(0, 0, 0, 0, 0xFFFF),
-    rule!(0, 1, 0, 0, 0xFFFF),
-    rule!(0, 2, 0, 0, 0xFFFF),
-    rule!(0, 3, 0, 0, 0xFFFF),
-    rule!(0, 4, 1, 0x8000, 0xFFFF),
-    rule!(0, 5, 0, 0, 0xFFFF),
-    rule!(1, 0, 0, 0, 0xFFFF),
-    rule!(1, 1, 0, 0, 0xFFFF),
-    rule!(1, 2, 0, 0, 0xFFFF),
-    rule!(1, 3, 0, 0, 0xFFFF),
-    rule!(1, 4, 0, 0, 0xFFFF),
-    rule!(1, 5, 0, 0xA000, 0),
-];
-
-/// The names of the features that the font has: ligatures and alternates.
-const NAMES: [FeatureName; 2] = [
-    FeatureName {
-        kind: 1,
-        settings: 4,
-        exclusive: false,
-    },
-    FeatureName {
-        kind: 17,
-        settings: 1,
-        exclusive: true,
-    },
-];
-
-/// The glyphs 10 and 11 become 20, and 11 is deleted.
-fn joining(alloc: Global) -> Result<Subtable, Fail> {
-    let tables = LigatureSubtable {
-        state: ExtendedStateTable::new(alloc, 6, &[(10, 4), (11, 5)], &RULES)?,
-        ligature_actions: Vec::from_slice(alloc, &[0x3FFFFFF6, 0xBFFFFFF6])?,
-        components: Vec::from_slice(alloc, &[0, 0])?,
-        ligatures: Vec::from_slice(alloc, &[GlyphId(20)])?,
-    };
-    let kind = SubtableKind::Ligature(tables);
-    Ok(Subtable::new(kind, Coverage::ALL_DIRECTIONS, 1))
-}
-
-/// A substitution table that joins where a flag is set: by default, or where common ligatures are asked for.
-fn morx_of(alloc: Global, default_flags: u32) -> Result<Morx, Fail> {
-    let ligatures = ChainFeature::new(1, 2, 1, 0xFFFF_FFFF);
-    let subtables = vec![in alloc; joining(alloc)?]?;
-    let chain = Chain::new(default_flags, vec![in alloc; ligatures]?, subtables);
-    Ok(Morx::new(vec![in alloc; chain]?)?)
-}
-
-/// A kerning table that moves 20 and 12 together in rows.
-fn kern_of(alloc: Global) -> Result<Kern, Fail> {
-    let pairs = Pairs::new(alloc, &[(20, 12, -50)])?;
-    let subtable = KernSubtable::new(KernKind::Pairs(pairs), true);
-    Ok(Kern::new(vec![in alloc; subtable]?)?)
-}
-
-/// A font of both tables, with advances, that joins by default or not.
-fn font_of(alloc: Global, default_flags: u32) -> Result<hb_font_t, Fail> {
-    let tables = FaceTables::default()
-        .with_morx(morx_of(alloc, default_flags)?)
-        .with_kern(kern_of(alloc)?)
-        .with_feat(Feat::new(alloc, &NAMES)?);
-    let advances = Lookup::new(alloc, &[(10, 250), (12, 400), (20, 600), (65535, 300)])?;
-    Ok(hb_font_t::new(tables, None, Some(advances)))
-}
 
 /// A way along the text, in x and in y.
 fn along(is_horizontal: bool, way: i32) -> (i32, i32) {

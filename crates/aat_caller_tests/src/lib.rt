@@ -1,0 +1,15 @@
+//! Tests of what stands on the layer: shaping in one call, the printed rows, and the three callers.
+#![tactic(auto)]
+
+#[cfg(test)]
+mod inspector_tests;
+#[cfg(test)]
+mod joining;
+#[cfg(test)]
+mod line_breaker_tests;
+#[cfg(test)]
+mod row_tests;
+#[cfg(test)]
+mod shaper_tests;
+#[cfg(test)]
+mod shaping_tests;
