@@ -59,7 +59,7 @@ fn replace_glyphs(
 }
 
 /// Gives each glyph of a line that is on at its own cluster its value. The line is one slice while the cursor is at
-/// the start, and no cluster is asked where each range switches the subtable on.
+/// the start, and no cluster is asked where each range switches the subtable on and they end at the last cluster.
 pub(crate) fn replace_all<A: Allocator + Copy>(
     run: &SubtableRun,
     lookup: &Lookup,

@@ -92,9 +92,10 @@ fn compile_ranges<A: Allocator + Copy>(
 /// Compiles the range of each start in turn, in one walk over what starts and what ends.
 ///
 /// Neighbours with equal flags are not joined. A chain of one range switches a subtable once, for the
-/// whole text, and leaves one that is off out of the run; with more ranges each turn asks the range of
-/// its cluster. So what is requested over a part of the text alone always makes more ranges than one,
-/// whatever its flags are, and the ranges of all chains begin at the same clusters.
+/// whole text, and leaves one that is off out of the run; with more ranges each cluster is asked, but
+/// where each or none of them switches the subtable on. So what is requested over a part of the text
+/// alone always makes more ranges than one, whatever its flags are, and the ranges of all chains begin
+/// at the same clusters.
 fn compile_spans<A: Allocator + Copy>(
     builder: &mut hb_aat_map_builder_t<A>,
     chains: &[Chain],

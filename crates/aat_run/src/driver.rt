@@ -69,8 +69,9 @@ fn begin<A: Allocator + Copy>(buffer: &mut hb_buffer_t<A>, in_place: bool)
     buffer.sync();
 }
 
-/// Takes turns from the front until one ends, and answers their number. Where no range switches the machine on, each
-/// turn would pass a glyph: then there is one for each glyph and one more, and the line is passed over.
+/// Takes turns from the front until one ends, and answers their number. Where there are two ranges or more and none
+/// switches the machine on, each turn would pass a glyph: then there is one for each glyph and one more, and the line
+/// is passed over.
 fn take_turns<T: Copy, C: driver_context_t<T>, A: Allocator + Copy>(
     machine: &ExtendedStateTable<T>,
     context: &mut C,
@@ -163,8 +164,9 @@ pub fn run_machine<T: Copy, C: driver_context_t<T>, A: Allocator + Copy>(
 /// A turn takes a bounded number of steps but for its act, the look-ups in the table, which search by bisection where
 /// it has no array, pages or grid, and the search for the range of a cluster that lies neither in the range that was
 /// found last nor in one beside it, which bisects ranges that end at the last cluster there can be and walks through
-/// others. A run looks at each range at most twice before its turns: where no range switches the machine on it passes
-/// the line over, and where each does no turn asks for a range. No memory is taken but by the act.
+/// others. A run looks at each range at most twice before its turns: where there are two or more and none switches the
+/// machine on it passes the line over, and where each does and they end at the last cluster there can be, no turn asks
+/// for a range. No memory is taken but by the act.
 ///
 /// Apple's TrueType Reference Manual, "The 'morx' table", and the section on state tables in "Font Tables".
 pub fn drive<T: Copy, C: driver_context_t<T>, A: Allocator + Copy>(
