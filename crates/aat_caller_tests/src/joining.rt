@@ -1,4 +1,4 @@
-//! A font that joins two glyphs, deletes one and kerns.
+//! Fonts that join two glyphs, delete one and kern.
 use aat_layout::font::{
     Chain, ChainFeature, Coverage, ExtendedStateTable, FaceTables, Feat, FeatureName,
     GenericStateEntry, GlyphId, Kern, KernKind, KernSubtable, LigatureSubtable, Lookup, Morx,
@@ -64,12 +64,17 @@ fn joining(alloc: Global) -> Result<Subtable, Fail> {
     Ok(Subtable::new(kind, Coverage::ALL_DIRECTIONS, 1))
 }
 
+/// A substitution table of one chain that joins.
+fn morx_with(alloc: Global, default_flags: u32, features: Vec<ChainFeature>) -> Result<Morx, Fail> {
+    let subtables = vec![in alloc; joining(alloc)?]?;
+    let chain = Chain::new(default_flags, features, subtables);
+    Ok(Morx::new(vec![in alloc; chain]?)?)
+}
+
 /// A substitution table that joins where a flag is set: by default, or where common ligatures are asked for.
 fn morx_of(alloc: Global, default_flags: u32) -> Result<Morx, Fail> {
     let ligatures = ChainFeature::new(1, 2, 1, 0xFFFF_FFFF);
-    let subtables = vec![in alloc; joining(alloc)?]?;
-    let chain = Chain::new(default_flags, vec![in alloc; ligatures]?, subtables);
-    Ok(Morx::new(vec![in alloc; chain]?)?)
+    morx_with(alloc, default_flags, vec![in alloc; ligatures]?)
 }
 
 /// A kerning table that moves 20 and 12 together in rows.
@@ -79,12 +84,28 @@ fn kern_of(alloc: Global) -> Result<Kern, Fail> {
     Ok(Kern::new(vec![in alloc; subtable]?)?)
 }
 
-/// A font of both tables, with advances, that joins by default or not.
-pub fn font_of(alloc: Global, default_flags: u32) -> Result<hb_font_t, Fail> {
+/// A font of a substitution table, of the kerning table and of advances.
+fn font_with(alloc: Global, morx: Morx, advances: &[(u16, u16)]) -> Result<hb_font_t, Fail> {
     let tables = FaceTables::default()
-        .with_morx(morx_of(alloc, default_flags)?)
+        .with_morx(morx)
         .with_kern(kern_of(alloc)?)
         .with_feat(Feat::new(alloc, &NAMES)?);
-    let advances = Lookup::new(alloc, &[(10, 250), (12, 400), (20, 600), (65535, 300)])?;
+    let advances = Lookup::new(alloc, advances)?;
     Ok(hb_font_t::new(tables, None, Some(advances)))
+}
+
+/// A font of both tables, with advances, that joins by default or not.
+pub fn font_of(alloc: Global, default_flags: u32) -> Result<hb_font_t, Fail> {
+    let morx = morx_of(alloc, default_flags)?;
+    font_with(
+        alloc,
+        morx,
+        &[(10, 250), (12, 400), (20, 600), (65535, 300)],
+    )
+}
+
+/// The font of row 38a, which joins by default and has no feature in its chain; it has names of features besides.
+pub fn font_of_row_38a(alloc: Global) -> Result<hb_font_t, Fail> {
+    let morx = morx_with(alloc, 1, Vec::new(alloc))?;
+    font_with(alloc, morx, &[(12, 400), (20, 600), (65535, 300)])
 }

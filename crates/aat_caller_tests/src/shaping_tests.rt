@@ -1,5 +1,5 @@
 //! Shaping where memory is wanting, with a request for alternates that is no setting, and of a buffer that had failed.
-use crate::joining::font_of;
+use crate::joining::font_of_row_38a;
 use aat_layout::buffer::{BufferError, Direction, hb_buffer_t, hb_glyph_info_t};
 use aat_layout::font::{Feature, hb_font_t, hb_ot_shape_plan_t, hb_tag_t};
 use aat_layout::{AatError, Turns};
@@ -162,7 +162,7 @@ fn shapes_buffer_within(
 /// Each request for memory beside the buffer is refused in turn, until a run meets no refusal.
 #[test]
 fn refused_memory_of_the_map(rt: HostRuntime) -> Result<(), Fail> {
-    let face = font_of(rt.alloc(), 1)?;
+    let face = font_of_row_38a(rt.alloc())?;
     let plan = plan_of(Vec::new(rt.alloc()), true);
     for step in 0..256usize {
         if shapes_within(&rt, rt.alloc(), &plan, &face, step * 16)? {
@@ -176,7 +176,7 @@ fn refused_memory_of_the_map(rt: HostRuntime) -> Result<(), Fail> {
 /// So is each request for memory of the buffer that shaping makes.
 #[test]
 fn refused_memory_of_positions(rt: HostRuntime) -> Result<(), Fail> {
-    let face = font_of(rt.alloc(), 1)?;
+    let face = font_of_row_38a(rt.alloc())?;
     let plan = plan_of(Vec::new(rt.alloc()), true);
     let mut was_refused = false;
     for step in 0..256usize {
@@ -204,7 +204,7 @@ fn column_shaped(
     alloc: Global,
     apply_morx: bool,
 ) -> Result<(Result<Turns, AatError>, hb_buffer_t), Fail> {
-    let face = font_of(alloc, 1)?;
+    let face = font_of_row_38a(alloc)?;
     let plan = plan_with_alternate(alloc, apply_morx)?;
     let mut buffer = buffer_of(alloc, &[(20, 0, 8)])?;
     buffer.set_direction(Direction::TopToBottom);
@@ -251,7 +251,7 @@ fn assert_failed_is_refused(
 
 #[test]
 fn failed_buffer_is_refused(rt: HostRuntime) -> Result<(), Fail> {
-    let face = font_of(rt.alloc(), 1)?;
+    let face = font_of_row_38a(rt.alloc())?;
     assert_failed_is_refused(&rt, rt.alloc(), &face, true)?;
     assert_failed_is_refused(&rt, rt.alloc(), &face, false)
 }
