@@ -1,4 +1,5 @@
-//! Rows that rise by a key, as those of the tables of a font and kept settings: how they are tested and searched.
+//! Rows that rise by a key, as those of the tables of a font and of the table of features: how they are tested and
+//! searched.
 ghost use Rattle.std.specs.Prelude.{◌≡◌, option_copied};
 ghost use Rattle.aat_font.specs.Keys.{IsRising, at_key, first_fall};
 
@@ -14,7 +15,7 @@ pub trait Keyed {
 }
 
 /// The place of the first row that is not above the one before it.
-pub fn first_fall<R: Keyed>(rows: &[R]) -> Option<usize>
+pub(crate) fn first_fall<R: Keyed>(rows: &[R]) -> Option<usize>
     ensures { result ≡ first_fall R.key_of rows.now }
 {
     for i in 1..rows.len() {
@@ -34,7 +35,7 @@ pub fn row_at<R: Keyed + Copy>(rows: &[R], key: u32) -> Option<R>
 }
 
 /// The row that has the key, where it stands, if there is one, found by bisection.
-pub fn row_in<R: Keyed>(rows: &[R], key: u32) -> Option<&R>
+pub(crate) fn row_in<R: Keyed>(rows: &[R], key: u32) -> Option<&R>
     requires { IsRising R.key_of rows.now }
     ensures { option_copied result ≡ at_key R.key_of rows.now key }
 {

@@ -109,8 +109,8 @@ pub record IsMovedApart (q : ℕ) (whole first second : Buffer) : Type 0 where
   pub front : position_list first ≡ take q (position_list whole)
   pub back : position_list second ≡ drop q (position_list whole)
 
--- What pairs do over the whole line, those of the first part do and then those of the second, where the greater glyph is
--- left without the flag.
+-- What pairs do over the whole line, those of the first part do and then those of the second, where the greater glyph
+-- is left without the flag.
 pub folded_apart :
     (skips kern_mask q great less : ℕ) (way : Direction) (is_cross : Bool) (values : List (ℕ × ℕ × ℤ))
     (whole first second : Buffer)

@@ -111,7 +111,7 @@ pub record PairExamples : Type 0 where
       (untouched_position ∷ position (pos 500) (pos 0) (pos 0) (pos 30) ∷ [])) {
         scratch = 8;
       }
-  -- right to left, cut before the glyph that comes first in the text, the parts give the same
+  -- right to left, cut between 2 and 3, the parts give the same
   pub backward_cut :
       positions_of (kern_pairs RightToLeft ((2, 1, negsuc 19) ∷ []) (asking_from 0 (1 ∷ 2 ∷ 3 ∷ [])))
       ≡ positions_of (kern_pairs RightToLeft ((2, 1, negsuc 19) ∷ []) (asking_from 0 (1 ∷ 2 ∷ [])))

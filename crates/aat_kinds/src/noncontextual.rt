@@ -4,13 +4,14 @@ ghost use Rattle.aat_buffer.specs.Buffer.{Is16Bit, with_line};
 ghost use Rattle.aat_buffer.specs.Clusters.{IsSmall};
 ghost use Rattle.aat_font.specs.Face.{glyph_classes_of};
 ghost use Rattle.aat_run.specs.Ranges.{IsGapless, switch_for};
+ghost use Rattle.aat_run.specs.Stretches.{IsSwitchedAlike};
 ghost use Rattle.aat_kinds.specs.Values.{with_looked_up_value, noncontextual};
 
 use crate::run::SubtableRun;
 use crate::values::props_after;
 use aat_buffer::{hb_buffer_t, hb_glyph_info_t};
 use aat_font::{GlyphId, Lookup, hb_font_t};
-use aat_run::{is_on_from, range_flags_t, ranges_to_ask};
+use aat_run::{Stretch, range_flags_t, ranges_to_ask};
 use std::alloc::Allocator;
 
 /// A glyph with its value of a lookup, where it has one and the subtable is on.
@@ -37,8 +38,28 @@ fn replacement(
     }
 }
 
-/// Gives each of some glyphs that is on at its own cluster, by some ranges, its value. A range is searched for only
-/// where it is neither the one that was found last nor beside it.
+/// Whether a subtable is on at a cluster, by some ranges: always where there are none, and else as on the stretch that
+/// holds the cluster, which is remembered.
+fn is_on_along(
+    run: &SubtableRun,
+    ranges: &[range_flags_t],
+    stretch: &mut Stretch,
+    cluster: u32,
+) -> bool
+    requires gapless { IsGapless ranges.now }
+    requires alike { IsSwitchedAlike ((switch_for ranges.now).is_on run.now.feature_flags) stretch.old }
+    ensures on { (switch_for ranges.now).is_on run.now.feature_flags cluster ≡ result }
+    ensures alike { IsSwitchedAlike ((switch_for ranges.now).is_on run.now.feature_flags) stretch.new }
+{
+    if ranges.is_empty() {
+        return true;
+    }
+    *stretch = stretch.on_to(ranges, run.feature_flags, cluster);
+    stretch.is_on
+}
+
+/// Gives each of some glyphs at whose own cluster the subtable is on, by some ranges, its value. A range is looked for
+/// only where a cluster has left the one that was found last, and searched for only where it is not beside it.
 fn replace_glyphs(
     run: &SubtableRun,
     ranges: &[range_flags_t],
@@ -51,15 +72,15 @@ fn replace_glyphs(
     ensures ids { All Is16Bit glyphs.new }
     ensures len { length glyphs.new ≡ length glyphs.old }
 {
-    let mut place = 0;
+    let mut stretch = Stretch::none();
     for glyph in glyphs.iter_mut() {
-        let is_on = is_on_from(ranges, run.feature_flags, &mut place, glyph.cluster);
+        let is_on = is_on_along(run, ranges, &mut stretch, glyph.cluster);
         *glyph = replacement(run.face, lookup, is_on, *glyph);
     }
 }
 
-/// Gives each glyph of a line that is on at its own cluster its value. The line is one slice while the cursor is at
-/// the start, and no cluster is asked where each range switches the subtable on and they end at the last cluster.
+/// Gives each glyph of a line at whose own cluster the subtable is on its value. The line is one slice while the cursor
+/// is at the start, and no cluster is asked where each range switches the subtable on and they end at the last cluster.
 pub(crate) fn replace_all<A: Allocator + Copy>(
     run: &SubtableRun,
     lookup: &Lookup,

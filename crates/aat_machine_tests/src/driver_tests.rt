@@ -319,7 +319,8 @@ fn putting_in(rt: HostRuntime) -> Result<(), Fail> {
     Ok(())
 }
 
-/// A line that would be too long is refused as 2, and the buffer has failed then. A buffer that had failed is run.
+/// A line that would be too long is refused as 2, `TooLong`, and the buffer has failed then. A buffer that had failed
+/// is run.
 #[test]
 fn too_long(rt: HostRuntime) -> Result<(), Fail> {
     let machine = acting(rt.alloc(), 0, 7)?;

@@ -1,5 +1,5 @@
 -- Which requests count at a cluster. Apple's TrueType Reference Manual, "The 'feat' table", exclusive settings.
-use Rattle.std.specs.Prelude.{◌≡◌, ℕ, ◌+◌, ◌*◌, ◌==◌, ◌&&◌, ◌||◌, not, nat_lt, nat_le, Bool, List, [], ◌∷◌, filter, map, fold, length, bit_and, if◌then◌else◌}
+use Rattle.std.specs.Prelude.{◌≡◌, ℕ, ◌==◌, ◌&&◌, ◌||◌, not, nat_lt, nat_le, Bool, List, [], ◌∷◌, filter, map, fold, length, bit_and, if◌then◌else◌}
 use Rattle.std.specs.List.{list_any, list_all, AllAdjacentBelow}
 use Rattle.std.specs.Ordering.{nat_cmp, bool_cmp, on, then_cmp}
 use Rattle.std.specs.declared.cmp.Ordering.{Ordering}
@@ -71,15 +71,6 @@ in_group a b = (a.kind == b.kind) && (is_alike a.is_exclusive b.is_exclusive && 
 abbrev pub group_order : feature_info_t → feature_info_t → Ordering
 group_order =
     then_cmp (on (λ i. i.kind) nat_cmp) (then_cmp (on (λ i. i.is_exclusive) bool_cmp) (on group_setting nat_cmp))
-
--- the place of a group among those of its kind, as a number: the setting that tells groups apart, and behind all these
--- where exclusive
-abbrev pub place_in_kind : feature_info_t → ℕ
-place_in_kind info = if info.is_exclusive then 0xFFFF else bit_and info.setting 0xFFFE
-
--- the order of groups as a number
-abbrev pub group_key : feature_info_t → ℕ
-group_key info = info.kind * 65536 + place_in_kind info
 
 -- of each group the first
 abbrev pub kept : List feature_info_t → List feature_info_t

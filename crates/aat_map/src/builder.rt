@@ -1,8 +1,7 @@
 //! The map builder: it gathers requests and compiles them.
 ghost use Rattle.std.specs.Prelude.{◌≡◌, ◌≤◌, IfOk, IfErr, OnOk, OnErr, is_some, false};
 ghost use Rattle.aat_font.specs.Face.{tables_of};
-ghost use Rattle.aat_font.specs.Keys.{IsRising};
-ghost use Rattle.aat_map.specs.Live.{group_key};
+ghost use Rattle.aat_map.specs.Live.{IsRisingByGroup};
 ghost use Rattle.aat_map.specs.Requests.{addition, is_too_large, request_of};
 ghost use Rattle.aat_map.specs.Adding.{RefusesFeature};
 ghost use Rattle.aat_map.specs.Builder.{empty_builder, with_request};
@@ -28,8 +27,7 @@ pub struct hb_aat_map_builder_t<A: Allocator + Copy = Global> {
 
 impl<A: Allocator + Copy> Model for hb_aat_map_builder_t<A> {
     ghost use Rattle.std.specs.Prelude.{◌≤◌};
-    ghost use Rattle.aat_font.specs.Keys.{IsRising};
-    ghost use Rattle.aat_map.specs.Live.{group_key};
+    ghost use Rattle.aat_map.specs.Live.{IsRisingByGroup};
     ghost use Rattle.aat_map.specs.Builder.{Builder};
 
     ghost Value = { Builder };
@@ -38,7 +36,7 @@ impl<A: Allocator + Copy> Model for hb_aat_map_builder_t<A> {
 
     ghost view = { builder_of };
 
-    ghost invariant = { λ a. (a.range_first ≤ a.range_last) × IsRising group_key a.current_features.items };
+    ghost invariant = { λ a. (a.range_first ≤ a.range_last) × IsRisingByGroup a.current_features.items };
 }
 
 impl<A: Allocator + Copy> hb_aat_map_builder_t<A> {
@@ -96,11 +94,11 @@ impl<A: Allocator + Copy> hb_aat_map_builder_t<A> {
         &self.features
     }
 
-    /// The settings that are kept in the range, strictly rising by the number of their group, which
-    /// stands for the order of [`feature_order`](crate::feature_order).
+    /// The settings that are kept in the range, strictly rising in the order of groups, that of
+    /// [`feature_order`](crate::feature_order).
     pub fn current_features(&self) -> &[feature_info_t]
         ensures value { result.now ≡ self.now.current_features }
-        ensures rising { IsRising group_key result.now }
+        ensures rising { IsRisingByGroup result.now }
     {
         &self.current_features
     }
@@ -108,7 +106,7 @@ impl<A: Allocator + Copy> hb_aat_map_builder_t<A> {
     /// Sets the range and the settings that are kept in it, which have to rise by their group.
     pub(crate) fn set_range(&mut self, range: (u32, u32), settings: Vec<feature_info_t, A>)
         requires ordered { range.0 ≤ range.1 }
-        requires rising { IsRising group_key settings.items }
+        requires rising { IsRisingByGroup settings.items }
         ensures { self.new ≡ record self.old {
           current_features = settings.items;
           range_first = range.0;
@@ -125,7 +123,7 @@ impl<A: Allocator + Copy> hb_aat_map_builder_t<A> {
         *self.features.allocator()
     }
 
-    /// The first and the last cluster of the range.
+    /// The first and the last cluster of the range. The first is at most the last.
     pub fn range(&self) -> (u32, u32)
         ensures range { result ≡ (self.now.range_first, self.now.range_last) }
         ensures ordered { result.0 ≤ result.1 }

@@ -1,18 +1,16 @@
 //! The flags of each chain in the range of a builder.
-ghost use Rattle.std.specs.Prelude.{◌≡◌, ◌<◌, ◌≤◌, ◌==◌, length, IfOk, IfErr, OnOk, OnErr, is_none, []};
+ghost use Rattle.std.specs.Prelude.{◌≡◌, ◌<◌, ◌≤◌, length, IfOk, IfErr, OnOk, OnErr, is_none, [], All};
+ghost use Rattle.std.specs.List.{AllWithin};
 ghost use Rattle.aat_map.specs.ChainFlags.{flags_by, is_asked, after_feature};
-ghost use Rattle.aat_map.specs.Live.{group_key, has_setting};
+ghost use Rattle.aat_map.specs.Live.{IsRisingByGroup, has_setting};
 ghost use Rattle.aat_map.specs.Compiled.{compiled_range, compiled_ranges, compiled, compiled_for, Follows};
 ghost use Rattle.aat_map.specs.Map.{with_ranges};
 ghost use Rattle.aat_font.specs.Face.{tables_of, chains_in};
-ghost use Rattle.aat_font.specs.Keys.{IsRising, at_key};
-ghost use Rattle.aat_run.specs.Truth.{is_some_and};
 
 use crate::builder::hb_aat_map_builder_t;
 use crate::feature::feature_info_t;
 use crate::map::hb_aat_map_t;
 use aat_buffer::hb_mask_t;
-use aat_font::keys::{Keyed, row_at};
 use aat_font::{Chain, ChainFeature, constants, hb_font_t};
 use aat_run::{AatError, range_flags_t};
 use std::alloc::Allocator;
@@ -108,7 +106,7 @@ fn compiled_range<A: Allocator + Copy>(
 /// The flags that settings, which rise by group, give a chain: the default ones, changed by its features in their
 /// order.
 pub(crate) fn flags_of(settings: &[feature_info_t], chain: &Chain) -> hb_mask_t
-    requires { IsRising group_key settings.now }
+    requires { IsRisingByGroup settings.now }
     ensures { result ≡ flags_by (has_setting settings.now) chain.now.default_flags chain.now.features.items }
 {
     let mut flags = chain.default_flags;
@@ -120,7 +118,7 @@ pub(crate) fn flags_of(settings: &[feature_info_t], chain: &Chain) -> hb_mask_t
 
 /// Flags after a chain feature.
 fn after_feature(settings: &[feature_info_t], flags: hb_mask_t, feature: &ChainFeature) -> hb_mask_t
-    requires { IsRising group_key settings.now }
+    requires { IsRisingByGroup settings.now }
     ensures { result ≡ after_feature (has_setting settings.now) flags feature.now }
 {
     if is_asked(settings, feature) {
@@ -136,7 +134,7 @@ fn after_feature(settings: &[feature_info_t], flags: hb_mask_t, feature: &ChainF
 /// first as a setting of letter case (3, 3), and later of lower case letters (37, 1). A font that was
 /// made before has the older ones in its chains, while requests are for the newer ones.
 fn is_asked(settings: &[feature_info_t], feature: &ChainFeature) -> bool
-    requires { IsRising group_key settings.now }
+    requires { IsRisingByGroup settings.now }
     ensures { result ≡ is_asked (has_setting settings.now) feature.now }
 {
     has_setting(settings, (feature.kind, feature.setting))
@@ -145,31 +143,38 @@ fn is_asked(settings: &[feature_info_t], feature: &ChainFeature) -> bool
             && has_setting(settings, SMALL_CAPS)
 }
 
-/// Whether settings that rise by group have this kind and setting, by a bisection for the group that it has where it is
-/// not exclusive, and else by one for that where it is.
+/// Whether settings that rise by group have this kind and setting, which is looked for from where the kind begins.
 fn has_setting(settings: &[feature_info_t], wanted: (u16, u16)) -> bool
-    requires { IsRising group_key settings.now }
+    requires { IsRisingByGroup settings.now }
     ensures { result ≡ has_setting settings.now wanted.0 wanted.1 }
 {
-    is_in_group(settings, wanted, false) || is_in_group(settings, wanted, true)
+    has_in_front(&settings[count_below(settings, wanted.0)..], wanted)
 }
 
-/// Whether the setting that settings have of the group of this one, exclusive or not, is this one.
-fn is_in_group(settings: &[feature_info_t], wanted: (u16, u16), is_exclusive: bool) -> bool
-    requires { IsRising group_key settings.now }
-    ensures { result ≡ is_some_and (at_key group_key settings.now (group_key (record {
-      kind = wanted.0;
-      setting = wanted.1;
-      is_exclusive = is_exclusive;
-    }))) (λ i. i.setting == wanted.1) }
+/// How many settings are of a lower kind, by a bisection, since they rise by group.
+fn count_below(settings: &[feature_info_t], kind: u16) -> usize
+    requires { IsRisingByGroup settings.now }
+    ensures within { result ≤ length settings.now }
+    ensures lower { AllWithin (λ i. i.kind < kind) settings.now 0 result }
+    ensures others { AllWithin (λ i. kind ≤ i.kind) settings.now result (length settings.now) }
 {
-    let info = feature_info_t {
-        kind: wanted.0,
-        setting: wanted.1,
-        is_exclusive,
-    };
-    match row_at(settings, info.key()) {
-        Some(row) => row.setting == wanted.1,
-        None => false,
+    settings.partition_point(|i| i.kind < kind)
+}
+
+/// Whether settings, none of which is of a lower kind, have this kind and setting. Of a kind few are kept, so those in
+/// front are asked one by one.
+fn has_in_front(settings: &[feature_info_t], wanted: (u16, u16)) -> bool
+    requires rising { IsRisingByGroup settings.now }
+    requires from { All (λ i. wanted.0 ≤ i.kind) settings.now }
+    ensures { result ≡ has_setting settings.now wanted.0 wanted.1 }
+{
+    for info in settings {
+        if info.kind != wanted.0 {
+            return false;
+        }
+        if info.setting == wanted.1 {
+            return true;
+        }
     }
+    false
 }

@@ -37,7 +37,8 @@ impl<A: Allocator + Copy> hb_aat_map_builder_t<A> {
     /// the last range.
     ///
     /// Refused as 3, `OutOfMemory`. The map is then empty, the requests are as they were, and of the
-    /// builder's range nothing is known.
+    /// builder's range and settings nothing more is known than of those of every builder: the settings rise by
+    /// [`feature_order`](crate::feature_order), and the first cluster is at most the last.
     ///
     /// Apple's TrueType Reference Manual, "The 'morx' table", feature subtables.
     pub fn compile(&mut self, face: &hb_font_t, map: &mut hb_aat_map_t<A>) -> Result<(), AatError>
@@ -147,15 +148,15 @@ fn compile_span<A: Allocator + Copy>(
     chains: &[Chain],
     map: &mut hb_aat_map_t<A>,
     firsts: &[Option<feature_info_t>],
-    flags: &mut Vec<hb_mask_t, A>,
+    flags: &mut [hb_mask_t],
     span: (u32, u32),
 ) -> Result<(), AatError>
     requires kept { IsPermutation (kept_at span.0 builder.old.features) (present firsts.now) }
     requires span { span.0 ≤ span.1 }
     requires follows { (k : ℕ) → k < length chains.now → next_start (list_at map.old k) ≡ span.0 }
     requires lists { length map.old ≡ length chains.now }
-    requires flags { flags.old.items ≡ all_flags_for builder.old.current_features chains.now }
-    ensures flags { OnOk result (flags.new.items ≡ all_flags_for builder.new.current_features chains.now) }
+    requires flags { flags.old ≡ all_flags_for builder.old.current_features chains.now }
+    ensures flags { OnOk result (flags.new ≡ all_flags_for builder.new.current_features chains.now) }
     ensures ok { OnOk result (map.new ≡ with_ranges (ranges_over builder.old.features chains.now span) map.old) }
     ensures current { OnOk result (AreKeptAt span.0 builder.old.features builder.new.current_features) }
     ensures range { OnOk result ((builder.new.range_first ≡ span.0) × (builder.new.range_last ≡ span.1)) }
@@ -164,7 +165,7 @@ fn compile_span<A: Allocator + Copy>(
 {
     let alloc = builder.allocator();
     let kept = kept_of(alloc, firsts)?;
-    renew(flags, chains, builder.current_features(), &kept)?;
+    renew(flags, chains, builder.current_features(), &kept);
     builder.set_range(span, kept);
     push_flags(flags, span, map)
 }

@@ -3,7 +3,6 @@ ghost use Rattle.std.specs.Prelude.{◌≡◌, ◌↔◌, IsTrue};
 ghost use Rattle.std.specs.Cmp.{IsTotalOrder};
 ghost use Rattle.aat_map.specs.Live.{group_setting, group_order, in_group};
 
-use aat_font::keys::Keyed;
 use std::cmp::Ordering;
 
 /// A setting of a feature type.
@@ -14,21 +13,6 @@ pub struct feature_info_t {
     pub setting: u16,
     /// Whether the settings of the type exclude one another.
     pub is_exclusive: bool,
-}
-
-impl Keyed for feature_info_t {
-    ghost use Rattle.aat_map.specs.Live.{group_key};
-
-    ghost key_of = { group_key };
-
-    fn key(&self) -> u32 {
-        let place = if self.is_exclusive {
-            0xFFFF
-        } else {
-            self.setting & 0xFFFE
-        };
-        u32::from(self.kind) * 65536 + u32::from(place)
-    }
 }
 
 /// A request for a setting over the clusters `start` to `end - 1`, or up to the last cluster where

@@ -1,8 +1,7 @@
 //! The flags of the chains, remembered from range to range.
 ghost use Rattle.std.specs.Prelude.{◌≡◌, ◌<◌, ◌≤◌, ℕ, length, true, IfOk, IfErr, OnOk};
-ghost use Rattle.aat_font.specs.Keys.{IsRising};
 ghost use Rattle.aat_run.specs.Ranges.{next_start};
-ghost use Rattle.aat_map.specs.Live.{group_key};
+ghost use Rattle.aat_map.specs.Live.{IsRisingByGroup};
 ghost use Rattle.aat_map.specs.Map.{list_at, with_ranges};
 ghost use Rattle.aat_map.specs.inside.CompiledSpans.{all_flags_for, range_with, ranges_with};
 
@@ -17,23 +16,30 @@ use std::alloc::Allocator;
 
 /// Brings the flags of the chains from the settings that were kept to those that are, which rise by group. They are
 /// computed anew only where others are kept.
-pub(crate) fn renew<A: Allocator + Copy>(
-    flags: &mut Vec<hb_mask_t, A>,
+pub(crate) fn renew(
+    flags: &mut [hb_mask_t],
     chains: &[Chain],
     was: &[feature_info_t],
     now: &[feature_info_t],
-) -> Result<(), AatError>
-    requires flags { flags.old.items ≡ all_flags_for was.now chains.now }
-    requires rising { IsRising group_key now.now }
-    ensures ok { OnOk result (flags.new.items ≡ all_flags_for now.now chains.now) }
-    ensures err { IfErr result (λ e. e ≡ AatError.OutOfMemory) }
+)
+    requires flags { flags.old ≡ all_flags_for was.now chains.now }
+    requires rising { IsRisingByGroup now.now }
+    ensures { flags.new ≡ all_flags_for now.now chains.now }
 {
-    if are_same(was, now) {
-        return Ok(());
+    if !are_same(was, now) {
+        write_flags(flags, chains, now);
     }
-    let alloc = *flags.allocator();
-    *flags = flags_of_chains(alloc, chains, now)?;
-    Ok(())
+}
+
+/// Writes over the flags of each chain with those that settings, which rise by group, give it.
+fn write_flags(flags: &mut [hb_mask_t], chains: &[Chain], settings: &[feature_info_t])
+    requires each { length flags.old ≡ length chains.now }
+    requires rising { IsRisingByGroup settings.now }
+    ensures { flags.new ≡ all_flags_for settings.now chains.now }
+{
+    for (i, chain) in chains.iter().enumerate() {
+        flags[i] = flags_of(settings, chain);
+    }
 }
 
 /// Whether settings are the same, in the same order.
@@ -57,7 +63,7 @@ pub(crate) fn flags_of_chains<A: Allocator>(
     chains: &[Chain],
     settings: &[feature_info_t],
 ) -> Result<Vec<hb_mask_t, A>, AatError>
-    requires { IsRising group_key settings.now }
+    requires { IsRisingByGroup settings.now }
     ensures ok { IfOk result (λ flags. flags.items ≡ all_flags_for settings.now chains.now) }
     ensures err { IfErr result (λ e. e ≡ AatError.OutOfMemory) }
 {

@@ -40,7 +40,7 @@ pub record InsertionRows : Type 0 where
   pub row_27 : printed (substituted_by (subtable (two_before 0) ∷ subtable (two_before 0) ∷ []) (buffer_of (glyph 5 3 0 ∷ []) (pos 3))) ≡ shows_with (negsuc 0) (all_at 3 (7 ∷ 8 ∷ 5 ∷ [])) 6
   -- insertion at the end
   pub row_33 : row_with (pos 2) (inserting (id 5 ∷ []) ((0, 0, entry 0 0x4820 (with_indexes 0 0xFFFF)) ∷ [])) (glyph 6 0 0 ∷ []) ≡ shows_with (negsuc 0) (all_at 0 (6 ∷ 5 ∷ [])) 4
-  -- 0x8000 marks the cursor from before the marked run, so that the end puts its 8 before the 7 and not before the 6
+  -- 0x8000 marks the cursor from before the marked run, so that the end puts its 8 before the 7 and not before the 5
   pub mark_before :
       row (inserting (id 7 ∷ id 8 ∷ []) ((0, 4, entry 1 0x8401 (with_indexes 0xFFFF 0)) ∷ (1, 0, entry 0 0x0401 (with_indexes 0xFFFF 1)) ∷ [])) (glyph 5 0 0 ∷ [])
       ≡ shows_with (pos 16382) (all_at 0 (8 ∷ 7 ∷ 5 ∷ [])) 2

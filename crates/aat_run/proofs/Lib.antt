@@ -4,3 +4,4 @@ pub mod Digits
 pub mod FewTurns
 pub mod FloorUnseen
 pub mod Ran
+pub mod Stretched

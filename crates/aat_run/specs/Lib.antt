@@ -13,6 +13,7 @@ pub mod RangeOf
 pub mod Ranges
 pub mod Rows
 pub mod Safe
+pub mod Stretches
 pub mod Switches
 pub mod Throughout
 pub mod Truth

@@ -1,3 +1,4 @@
 pub mod Branches
+pub mod Near
 pub mod Places
 pub mod Standing

@@ -19,7 +19,7 @@ pub use driver::{drive, run_machine};
 pub use driver_context::driver_context_t;
 pub use error::AatError;
 pub use ranges::{
-    ends_at_last, flags_in, is_everywhere_on, is_nowhere_on, is_on, is_on_from, range_flags_t,
+    Stretch, ends_at_last, flags_in, is_everywhere_on, is_nowhere_on, is_on, range_flags_t,
     range_of, ranges_to_ask,
 };
 pub use turns::class_at_cursor;

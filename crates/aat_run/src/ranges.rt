@@ -3,8 +3,10 @@ ghost use Rattle.std.specs.Prelude.{◌≡◌, ◌<◌, ◌≤◌, IfSome, IsTru
 ghost use Rattle.std.specs.List.{list_all, list_any};
 ghost use Rattle.aat_run.specs.RangeOf.{binary_digits, ends_at_last, is_held_at};
 ghost use Rattle.aat_run.specs.Ranges.{IsGapless, flags_in, holds, is_driven_on, switch_for};
+ghost use Rattle.aat_run.specs.Stretches.{IsSwitchedAlike};
 ghost use Rattle.aat_run.specs.Switches.{meets};
 ghost use Rattle.aat_run.specs.Throughout.{is_everywhere_on, is_nowhere_on};
+ghost use Rattle.aat_run.specs.inside.Near.{place_near};
 
 use aat_buffer::hb_mask_t;
 
@@ -152,6 +154,7 @@ fn is_held_at(ranges: &[range_flags_t], place: usize, cluster: u32) -> bool
 
 /// The place of the range that holds a cluster, where it is this one or one beside it.
 fn place_near(ranges: &[range_flags_t], place: usize, cluster: u32) -> Option<usize>
+    ensures near { result ≡ place_near ranges.now place cluster }
     ensures within { IfSome result (λ near. near < length ranges.now) }
     ensures held { IfSome result (λ near. IsTrue (is_held_at ranges.now near cluster)) }
 {
@@ -218,26 +221,88 @@ pub(crate) fn is_driven_on(
     }
 }
 
-/// Whether a subtable with some feature flags is on at a cluster: always where no range is compiled. The ranges have to
-/// follow one another from 0 without a gap.
-///
-/// The place is best that of the range that an earlier question of the same ranges found, and becomes that of the one
-/// that holds this cluster, where there is one. A search is made only where the range is neither there nor beside it.
-/// Any place is allowed, and the answer does not depend on it.
-pub fn is_on_from(
+/// Clusters over which a subtable is on, or off, throughout.
+#[derive(Clone, Copy, PartialEq, Eq, Debug)]
+pub struct Stretch {
+    /// The first of the clusters.
+    pub cluster_first: u32,
+    /// The last of the clusters. Where it is below the first one the stretch has none.
+    pub cluster_last: u32,
+    /// Whether the subtable is on at these clusters.
+    pub is_on: bool,
+    /// The place at which the range of another cluster is looked for first. Any place is allowed.
+    place: usize,
+}
+
+impl Stretch {
+    /// A stretch without clusters, from which a walk over a line begins.
+    pub fn none() -> Stretch
+        ensures { result.cluster_last < result.cluster_first }
+    {
+        Stretch {
+            cluster_first: 1,
+            cluster_last: 0,
+            is_on: false,
+            place: 0,
+        }
+    }
+
+    /// The stretch of a subtable with some feature flags that holds a cluster: this one where it does, else that of the
+    /// range that holds it. Where no range is compiled all clusters are one stretch, on which the subtable is on, and a
+    /// cluster that no range holds is one by itself, at which it is off.
+    ///
+    /// The ranges have to follow one another from 0 without a gap, and at each cluster of this stretch they have to
+    /// switch the subtable as it says: so they do on a stretch that was found by the same ranges and flags, and on one
+    /// without clusters. A search is made only where the range is neither at the place of the one that was found last
+    /// nor beside it.
+    pub fn on_to(self, ranges: &[range_flags_t], feature_flags: hb_mask_t, cluster: u32) -> Stretch
+        requires gapless { IsGapless ranges.now }
+        requires alike { IsSwitchedAlike ((switch_for ranges.now).is_on feature_flags) self }
+        ensures first { result.cluster_first ≤ cluster }
+        ensures last { cluster ≤ result.cluster_last }
+        ensures alike { IsSwitchedAlike ((switch_for ranges.now).is_on feature_flags) result }
+    {
+        if (self.cluster_first..=self.cluster_last).contains(&cluster) {
+            self
+        } else {
+            stretch_at(ranges, feature_flags, self.place, cluster)
+        }
+    }
+}
+
+/// The stretch that holds a cluster, whose range is looked for at a place first.
+fn stretch_at(
     ranges: &[range_flags_t],
     feature_flags: hb_mask_t,
-    place: &mut usize,
+    place: usize,
     cluster: u32,
-) -> bool
+) -> Stretch
     requires { IsGapless ranges.now }
-    ensures { result ≡ (switch_for ranges.now).is_on feature_flags cluster }
+    ensures first { result.cluster_first ≤ cluster }
+    ensures last { cluster ≤ result.cluster_last }
+    ensures alike { IsSwitchedAlike ((switch_for ranges.now).is_on feature_flags) result }
 {
+    let mut place = place;
     if ranges.is_empty() {
-        return true;
+        return Stretch {
+            cluster_first: 0,
+            cluster_last: u32::MAX,
+            is_on: true,
+            place,
+        };
     }
-    match range_from(ranges, place, cluster) {
-        Some(range) => range.flags & feature_flags != 0,
-        None => false,
+    match range_from(ranges, &mut place, cluster) {
+        Some(range) => Stretch {
+            cluster_first: range.cluster_first,
+            cluster_last: range.cluster_last,
+            is_on: range.flags & feature_flags != 0,
+            place,
+        },
+        None => Stretch {
+            cluster_first: cluster,
+            cluster_last: cluster,
+            is_on: false,
+            place,
+        },
     }
 }

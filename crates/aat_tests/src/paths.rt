@@ -5,13 +5,14 @@ pub use aat_layout::buffer::{
     HB_BUFFER_CLUSTER_LEVEL_MONOTONE_CHARACTERS, HB_BUFFER_CLUSTER_LEVEL_MONOTONE_GRAPHEMES,
     ScratchFlags, UnicodeProps, glyph_flag, hb_buffer_t, hb_glyph_info_t, hb_mask_t,
 };
+pub use aat_layout::font::keys::{Keyed, row_at};
 pub use aat_layout::font::{
     Ankr, Chain, ChainFeature, ContextualEntryData, ContextualSubtable, Coverage, EntryData,
     ExtendedStateTable, FaceTables, Feat, Feature, FeatureName, GenericStateEntry, GlyphId,
     InsertionEntryData, InsertionSubtable, Kern, KernEntryData, KernKind, KernMachine,
     KernSubtable, Kerx, KerxFormat, KerxSubtable, LigatureSubtable, Lookup, Morx, Pairs, Point,
-    Subtable, Subtable1, Subtable4, SubtableKind, TableError, hb_font_t, hb_ot_shape_plan_t,
-    hb_tag_t,
+    Subtable, Subtable1, Subtable4, SubtableKind, TableError, constants as font_constants,
+    hb_font_t, hb_ot_shape_plan_t, hb_tag_t,
 };
 pub use aat_layout::{
     AatError, ContextualCtx, DELETED_GLYPH, Driver1, Driver4, InsertionCtx, KERN_SKIPS, KERX_SKIPS,

@@ -1,5 +1,5 @@
-//! Lookups by an array and by a search, the memory of pages, and state tables whose answers stand in a grid or are
-//! searched.
+//! Lookups by an array, by pages and by a search, the memory of pages, and state tables whose answers stand in a grid
+//! or are searched.
 use super::is_made;
 use aat_font::{ExtendedStateTable, GenericStateEntry, GlyphId, Lookup};
 use linked_list_allocator::LocalHeap;
@@ -69,6 +69,16 @@ fn bordered(alloc: Global, pages: &[u16], low: u16) -> Result<Vec<(u16, u16)>, A
         }
     }
     Ok(pairs)
+}
+
+/// Eight glyphs on each of three pages are answered by the pages, and seven on each are searched.
+#[test]
+fn glyphs_at_the_borders_of_pages(rt: HostRuntime) -> Result<(), Fail> {
+    for low in [4, 3] {
+        let pairs = bordered(rt.alloc(), &[0, 17, 255], low)?;
+        assert_as_listed(&rt, rt.alloc(), &pairs)?;
+    }
+    Ok(())
 }
 
 /// Each growth of a lookup with pages is refused in turn, by a heap that is too small for it.

@@ -1,4 +1,4 @@
-use Rattle.std.proofs.Common.{sym, ◌∙◌, ap, arith, set}
+use Rattle.std.proofs.Common.{◌∙◌, ap, arith, set}
 use Rattle.std.proofs.lemmas.List.{length-set, get_or_default}
 use Rattle.std.proofs.lemmas.List.Edits.{map_over_more}
 use Rattle.std.proofs.lemmas.List.Elements.{All-set}
@@ -17,7 +17,8 @@ loop-glyph-preserved c =
     let on = (switch_for c.args.ranges.now).is_on c.args.run.now.feature_flags in
     let f = with_looked_up_value on (glyph_classes_of c.args.run.now.face.now) c.args.lookup.now in
     record {
-      done = ap (set ys i) (c.replacement.ensures.replaced on (sym c.is_on_from-is_on.ensures)) ∙ map_over_more f xs ys i _ (omega (arith, was.same_length)) was.done (get_or_default ys i _ _ (omega arith));
+      done = ap (set ys i) (c.replacement.ensures.replaced on c.is_on_along-is_on.ensures.on) ∙ map_over_more f xs ys i _ (omega (arith, was.same_length)) was.done (get_or_default ys i _ _ (omega arith));
       same_length = length-set ys i c.replacement.result ∙ was.same_length;
       small = All-set Is16Bit ys i c.replacement.result c.replacement.ensures.small was.small;
+      alike = c.is_on_along-is_on.ensures.alike;
     }

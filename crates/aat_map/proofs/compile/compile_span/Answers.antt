@@ -5,7 +5,6 @@ use Rattle.aat_map.specs.Live.{kept_at, live}
 use Rattle.std.proofs.lemmas.List.Sorted.{IsPermutation-trans}
 use Rattle.aat_map.specs.Map.{with_ranges}
 use Rattle.aat_map.specs.inside.CompiledSpans.{all_flags_for}
-use Rattle.aat_map.proofs.KeptSearch.{rising_by_key}
 use Rattle.aat_map.proofs.SpanLemmas.{ranges_alike, ranges_of_flags}
 use Rattle.aat_map.proofs.compile.compile_span.Goals as goal
 
@@ -19,8 +18,8 @@ returns-clause-ok g c =
     let current : b.current_features ≡ c.in_ok-kept.kept.items = ap (λ (d : Builder). d.current_features) is in
     let same : IsPermutation (kept_at x requests) b.current_features = rw current (IsPermutation-trans _ _ _ c.requires.kept c.in_ok-kept.ensures.kept) in
     let alike = ranges_alike requests chains b c.args.span same (ap (λ (d : Builder). d.range_first) is) (ap (λ (d : Builder). d.range_last) is) in
-    let flags : c.deref-2.result.now ≡ all_flags_for b.current_features chains = c.deref-2.ensures.value ∙ c.in_ok-renew.ensures.ok ∙ ap (λ l. all_flags_for l chains) (c.deref.ensures.value ∙ sym current) in
-    let ranges = ranges_of_flags chains b c.args.span c.deref-2.result.now flags (ap (λ (d : Builder). d.range_first) is) (ap (λ (d : Builder). d.range_last) is) in
+    let flags : c.renew.new.flags ≡ all_flags_for b.current_features chains = c.renew.ensures ∙ ap (λ l. all_flags_for l chains) (c.deref.ensures.value ∙ sym current) in
+    let ranges = ranges_of_flags chains b c.args.span c.renew.new.flags flags (ap (λ (d : Builder). d.range_first) is) (ap (λ (d : Builder). d.range_last) is) in
     on_ok_weaker c.push_flags.result (λ made. made ∙ ap (λ rs. with_ranges rs c.args.map.now) (ranges ∙ alike)) c.push_flags.ensures.ok
 
 pub returns-clause-current : goal.returns-clause-current
@@ -40,10 +39,10 @@ pub renew-requires-clause-rising : goal.renew-requires-clause-rising
 renew-requires-clause-rising g c =
     let x = c.args.span.0 in
     let requests = c.args.builder.now.features in
-    rw c.deref.ensures.value (rising_by_key c.in_ok-kept.kept.items (c.in_ok-kept.ensures.rising (live x requests) c.requires.kept))
+    rw c.deref.ensures.value (c.in_ok-kept.ensures.rising (live x requests) c.requires.kept)
 
 pub set_range-requires-clause-rising : goal.set_range-requires-clause-rising
 set_range-requires-clause-rising g c =
     let x = c.args.span.0 in
     let requests = c.args.builder.now.features in
-    rising_by_key c.in_ok-kept.kept.items (c.in_ok-kept.ensures.rising (live x requests) c.requires.kept)
+    c.in_ok-kept.ensures.rising (live x requests) c.requires.kept

@@ -1,5 +1,6 @@
 use Rattle.std.proofs.Common.{◌≡◌, ◌∙◌, ◌<◌, ◌≤◌, ◌-◌, ◌+◌, ap, sym, refl, arith, length, take, suc, slice_index_or}
-use Rattle.std.proofs.lemmas.List.{take_all}
+use Rattle.std.proofs.lemmas.List.{take_all, with_items_is}
+use Rattle.std.proofs.lemmas.List.{length-map}
 use Rattle.aat_run.specs.Ranges.{next_start}
 use Rattle.aat_map.specs.Map.{list_at, with_ranges}
 use Rattle.aat_map.specs.Spans.{spans}
@@ -79,7 +80,10 @@ loop-i-preserved g c =
       current = λ _. rw (done.range.0, ← same) done.current;
       begun = c.in_ok-passed.ensures.begun;
       ended = c.in_ok-passed.ensures.ended;
-      flags = done.flags;
+      flags =
+          with_items_is c.loop-i.flags c.compile_span.new.flags
+          (ap length done.flags ∙ length-map chains _ ∙ sym (length-map chains _) ∙ sym (ap length c.loop-i.invariant.flags) ∙ sym c.loop-i.flags.ok.0)
+          ∙ done.flags;
       groups = c.in_ok-passed.ensures.groups ∙ c.loop-i.invariant.groups;
       firsts = c.in_ok-passed.ensures.firsts;
       walked = λ more.
