@@ -23,12 +23,20 @@ fn next_of(number: u16) -> u16 {
     number.wrapping_mul(25173).wrapping_add(13849)
 }
 
-/// A line, each of whose glyphs has a cluster of its own and asks for kerning.
-pub(crate) fn line_of(alloc: Global, size: &Size) -> Result<hb_buffer_t, Stop>
+/// Where a round begins in that sequence, the first one at 1.
+fn start_of(round: u32) -> u16 {
+    ((round % 65_536) as u16)
+        .wrapping_mul(40503)
+        .wrapping_add(1)
+}
+
+/// The line of a round, each of whose glyphs has a cluster of its own and asks for kerning. Each round has another
+/// line, so that a processor cannot learn from one round how the next will go.
+pub(crate) fn line_of(alloc: Global, size: &Size, round: u32) -> Result<hb_buffer_t, Stop>
     ensures { IfOk result IsSmall }
 {
     let mut buffer = hb_buffer_t::new(alloc, MAX_LEN, size.max_ops);
-    let mut number = 1u16;
+    let mut number = start_of(round);
     for cluster in 0..size.count {
         number = next_of(number);
         let glyph = glyph_of(number / 8);
@@ -41,11 +49,11 @@ pub(crate) fn line_of(alloc: Global, size: &Size) -> Result<hb_buffer_t, Stop>
 }
 
 /// The same line with positions.
-pub(crate) fn placed_line_of(alloc: Global, size: &Size) -> Result<hb_buffer_t, Stop>
+pub(crate) fn placed_line_of(alloc: Global, size: &Size, round: u32) -> Result<hb_buffer_t, Stop>
     ensures ids { IfOk result IsSmall }
     ensures placed { IfOk result (λ buffer. IsSome buffer.positions) }
 {
-    let mut buffer = line_of(alloc, size)?;
+    let mut buffer = line_of(alloc, size, round)?;
     buffer.clear_positions()?;
     Ok(buffer)
 }

@@ -32,8 +32,8 @@ pub(crate) struct Outcome {
     pub(crate) time: Duration,
 }
 
-/// Runs a workload in so many rounds, and at least once, each with tables and a line of its own, and answers the round
-/// whose call took the least time.
+/// Runs a workload in so many rounds, and at least once, each with tables and a line of its own, and answers what came
+/// out of the first round, with the least time that a call took.
 pub(crate) fn least<R: Clock>(
     rt: &R,
     alloc: Global,
@@ -41,23 +41,27 @@ pub(crate) fn least<R: Clock>(
     size: &Size,
     rounds: u32,
 ) -> Result<Outcome, Stop> {
-    let mut best = round(rt, alloc, work, size)?;
-    for _ in 1..rounds {
-        let next = round(rt, alloc, work, size)?;
-        if next.time < best.time {
-            best = next;
-        }
+    let mut first = round_of(rt, alloc, work, size, 0)?;
+    for round in 1..rounds {
+        let next = round_of(rt, alloc, work, size, round)?;
+        first.time = first.time.min(next.time);
     }
-    Ok(best)
+    Ok(first)
 }
 
 /// A round of a workload.
-fn round<R: Clock>(rt: &R, alloc: Global, work: &Work, size: &Size) -> Result<Outcome, Stop> {
+fn round_of<R: Clock>(
+    rt: &R,
+    alloc: Global,
+    work: &Work,
+    size: &Size,
+    round: u32,
+) -> Result<Outcome, Stop> {
     match work {
         Work::Substitution(subtables, requests) => {
-            substitution(rt, alloc, subtables, *requests, size)
+            substitution(rt, alloc, subtables, *requests, size, round)
         }
-        Work::Kerning(subtable) => kerning(rt, alloc, subtable, size),
+        Work::Kerning(subtable) => kerning(rt, alloc, subtable, size, round),
         Work::Compilation => compilation(rt, alloc, size),
     }
 }
@@ -79,10 +83,11 @@ fn substitution<R: Clock>(
     subtables: &Substituted,
     requests: u32,
     size: &Size,
+    round: u32,
 ) -> Result<Outcome, Stop> {
     let face = face_of(alloc, subtables)?;
     let map = map_of(alloc, &face, requests, size)?;
-    let mut buffer = line_of(alloc, size)?;
+    let mut buffer = line_of(alloc, size, round)?;
     let (turns, time) = timed_substitution(rt, &face, &map, &mut buffer)?;
     Ok(outcome_of(&buffer, turns, time))
 }
@@ -123,10 +128,11 @@ fn kerning<R: Clock>(
     alloc: Global,
     subtable: &Kerned,
     size: &Size,
+    round: u32,
 ) -> Result<Outcome, Stop> {
     let face = kerned_face_of(alloc, subtable)?;
     let plan = plan_of(alloc);
-    let mut buffer = placed_line_of(alloc, size)?;
+    let mut buffer = placed_line_of(alloc, size, round)?;
     let (turns, time) = timed_kerning(rt, subtable, &plan, &face, &mut buffer)?;
     Ok(outcome_of(&buffer, turns, time))
 }

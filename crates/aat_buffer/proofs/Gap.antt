@@ -1,6 +1,7 @@
 -- How a gap moves, and what stands round it.
-use Rattle.std.proofs.Common.{◌≡◌, Some, ◌∙◌, sym, refl, ℕ, ◌<◌, ◌≤◌, ◌+◌, ◌-◌, List, ◌++◌, take, drop, length, get_or, set, arith, rules}
+use Rattle.std.proofs.Common.{◌≡◌, ap, Some, ◌∙◌, sym, refl, ℕ, ◌<◌, ◌≤◌, ◌+◌, ◌-◌, List, ◌++◌, take, drop, length, get_or, set, arith, rules}
 use Rattle.std.proofs.lemmas.List.{drop_all, append-nil, get_or-append-add, get_or_append_left, length-take-le, drop-drop, same_lists, places, length-append, length-drop, get_or-set_same}
+use Rattle.std.proofs.Math.Seq.{take-length}
 use Rattle.std.proofs.lemmas.List.Edits.{remove-append_right}
 use Rattle.std.proofs.lemmas.Option.{slice_get_read}
 use Rattle.std.proofs.lemmas.Bool.{cases_eq}
@@ -69,6 +70,10 @@ pub read_behind_gap : {X : Type 0} (xs : List X) (i j k : ℕ) (x : X) → i ≤
 read_behind_gap xs i j k x lt le within e =
     let r : get_or (around_gap xs i j) k x ≡ get_or xs (k + (j - i)) x = grind (arith, places) in
     slice_get_read (around_gap xs i j) _ k x refl (omega (arith, length-around_gap xs i j le (omega arith))) (e ∙ sym r)
+
+-- a line's whole range is the line
+pub whole_range : {X : Type 0} (xs : List X) → slice_range xs 0 (length xs) ≡ xs
+whole_range xs = let all : length xs - 0 ≡ length xs = omega arith in ap (λ n. take n xs) all ∙ take-length xs
 
 -- what holds of the cells on both sides holds before the gap
 pub all_parts_first : {X : Type 0} (P : X → Type 0) (b c : List X) → All P (b ++ c) → All P b

@@ -1,5 +1,5 @@
 -- What the removal of the glyphs that a filter names leaves.
-use Rattle.std.specs.Prelude.{option_map, ℕ, zero, suc, ◌+◌, ◌-◌, ◌≡◌, ◌==◌, ◌&&◌, Bool, List, length, map, bit_and, bit_or, nat_lt, remove, if◌then◌else◌}
+use Rattle.std.specs.Prelude.{option_map, ℕ, zero, suc, ◌+◌, ◌-◌, ◌≡◌, ◌≢◌, ◌==◌, ◌&&◌, All, Bool, List, length, map, bit_and, bit_or, nat_lt, remove, if◌then◌else◌}
 use Rattle.std.specs.Fn.{FnReturnsAt, Shared}
 use Rattle.std.specs.Borrow.{Bor}
 pub use Rattle.aat_buffer.specs.Buffer.{glyph_at}
@@ -56,6 +56,13 @@ removal (suc n) test b = removal n test (removal_step test b)
 abbrev pub removed : (hb_glyph_info_t → Bool) → Buffer → Buffer
 removed test b = with_cursor (removal (length b.line) test (with_cursor b 0)) 0
 
--- a glyph that shaping has deleted has the glyph id 0xFFFF (the manual's chapter on the `morx` table)
+-- the glyph id of a glyph that shaping has deleted (the manual's chapter on the `morx` table)
+abbrev pub deleted_glyph : ℕ
+deleted_glyph = 0xFFFF
+
 abbrev pub is_deleted : hb_glyph_info_t → Bool
-is_deleted g = g.glyph_id == 0xFFFF
+is_deleted g = g.glyph_id == deleted_glyph
+
+-- a line without deleted glyphs
+abbrev pub HasNoneDeleted : List hb_glyph_info_t → Type 0
+HasNoneDeleted gs = All (λ g. g.glyph_id ≢ deleted_glyph) gs

@@ -314,7 +314,8 @@ impl<A: Allocator + Copy> hb_buffer_t<A> {
     pub fn all_glyphs_16(&self) -> bool
         ensures { IsTrue result ↔ All Is16Bit self.now.line }
     {
-        self.line.all_16()
+        let (front, back) = self.parts(0, self.len());
+        all_16(front) && all_16(back)
     }
 
     /// Moves the cursor over one glyph. It has to be before the end.
@@ -391,7 +392,7 @@ impl<A: Allocator + Copy> hb_buffer_t<A> {
         if len >= self.max_len {
             return Err(self.refuse(BufferError::TooLong));
         }
-        let model = self.model();
+        let model = self.glyph(self.backtrack_len().min(len - 1));
         let copy = hb_glyph_info_t { glyph_id, ..model };
         if self.line.insert(copy).is_err() {
             return Err(self.refuse(BufferError::OutOfMemory));
@@ -419,14 +420,6 @@ impl<A: Allocator + Copy> hb_buffer_t<A> {
         }
         self.have_positions = false;
         Ok(())
-    }
-
-    /// The glyph at the cursor, or the last one.
-    fn model(&self) -> hb_glyph_info_t
-        requires { 0 < length self.now.line }
-        ensures { result ≡ model_at self.now.line self.now.cursor }
-    {
-        self.glyph(self.backtrack_len().min(self.len() - 1))
     }
 
     /// Puts a copy of the glyph at the cursor in before it, and drops the positions. The cursor has to be
@@ -540,4 +533,10 @@ impl<A: Allocator + Copy> hb_buffer_t<A> {
         self.positions = positions;
         self.have_positions = true;
     }
+}
+
+fn all_16(glyphs: &[hb_glyph_info_t]) -> bool
+    ensures { IsTrue result ↔ All Is16Bit glyphs.now }
+{
+    glyphs.iter().all(|glyph| glyph.glyph_id <= 0xFFFF)
 }

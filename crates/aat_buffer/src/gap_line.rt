@@ -222,13 +222,6 @@ impl<A: Allocator + Copy> GapLine<A> {
         turn_front(self.cells.as_mut_slice(), self.gap_start, self.gap_end);
         self.move_to(p);
     }
-
-    /// Whether each glyph id is at most 0xFFFF, part by part.
-    pub(crate) fn all_16(&self) -> bool
-        ensures { IsTrue result ↔ All Is16Bit self.now.glyphs }
-    {
-        cells_16(&self.cells, self.gap_start, self.gap_end)
-    }
 }
 
 /// The glyphs of a span of the line: those before the gap, and those behind it.
@@ -355,26 +348,4 @@ fn turn_front(cells: &mut [hb_glyph_info_t], start: usize, end: usize)
     ensures len { length cells.new ≡ length cells.old }
 {
     cells[..start].reverse();
-}
-
-/// Whether each glyph id in the cells round a gap is at most 0xFFFF.
-#[tactic(auto, using(std::proofs::lemmas::List::take_rest))]
-fn cells_16(cells: &[hb_glyph_info_t], start: usize, end: usize) -> bool
-    requires ordered { start ≤ end }
-    requires in_cells { end ≤ length cells.now }
-    ensures { IsTrue result ↔ All Is16Bit (around_gap cells.now start end) }
-{
-    both_16(&cells[..start], &cells[end..])
-}
-
-fn both_16(front: &[hb_glyph_info_t], back: &[hb_glyph_info_t]) -> bool
-    ensures { IsTrue result ↔ All Is16Bit (front.now ++ back.now) }
-{
-    all_16(front) && all_16(back)
-}
-
-fn all_16(glyphs: &[hb_glyph_info_t]) -> bool
-    ensures { IsTrue result ↔ All Is16Bit glyphs.now }
-{
-    glyphs.iter().all(|glyph| glyph.glyph_id <= 0xFFFF)
 }

@@ -11,8 +11,9 @@ mod removal;
 pub mod worked;
 
 pub use aat_glyph::{
-    BufferError, BufferFlags, Direction, GlyphPosition, HB_BUFFER_CLUSTER_LEVEL_CHARACTERS,
-    HB_BUFFER_CLUSTER_LEVEL_MONOTONE_CHARACTERS, HB_BUFFER_CLUSTER_LEVEL_MONOTONE_GRAPHEMES,
-    ScratchFlags, UnicodeProps, glyph_flag, hb_glyph_info_t, hb_mask_t,
+    BufferError, BufferFlags, DELETED_GLYPH, Direction, GlyphPosition,
+    HB_BUFFER_CLUSTER_LEVEL_CHARACTERS, HB_BUFFER_CLUSTER_LEVEL_MONOTONE_CHARACTERS,
+    HB_BUFFER_CLUSTER_LEVEL_MONOTONE_GRAPHEMES, ScratchFlags, UnicodeProps, glyph_flag,
+    hb_glyph_info_t, hb_mask_t,
 };
 pub use buffer::hb_buffer_t;

@@ -44,7 +44,7 @@ impl<A: Allocator + Copy> hb_buffer_t<A> {
         let start = start.unwrap_or(0);
         let end = end.unwrap_or(len).min(len);
         if self.flags().contains(BufferFlags::PRODUCE_UNSAFE_TO_CONCAT) && start < end {
-            self.mark_concat_span(start, end);
+            self.change_span(start, end, |glyph| concat_marked_glyph(*glyph));
         }
     }
 
@@ -103,25 +103,7 @@ impl<A: Allocator + Copy> hb_buffer_t<A> {
         ensures count { length self.new.line ≡ length self.old.line }
     {
         let least = self.least_cluster(start, end);
-        self.mark_above(start, end, least);
-    }
-
-    fn mark_above(&mut self, start: usize, end: usize, least: u32)
-        requires ordered { start ≤ end }
-        requires in_line { end ≤ length self.old.line }
-        ensures after { self.new ≡ on_line_span (map (marked_above least 3)) start end self.old }
-        ensures count { length self.new.line ≡ length self.old.line }
-    {
         self.change_span(start, end, |glyph| break_marked_glyph(*glyph, least));
-    }
-
-    fn mark_concat_span(&mut self, start: usize, end: usize)
-        requires ordered { start ≤ end }
-        requires in_line { end ≤ length self.old.line }
-        ensures after { self.new ≡ on_line_span concat_marked start end self.old }
-        ensures count { length self.new.line ≡ length self.old.line }
-    {
-        self.change_span(start, end, |glyph| concat_marked_glyph(*glyph));
     }
 
     fn set_cluster(&mut self, start: usize, end: usize, cluster: u32)

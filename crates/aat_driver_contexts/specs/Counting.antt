@@ -9,9 +9,6 @@ use Rattle.aat_driver_contexts.specs.declared.counting.CountingCtx.{CountingCtx}
 abbrev pub Entry : Type 0
 Entry = GenericStateEntry ℕ
 
-abbrev pub IsFit : CountingCtx → ℕ → ℕ → Type 0
-IsFit r p n = Unit {0}
-
 abbrev pub actionable : Entry → CountingCtx → ℕ → ℕ → Bool
 actionable e r p n = is_present e.extra && nat_lt p n
 

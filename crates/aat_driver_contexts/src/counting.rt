@@ -13,10 +13,11 @@ pub struct CountingCtx {
 impl driver_context_t<u16> for CountingCtx {
     ghost use Rattle.std.specs.Prelude.{true};
     ghost use Rattle.aat_font.specs.Entries.{goes_on};
+    ghost use Rattle.aat_run.specs.Laws.{FitsAlways};
     ghost use Rattle.aat_driver_contexts.specs.Counting as c;
     ghost use Rattle.aat_driver_contexts.specs.facts.CountingHolds as laws;
 
-    ghost fits = { c.IsFit };
+    ghost fits = { FitsAlways };
 
     ghost stays_in_place = { true };
 

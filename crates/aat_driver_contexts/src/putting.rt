@@ -32,10 +32,11 @@ pub struct PuttingCtx {
 impl driver_context_t<u16> for PuttingCtx {
     ghost use Rattle.std.specs.Prelude.{false};
     ghost use Rattle.aat_font.specs.Entries.{goes_on};
+    ghost use Rattle.aat_run.specs.Laws.{FitsAlways};
     ghost use Rattle.aat_driver_contexts.specs.Putting as p;
     ghost use Rattle.aat_driver_contexts.specs.facts.PuttingHolds as laws;
 
-    ghost fits = { p.IsFit };
+    ghost fits = { FitsAlways };
 
     ghost stays_in_place = { false };
 

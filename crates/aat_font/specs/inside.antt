@@ -1,3 +1,4 @@
 pub mod Dense
+pub mod GlyphSpans
 pub mod Lefts
 pub mod Walks

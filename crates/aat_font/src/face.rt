@@ -1,14 +1,16 @@
 //! A font: its optional tables, and the classes and advances of its glyphs.
-ghost use Rattle.std.specs.Prelude.{◌≡◌, None, Some};
+ghost use Rattle.std.specs.Prelude.{◌≡◌, ◌≤◌, None, Some, length};
+ghost use Rattle.aat_font.specs.Chains.{subtable_count};
+ghost use Rattle.aat_font.specs.Face.{chains_in, kerx_in, kern_in};
 ghost use Rattle.aat_font.specs.Face.{tables_of, glyph_classes_of, advances_of, has_classes, props_of, advance_of};
 ghost use Rattle.aat_font.specs.Face.{value_or_zero};
 
 use crate::ankr::Ankr;
 use crate::feat::Feat;
-use crate::kern::Kern;
-use crate::kerx::Kerx;
+use crate::kern::{Kern, KernSubtable};
+use crate::kerx::{Kerx, KerxSubtable};
 use crate::lookup::Lookup;
-use crate::morx::Morx;
+use crate::morx::{Chain, Morx};
 use crate::plan::GlyphId;
 
 /// The tables of a font, each of which may be missing. By default all are.
@@ -114,6 +116,39 @@ impl hb_font_t {
         ensures { result.now ≡ tables_of self.now }
     {
         &self.tables
+    }
+
+    /// The chains of the font's extended glyph metamorphosis table, none where it has no such table.
+    pub fn chains(&self) -> &[Chain]
+        ensures listed { result.now ≡ chains_in (tables_of self.now).morx }
+        ensures few { subtable_count result.now ≤ 65535 }
+    {
+        match &self.tables.morx {
+            Some(morx) => morx.chains(),
+            None => &[],
+        }
+    }
+
+    /// The subtables of the font's extended kerning table, none where it has no such table.
+    pub fn kerx_subtables(&self) -> &[KerxSubtable]
+        ensures listed { result.now ≡ kerx_in (tables_of self.now).kerx }
+        ensures few { length result.now ≤ 65535 }
+    {
+        match &self.tables.kerx {
+            Some(kerx) => kerx.subtables(),
+            None => &[],
+        }
+    }
+
+    /// The subtables of the font's kerning table, none where it has no such table.
+    pub fn kern_subtables(&self) -> &[KernSubtable]
+        ensures listed { result.now ≡ kern_in (tables_of self.now).kern }
+        ensures few { length result.now ≤ 65535 }
+    {
+        match &self.tables.kern {
+            Some(kern) => kern.subtables(),
+            None => &[],
+        }
     }
 
     /// Whether the font has classes of glyphs.

@@ -2,7 +2,7 @@
 ghost use Rattle.std.specs.Prelude.{◌≡◌, ◌+◌, ◌*◌, ◌<◌, ◌≤◌, ℕ, IfOk, length, slice_range};
 ghost use Rattle.aat_font.specs.Keys.{IsRising};
 ghost use Rattle.aat_font.specs.Pairs.{key_of_pair, kerning_of};
-ghost use Rattle.aat_font.specs.inside.Lefts.{left_count, AreStarts, BeginAt, LeftsWithin};
+ghost use Rattle.aat_font.specs.inside.Lefts.{left_count, AreLeftStarts, BeginAt, LeftsWithin};
 
 use crate::keys::Keyed;
 use crate::walk::walk_to;
@@ -29,7 +29,7 @@ impl<A: Allocator> Lefts<A> {
     /// Where the pairs of each left glyph begin among rising pairs. Fails where the starts get no memory.
     pub(crate) fn over(alloc: A, pairs: &[(u16, u16, i16)]) -> Result<Lefts<A>, AllocError>
         requires { IsRising key_of_pair pairs.now }
-        ensures starts { IfOk result (λ lefts. AreStarts lefts.lowest lefts.starts.items pairs.now) }
+        ensures starts { IfOk result (λ lefts. AreLeftStarts lefts.lowest lefts.starts.items pairs.now) }
     {
         let (lowest, count) = lefts_of(pairs);
         let starts = starts_from(alloc, pairs, lowest, count)?;
@@ -44,7 +44,7 @@ impl<A: Allocator> Lefts<A> {
         left: u16,
     ) -> &'a [(u16, u16, i16)]
         requires rising { IsRising key_of_pair pairs.now }
-        requires starts { AreStarts self.now.lowest self.now.starts.items pairs.now }
+        requires starts { AreLeftStarts self.now.lowest self.now.starts.items pairs.now }
         ensures rising { IsRising key_of_pair result.now }
         ensures same { (right : ℕ) → right < 65536 → kerning_of result.now left right ≡ kerning_of pairs.now left right }
     {
@@ -61,7 +61,7 @@ fn pairs_from<'a>(
     left: u16,
 ) -> &'a [(u16, u16, i16)]
     requires rising { IsRising key_of_pair pairs.now }
-    requires starts { AreStarts lowest starts.now pairs.now }
+    requires starts { AreLeftStarts lowest starts.now pairs.now }
     ensures rising { IsRising key_of_pair result.now }
     ensures same { (right : ℕ) → right < 65536 → kerning_of result.now left right ≡ kerning_of pairs.now left right }
 {

@@ -25,13 +25,13 @@ impl<A: Allocator> Model for Pairs<A> {
     ghost use Rattle.std.specs.Prelude.{List, ℕ, ℤ};
     ghost use Rattle.aat_font.specs.Keys.{IsRising};
     ghost use Rattle.aat_font.specs.Pairs.{key_of_pair};
-    ghost use Rattle.aat_font.specs.inside.Lefts.{AreStarts};
+    ghost use Rattle.aat_font.specs.inside.Lefts.{AreLeftStarts};
 
     ghost Value = { List (ℕ × ℕ × ℤ) };
 
     ghost view = { λ m. m.pairs.items };
 
-    ghost invariant = { λ m. IsRising key_of_pair m.pairs.items × AreStarts m.lefts.lowest m.lefts.starts.items m.pairs.items };
+    ghost invariant = { λ m. IsRising key_of_pair m.pairs.items × AreLeftStarts m.lefts.lowest m.lefts.starts.items m.pairs.items };
 }
 
 impl<A: Allocator + Copy> Pairs<A> {

@@ -23,6 +23,10 @@ pub mod glyph_flag {
     pub const DEFINED: hb_mask_t = 7;
 }
 
+/// The glyph id of a glyph that shaping has deleted. (TrueType Reference Manual, The 'morx' table: the deleted
+/// glyph index.)
+pub const DELETED_GLYPH: u32 = 0xFFFF;
+
 /// Merges apply, and a cluster is a grapheme.
 pub const HB_BUFFER_CLUSTER_LEVEL_MONOTONE_GRAPHEMES: u8 = 0;
 

@@ -9,7 +9,7 @@ mod glyph;
 pub use error::BufferError;
 pub use flags::{BufferFlags, ScratchFlags, UnicodeProps};
 pub use glyph::{
-    Direction, GlyphPosition, HB_BUFFER_CLUSTER_LEVEL_CHARACTERS,
+    DELETED_GLYPH, Direction, GlyphPosition, HB_BUFFER_CLUSTER_LEVEL_CHARACTERS,
     HB_BUFFER_CLUSTER_LEVEL_MONOTONE_CHARACTERS, HB_BUFFER_CLUSTER_LEVEL_MONOTONE_GRAPHEMES,
     glyph_flag, hb_glyph_info_t, hb_mask_t,
 };

@@ -55,20 +55,10 @@ pub fn inspect(
 {
     let map = map_of(alloc, face, features)?;
     let mut ranges = Vec::new(alloc);
-    for (place, chain) in chains_of(face).iter().enumerate() {
+    for (place, chain) in face.chains().iter().enumerate() {
         add_chain(alloc, place, chain, map.ranges(place), &mut ranges)?;
     }
     Ok(ranges)
-}
-
-/// The chains of a font, none where it has no table.
-fn chains_of(face: &hb_font_t) -> &[Chain]
-    ensures { result.now ≡ chains_in (tables_of face.now).morx }
-{
-    match &face.tables().morx {
-        Some(morx) => morx.chains(),
-        None => &[],
-    }
 }
 
 /// The map that features make of a font.

@@ -172,7 +172,7 @@ module _ {X : Type 0} (kerning : X → Kerning) (requested : Bool) (great : ℕ)
         → Now (in_processing_order whole) (in_processing_order first) (in_processing_order second)
         → IsMarkedLine line (in_processing_order whole).line
         → IsUnflaggedAt q (ordered_line (positioning requested (map kerning ks) whole).buffer)
-        → IsKernedInParts (positioning requested (map kerning ks)) whole first second
+        → IsKernedInParts (positioning requested (map kerning ks)) (positioning requested (map kerning ks) whole).buffer first second
     unfolding positioning
     positioned_apart q line ks b whole first second turned alone is_great apart now marked none =
         let end : Buffer → Positioned = λ d. fold (λ s k. positioned requested k s) (record { buffer = in_processing_order d; turns = 0; is_attached = false }) (map kerning ks) in

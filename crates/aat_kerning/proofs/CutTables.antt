@@ -118,7 +118,8 @@ module _ (requested : Bool) (kern_mask q : ℕ) (b first second : Buffer) (Now :
       → IsCutPlace kerx_skips q (kerx_positioning requested kern_mask points subtables b).buffer → Keeps kerx_skips
       → Now (in_processing_order (unsafe_to_concat b None None))
       (in_processing_order (unsafe_to_concat first None None)) (in_processing_order (unsafe_to_concat second None None))
-      → IsKernedInParts (kerx_positioning requested kern_mask points subtables) b first second
+      → IsKernedInParts (kerx_positioning requested kern_mask points subtables)
+      (kerx_positioning requested kern_mask points subtables b).buffer first second
   unfolding kerx_positioning
   kerx_parted points subtables alone place keeps now =
       let line = ordered_line b in
@@ -136,7 +137,8 @@ module _ (requested : Bool) (kern_mask q : ℕ) (b first second : Buffer) (Now :
       (subtables : List KernSubtable) → PairsAlone (map (kern_kerning kern_mask) subtables) b
       → IsCutPlace kern_skips q (kern_positioning requested kern_mask subtables b).buffer → Keeps kern_skips
       → Now (in_processing_order b) (in_processing_order first) (in_processing_order second)
-      → IsKernedInParts (kern_positioning requested kern_mask subtables) b first second
+      → IsKernedInParts (kern_positioning requested kern_mask subtables)
+      (kern_positioning requested kern_mask subtables b).buffer first second
   unfolding kern_positioning
   kern_parted subtables alone place keeps now =
       let line = ordered_line b in

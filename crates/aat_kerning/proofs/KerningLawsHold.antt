@@ -19,13 +19,15 @@ use Rattle.aat_font.specs.declared.kerx.KerxSubtable.{KerxSubtable}
 use Rattle.aat_font.specs.AnchorPoints.{Points}
 use Rattle.aat_run.specs.Budget.{operations_left}
 use Rattle.aat_run.specs.Context.{start}
+use Rattle.aat_run.specs.Laws.{FitsAlways}
 use Rattle.aat_run.specs.Outcome.{Outcome, untouched}
 use Rattle.aat_kerning_machines.specs.Anchors.{anchor_driver, IsFit}
-use Rattle.aat_kerning_machines.specs.KerningLaws.{IsLawfulDriver, KerningRunsEnd, IsMarkedFrom, IsKernedFrom}
+use Rattle.aat_run.specs.Laws.{RunsEnd}
+use Rattle.aat_kerning_machines.specs.KerningLaws.{IsLawfulDriver, IsMarkedFrom, IsKernedFrom}
 use Rattle.aat_kerning.specs.KerningLawful.{DriversAreLawful, IsPaidBeyond, KerningIsBounded, KerningChangesLittle}
-use Rattle.aat_kerning_machines.specs.KerningMachine.{Driver, driver_run, kerning_machine_of, kerning_whole}
+use Rattle.aat_kerning_machines.specs.KerningMachine.{Driver, driver_run, kerning_machine_of, kerning_turn, kerning_whole}
 use Rattle.aat_kerning.specs.Positioning.{Kerning, Positioned, positioned, positioning, cursively_attached, in_processing_order, is_for_text, kerx_run, kern_run, kerx_kerning, kern_kerning, kerx_positioning, kern_positioning}
-use Rattle.aat_kerning_machines.specs.Stack.{FitsAlways, kerx_driver, kern_driver}
+use Rattle.aat_kerning_machines.specs.Stack.{kerx_driver, kern_driver}
 use Rattle.aat_kerning_machines.specs.facts.AnchorLaws.{anchors_are_lawful}
 use Rattle.aat_kerning_machines.specs.facts.StackLaws.{kerx_is_lawful, kern_is_lawful}
 use Rattle.aat_kerning.proofs.Changes.{IsKernedInside, inside, inside_twice, kerned_twice, same, of_break, of_place, of_cursor, of_payment, of_pair_kerning, of_marked, of_attachment, in_order}
@@ -74,7 +76,7 @@ module _ {T R : Type 0} (pays_first : Bool) (x : Driver R (GenericStateEntry T))
       }
 
   always_ends :
-      (table : TableValue (GenericStateEntry T)) → KerningRunsEnd (kerning_machine_of pays_first table x) fits
+      (table : TableValue (GenericStateEntry T)) → RunsEnd (kerning_turn (kerning_machine_of pays_first table x)) fits
   always_ends table =
       runs_end (kerning_machine_of pays_first table x) fits laws.keeps_place laws.keeps_fit laws.passes_fit
 

@@ -4,7 +4,7 @@ use Rattle.std.specs.Int.{int_wrap}
 use Rattle.aat_buffer.specs.Marks.{merged}
 use Rattle.aat_buffer.specs.Removal.{removal, cluster_kept_line, lowered_run}
 use Rattle.aat_kerning_machines.specs.Anchors.{anchor_act}
-use Rattle.aat_kerning_machines.specs.KerningMachine.{driver_run, kerning_marked, kerning_settled, kerning_acted, looked_ahead, kerning_by_entry, kerning_turn, kerning_whole}
+use Rattle.aat_kerning_machines.specs.KerningMachine.{driver_run, kerning_marked, kerning_acted, looked_ahead, kerning_by_entry, kerning_turn, kerning_whole}
 use Rattle.aat_kerning.specs.KerningRows.{KerningRows}
 use Rattle.aat_kerning.specs.KerningExamples.{PairExamples, CutExamples, MachineExamples, StackExamples, AnchorExamples, PositioningExamples, KerningExamples}
 use Rattle.aat_run.specs.Machine.{run}
@@ -14,7 +14,7 @@ use Rattle.aat_kerning.specs.Positioning.{positioned, positioning, kerx_position
 use Rattle.aat_kerning_machines.specs.Stack.{popped, kerx_act, kern_act}
 
 pub kerning_rows : KerningRows
-unfolding int_wrap merged removal cluster_kept_line lowered_run anchor_act kerning_marked kerning_settled kerning_acted looked_ahead kerning_by_entry kerning_turn kerning_whole run kerned pair_kerning pairs_of driver_run positioned positioning kerx_positioning kern_positioning popped kerx_act kern_act
+unfolding int_wrap merged removal cluster_kept_line lowered_run anchor_act kerning_marked kerning_acted looked_ahead kerning_by_entry kerning_turn kerning_whole run kerned pair_kerning pairs_of driver_run positioned positioning kerx_positioning kern_positioning popped kerx_act kern_act
 kerning_rows = record {
   row_15a = refl;
   row_15b = refl;
@@ -38,7 +38,7 @@ kerning_rows = record {
 }
 
 pair_examples : PairExamples
-unfolding int_wrap merged removal cluster_kept_line lowered_run anchor_act kerning_marked kerning_settled kerning_acted looked_ahead kerning_by_entry kerning_turn kerning_whole run kerned pair_kerning pairs_of driver_run positioned positioning kerx_positioning kern_positioning popped kerx_act kern_act
+unfolding int_wrap merged removal cluster_kept_line lowered_run anchor_act kerning_marked kerning_acted looked_ahead kerning_by_entry kerning_turn kerning_whole run kerned pair_kerning pairs_of driver_run positioned positioning kerx_positioning kern_positioning popped kerx_act kern_act
 pair_examples = record {
   kern_stops_at_base = refl;
   kerx_skips_base = refl;
@@ -57,7 +57,7 @@ pair_examples = record {
 }
 
 machine_examples : MachineExamples
-unfolding int_wrap merged removal cluster_kept_line lowered_run anchor_act kerning_marked kerning_settled kerning_acted looked_ahead kerning_by_entry kerning_turn kerning_whole run kerned pair_kerning pairs_of driver_run positioned positioning kerx_positioning kern_positioning popped kerx_act kern_act
+unfolding int_wrap merged removal cluster_kept_line lowered_run anchor_act kerning_marked kerning_acted looked_ahead kerning_by_entry kerning_turn kerning_whole run kerned pair_kerning pairs_of driver_run positioned positioning kerx_positioning kern_positioning popped kerx_act kern_act
 machine_examples = record {
   unsafe_advancing = refl;
   unsafe_going_on = refl;
@@ -70,7 +70,7 @@ machine_examples = record {
 }
 
 stack_examples : StackExamples
-unfolding int_wrap merged removal cluster_kept_line lowered_run anchor_act kerning_marked kerning_settled kerning_acted looked_ahead kerning_by_entry kerning_turn kerning_whole run kerned pair_kerning pairs_of driver_run positioned positioning kerx_positioning kern_positioning popped kerx_act kern_act
+unfolding int_wrap merged removal cluster_kept_line lowered_run anchor_act kerning_marked kerning_acted looked_ahead kerning_by_entry kerning_turn kerning_whole run kerned pair_kerning pairs_of driver_run positioned positioning kerx_positioning kern_positioning popped kerx_act kern_act
 stack_examples = record {
   odd_ends = refl;
   odd_beyond = refl;
@@ -91,7 +91,7 @@ stack_examples = record {
 }
 
 anchor_examples : AnchorExamples
-unfolding int_wrap merged removal cluster_kept_line lowered_run anchor_act kerning_marked kerning_settled kerning_acted looked_ahead kerning_by_entry kerning_turn kerning_whole run kerned pair_kerning pairs_of driver_run positioned positioning kerx_positioning kern_positioning popped kerx_act kern_act
+unfolding int_wrap merged removal cluster_kept_line lowered_run anchor_act kerning_marked kerning_acted looked_ahead kerning_by_entry kerning_turn kerning_whole run kerned pair_kerning pairs_of driver_run positioned positioning kerx_positioning kern_positioning popped kerx_act kern_act
 anchor_examples = record {
   no_points = refl;
   mark_moves = refl;
@@ -100,7 +100,7 @@ anchor_examples = record {
 }
 
 positioning_examples : PositioningExamples
-unfolding int_wrap merged removal cluster_kept_line lowered_run anchor_act kerning_marked kerning_settled kerning_acted looked_ahead kerning_by_entry kerning_turn kerning_whole run kerned pair_kerning pairs_of driver_run positioned positioning kerx_positioning kern_positioning popped kerx_act kern_act
+unfolding int_wrap merged removal cluster_kept_line lowered_run anchor_act kerning_marked kerning_acted looked_ahead kerning_by_entry kerning_turn kerning_whole run kerned pair_kerning pairs_of driver_run positioned positioning kerx_positioning kern_positioning popped kerx_act kern_act
 positioning_examples = record {
   variable_is_passed = refl;
   vertical_is_passed = refl;
@@ -118,7 +118,7 @@ positioning_examples = record {
 }
 
 cut_examples : CutExamples
-unfolding int_wrap merged removal cluster_kept_line lowered_run anchor_act kerning_marked kerning_settled kerning_acted looked_ahead kerning_by_entry kerning_turn kerning_whole run kerned pair_kerning pairs_of driver_run positioned positioning kerx_positioning kern_positioning popped kerx_act kern_act
+unfolding int_wrap merged removal cluster_kept_line lowered_run anchor_act kerning_marked kerning_acted looked_ahead kerning_by_entry kerning_turn kerning_whole run kerned pair_kerning pairs_of driver_run positioned positioning kerx_positioning kern_positioning popped kerx_act kern_act
 cut_examples = record {
   falling_place = record {
     behind_first = omega arith;
@@ -138,8 +138,8 @@ cut_examples = record {
   within_cluster = refl;
   before_skipped = refl;
   from_skipped = refl;
-  without_marks = refl;
-  with_marks = refl;
+  mask_unasked = refl;
+  mask_asked = refl;
   machine_alone = refl;
 }
 

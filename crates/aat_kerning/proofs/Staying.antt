@@ -9,10 +9,11 @@ use Rattle.aat_font.specs.declared.kern.KernSubtable.{KernSubtable}
 use Rattle.aat_font.specs.declared.kerx.KerxFormat.{KerxFormat}
 use Rattle.aat_font.specs.declared.kerx.KerxFormat.TheVariants.{Format0, Format1, Format2, Format4, Format6}
 use Rattle.aat_font.specs.declared.kerx.KerxSubtable.{KerxSubtable}
+use Rattle.aat_run.specs.Laws.{FitsAlways}
 use Rattle.aat_kerning.specs.KerningLawful.{KernKindPaysForStaying, KernPaysForStaying, KerxFormatPaysForStaying, KerxPaysForStaying, StayingIsPaid}
 use Rattle.aat_kerning_machines.specs.Anchors.{anchor_driver, IsFit}
 use Rattle.aat_kerning_machines.specs.KerningMachine.{kerning_machine_of}
-use Rattle.aat_kerning_machines.specs.Stack.{FitsAlways, kerx_driver, kern_driver}
+use Rattle.aat_kerning_machines.specs.Stack.{kerx_driver, kern_driver}
 use Rattle.aat_kerning_machines.specs.facts.AnchorLaws.{anchors_are_lawful}
 use Rattle.aat_kerning_machines.specs.facts.KerningPayments.{pays_for_staying}
 use Rattle.aat_kerning_machines.specs.facts.StackLaws.{kerx_is_lawful, kern_is_lawful}

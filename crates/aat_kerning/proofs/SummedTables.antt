@@ -193,7 +193,7 @@ module _ {X : Type 0} (kerning : X → Kerning) (values_of : X → List (ℕ × 
         by_test true inside same =
             let is = each inside in
             subst (λ (t : Bool). IsSummed way glyphs start (v +ℤ cond t (all_of x) (pos 0)) (positioned true (kerning x) s).buffer) (sym inside)
-            (subst (IsSummed way glyphs start (v +ℤ all_of x)) (sym (run_alone (kerning x) s is.along (same ∙ inside))) (runs x v s.buffer is now))
+            (subst (IsSummed way glyphs start (v +ℤ all_of x)) (sym (run_alone (kerning x) s is.in_stream (same ∙ inside))) (runs x v s.buffer is now))
         by_test false outside same =
             subst (λ (t : Bool). IsSummed way glyphs start (v +ℤ cond t (all_of x) (pos 0)) (positioned true (kerning x) s).buffer) (sym outside)
             (subst (λ (w : ℤ). IsSummed way glyphs start w (positioned true (kerning x) s).buffer) (no_more v)
@@ -274,11 +274,11 @@ kerx_sums requested kern_mask points subtables b asked free placed fits each =
     let glyphs = ordered_line b in
     let start = all_advances (is_horizontal way) (position_list b) in
     positioned_sum (kerx_kerning kern_mask points) (λ (s : KerxSubtable). kerx_values s.format) kerx_skips kern_mask way glyphs start
-    (λ x v d is. kerx_run_summed kern_mask free way glyphs start points x.has_cross_stream x.tuple_count x.format v d is.pairs is.along is.small)
+    (λ x v d is. kerx_run_summed kern_mask free way glyphs start points x.has_cross_stream x.tuple_count x.format v d is.pairs is.in_stream is.small)
     subtables requested (unsafe_to_concat b None None) asked
     (All-weaker (λ (x : KerxSubtable). is_for_text (kerx_kerning kern_mask None x) b ≡ true → IsInStream (kerx_kerning kern_mask None x) (kerx_values x.format))
     (λ x. is_for_text (kerx_kerning kern_mask points x) b ≡ true → IsInStream (kerx_kerning kern_mask points x) (kerx_values x.format))
-    (λ x so for. let is = so for in record { pairs = is.pairs; along = is.along; small = is.small }) subtables each)
+    (λ x so for. let is = so for in record { pairs = is.pairs; in_stream = is.in_stream; small = is.small }) subtables each)
     (at_start b (unsafe_to_concat b None None) (ordered_kept b (unsafe_to_concat b None None) (of_concat b None None)) (ordered_places b) refl placed fits)
 
 pub kern_sums :
@@ -290,6 +290,6 @@ kern_sums requested kern_mask subtables b asked free placed fits each =
     let glyphs = ordered_line b in
     let start = all_advances (is_horizontal way) (position_list b) in
     positioned_sum (kern_kerning kern_mask) (λ (s : KernSubtable). kern_values s.kind) kern_skips kern_mask way glyphs start
-    (λ x v d is. kern_run_summed kern_mask free way glyphs start x.has_cross_stream x.kind v d is.pairs is.along is.small)
+    (λ x v d is. kern_run_summed kern_mask free way glyphs start x.has_cross_stream x.kind v d is.pairs is.in_stream is.small)
     subtables requested b asked each
     (at_start b b (line_same glyphs) refl refl placed fits)

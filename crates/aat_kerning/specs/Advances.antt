@@ -58,7 +58,7 @@ kern_values (kind.Machine s) = []
 -- a subtable of pairs in the stream, whose values have 16 bits
 pub record IsInStream (k : Kerning) (values : List (ℕ × ℕ × ℤ)) : Type 0 where
   pub pairs : k.is_pairs ≡ true
-  pub along : k.has_cross_stream ≡ false
+  pub in_stream : k.has_cross_stream ≡ false
   pub small : All (λ v. FitsSigned w16 v.2) values
 
 -- the sum of the values of the pairs of a line, in processing order, by a subtable that is for its text, and else 0

@@ -52,11 +52,11 @@ pub record AreParts (q : ℕ) (b first second : Buffer) : Type 0 where
 abbrev pub PairsAlone : List Kerning → Buffer → Type 0
 PairsAlone ks b = All (λ k. is_for_text k b ≡ true → k.is_pairs ≡ true) ks
 
--- what a kerning leaves of the positions, in processing order, is what it leaves of those of the first part, and then
--- of those of the second
+-- the positions that were left of a line, in processing order, are those that a kerning leaves of the first part, and
+-- then those that it leaves of the second
 abbrev pub IsKernedInParts : (Buffer → Outcome) → Buffer → Buffer → Buffer → Type 0
-IsKernedInParts kern b first second =
-    ordered_positions (kern b).buffer ≡ ordered_positions (kern first).buffer ++ ordered_positions (kern second).buffer
+IsKernedInParts kern left first second =
+    ordered_positions left ≡ ordered_positions (kern first).buffer ++ ordered_positions (kern second).buffer
 
 -- the parts ask for the marks that the whole asks for
 pub record HaveFlagsOf (b first second : Buffer) : Type 0 where
@@ -74,8 +74,7 @@ abbrev pub IsLeftOfAll :
     (ℕ → Buffer → Buffer → Buffer → Type 0) → ℕ → List Kerning → (Buffer → Outcome) → Buffer → Buffer → Type 0
 IsLeftOfAll AreThese skips ks kern b left =
     (q : ℕ) (first second : Buffer)
-    → PairsAlone ks b → IsCutPlace skips q left → AreThese q b first second
-    → ordered_positions left ≡ ordered_positions (kern first).buffer ++ ordered_positions (kern second).buffer
+    → PairsAlone ks b → IsCutPlace skips q left → AreThese q b first second → IsKernedInParts kern left first second
 
 -- of parts with any buffer flags
 abbrev pub IsLeftOfParts : ℕ → List Kerning → (Buffer → Outcome) → Buffer → Buffer → Type 0

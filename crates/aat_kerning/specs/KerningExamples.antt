@@ -177,8 +177,8 @@ pub record MachineExamples : Type 0 where
       ≡ record (shows_positions (asking_from 0 (1 ∷ [])) (untouched_position ∷ [])) { turns = 3; budget = negsuc 0 }
 
 -- a `kerx` stack subtable with values, so many tuples, and rules
-abbrev pub kerx_values : List (ℕ × ℕ × GenericStateEntry EntryData) → ℕ → List ℤ → KerxSubtable
-kerx_values rules tuples values =
+abbrev pub stack_with_tuples : List (ℕ × ℕ × GenericStateEntry EntryData) → ℕ → List ℤ → KerxSubtable
+stack_with_tuples rules tuples values =
     record (kerx_subtable (stack_of_kerx (kerx_rules rules) values)) { tuple_count = tuples }
 
 -- rules that push 1, and take values at 2 from an index, by an entry with flags
@@ -187,7 +187,7 @@ taking flags index = (0, 4, entry 0 0x8000 no_action) ∷ (0, 5, entry 0 flags (
 
 -- a `kerx` machine that pushes 1 and 2 and takes values across the stream
 abbrev pub stack_across : List ℤ → KerxSubtable
-stack_across values = record (kerx_values (taking 0x8000 0) 1 values) { has_cross_stream = true }
+stack_across values = record (stack_with_tuples (taking 0x8000 0) 1 values) { has_cross_stream = true }
 
 -- a `kern` machine that pushes 1 and 2 and takes values, for vertical text
 abbrev pub vertical_stack : Bool → List ℤ → KernSubtable
@@ -225,18 +225,18 @@ pub record StackExamples : Type 0 where
       ≡ shows_three_turns (glyph 1 0 8 ∷ glyph 2 1 0 ∷ []) (along_x (pos 510) (pos 10) ∷ untouched_position ∷ [])
   -- 0x2000 empties the stack before the push
   pub reset :
-      by_kerx None (kerx_values (taking 0xA000 0) 1 (pos 20 ∷ pos 10 ∷ []) ∷ []) in_a_row
+      by_kerx None (stack_with_tuples (taking 0xA000 0) 1 (pos 20 ∷ pos 10 ∷ []) ∷ []) in_a_row
       ≡ shows_three_turns two_glyphs (untouched_position ∷ along_x (pos 520) (pos 20) ∷ [])
   -- a missing value ends the action
   pub kerx_missing :
-      by_kerx None (kerx_values (taking 0x8000 0) 1 (pos 20 ∷ []) ∷ []) in_a_row
+      by_kerx None (stack_with_tuples (taking 0x8000 0) 1 (pos 20 ∷ []) ∷ []) in_a_row
       ≡ shows_three_turns two_glyphs (untouched_position ∷ along_x (pos 520) (pos 20) ∷ [])
   -- a next index of 65535 is not too large, and one of 65536 is
   pub next_index_fits :
-      by_kerx None (kerx_values (taking 0x8000 0) 65535 (pos 20 ∷ pos 30 ∷ []) ∷ []) in_a_row
+      by_kerx None (stack_with_tuples (taking 0x8000 0) 65535 (pos 20 ∷ pos 30 ∷ []) ∷ []) in_a_row
       ≡ shows_three_turns two_glyphs (untouched_position ∷ along_x (pos 520) (pos 20) ∷ [])
   pub next_index_too_large :
-      by_kerx None (kerx_values (taking 0x8000 1) 65535 (pos 20 ∷ pos 30 ∷ []) ∷ []) in_a_row
+      by_kerx None (stack_with_tuples (taking 0x8000 1) 65535 (pos 20 ∷ pos 30 ∷ []) ∷ []) in_a_row
       ≡ shows_three_turns two_glyphs two_untouched
   -- in `kern` a missing first value clears the stack
   pub kern_missing_first :
@@ -411,7 +411,8 @@ pub record CutExamples : Type 0 where
   pub falling_parts : AreParts 1 three_backward (backward_line 2 (3 ∷ [])) (backward_line 0 (1 ∷ 2 ∷ []))
   pub falling_flagged : bit_and (glyph_at (ordered_line (backward_pair three_backward).buffer) 1).mask 1 ≡ 1
   pub falling_cut :
-      IsKernedInParts backward_pair three_backward (backward_line 2 (3 ∷ [])) (backward_line 0 (1 ∷ 2 ∷ []))
+      IsKernedInParts backward_pair (backward_pair three_backward).buffer (backward_line 2 (3 ∷ []))
+      (backward_line 0 (1 ∷ 2 ∷ []))
   -- cut between 2 and 1 the parts, of one glyph each, stay: 1 is unflagged, but 2, of the greater cluster, is not
   pub greater_flagged :
       printed_kerning (backward_pair (backward_line 0 (1 ∷ 2 ∷ [])))
@@ -432,10 +433,10 @@ pub record CutExamples : Type 0 where
       ≡ shows_positions (skipped_mark 3 1 8 ∷ glyph 2 2 11 ∷ [])
       (along_x (pos 487) (pos 0) ∷ along_x (pos 488) (negsuc 11) ∷ [])
   -- by a kern mask of UNSAFE_TO_CONCAT (2) a line pairs where its buffer asks for that mark, and else it does not
-  pub without_marks :
+  pub mask_unasked :
       printed_kerning (kern_positioning true 2 (kern_subtable (pairs_of_kern (one_pair (negsuc 24))) ∷ []) in_a_row)
       ≡ shows_positions two_glyphs two_untouched
-  pub with_marks :
+  pub mask_asked :
       printed_kerning
       (kern_positioning true 2 (kern_subtable (pairs_of_kern (one_pair (negsuc 24))) ∷ []) asking_for_concat)
       ≡ shows_positions (glyph 1 0 10 ∷ glyph 2 1 11 ∷ [])

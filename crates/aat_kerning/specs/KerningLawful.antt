@@ -13,12 +13,13 @@ use Rattle.aat_font.specs.declared.kerx.KerxFormat.TheVariants.{Format0, Format1
 use Rattle.aat_font.specs.declared.kerx.KerxSubtable.{KerxSubtable}
 use Rattle.aat_font.specs.declared.state_table.GenericStateEntry.{GenericStateEntry}
 use Rattle.aat_run.specs.Budget.{operations_left}
+use Rattle.aat_run.specs.Laws.{FitsAlways, RunsEnd}
 use Rattle.aat_run.specs.Outcome.{Outcome}
 use Rattle.aat_kerning_machines.specs.Anchors.{anchor_driver, IsFit}
-use Rattle.aat_kerning_machines.specs.KerningLaws.{IsLawfulDriver, KerningRunsEnd, PaysForStaying, IsKernedFrom}
-use Rattle.aat_kerning_machines.specs.KerningMachine.{kerning_machine_of}
+use Rattle.aat_kerning_machines.specs.KerningLaws.{IsLawfulDriver, PaysForStaying, IsKernedFrom}
+use Rattle.aat_kerning_machines.specs.KerningMachine.{kerning_machine_of, kerning_turn}
 use Rattle.aat_kerning.specs.Positioning.{kerx_positioning, kern_positioning}
-use Rattle.aat_kerning_machines.specs.Stack.{FitsAlways, kerx_driver, kern_driver}
+use Rattle.aat_kerning_machines.specs.Stack.{kerx_driver, kern_driver}
 
 -- fresh registers fit, passing and acting keep the fit, and an act changes positions and a scratch flag alone
 pub record DriversAreLawful : Type 0 where
@@ -45,13 +46,14 @@ pub record KerningIsBounded : Type 0 where
       → IsPaidBeyond (length subtables * (length b.line + 1)) b (kern_positioning requested kern_mask subtables b)
   pub kerx_stack_ends :
       (table : TableValue (GenericStateEntry EntryData)) (is_cross : Bool) (kern_mask tuple_count : ℕ) (values : List ℤ)
-      → KerningRunsEnd (kerning_machine_of false table (kerx_driver is_cross kern_mask tuple_count values)) FitsAlways
+      → RunsEnd (kerning_turn (kerning_machine_of false table (kerx_driver is_cross kern_mask tuple_count values)))
+      FitsAlways
   pub kern_stack_ends :
       (table : TableValue (GenericStateEntry KernEntryData)) (is_cross : Bool) (kern_mask : ℕ) (values : List ℤ)
-      → KerningRunsEnd (kerning_machine_of true table (kern_driver is_cross kern_mask values)) FitsAlways
+      → RunsEnd (kerning_turn (kerning_machine_of true table (kern_driver is_cross kern_mask values))) FitsAlways
   pub anchors_end :
       (table : TableValue (GenericStateEntry EntryData)) (points : Option Points) (pairs : List (ℕ × ℕ))
-      → KerningRunsEnd (kerning_machine_of false table (anchor_driver points pairs)) IsFit
+      → RunsEnd (kerning_turn (kerning_machine_of false table (anchor_driver points pairs))) IsFit
 
 -- a turn of a machine that stays has been paid for
 pub record StayingIsPaid : Type 0 where

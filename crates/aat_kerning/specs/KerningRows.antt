@@ -5,7 +5,7 @@ use Rattle.aat_glyph.specs.declared.glyph.hb_glyph_info_t.{hb_glyph_info_t}
 use Rattle.aat_glyph.specs.declared.glyph.GlyphPosition.{GlyphPosition}
 use Rattle.aat_glyph.specs.declared.glyph.Direction.TheVariants.{LeftToRight, RightToLeft}
 use Rattle.aat_font.specs.AnchorPoints.{Points}
-use Rattle.aat_run.specs.Rows.{glyph, buffer_of, many}
+use Rattle.aat_run.specs.Rows.{glyph, buffer_with, many}
 use Rattle.aat_font.specs.declared.kerx.KerxFormat.TheVariants.{Format0}
 use Rattle.aat_kerning.specs.Positioning.{kerx_positioning, kern_positioning}
 use Rattle.aat_kerning_machines.specs.Positions.{attached_as}
@@ -43,7 +43,7 @@ two_points = (1, record { x = pos 100; y = pos 200 } ∷ []) ∷ (2, record { x 
 
 -- a line without its deleted glyphs
 abbrev pub line_without_deleted : List hb_glyph_info_t → List hb_glyph_info_t
-line_without_deleted line = (removed is_deleted (buffer_of line many)).line
+line_without_deleted line = (removed is_deleted (buffer_with line many)).line
 
 -- the rows that the program prints, with what a test sees of attachments and scratch flags
 pub record KerningRows : Type 0 where
@@ -53,7 +53,7 @@ pub record KerningRows : Type 0 where
   -- a mark in between is skipped; it has an advance of 0
   pub row_15b :
       by_kern (kern_subtable (pairs_of_kern ((1, 2, negsuc 24) ∷ [])) ∷ [])
-      (record (buffer_of (glyph 1 0 8 ∷ skipped_mark 3 1 8 ∷ glyph 2 2 8 ∷ []) many) {
+      (record (buffer_with (glyph 1 0 8 ∷ skipped_mark 3 1 8 ∷ glyph 2 2 8 ∷ []) many) {
         positions = Some (untouched_position ∷ along_x (pos 0) (pos 0) ∷ untouched_position ∷ []);
       })
       ≡ shows_positions (glyph 1 0 8 ∷ skipped_mark 3 1 11 ∷ glyph 2 2 11 ∷ [])
@@ -88,7 +88,7 @@ pub record KerningRows : Type 0 where
         budget = pos 16375;
       }
   pub row_19a :
-      (zeroed (record (buffer_of (glyph 5 0 0 ∷ glyph 65535 1 0 ∷ []) many) {
+      (zeroed (record (buffer_with (glyph 5 0 0 ∷ glyph 65535 1 0 ∷ []) many) {
         positions = Some (replicate 2 (along_x (pos 300) (pos 0)));
       })).positions
       ≡ Some (along_x (pos 300) (pos 0) ∷ along_x (pos 0) (pos 0) ∷ [])
@@ -98,7 +98,7 @@ pub record KerningRows : Type 0 where
   -- sums wrap
   pub row_20 :
       by_kern (kern_subtable (pairs_of_kern ((1, 2, pos 3) ∷ [])) ∷ [])
-      (record (buffer_of two_glyphs many) {
+      (record (buffer_with two_glyphs many) {
         positions = Some (along_x (pos 2147483647) (pos 0) ∷ untouched_position ∷ []);
       })
       ≡ shows_positions two_glyphs_marked (along_x (negsuc 2147483647) (pos 0) ∷ along_x (pos 502) (pos 2) ∷ [])

@@ -16,7 +16,7 @@ use Rattle.aat_font.specs.declared.kerx.KerxFormat.TheVariants.{Format1, Format4
 use Rattle.aat_font.specs.declared.kerx.KerxSubtable.{KerxSubtable}
 use Rattle.aat_font.specs.AnchorPoints.{Points}
 use Rattle.aat_run.specs.Outcome.{Outcome}
-use Rattle.aat_run.specs.Rows.{glyph, entry, table, buffer_of, many}
+use Rattle.aat_run.specs.Rows.{glyph, entry, table, buffer_with, many}
 use Rattle.aat_kerning.specs.Positioning.{kerx_positioning, kern_positioning}
 
 -- a position by its numbers, without an attachment
@@ -81,7 +81,7 @@ two_glyphs_marked = glyph 1 0 8 ∷ glyph 2 1 11 ∷ []
 -- a buffer with advances of 500
 abbrev pub buffer_with_advances : Direction → ℤ → List hb_glyph_info_t → Buffer
 buffer_with_advances direction budget line =
-    record (buffer_of line budget) { direction = direction; positions = Some (map (λ g. untouched_position) line) }
+    record (buffer_with line budget) { direction = direction; positions = Some (map (λ g. untouched_position) line) }
 
 -- the pairs of a `kern` subtable
 abbrev pub pairs_of_kern : List (ℕ × ℕ × ℤ) → KernKind

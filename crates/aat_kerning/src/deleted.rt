@@ -1,15 +1,11 @@
 //! Deleted glyphs: they take no room, or they go.
-ghost use Rattle.std.specs.Prelude.{◌≡◌, ◌≢◌, ◌==◌, All, filter, length, not};
+ghost use Rattle.std.specs.Prelude.{◌≡◌, ◌==◌, filter, length, not};
 ghost use Rattle.aat_buffer.specs.Clusters.{ids};
-ghost use Rattle.aat_buffer.specs.Removal.{is_deleted, removed};
+ghost use Rattle.aat_buffer.specs.Removal.{HasNoneDeleted, deleted_glyph, is_deleted, removed};
 ghost use Rattle.aat_kerning.specs.Zeroing.{zeroed, zeroed_position, zeroed_positions};
 
-use aat_buffer::{GlyphPosition, hb_buffer_t, hb_glyph_info_t};
+use aat_buffer::{DELETED_GLYPH, GlyphPosition, hb_buffer_t, hb_glyph_info_t};
 use std::alloc::Allocator;
-
-/// The glyph id of a glyph that shaping has deleted. (TrueType Reference Manual, The 'morx' table: the deleted
-/// glyph index.)
-pub const DELETED_GLYPH: u32 = 0xFFFF;
 
 /// The position of a glyph, that of a deleted one without room.
 fn zeroed_position(glyph: hb_glyph_info_t, position: GlyphPosition) -> GlyphPosition
@@ -61,8 +57,8 @@ pub fn hb_aat_layout_zero_width_deleted_glyphs<A: Allocator + Copy>(buffer: &mut
 /// It takes no memory and cannot be refused. In as many steps as the line is long.
 pub fn hb_aat_layout_remove_deleted_glyphs<A: Allocator + Copy>(buffer: &mut hb_buffer_t<A>)
     ensures removed { buffer.new ≡ removed is_deleted buffer.old }
-    ensures none { All (λ g. g.glyph_id ≢ 0xFFFF) buffer.new.line }
-    ensures order { ids buffer.new.line ≡ filter (λ g. not (g == 0xFFFF)) (ids buffer.old.line) }
+    ensures none { HasNoneDeleted buffer.new.line }
+    ensures order { ids buffer.new.line ≡ filter (λ g. not (g == deleted_glyph)) (ids buffer.old.line) }
 {
     buffer.delete_glyphs_inplace(|glyph| glyph.glyph_id == DELETED_GLYPH);
 }

@@ -13,9 +13,8 @@ mod solid;
 #[doc(hidden)]
 pub mod worked;
 
-pub use deleted::{
-    DELETED_GLYPH, hb_aat_layout_remove_deleted_glyphs, hb_aat_layout_zero_width_deleted_glyphs,
-};
+pub use aat_buffer::DELETED_GLYPH;
+pub use deleted::{hb_aat_layout_remove_deleted_glyphs, hb_aat_layout_zero_width_deleted_glyphs};
 pub use kern::{has_kern_pairs_alone, hb_ot_layout_kern};
 pub use kerx::{has_kerx_pairs_alone, hb_aat_layout_position};
 pub use solid::{KERN_SKIPS, KERX_SKIPS, is_solid};

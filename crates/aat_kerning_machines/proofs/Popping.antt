@@ -2,28 +2,28 @@
 use Rattle.std.proofs.Common.{◌≡◌, ℕ, ◌+◌, Bool, true, false, List, [], ◌∷◌, ℤ, Option, Some, None, ◌∙◌, ap, sym, subst, length-set}
 use Rattle.aat_buffer.specs.Buffer.{Buffer, position_list}
 use Rattle.aat_run.specs.Context.{Moved}
+use Rattle.aat_run.specs.inside.Places.{left_with}
 use Rattle.aat_kerning_machines.specs.Positions.{IsPlaced}
 use Rattle.aat_kerning_machines.specs.Stack.{ends_list, popped, with_value_for}
 use Rattle.aat_kerning_machines.specs.facts.StackLaws.{of_place}
-use Rattle.aat_kerning_machines.specs.inside.StackValues.{moved}
 
 module _ (is_cross : Bool) (kern_mask : ℕ) (value : ℕ → Option ℤ) (step : ℕ) (stack : List ℕ) (index : ℕ) (b : Buffer)
   where
     -- an empty stack takes no value
-    at_none : stack ≡ [] → popped is_cross kern_mask value step stack index b ≡ moved [] b
+    at_none : stack ≡ [] → popped is_cross kern_mask value step stack index b ≡ left_with [] b
     unfolding popped
     at_none empty = rw empty
 
     module _ (i : ℕ) (rest : List ℕ) (is_stack : stack ≡ i ∷ rest) where
       -- a missing value ends the list
-      at_missing : value index ≡ None → popped is_cross kern_mask value step stack index b ≡ moved rest b
+      at_missing : value index ≡ None → popped is_cross kern_mask value step stack index b ≡ left_with rest b
       unfolding popped
       at_missing missing = rw (is_stack, popped, missing)
 
       -- a value that ends the list
       at_last :
           (v : ℤ) (d : Buffer) → value index ≡ Some v → d ≡ with_value_for is_cross kern_mask v i b
-          → ends_list v i b ≡ true → popped is_cross kern_mask value step stack index b ≡ moved rest d
+          → ends_list v i b ≡ true → popped is_cross kern_mask value step stack index b ≡ left_with rest d
       unfolding popped
       at_last v d is_value given last = rw (is_stack, popped, is_value, given, last)
 
@@ -38,11 +38,11 @@ module _ (is_cross : Bool) (kern_mask : ℕ) (value : ℕ → Option ℤ) (step 
 
     -- where this is all that is left to do, it leaves what the whole does
     module _ (whole : Moved (List ℕ)) (left : popped is_cross kern_mask value step stack index b ≡ whole) where
-      pub popped_none : (rest : List ℕ) → stack ≡ [] → rest ≡ [] → moved rest b ≡ whole
+      pub popped_none : (rest : List ℕ) → stack ≡ [] → rest ≡ [] → left_with rest b ≡ whole
       popped_none rest empty same = rw same (sym (at_none empty) ∙ left)
 
       module _ (i : ℕ) (rest : List ℕ) (is_stack : stack ≡ i ∷ rest) where
-        pub popped_missing : None ≡ value index → moved rest b ≡ whole
+        pub popped_missing : None ≡ value index → left_with rest b ≡ whole
         popped_missing missing = sym (at_missing i rest is_stack (sym missing)) ∙ left
 
         -- a value as the code has it, v, is the one of the list, w
@@ -52,7 +52,7 @@ module _ (is_cross : Bool) (kern_mask : ℕ) (value : ℕ → Option ℤ) (step 
             found : value index ≡ Some v
             found = sym is_value ∙ ap (λ (x : ℤ). Some x) (sym same)
 
-            pub popped_last : true ≡ ends_list v i b → moved rest d ≡ whole
+            pub popped_last : true ≡ ends_list v i b → left_with rest d ≡ whole
             popped_last last = sym (at_last i rest is_stack v d found given (sym last)) ∙ left
 
             pub popped_on :

@@ -1,5 +1,5 @@
 -- The anchor act of kerning machines. TrueType Reference Manual: The 'kerx' table, format 4, and The 'ankr' table.
-use Rattle.std.specs.Prelude.{ℕ, ◌<◌, IfSome, Bool, ◌&&◌, nat_lt, List, length, pos, ◌-ℤ◌, Option, Some, None, option_map, slice_get, if◌then◌else◌}
+use Rattle.std.specs.Prelude.{ℕ, ◌<◌, IfSome, ◌&&◌, nat_lt, List, length, pos, ◌-ℤ◌, Option, Some, None, option_map, slice_get, if◌then◌else◌}
 use Rattle.std.specs.Int.{int_wrap, w16}
 use Rattle.aat_buffer.specs.Buffer.{Buffer, glyph_at}
 use Rattle.aat_glyph.specs.declared.glyph.GlyphPosition.{GlyphPosition}
@@ -7,9 +7,9 @@ use Rattle.aat_font.specs.declared.state_table.GenericStateEntry.{GenericStateEn
 use Rattle.aat_font.specs.declared.entries.EntryData.{EntryData}
 use Rattle.aat_font.specs.declared.entries.Point.{Point}
 use Rattle.aat_font.specs.AnchorPoints.{Points, point_of}
-use Rattle.aat_font.specs.Entries.{has_flag, is_present}
+use Rattle.aat_font.specs.Entries.{has_flag}
 use Rattle.aat_run.specs.Context.{Moved}
-use Rattle.aat_kerning_machines.specs.KerningMachine.{Driver}
+use Rattle.aat_kerning_machines.specs.KerningMachine.{Driver, has_action}
 use Rattle.aat_kerning_machines.specs.Positions.{on_position, with_attachment_flag, attached_as}
 
 -- the offsets become the marked glyph's point minus the current glyph's, so that the two points meet
@@ -49,13 +49,9 @@ abbrev pub by_mark :
     Option Points → List (ℕ × ℕ) → GenericStateEntry EntryData → Option ℕ → Buffer → Moved (Option ℕ)
 by_mark points pairs e None b = record { registers = with_mark e None b.cursor; buffer = b }
 by_mark points pairs e (Some mark) b =
-    if is_present e.extra.action_index && nat_lt b.cursor (length b.line)
+    if has_action e && nat_lt b.cursor (length b.line)
     then behind_anchors e (Some mark) mark b (anchored points pairs e.extra.action_index mark b)
     else record { registers = with_mark e (Some mark) b.cursor; buffer = b }
-
--- an entry is actionable that has an index
-abbrev pub actionable : GenericStateEntry EntryData → Bool
-actionable e = is_present e.extra.action_index
 
 -- the act of an entry: the attachment, then the mark. TrueType Reference Manual: The 'kerx' table, format 4.
 unfoldable pub anchor_act :
@@ -66,7 +62,7 @@ anchor_act points pairs e mark b = by_mark points pairs e mark b
 abbrev pub anchor_driver : Option Points → List (ℕ × ℕ) → Driver (Option ℕ) (GenericStateEntry EntryData)
 anchor_driver points pairs = record {
   fresh = None;
-  actionable = actionable;
+  actionable = has_action;
   act = anchor_act points pairs;
 }
 

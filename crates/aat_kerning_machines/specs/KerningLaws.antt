@@ -4,10 +4,10 @@ use Rattle.std.specs.List.{AllZip}
 use Rattle.aat_buffer.specs.Buffer.{Buffer, position_list, with_scratch_flags}
 use Rattle.aat_buffer.specs.Marks.{with_mask_bits}
 use Rattle.aat_glyph.specs.declared.glyph.hb_glyph_info_t.{hb_glyph_info_t}
-use Rattle.aat_run.specs.Budget.{has_operations, operations_left, potential}
+use Rattle.aat_run.specs.Budget.{has_operations, operations_left}
 use Rattle.aat_run.specs.Context.{Config, Moved}
-use Rattle.aat_run.specs.Laws.{SameSettings, FitsFresh, PassesFit, KeepsFit}
-use Rattle.aat_run.specs.Machine.{Goes, IsWholeRun}
+use Rattle.aat_run.specs.Laws.{SameSettings, FitsFresh, PassesFit, KeepsFit, Stands}
+use Rattle.aat_run.specs.Machine.{Goes}
 use Rattle.aat_kerning_machines.specs.KerningMachine.{Driver, KerningMachine, kerning_turn}
 
 -- a number got bits besides its own, but only of those that are allowed
@@ -41,12 +41,6 @@ pub record IsLawfulDriver {R E : Type 0} (driver : Driver R E) (fits : R → ℕ
   pub keeps_fit : KeepsFit driver.act fits
   pub keeps_place : ChangesPositionsAlone driver.act fits
 
--- each run from registers that fit ends by itself, in no more turns than it is given: the potential and one more
-abbrev pub KerningRunsEnd : {R E : Type 0} → KerningMachine R E → (R → ℕ → ℕ → Type 0) → Type 0
-KerningRunsEnd {R} m fits =
-    (c : Config R) → fits c.registers c.buffer.cursor (length c.buffer.line)
-    → IsWholeRun (kerning_turn m) (potential c.buffer + 1) c
-
 -- a turn that stays was paid for with an operation, and there were some left: in `kerx` before the turn, and in `kern`
 -- behind its payment
 pub record IsPaidFor (pays_first : Bool) (old new : Buffer) : Type 0 where
@@ -56,8 +50,7 @@ pub record IsPaidFor (pays_first : Bool) (old new : Buffer) : Type 0 where
 -- each turn from registers that fit that goes on and leaves the cursor where it was has been paid for so
 abbrev pub PaysForStaying : {R E : Type 0} → KerningMachine R E → (R → ℕ → ℕ → Type 0) → Type 0
 PaysForStaying {R} m fits =
-    (c d : Config R) → fits c.registers c.buffer.cursor (length c.buffer.line)
-    → kerning_turn m c ≡ Goes d → d.buffer.cursor ≡ c.buffer.cursor
+    (c d : Config R) → Stands fits c → kerning_turn m c ≡ Goes d → d.buffer.cursor ≡ c.buffer.cursor
     → IsPaidFor m.pays_first c.buffer d.buffer
 
 -- a glyph that is as before, but for UNSAFE_TO_BREAK (1) and UNSAFE_TO_CONCAT (2), which its mask may have got

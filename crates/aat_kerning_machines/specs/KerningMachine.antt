@@ -5,11 +5,12 @@ use Rattle.aat_buffer.specs.Buffer.{Buffer}
 use Rattle.aat_buffer.specs.Marks.{unsafe_to_break}
 use Rattle.aat_font.specs.Table.{TableValue, class_of, entry_of}
 use Rattle.aat_font.specs.declared.state_table.GenericStateEntry.{GenericStateEntry}
-use Rattle.aat_font.specs.Entries.{goes_on}
-use Rattle.aat_run.specs.Budget.{paid, has_operations, potential}
-use Rattle.aat_run.specs.Context.{Config, Moved, is_at_end, is_inside, class_at, start}
+use Rattle.aat_font.specs.declared.entries.EntryData.{EntryData}
+use Rattle.aat_font.specs.Entries.{goes_on, is_present}
+use Rattle.aat_run.specs.Budget.{paid, has_operations}
+use Rattle.aat_run.specs.Context.{Config, Moved, is_inside, class_at, start}
 use Rattle.aat_run.specs.Driven.{outcome_of}
-use Rattle.aat_run.specs.Machine.{Turn, Ends, Goes, run, passed, break_marked_at}
+use Rattle.aat_run.specs.Machine.{Turn, Ends, whole_run, behind_act, settled_by, passed, break_marked_at}
 use Rattle.aat_run.specs.Outcome.{Outcome}
 
 -- what a driver means: its fresh registers, whether an entry is actionable, and its act on positions and scratch flags
@@ -17,6 +18,10 @@ pub record Driver (R E : Type 0) : Type 0 where
   pub fresh : R
   pub actionable : E → Bool
   pub act : E → R → Buffer → Moved R
+
+-- an entry of a `kerx` machine has an action, and is actionable, where it has an index
+abbrev pub has_action : GenericStateEntry EntryData → Bool
+has_action e = is_present e.extra.action_index
 
 -- the driver that has these registers at first, by whether an entry is actionable and by its act
 abbrev pub driver_from : {R E : Type 0} → (E → Bool) → (E → R → Buffer → Moved R) → R → Driver R E
@@ -33,19 +38,26 @@ pub record KerningMachine (R E : Type 0) : Type 0 where
   pub act : E → R → Buffer → Moved R
   pub pays_first : Bool
 
--- the machine of a state table and a driver
-abbrev pub kerning_machine_of :
-    {T R : Type 0} → Bool → TableValue (GenericStateEntry T) → Driver R (GenericStateEntry T)
+-- the machine of a state table, and of whether an entry is actionable, and its act
+abbrev pub kerning_machine_with :
+    {T R : Type 0} → Bool → TableValue (GenericStateEntry T) → (GenericStateEntry T → Bool)
+    → (GenericStateEntry T → R → Buffer → Moved R)
     → KerningMachine R (GenericStateEntry T)
-kerning_machine_of pays_first table driver = record {
+kerning_machine_with pays_first table actionable act = record {
   class_of = class_of table;
   entry = entry_of table;
   next = λ e. e.new_state;
   advances = goes_on;
-  actionable = driver.actionable;
-  act = driver.act;
+  actionable = actionable;
+  act = act;
   pays_first = pays_first;
 }
+
+-- the machine of a state table and a driver
+abbrev pub kerning_machine_of :
+    {T R : Type 0} → Bool → TableValue (GenericStateEntry T) → Driver R (GenericStateEntry T)
+    → KerningMachine R (GenericStateEntry T)
+kerning_machine_of pays_first table driver = kerning_machine_with pays_first table driver.actionable driver.act
 
 -- the cursor moves where the entry advances or the budget is used up. TrueType Reference Manual: State tables.
 abbrev pub moved_on : Bool → Buffer → Buffer
@@ -71,15 +83,9 @@ module _ {R E : Type 0} (m : KerningMachine R E) where
   unfoldable pub kerning_marked : E → Config R → Buffer
   kerning_marked e c = if is_inside c.buffer && depends_on_before e c then break_marked_at c.buffer else c.buffer
 
-  -- behind an act: the run ends at the end of the line
-  unfoldable pub kerning_settled : E → Config R → Turn (Config R)
-  kerning_settled e c = if is_at_end c.buffer then Ends c else Goes (record c { buffer = kerning_stepped e c.buffer })
-
-  -- the act and the new state
+  -- the act and the new state, and then the step
   unfoldable pub kerning_acted : E → Config R → Turn (Config R)
-  kerning_acted e c =
-      let n = m.act e c.registers c.buffer in
-      kerning_settled e (record c { buffer = n.buffer; registers = n.registers; state = m.next e })
+  kerning_acted e c = settled_by (kerning_stepped e) (behind_act (m.act e c.registers c.buffer) (m.next e) c)
 
   -- Where two glyphs or more are left, the text could end behind this one. So the state needs an entry for the end of
   -- the text, and one that is actionable makes the line unsafe behind the cursor.
@@ -101,9 +107,9 @@ module _ {R E : Type 0} (m : KerningMachine R E) where
   unfoldable pub kerning_turn : Config R → Turn (Config R)
   kerning_turn c = kerning_by_entry (m.entry c.state (class_at m.class_of c.buffer)) (record c { turns = c.turns + 1 })
 
-  -- the whole run: as many turns as the potential and one more are always enough
+  -- the whole run
   unfoldable pub kerning_whole : Config R → Config R
-  kerning_whole c = run kerning_turn (potential c.buffer + 1) c
+  kerning_whole c = whole_run kerning_turn c
 
 -- the run of a driver over a state table, from fresh registers, with the cursor back at the front
 unfoldable pub driver_run :

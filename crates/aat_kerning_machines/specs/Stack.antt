@@ -10,16 +10,12 @@ use Rattle.aat_font.specs.Entries.{has_flag, is_present}
 use Rattle.aat_run.specs.Switches.{meets}
 use Rattle.aat_run.specs.Context.{Moved}
 use Rattle.aat_glyph.specs.Directions.{is_horizontal}
-use Rattle.aat_kerning_machines.specs.KerningMachine.{Driver}
+use Rattle.aat_kerning_machines.specs.KerningMachine.{Driver, has_action}
 use Rattle.aat_kerning_machines.specs.Positions.{on_position, plus, with_advance, with_shift, cross_offset, with_cross_offset, with_attachment_flag, attached_as}
 
 -- the stack holds at most eight places, the newest first; a push at eight clears it instead
 abbrev pub with_place_pushed : ℕ → List ℕ → List ℕ
 with_place_pushed p stack = if nat_lt (length stack) 8 then p ∷ stack else []
-
--- a stack fits everywhere, since it asks for the length before it uses a place
-abbrev pub FitsAlways : {R : Type 0} → R → ℕ → ℕ → Type 0
-FitsAlways r p n = Unit {0}
 
 -- an entry with the flag 0x8000 pushes the place
 abbrev pub pushed_by : {T : Type 0} → GenericStateEntry T → ℕ → List ℕ → List ℕ
@@ -91,7 +87,7 @@ unfoldable pub kerx_act : Bool → ℕ → ℕ → List ℤ → GenericStateEntr
 kerx_act is_cross kern_mask tuple_count values e stack b =
     let filled = pushed_by e b.cursor (if has_flag e 0x2000 then [] else stack) in
     let step = max tuple_count 1 in
-    if is_present e.extra.action_index && nat_le tuple_count 65535
+    if has_action e && nat_le tuple_count 65535
     then popped is_cross kern_mask (kerx_value values step) step filled e.extra.action_index b
     else record { registers = filled; buffer = b }
 
@@ -99,7 +95,7 @@ kerx_act is_cross kern_mask tuple_count values e stack b =
 abbrev pub kerx_driver : Bool → ℕ → ℕ → List ℤ → Driver (List ℕ) (GenericStateEntry EntryData)
 kerx_driver is_cross kern_mask tuple_count values = record {
   fresh = [];
-  actionable = λ e. is_present e.extra.action_index;
+  actionable = has_action;
   act = kerx_act is_cross kern_mask tuple_count values;
 }
 

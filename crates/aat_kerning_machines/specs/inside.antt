@@ -1,3 +1,2 @@
 pub mod Places
 pub mod StackValues
-pub mod Standing

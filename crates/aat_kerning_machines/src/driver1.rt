@@ -2,9 +2,10 @@
 ghost use Rattle.std.specs.Prelude.{◌≡◌, [], length, if◌then◌else◌};
 ghost use Rattle.aat_buffer.specs.Clusters.{IsSmall};
 ghost use Rattle.aat_font.specs.Entries.{has_flag};
+ghost use Rattle.aat_run.specs.Laws.{FitsAlways};
 ghost use Rattle.aat_kerning_machines.specs.Positions.{IsPlaced};
-ghost use Rattle.aat_kerning_machines.specs.Stack.{FitsAlways, kerx_act, pushed_by};
-ghost use Rattle.aat_kerning_machines.specs.inside.StackValues.{moved};
+ghost use Rattle.aat_kerning_machines.specs.Stack.{kerx_act, pushed_by};
+ghost use Rattle.aat_run.specs.inside.Places.{left_with};
 
 use crate::stack::Stack;
 use crate::stack_values::{NO_INDEX, ValueList};
@@ -80,7 +81,7 @@ impl Driver1 {
         buffer: &mut hb_buffer_t<A>,
     )
         requires { IsPlaced buffer.old }
-        ensures { moved self.new buffer.new ≡ kerx_act has_cross_stream plan.now.kern_mask tuple_count aat.now.values entry.now self.old buffer.old }
+        ensures { left_with self.new buffer.new ≡ kerx_act has_cross_stream plan.now.kern_mask tuple_count aat.now.values entry.now self.old buffer.old }
     {
         self.prepare(entry, buffer.backtrack_len());
         let first = entry.extra.action_index;
@@ -99,13 +100,13 @@ impl Driver1 {
 }
 
 impl StateTableDriver<Subtable1, EntryData> for Driver1 {
-    ghost use Rattle.aat_font.specs.Entries.{is_present};
+    ghost use Rattle.aat_kerning_machines.specs.KerningMachine.{has_action};
     ghost use Rattle.aat_kerning_machines.specs.Stack as stack;
     ghost use Rattle.aat_kerning_machines.specs.facts.StackLaws as laws;
 
-    ghost fits = { stack.FitsAlways };
+    ghost fits = { FitsAlways };
 
-    ghost actionable = { λ e. is_present e.extra.action_index };
+    ghost actionable = { has_action };
 
     ghost act = { λ t is_cross kern_mask tuple_count. stack.kerx_act is_cross kern_mask tuple_count t.values };
 

@@ -105,11 +105,12 @@ impl<'a> Driver4<'a> {
 
 impl<'a> StateTableDriver<Subtable4, EntryData> for Driver4<'a> {
     ghost use Rattle.aat_kerning_machines.specs.Anchors as anchors;
+    ghost use Rattle.aat_kerning_machines.specs.KerningMachine as machine;
     ghost use Rattle.aat_kerning_machines.specs.facts.AnchorHeld as laws;
 
     ghost fits = { anchors.held_fit };
 
-    ghost actionable = { anchors.actionable };
+    ghost actionable = { machine.has_action };
 
     ghost act = { λ table is_cross kern_mask tuple_count. anchors.held_act table.anchor_points };
 

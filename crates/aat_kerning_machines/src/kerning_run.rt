@@ -1,33 +1,18 @@
 //! The run of a kerning machine over a line, by any driver.
 ghost use Rattle.std.specs.Prelude.{◌≡◌, ◌+◌, ◌<◌, ◌≤◌, ◌^◌, false, true, length};
 ghost use Rattle.aat_buffer.specs.Clusters.{IsSmall};
-ghost use Rattle.aat_kerning_machines.specs.KerningMachine.{driver_from, driver_run, kerning_whole};
+ghost use Rattle.aat_kerning_machines.specs.KerningMachine.{driver_from, driver_run, kerning_machine_with, kerning_whole};
 ghost use Rattle.aat_kerning_machines.specs.Positions.{IsPlaced};
-ghost use Rattle.aat_kerning_machines.specs.inside.Places.{machine_by};
 ghost use Rattle.aat_run.specs.Budget.{operations_left, potential};
-ghost use Rattle.aat_run.specs.inside.Places.{IsRun, first};
+ghost use Rattle.aat_run.specs.Context.{first};
+ghost use Rattle.aat_run.specs.inside.Places.{IsRun};
 
 use crate::kerning_turns::turn_once;
 use crate::place::Place;
+use crate::run::KerningRun;
 use crate::state_table_driver::StateTableDriver;
 use aat_buffer::hb_buffer_t;
-use aat_font::{ExtendedStateTable, hb_ot_shape_plan_t};
 use std::alloc::Allocator;
-
-/// What the run of a kerning machine is given besides the line and its driver.
-#[derive(Clone, Copy)]
-pub struct KerningRun<'a, Table, E: Copy> {
-    /// The classes of glyphs, and the entry of each state and class.
-    pub state_table: &'a ExtendedStateTable<E>,
-    /// What the entries name by their indexes: the subtable itself, with its values or anchor points.
-    pub table: &'a Table,
-    /// Whether the values go across the line.
-    pub has_cross_stream: bool,
-    /// How many values stand together for each one that the machine takes, of which the first one counts. 0 means 1.
-    pub tuple_count: u32,
-    /// The plan, for the bits of a glyph's mask at which it is kerned.
-    pub plan: &'a hb_ot_shape_plan_t,
-}
 
 /// Takes turns until one ends, and answers their number.
 fn run_turns<Table, E: Copy, D: StateTableDriver<Table, E>, A: Allocator + Copy>(
@@ -39,7 +24,7 @@ fn run_turns<Table, E: Copy, D: StateTableDriver<Table, E>, A: Allocator + Copy>
     requires fit { D.fits driver.old buffer.old.cursor (length buffer.old.line) }
     requires ids { IsSmall buffer.old }
     requires placed { IsPlaced buffer.old }
-    ensures run { IsRun (kerning_whole (machine_by pays_first run.now.state_table.now D.actionable (D.act run.now.table.now run.now.has_cross_stream run.now.plan.now.kern_mask run.now.tuple_count)) (first buffer.old driver.old)) buffer.new driver.new result }
+    ensures run { IsRun (kerning_whole (kerning_machine_with pays_first run.now.state_table.now D.actionable (D.act run.now.table.now run.now.has_cross_stream run.now.plan.now.kern_mask run.now.tuple_count)) (first buffer.old driver.old)) buffer.new driver.new result }
     ensures paid { result + operations_left buffer.new.max_ops ≤ potential buffer.old + 1 }
     ensures ids { IsSmall buffer.new }
     ensures placed { IsPlaced buffer.new }

@@ -7,15 +7,15 @@ ghost use Rattle.aat_buffer.specs.Marks.{unsafe_to_break};
 ghost use Rattle.aat_font.specs.Entries.{goes_on};
 ghost use Rattle.aat_font.specs.Table.{TableValue, entry_of};
 ghost use Rattle.aat_font.specs.declared.state_table.GenericStateEntry.{GenericStateEntry};
-ghost use Rattle.aat_kerning_machines.specs.KerningMachine.{break_marked_behind, kerning_acted, kerning_by_entry, kerning_marked, kerning_turn, looked_ahead, moved_on};
+ghost use Rattle.aat_kerning_machines.specs.KerningMachine.{break_marked_behind, kerning_acted, kerning_by_entry, kerning_machine_with, kerning_marked, kerning_turn, looked_ahead, moved_on};
 ghost use Rattle.aat_kerning_machines.specs.Positions.{IsPlaced};
-ghost use Rattle.aat_kerning_machines.specs.inside.Places.{config, machine_by};
+ghost use Rattle.aat_kerning_machines.specs.inside.Places.{config};
 ghost use Rattle.aat_run.specs.Budget.{paid};
 ghost use Rattle.aat_run.specs.Context.{Moved, is_at_end};
 ghost use Rattle.aat_run.specs.inside.Places.{turn_of};
 
-use crate::kerning_run::KerningRun;
 use crate::place::Place;
+use crate::run::KerningRun;
 use crate::state_table_driver::StateTableDriver;
 use aat_buffer::hb_buffer_t;
 use aat_font::GenericStateEntry;
@@ -73,7 +73,7 @@ fn settle<A: Allocator + Copy>(
 }
 
 /// The act of an entry and its state: whether the run goes on.
-#[tactic(auto, unfolding(crate::specs::KerningMachine::kerning_acted, crate::specs::KerningMachine::kerning_settled))]
+#[tactic(auto, unfolding(crate::specs::KerningMachine::kerning_acted))]
 fn act<Table, E: Copy, D: StateTableDriver<Table, E>, A: Allocator + Copy>(
     run: &KerningRun<Table, E>,
     pays_first: bool,
@@ -85,7 +85,7 @@ fn act<Table, E: Copy, D: StateTableDriver<Table, E>, A: Allocator + Copy>(
     requires fit { D.fits driver.old buffer.old.cursor (length buffer.old.line) }
     requires ids { IsSmall buffer.old }
     requires placed { IsPlaced buffer.old }
-    ensures turn { kerning_acted (machine_by pays_first run.now.state_table.now D.actionable (D.act run.now.table.now run.now.has_cross_stream run.now.plan.now.kern_mask run.now.tuple_count)) entry.now (config buffer.old driver.old place.old) ≡ turn_of result (config buffer.new driver.new place.new) }
+    ensures turn { kerning_acted (kerning_machine_with pays_first run.now.state_table.now D.actionable (D.act run.now.table.now run.now.has_cross_stream run.now.plan.now.kern_mask run.now.tuple_count)) entry.now (config buffer.old driver.old place.old) ≡ turn_of result (config buffer.new driver.new place.new) }
     ensures ids { IsSmall buffer.new }
     ensures placed { IsPlaced buffer.new }
 {
@@ -148,7 +148,7 @@ fn mark_before<Table, E: Copy, D: StateTableDriver<Table, E>, A: Allocator + Cop
     place: Place,
 )
     requires ids { IsSmall buffer.old }
-    ensures marked { (pays_first : Bool) (table : TableValue (GenericStateEntry E)) (act : GenericStateEntry E → D → Buffer → Moved D) → buffer.new ≡ kerning_marked (machine_by pays_first table D.actionable act) entry.now (config buffer.old driver.now place) }
+    ensures marked { (pays_first : Bool) (table : TableValue (GenericStateEntry E)) (act : GenericStateEntry E → D → Buffer → Moved D) → buffer.new ≡ kerning_marked (kerning_machine_with pays_first table D.actionable act) entry.now (config buffer.old driver.now place) }
     ensures length { length buffer.new.line ≡ length buffer.old.line }
     ensures cursor { buffer.new.cursor ≡ buffer.old.cursor }
     ensures positions { buffer.new.positions ≡ buffer.old.positions }
@@ -175,7 +175,7 @@ fn look_ahead<Table, E: Copy, D: StateTableDriver<Table, E>, A: Allocator + Copy
     requires fit { D.fits driver.old buffer.old.cursor (length buffer.old.line) }
     requires ids { IsSmall buffer.old }
     requires placed { IsPlaced buffer.old }
-    ensures turn { looked_ahead (machine_by pays_first run.now.state_table.now D.actionable (D.act run.now.table.now run.now.has_cross_stream run.now.plan.now.kern_mask run.now.tuple_count)) entry.now (entry_of run.now.state_table.now place.old.state 0) (config buffer.old driver.old place.old) ≡ turn_of result (config buffer.new driver.new place.new) }
+    ensures turn { looked_ahead (kerning_machine_with pays_first run.now.state_table.now D.actionable (D.act run.now.table.now run.now.has_cross_stream run.now.plan.now.kern_mask run.now.tuple_count)) entry.now (entry_of run.now.state_table.now place.old.state 0) (config buffer.old driver.old place.old) ≡ turn_of result (config buffer.new driver.new place.new) }
     ensures ids { IsSmall buffer.new }
     ensures placed { IsPlaced buffer.new }
 {
@@ -203,7 +203,7 @@ fn take_entry<Table, E: Copy, D: StateTableDriver<Table, E>, A: Allocator + Copy
     requires fit { D.fits driver.old buffer.old.cursor (length buffer.old.line) }
     requires ids { IsSmall buffer.old }
     requires placed { IsPlaced buffer.old }
-    ensures turn { kerning_by_entry (machine_by pays_first run.now.state_table.now D.actionable (D.act run.now.table.now run.now.has_cross_stream run.now.plan.now.kern_mask run.now.tuple_count)) (Some entry.now) (config buffer.old driver.old place.old) ≡ turn_of result (config buffer.new driver.new place.new) }
+    ensures turn { kerning_by_entry (kerning_machine_with pays_first run.now.state_table.now D.actionable (D.act run.now.table.now run.now.has_cross_stream run.now.plan.now.kern_mask run.now.tuple_count)) (Some entry.now) (config buffer.old driver.old place.old) ≡ turn_of result (config buffer.new driver.new place.new) }
     ensures ids { IsSmall buffer.new }
     ensures placed { IsPlaced buffer.new }
 {
@@ -229,7 +229,7 @@ pub(crate) fn turn_once<Table, E: Copy, D: StateTableDriver<Table, E>, A: Alloca
     requires ids { IsSmall buffer.old }
     requires placed { IsPlaced buffer.old }
     requires turns { place.old.turns + 1 < 2 ^ 64 }
-    ensures turn { kerning_turn (machine_by pays_first run.now.state_table.now D.actionable (D.act run.now.table.now run.now.has_cross_stream run.now.plan.now.kern_mask run.now.tuple_count)) (config buffer.old driver.old place.old) ≡ turn_of result (config buffer.new driver.new place.new) }
+    ensures turn { kerning_turn (kerning_machine_with pays_first run.now.state_table.now D.actionable (D.act run.now.table.now run.now.has_cross_stream run.now.plan.now.kern_mask run.now.tuple_count)) (config buffer.old driver.old place.old) ≡ turn_of result (config buffer.new driver.new place.new) }
     ensures ids { IsSmall buffer.new }
     ensures placed { IsPlaced buffer.new }
 {

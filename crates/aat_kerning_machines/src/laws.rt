@@ -3,8 +3,9 @@
 ghost use Rattle.std.specs.Prelude.{ℕ, Bool};
 ghost use Rattle.aat_font.specs.Table.{TableValue};
 ghost use Rattle.aat_font.specs.declared.state_table.GenericStateEntry.{GenericStateEntry};
-ghost use Rattle.aat_kerning_machines.specs.KerningLaws.{KerningRunsEnd, PaysForStaying};
-ghost use Rattle.aat_kerning_machines.specs.KerningMachine.{driver_from, kerning_machine_of};
+ghost use Rattle.aat_kerning_machines.specs.KerningLaws.{PaysForStaying};
+ghost use Rattle.aat_kerning_machines.specs.KerningMachine.{driver_from, kerning_machine_of, kerning_turn};
+ghost use Rattle.aat_run.specs.Laws.{RunsEnd};
 
 use crate::state_table_driver::StateTableDriver;
 
@@ -12,6 +13,6 @@ use crate::state_table_driver::StateTableDriver;
 /// that goes on and leaves the cursor where it was took an operation from a budget above 0, which was above 0 behind
 /// that payment too where the machine pays first.
 pub fn kerning_runs_end<Table, E: Copy, D: StateTableDriver<Table, E>>()
-    ensures ends { (pays_first : Bool) (state_table : TableValue (GenericStateEntry E)) (table : Table) (is_cross : Bool) (kern_mask tuple_count : ℕ) (fresh : D) → KerningRunsEnd (kerning_machine_of pays_first state_table (driver_from D.actionable (D.act table is_cross kern_mask tuple_count) fresh)) D.fits }
+    ensures ends { (pays_first : Bool) (state_table : TableValue (GenericStateEntry E)) (table : Table) (is_cross : Bool) (kern_mask tuple_count : ℕ) (fresh : D) → RunsEnd (kerning_turn (kerning_machine_of pays_first state_table (driver_from D.actionable (D.act table is_cross kern_mask tuple_count) fresh))) D.fits }
     ensures staying { (pays_first : Bool) (state_table : TableValue (GenericStateEntry E)) (table : Table) (is_cross : Bool) (kern_mask tuple_count : ℕ) (fresh : D) → PaysForStaying (kerning_machine_of pays_first state_table (driver_from D.actionable (D.act table is_cross kern_mask tuple_count) fresh)) D.fits }
 {}

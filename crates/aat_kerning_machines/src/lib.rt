@@ -10,6 +10,7 @@ mod kerning_turns;
 #[doc(hidden)]
 pub mod laws;
 mod place;
+mod run;
 mod stack;
 mod stack_values;
 mod state_machine_driver;
@@ -18,6 +19,7 @@ mod state_table_driver;
 pub use attachment::{meets, note_attachment};
 pub use driver1::Driver1;
 pub use driver4::Driver4;
-pub use kerning_run::{KerningRun, drive_kern, drive_kerx};
+pub use kerning_run::{drive_kern, drive_kerx};
+pub use run::KerningRun;
 pub use state_machine_driver::StateMachineDriver;
 pub use state_table_driver::StateTableDriver;

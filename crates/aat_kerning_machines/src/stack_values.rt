@@ -4,7 +4,8 @@ ghost use Rattle.std.specs.Ordering.{int_eq};
 ghost use Rattle.aat_glyph.specs.Directions.{is_horizontal};
 ghost use Rattle.aat_kerning_machines.specs.Positions.{IsPlaced, attached_as, cross_offset, on_position, plus, with_advance, with_attachment_flag, with_cross_offset, with_shift};
 ghost use Rattle.aat_kerning_machines.specs.Stack.{across, along, ends_list, even, is_odd, popped, with_value_for};
-ghost use Rattle.aat_kerning_machines.specs.inside.StackValues.{moved, value_at};
+ghost use Rattle.aat_kerning_machines.specs.inside.StackValues.{value_at};
+ghost use Rattle.aat_run.specs.inside.Places.{left_with};
 
 use crate::attachment::{meets, note_attachment};
 use crate::stack::Stack;
@@ -226,7 +227,7 @@ impl<'a> ValueList<'a> {
     )
         requires step { self.now.step ≤ 65535 }
         requires placed { IsPlaced buffer.old }
-        ensures { moved stack.new buffer.new ≡ popped self.now.is_cross_stream self.now.kern_mask (value_at self.now.ends_at_missing self.now.values.now self.now.step) self.now.step stack.old first buffer.old }
+        ensures { left_with stack.new buffer.new ≡ popped self.now.is_cross_stream self.now.kern_mask (value_at self.now.ends_at_missing self.now.values.now self.now.step) self.now.step stack.old first buffer.old }
     {
         // how many places wait, so that the index behind the last one fits
         let _count = stack.len();

@@ -1,9 +1,10 @@
 //! The machine of the kerning table that gives values to the glyphs of a stack.
 ghost use Rattle.std.specs.Prelude.{◌≡◌, [], length};
 ghost use Rattle.aat_buffer.specs.Clusters.{IsSmall};
+ghost use Rattle.aat_run.specs.Laws.{FitsAlways};
 ghost use Rattle.aat_kerning_machines.specs.Positions.{IsPlaced};
-ghost use Rattle.aat_kerning_machines.specs.Stack.{FitsAlways, kern_act, pushed_by};
-ghost use Rattle.aat_kerning_machines.specs.inside.StackValues.{moved};
+ghost use Rattle.aat_kerning_machines.specs.Stack.{kern_act, pushed_by};
+ghost use Rattle.aat_run.specs.inside.Places.{left_with};
 
 use crate::stack::Stack;
 use crate::stack_values::{NO_INDEX, ValueList};
@@ -68,7 +69,7 @@ impl StateMachineDriver {
         buffer: &mut hb_buffer_t<A>,
     )
         requires { IsPlaced buffer.old }
-        ensures { moved self.new buffer.new ≡ kern_act has_cross_stream plan.now.kern_mask aat.now.values entry.now self.old buffer.old }
+        ensures { left_with self.new buffer.new ≡ kern_act has_cross_stream plan.now.kern_mask aat.now.values entry.now self.old buffer.old }
     {
         self.prepare(entry, buffer.backtrack_len());
         let first = entry.extra.value_index;
@@ -95,7 +96,7 @@ impl StateTableDriver<KernMachine, KernEntryData> for StateMachineDriver {
     ghost use Rattle.aat_kerning_machines.specs.Stack as stack;
     ghost use Rattle.aat_kerning_machines.specs.facts.StackLaws as laws;
 
-    ghost fits = { stack.FitsAlways };
+    ghost fits = { FitsAlways };
 
     ghost actionable = { λ e. is_present e.extra.value_index };
 

@@ -11,7 +11,7 @@ use Rattle.aat_font.specs.declared.state_table.GenericStateEntry.{GenericStateEn
 use Rattle.aat_font.specs.Entries.{has_flag}
 use Rattle.aat_run.specs.Context.{Moved}
 use Rattle.aat_kinds.specs.Ligature.{Registers, Held, IsFit, IsHeldFit, DeletesLater, component, with_component, act, held_act, ligated, through_last, component_step, summed, stored_by, stored, Step, Stops, GoesOn, is_last, is_store, offset_of, element_at}
-use Rattle.aat_kinds.specs.facts.LigatureLaws.{OnStep, fit_of_component, fit_of_fewer, length_of_stored, stored_deletes, stored_keeps_deleted}
+use Rattle.aat_kinds.specs.facts.LigatureLaws.{OnStep, fit_of_component, fit_of_fewer, deleted_by_id, length_of_stored, stored_deletes, stored_keeps_deleted}
 
 module _ (actions values : List ℕ) (ligatures : List GlyphId) where
   -- what stands before one component, and behind each store at it, stands behind its step
@@ -114,7 +114,8 @@ module _ (s : Registers) (long p : ℕ) (fit : IsFit s p long) where
 -- behind an act
 pub act_deletes_later : (e : GenericStateEntry ℕ) (h : Held) (b : Buffer) → IsHeldFit h b.cursor (length b.line) → DeletesLater e h b (held_act e h b).buffer.line
 unfolding act IsLeft
-act_deletes_later e h b fit = by_test (has_flag e 0x2000 && nat_lt b.cursor (length b.line)) (λ yes. grind (arith, nat_tests, yes))
+act_deletes_later e h b fit j high low other =
+    deleted_by_id _ (by_test (has_flag e 0x2000 && nat_lt b.cursor (length b.line)) (λ yes. grind (arith, nat_tests, yes)) j high low other)
   where
     s : Registers
     s = with_component e h.registers b.cursor

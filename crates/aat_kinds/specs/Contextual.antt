@@ -50,20 +50,21 @@ module _ (classes : Option (List (ℕ × ℕ))) (lookups : List (List (ℕ × �
   abbrev pub looked_up : ℕ → ℕ → (ℕ → Buffer) → Buffer → Option Buffer
   looked_up index i change b = changed_by (answer_of index (glyph_at b.line i).glyph_id) change b
 
-  abbrev pub with_glyph : ℕ → ℕ → Buffer → Buffer
-  with_glyph i v b = with_line b (with_value_at classes i v b.line)
+  -- the glyph at a place is replaced by a value
+  abbrev pub replaced_at : ℕ → ℕ → Buffer → Buffer
+  replaced_at i v b = with_line b (with_value_at classes i v b.line)
 
   -- the marked glyph: a value makes the line unsafe from it to the cursor, and replaces it
   unfoldable pub at_mark : Entry → Registers → Buffer → Option Buffer
   at_mark e r b =
       looked_up e.extra.mark_index r.mark
-      (λ v. with_glyph r.mark v (unsafe_to_break b (Some r.mark) (Some (min (b.cursor + 1) (length b.line))))) b
+      (λ v. replaced_at r.mark v (unsafe_to_break b (Some r.mark) (Some (min (b.cursor + 1) (length b.line))))) b
 
   -- the glyph at the cursor, or the last one
   unfoldable pub at_cursor : Entry → Buffer → Option Buffer
   at_cursor e b =
       let i = min b.cursor (length b.line - 1) in
-      looked_up e.extra.current_index i (λ v. with_glyph i v b) b
+      looked_up e.extra.current_index i (λ v. replaced_at i v b) b
 
   -- a missing lookup ends the action, with what was done before it
   abbrev pub behind_cursor : Entry → Registers → Buffer → Option Buffer → Moved Registers

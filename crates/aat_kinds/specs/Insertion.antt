@@ -40,11 +40,19 @@ with_mark e r p = if has_flag e 0x8000 then record { mark = p } else r
 abbrev pub IsFit : Registers → ℕ → ℕ → Type 0
 IsFit r p n = r.mark ≤ n
 
+-- copies of a glyph, each with an id of its own
+abbrev pub copies : hb_glyph_info_t → List GlyphId → List hb_glyph_info_t
+copies model glyphs = map (λ g. record model { glyph_id = g.0 }) glyphs
+
 -- L[..a] ++ G ++ L[a..], where a is i, or i + 1 where G goes behind a glyph
 unfoldable pub inserted : List GlyphId → ℕ → Bool → List hb_glyph_info_t → List hb_glyph_info_t
 inserted glyphs i behind line =
     let a = if behind && nat_lt i (length line) then i + 1 else i in
-    take a line ++ (map (λ g. record (model_at line i) { glyph_id = g.0 }) glyphs ++ drop a line)
+    take a line ++ (copies (model_at line i) glyphs ++ drop a line)
+
+-- a run goes in at place i, or behind the glyph there, the cursor goes to place p, and the positions are dropped
+abbrev pub put_in : List GlyphId → ℕ → Bool → ℕ → Buffer → Buffer
+put_in new i behind p b = record b { line = inserted new i behind b.line; cursor = p; positions = None }
 
 module _ (glyphs : List GlyphId) where
   -- the run of so many glyphs from an index; one that leaves the list, or goes into an empty line, has none
@@ -54,15 +62,11 @@ module _ (glyphs : List GlyphId) where
       then slice_range glyphs index (index + count)
       else []
 
-  -- the run goes in at place i, the cursor moves by so many, and the positions are dropped
-  abbrev pub put_in : List GlyphId → ℕ → Bool → ℕ → Buffer → Buffer
-  put_in new i behind by b = record b { line = inserted new i behind b.line; cursor = b.cursor + by; positions = None }
-
   -- the marked run goes in at the mark, and from there to the cursor the line is unsafe
   unfoldable pub at_mark : Entry → Registers → Buffer → Buffer
   at_mark e r b =
       let new = run_for b e.extra.marked_insert_index (marked_count e) in
-      let d = put_in new r.mark (not (has_flag e 0x0400)) (length new) b in
+      let d = put_in new r.mark (not (has_flag e 0x0400)) (b.cursor + length new) b in
       unsafe_to_break d (Some r.mark) (Some (min (d.cursor + 1) (length d.line)))
 
   -- the current run is paid for and, unless the budget is then below 0, goes in at the cursor, which moves past it
@@ -73,7 +77,7 @@ module _ (glyphs : List GlyphId) where
       let new = run_for d e.extra.current_insert_index (current_count e) in
       if has_overspent d
       then d
-      else put_in new d.cursor (not (has_flag e 0x0800)) (if goes_on e then length new else 0) d
+      else put_in new d.cursor (not (has_flag e 0x0800)) (d.cursor + (if goes_on e then length new else 0)) d
 
   -- the current part of an act, behind the mark
   abbrev pub current_part : Entry → Registers → Buffer → Moved Registers

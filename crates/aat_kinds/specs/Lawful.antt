@@ -1,6 +1,7 @@
 -- That the contexts and drivers meet the laws, and what follows of whole runs.
-use Rattle.std.specs.Prelude.{◌≡◌, ℕ, ◌<◌, List, length, Bool, Option, IsPermutation, All, ◌≤◌}
+use Rattle.std.specs.Prelude.{◌≡◌, ℕ, ◌<◌, List, length, Bool, Option, IsPermutation, IsTrue, All, ◌≤◌}
 use Rattle.aat_buffer.specs.Buffer.{Buffer, glyph_at}
+use Rattle.aat_buffer.specs.Removal.{is_deleted}
 use Rattle.aat_font.specs.Table.{TableValue}
 use Rattle.aat_font.specs.declared.entries.ContextualEntryData.{ContextualEntryData}
 use Rattle.aat_font.specs.declared.state_table.GenericStateEntry.{GenericStateEntry}
@@ -48,7 +49,7 @@ pub record ActsKeepSmall : Type 0 where
 abbrev pub LaterComponentsAreDeleted : Type 0
 LaterComponentsAreDeleted =
     (c g : ℕ) (r : ligature.Registers) (b : Buffer) (p j : ℕ) → ligature.IsFit r p (length b.line) → c < j → j < r.count
-    → (glyph_at (ligature.stored c g r b).buffer.line (ligature.component r j)).glyph_id ≡ 0xFFFF
+    → IsTrue (is_deleted (glyph_at (ligature.stored c g r b).buffer.line (ligature.component r j)))
 
 pub record ActsKeepOrder : Type 0 where
   pub rearrangement_keeps : (bound : ℕ) → KeepsClusterOrder (rearrangement.act bound) rearrangement.IsFit

@@ -1,7 +1,8 @@
 -- The ligature act. TrueType Reference Manual: The 'morx' table, ligatures.
-use Rattle.std.specs.Prelude.{◌≡◌, ◌≢◌, ◌≤◌, zero, suc, ℕ, ◌+◌, ◌-◌, ◌%◌, ◌==◌, ◌&&◌, ◌<◌, not, Bool, false, nat_lt, bit_and, bit_or, ℤ, pos, negsuc, ◌+ℤ◌, ◌-ℤ◌, List, length, replicate, slice_get, slice_set, slice_index, Option, Some, None, if◌then◌else◌}
+use Rattle.std.specs.Prelude.{◌≡◌, ◌≢◌, ◌≤◌, zero, suc, ℕ, ◌+◌, ◌-◌, ◌%◌, ◌==◌, ◌&&◌, ◌<◌, not, IsTrue, Bool, false, nat_lt, bit_and, bit_or, ℤ, pos, negsuc, ◌+ℤ◌, ◌-ℤ◌, List, length, replicate, slice_get, slice_set, slice_index, Option, Some, None, if◌then◌else◌}
 use Rattle.aat_buffer.specs.Buffer.{Buffer, glyph_at}
 use Rattle.aat_buffer.specs.Marks.{merge_out_clusters, with_line}
+use Rattle.aat_buffer.specs.Removal.{is_deleted}
 use Rattle.aat_glyph.specs.declared.glyph.hb_glyph_info_t.{hb_glyph_info_t}
 use Rattle.aat_font.specs.declared.plan.GlyphId.{GlyphId}
 use Rattle.aat_font.specs.declared.state_table.GenericStateEntry.{GenericStateEntry}
@@ -163,7 +164,7 @@ DeletesLater e h b line =
     let s = with_component e h.registers b.cursor in
     let n = through_last_of h.actions h.components h.ligatures e h.registers b in
     (j : ℕ) → n ≤ j → j < s.count → component s j ≢ component s (n - 1)
-    → (glyph_at line (component s j)).glyph_id ≡ 0xFFFF
+    → IsTrue (is_deleted (glyph_at line (component s j)))
 
 -- what a context holds fits where its registers do, no more components are held than glyphs stand before the cursor and
 -- one at it, and where there are as many, the newest is the cursor

@@ -98,7 +98,8 @@ moved v r b =
 unfoldable pub act : ℕ → Entry → Registers → Buffer → Moved Registers
 act bound e r b =
     let s = with_marks e r b.cursor (length b.line) in
-    record { registers = s; buffer = if actionable e s b.cursor (length b.line) && is_within bound (verb_of e) s then moved (verb_of e) s b else b }
+    let can_move = actionable e s b.cursor (length b.line) && is_within bound (verb_of e) s in
+    record { registers = s; buffer = if can_move then moved (verb_of e) s b else b }
 
 -- the registers fit where the span ends within the line
 abbrev pub IsFit : Registers → ℕ → ℕ → Type 0

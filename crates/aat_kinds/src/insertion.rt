@@ -6,10 +6,10 @@ ghost use Rattle.aat_font.specs.Entries.{is_present};
 ghost use Rattle.aat_run.specs.Budget.{paid};
 ghost use Rattle.aat_run.specs.Driven.{IsRefusal, IsRefused};
 ghost use Rattle.aat_run.specs.Laws.{FitsFresh, SameSettings};
-ghost use Rattle.aat_kinds.specs.Insertion.{IsLineOfWholeRuns, at_cursor, at_mark, current_part, fresh, held_act, held_fit, inserted, run_for, with_mark};
-ghost use Rattle.aat_kinds.specs.inside.Run.{IsGrowthRefusal, IsRefusedRun, copies, put_at};
+ghost use Rattle.aat_kinds.specs.Insertion.{IsLineOfWholeRuns, at_cursor, at_mark, copies, current_part, fresh, held_act, held_fit, inserted, put_in, run_for, with_mark};
+ghost use Rattle.aat_kinds.specs.inside.Run.{IsRefusedRun};
 
-use aat_buffer::{BufferError, hb_buffer_t, hb_glyph_info_t};
+use aat_buffer::{hb_buffer_t, hb_glyph_info_t};
 use aat_font::{GenericStateEntry, GlyphId, InsertionEntryData};
 use aat_run::{AatError, driver_context_t};
 use std::alloc::Allocator;
@@ -340,10 +340,10 @@ fn put_in<A: Allocator + Copy>(
     requires room { 0 < length run.now → 0 < length buffer.old.line }
     requires few { length run.now ≤ 31 }
     requires ids { IsSmall buffer.old }
-    ensures ok { OnOk result (buffer.new ≡ put_at run.now place behind cursor buffer.old) }
+    ensures ok { OnOk result (buffer.new ≡ put_in run.now place behind cursor buffer.old) }
     ensures ids { OnOk result (IsSmall buffer.new) }
     ensures count { OnOk result (length buffer.new.line ≡ length buffer.old.line + length run.now) }
-    ensures reason { IfErr result (IsRefusal buffer.old (put_at run.now place behind cursor buffer.old)) }
+    ensures reason { IfErr result (IsRefusal buffer.old (put_in run.now place behind cursor buffer.old)) }
     ensures refused { OnErr result (IsRefusedRun buffer.old buffer.new) }
 {
     if run.len() == 0 {
@@ -353,20 +353,7 @@ fn put_in<A: Allocator + Copy>(
     }
     let records = records_of(model_of(buffer, place), run);
     buffer.move_to(start_of(place, behind, buffer.len()));
-    if let Err(error) = buffer.insert_glyphs(&records[..run.len()]) {
-        return Err(refusal(error));
-    }
+    buffer.insert_glyphs(&records[..run.len()])?;
     buffer.move_to(cursor);
     Ok(())
-}
-
-/// Why a call of the layer is refused where one of the buffer was.
-fn refusal(error: BufferError) -> AatError
-    ensures known { IsGrowthRefusal result }
-    ensures too_long { result ≡ AatError.TooLong → error ≡ BufferError.TooLong }
-{
-    match error {
-        BufferError::TooLong => AatError::TooLong,
-        BufferError::OutOfMemory => AatError::OutOfMemory,
-    }
 }

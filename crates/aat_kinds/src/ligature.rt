@@ -1,15 +1,17 @@
 //! Ligature subtables: glyphs are held as components, and joined to ligatures.
-ghost use Rattle.std.specs.Prelude.{◌≡◌, ℕ, ◌+◌, ◌-◌, ◌<◌, ◌≤◌, ◌^◌, pos, ◌+ℤ◌, length, if◌then◌else◌, nat_lt, IfErr, IfSome, IsOk, None, OnErr, OnOk};
+ghost use Rattle.std.specs.Prelude.{◌≡◌, ℕ, ◌+◌, ◌-◌, ◌<◌, ◌≤◌, ◌^◌, pos, ◌+ℤ◌, length, if◌then◌else◌, nat_lt, IfErr, IfSome, IsOk, IsTrue, None, OnErr, OnOk};
 ghost use Rattle.aat_buffer.specs.Buffer.{glyph_at, with_line};
 ghost use Rattle.aat_buffer.specs.Clusters.{IsSmall};
 ghost use Rattle.aat_buffer.specs.Marks.{merge_out_clusters};
+ghost use Rattle.aat_buffer.specs.Removal.{is_deleted};
 ghost use Rattle.aat_run.specs.Driven.{IsRefusal, IsRefused};
 ghost use Rattle.aat_run.specs.Laws.{FitsFresh};
+ghost use Rattle.aat_run.specs.inside.Places.{left_with};
 ghost use Rattle.aat_kinds.specs.Ligature.{DeletesLater, GoesOn, IsFit, IsHeldFit, Stops, component, deleted, element_at, fresh};
 ghost use Rattle.aat_kinds.specs.Ligature.{held_act, later_deleted, offset_of, stored, with_place_held};
-ghost use Rattle.aat_kinds.specs.inside.Taken.{all_taken, moved, step_of};
+ghost use Rattle.aat_kinds.specs.inside.Taken.{all_taken, step_of};
 
-use aat_buffer::{UnicodeProps, hb_buffer_t, hb_glyph_info_t};
+use aat_buffer::{DELETED_GLYPH, UnicodeProps, hb_buffer_t, hb_glyph_info_t};
 use aat_font::{GenericStateEntry, GlyphId, LigatureSubtable};
 use aat_run::{AatError, driver_context_t};
 use bitflags::Flags;
@@ -27,9 +29,6 @@ const STORE: u32 = 0xC000_0000;
 
 /// The bit of the last action of a list.
 const LAST: u32 = 0x8000_0000;
-
-/// The glyph id of a glyph that shaping has deleted.
-const DELETED_GLYPH: u32 = 0xFFFF;
 
 /// The places of the components that are held: of as many of the newest as there are slots.
 #[derive(Drop)]
@@ -130,7 +129,7 @@ impl<const SLOTS: usize> Components<SLOTS> {
         requires ids { IsSmall buffer.old }
         ensures held { self.new ≡ record self.old { count = c + 1 } }
         ensures stored { buffer.new ≡ (stored c ligature.0 self.old buffer.old).buffer }
-        ensures deleted { (j : ℕ) → c < j → j < self.old.count → (glyph_at buffer.new.line (component self.old j)).glyph_id ≡ 0xFFFF }
+        ensures deleted { (j : ℕ) → c < j → j < self.old.count → IsTrue (is_deleted (glyph_at buffer.new.line (component self.old j))) }
         ensures successful { buffer.new.successful ≡ buffer.old.successful }
         ensures ids { IsSmall buffer.new }
         ensures count { length buffer.new.line ≡ length buffer.old.line }
@@ -159,8 +158,8 @@ impl<const SLOTS: usize> Components<SLOTS> {
         requires fit { IsFit self.old buffer.old.cursor (length buffer.old.line) }
         requires ids { IsSmall buffer.old }
         requires small { sum < 2 ^ 62 }
-        ensures goes_on { IfSome result (λ more. step_of subtable.now place c sum self.old buffer.old ≡ GoesOn more (moved self.new buffer.new)) }
-        ensures stops { result ≡ None → step_of subtable.now place c sum self.old buffer.old ≡ Stops (moved self.new buffer.new) }
+        ensures goes_on { IfSome result (λ more. step_of subtable.now place c sum self.old buffer.old ≡ GoesOn more (left_with self.new buffer.new)) }
+        ensures stops { result ≡ None → step_of subtable.now place c sum self.old buffer.old ≡ Stops (left_with self.new buffer.new) }
         ensures more { IfSome result (λ more. more ≤ sum + 65535) }
         ensures slots { self.new.slots ≡ self.old.slots }
         ensures held { c < self.new.count }
@@ -194,7 +193,7 @@ impl<const SLOTS: usize> Components<SLOTS> {
         requires fit { IsFit self.old buffer.old.cursor (length buffer.old.line) }
         requires few { self.old.count < 2 ^ 32 }
         requires ids { IsSmall buffer.old }
-        ensures act { moved self.new buffer.new ≡ all_taken subtable.now first self.old buffer.old }
+        ensures act { left_with self.new buffer.new ≡ all_taken subtable.now first self.old buffer.old }
         ensures ids { IsSmall buffer.new }
         ensures successful { buffer.new.successful ≡ buffer.old.successful }
         ensures count { length buffer.new.line ≡ length buffer.old.line }

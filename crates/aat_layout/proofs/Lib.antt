@@ -1,3 +1,2 @@
 pub mod Isolating
 pub mod Refusing
-pub mod RequestLemmas

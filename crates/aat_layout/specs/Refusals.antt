@@ -1,42 +1,24 @@
 -- Why a substitution is refused, and what it leaves then.
-use Rattle.std.specs.Prelude.{◌≡◌, ◌⊎◌, ℕ, ◌||◌, ◌&&◌, not, nat_lt, is_some, is_none, take_while, Bool, true, false, List, Option, Some, None, find, length, option_map, IsTrue}
-use Rattle.std.specs.List.{list_any}
+use Rattle.std.specs.Prelude.{◌≡◌, ◌⊎◌, ℕ, ◌||◌, ◌&&◌, nat_lt, is_none, Bool, true, false, Option, Some, None, length, IsTrue}
 use Rattle.aat_buffer.specs.Buffer.{Buffer}
 use Rattle.aat_font.specs.Face.{tables_of}
-use Rattle.aat_font.specs.declared.feat.FeatureName.{FeatureName}
-use Rattle.aat_font.specs.declared.plan.Feature.{Feature}
 use Rattle.aat_font.specs.declared.face.hb_font_t.{hb_font_t}
 use Rattle.aat_font.specs.declared.plan.hb_ot_shape_plan_t.{hb_ot_shape_plan_t}
 use Rattle.aat_run.specs.Driven.{IsRefused}
 use Rattle.aat_run.specs.declared.error.AatError.{AatError}
 use Rattle.aat_run.specs.declared.error.AatError.TheVariants.{AaltValue, TooLong, OutOfMemory, BufferFailed}
 use Rattle.aat_kinds.specs.Kinds.{Sizes, sizes_for}
-use Rattle.aat_map.specs.Requests.{is_too_large, request_of}
+use Rattle.aat_map.specs.Adding.{first_too_large_among, makes_request}
 use Rattle.aat_layout.specs.Planned.{substitution_with}
 
--- the value of the first feature that asks for alternates with a value that is no setting
+-- the value of the first feature of a plan that asks for alternates with a value that is no setting
 abbrev pub first_too_large : hb_ot_shape_plan_t → hb_font_t → Option ℕ
-first_too_large plan face = option_map (λ f. f.value) (find (is_too_large (tables_of face).feat) plan.user_features.items)
-
--- the features before the first that is too large
-abbrev pub before_too_large : Option (List FeatureName) → List Feature → List Feature
-before_too_large names features = take_while (λ f. not (is_too_large names f)) features
-
--- some feature makes a request, before any that is too large
-abbrev pub makes_request : Option (List FeatureName) → List Feature → Bool
-makes_request names features = list_any (λ f. is_some (request_of names f)) (before_too_large names features)
+first_too_large plan face = first_too_large_among (tables_of face).feat plan.user_features.items
 
 -- a plan makes a request, or where no feature is too large has its requests compiled
 abbrev pub wants_memory : hb_ot_shape_plan_t → hb_font_t → Bool
 wants_memory plan face =
     makes_request (tables_of face).feat plan.user_features.items || (plan.apply_morx && is_none (first_too_large plan face))
-
--- why features are refused: the first that is too large, or want of memory where one before it makes a request
-abbrev pub RefusesFeatures : Option (List FeatureName) → List Feature → AatError → Type 0
-RefusesFeatures names features (AaltValue value) = option_map (λ f. f.value) (find (is_too_large names) features) ≡ Some value
-RefusesFeatures names features TooLong = ⊥
-RefusesFeatures names features OutOfMemory = IsTrue (makes_request names features)
-RefusesFeatures names features BufferFailed = ⊥
 
 -- why a plan is refused
 abbrev pub RefusesPlan : hb_ot_shape_plan_t → hb_font_t → AatError → Type 0
@@ -47,9 +29,9 @@ RefusesPlan plan face BufferFailed = ⊥
 
 -- why a substitution is refused before any subtable runs: a buffer that had failed, or the plan
 abbrev pub RefusesBeforeRuns : hb_ot_shape_plan_t → hb_font_t → Buffer → AatError → Type 0
-RefusesBeforeRuns plan face b (AaltValue value) = first_too_large plan face ≡ Some value
-RefusesBeforeRuns plan face b TooLong = ⊥
-RefusesBeforeRuns plan face b OutOfMemory = IsTrue (wants_memory plan face)
+RefusesBeforeRuns plan face b (AaltValue value) = RefusesPlan plan face (AaltValue value)
+RefusesBeforeRuns plan face b TooLong = RefusesPlan plan face TooLong
+RefusesBeforeRuns plan face b OutOfMemory = RefusesPlan plan face OutOfMemory
 RefusesBeforeRuns plan face b BufferFailed = b.successful ≡ false
 
 -- the line that substitution leaves, with sizes, is longer than a number

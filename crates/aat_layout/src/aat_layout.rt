@@ -6,8 +6,7 @@ ghost use Rattle.aat_font.specs.Chains.{subtable_count};
 ghost use Rattle.aat_font.specs.Face.{chains_in, tables_of};
 ghost use Rattle.aat_kinds.specs.Kinds.{sizes_of};
 ghost use Rattle.aat_layout.specs.Planned.{IsIsolated, IsIsolatedWith, substitution, substitution_with};
-ghost use Rattle.aat_layout.specs.Refusals.{LeavesBehind, LeavesBehindWith, RefusesBeforeRuns, RefusesFeatures, RefusesPlan, RefusesSubstitution, RefusesSubstitutionWith, first_too_large};
-ghost use Rattle.aat_map.specs.Requests.{is_too_large, requests_of};
+ghost use Rattle.aat_layout.specs.Refusals.{LeavesBehind, LeavesBehindWith, RefusesBeforeRuns, RefusesPlan, RefusesSubstitution, RefusesSubstitutionWith, first_too_large};
 ghost use Rattle.aat_map.specs.SwitchedChains.{plan_requests, switched, switched_by};
 ghost use Rattle.aat_morx.specs.Kept.{has_insertion};
 ghost use Rattle.aat_run.specs.Budget.{extent};
@@ -17,7 +16,7 @@ ghost use Rattle.aat_run.specs.Outcome.{Outcome};
 ghost use Rattle.aat_run.specs.Ranges.{is_whole_list};
 
 use aat_buffer::hb_buffer_t;
-use aat_font::{Feature, hb_font_t, hb_ot_shape_plan_t};
+use aat_font::{hb_font_t, hb_ot_shape_plan_t};
 use aat_kinds::{LIGATURE_SLOTS, MAX_CONTEXT_LENGTH};
 use aat_map::{hb_aat_map_builder_t, hb_aat_map_t};
 use aat_morx::run_table;
@@ -134,27 +133,10 @@ fn compiled_map<H: Allocator + Copy>(
     ensures reason { IfErr result (RefusesPlan plan.now face.now) }
     ensures fits { OnOk result (first_too_large plan.now face.now ≡ None) }
 {
-    let mut builder = hb_aat_map_builder_t::default(alloc);
+    let mut builder = hb_aat_map_builder_t::with_features(alloc, face, &plan.user_features)?;
     let mut map = hb_aat_map_t::default(alloc);
-    add_features(&mut builder, face, &plan.user_features)?;
     if plan.apply_morx {
         builder.compile(face, &mut map)?;
     }
     Ok(map)
-}
-
-/// Adds features in their order.
-fn add_features<H: Allocator + Copy>(
-    builder: &mut hb_aat_map_builder_t<H>,
-    face: &hb_font_t,
-    features: &[Feature],
-) -> Result<(), AatError>
-    ensures ok { OnOk result (builder.new.features ≡ builder.old.features ++ requests_of (tables_of face.now).feat features.now) }
-    ensures fits { OnOk result (find (is_too_large (tables_of face.now).feat) features.now ≡ None) }
-    ensures reason { IfErr result (RefusesFeatures (tables_of face.now).feat features.now) }
-{
-    for feature in features {
-        builder.add_feature(face, feature)?;
-    }
-    Ok(())
 }

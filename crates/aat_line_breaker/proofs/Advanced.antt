@@ -7,7 +7,7 @@ use Rattle.aat_layout.specs.Advances.{advance, all_advances}
 use Rattle.aat_layout.specs.Buffer.{Buffer, position_list, reversed, zero_position}
 use Rattle.aat_layout.specs.Cut.{ordered_line, ordered_positions}
 use Rattle.aat_layout.specs.Directions.{is_backward, is_horizontal}
-use Rattle.aat_line_breaker.specs.LineCut.{advance_before, along}
+use Rattle.aat_line_breaker.specs.LineCut.{advance_before, text_advance}
 
 length_turned :
     {A : Type 0} (o : Option (List A)) → length (unwrap_or (option_map reverse o) []) ≡ length (unwrap_or o [])
@@ -33,20 +33,20 @@ length-ordered_line b = by_way (is_backward b.direction)
 less_sum : (s a : ℤ) → pos 0 -ℤ (s +ℤ a) ≡ (pos 0 -ℤ s) +ℤ (pos 0 -ℤ a)
 less_sum s a = omega (arith, ints)
 
--- sums go along as their parts do
-along_more : (h : Bool) (s a : ℤ) → along h (s +ℤ a) ≡ along h s +ℤ along h a
-along_more true s a = refl
-along_more false s a = less_sum s a
+-- sums go text_advance as their parts do
+text_advance_more : (h : Bool) (s a : ℤ) → text_advance h (s +ℤ a) ≡ text_advance h s +ℤ text_advance h a
+text_advance_more true s a = refl
+text_advance_more false s a = less_sum s a
 
 -- the advance of a glyph comes to those before it
 pub advance_more :
     (b : Buffer) (q : ℕ) → length (position_list b) ≡ length b.line → q < length b.line
     → advance_before (q + 1) b
     ≡ advance_before q b
-    +ℤ along (is_horizontal b.direction) (advance (is_horizontal b.direction) (get_or (ordered_positions b) q zero_position))
+    +ℤ text_advance (is_horizontal b.direction) (advance (is_horizontal b.direction) (get_or (ordered_positions b) q zero_position))
 advance_more b q placed low =
     let h = is_horizontal b.direction in
-    ap (along h)
+    ap (text_advance h)
     (fold_more (λ s p. s +ℤ advance h p) (pos 0) (ordered_positions b) q zero_position
     (omega (arith, low, placed, length-ordered_positions b)))
-    ∙ along_more h (all_advances h (take q (ordered_positions b))) (advance h (get_or (ordered_positions b) q zero_position))
+    ∙ text_advance_more h (all_advances h (take q (ordered_positions b))) (advance h (get_or (ordered_positions b) q zero_position))

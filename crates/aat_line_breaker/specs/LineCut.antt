@@ -3,21 +3,21 @@
 use Rattle.std.specs.Prelude.{◌≡◌, ℕ, ℤ, pos, ◌<◌, ◌≤ℤ◌, ◌-ℤ◌, ◌++◌, Bool, true, false, take, Option, Some, None}
 use Rattle.aat_layout.specs.Advances.{all_advances}
 use Rattle.aat_layout.specs.Buffer.{Buffer}
-use Rattle.aat_layout.specs.Cut.{AreAlikeParts, IsCutPlace, ordered_positions}
+use Rattle.aat_layout.specs.Cut.{AreAlikeParts, IsCutPlace, IsKernedInParts, ordered_positions}
 use Rattle.aat_layout.specs.Directions.{is_horizontal}
 use Rattle.aat_layout.specs.Outcome.{Outcome}
 
 -- how far the text goes by an advance: by so much in a row, and in a column, where advances go down below 0, by 0 less
 -- so much
-abbrev pub along : Bool → ℤ → ℤ
-along true advance = advance
-along false advance = pos 0 -ℤ advance
+abbrev pub text_advance : Bool → ℤ → ℤ
+text_advance true advance = advance
+text_advance false advance = pos 0 -ℤ advance
 
 -- how far the text goes before place q, in processing order: by the sum of the advances there, in x in a row and in y
 -- in a column
 abbrev pub advance_before : ℕ → Buffer → ℤ
 advance_before q b =
-    along (is_horizontal b.direction) (all_advances (is_horizontal b.direction) (take q (ordered_positions b)))
+    text_advance (is_horizontal b.direction) (all_advances (is_horizontal b.direction) (take q (ordered_positions b)))
 
 -- a line whose kerning skips these glyph props may be cut at q, in processing order, and goes before q no further than
 -- the limit
@@ -35,5 +35,4 @@ IsLast IsSo (Some q) = IsSo q × ((p : ℕ) → q < p → ¬ IsSo p)
 -- buffers with the direction and the flags of the line's buffer.
 abbrev pub IsLeftOfPartsAt : ℕ → (Buffer → Outcome) → Buffer → Buffer → Type 0
 IsLeftOfPartsAt q kern line left =
-    (first second : Buffer) → AreAlikeParts q line first second
-    → ordered_positions left ≡ ordered_positions (kern first).buffer ++ ordered_positions (kern second).buffer
+    (first second : Buffer) → AreAlikeParts q line first second → IsKernedInParts kern left first second

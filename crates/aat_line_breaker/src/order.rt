@@ -5,7 +5,7 @@ ghost use Rattle.aat_layout.specs.Buffer.{glyph_at, position_list, zero_position
 ghost use Rattle.aat_layout.specs.Cut.{ordered_line, ordered_positions};
 ghost use Rattle.aat_layout.specs.Directions.{is_horizontal};
 ghost use Rattle.aat_layout.specs.Positions.{IsPlaced};
-ghost use Rattle.aat_line_breaker.specs.LineCut.{along};
+ghost use Rattle.aat_line_breaker.specs.LineCut.{text_advance};
 
 use aat_layout::buffer::{hb_buffer_t, hb_glyph_info_t};
 use std::alloc::Allocator;
@@ -42,7 +42,7 @@ pub(crate) fn glyph_at<A: Allocator + Copy>(
 pub(crate) fn advance_at<A: Allocator + Copy>(buffer: &hb_buffer_t<A>, place: usize) -> i64
     requires in_line { place < length buffer.now.line }
     requires placed { IsPlaced buffer.now }
-    ensures value { result ≡ along (is_horizontal buffer.now.direction) (advance (is_horizontal buffer.now.direction) (slice_index_or (ordered_positions buffer.now) place zero_position)) }
+    ensures value { result ≡ text_advance (is_horizontal buffer.now.direction) (advance (is_horizontal buffer.now.direction) (slice_index_or (ordered_positions buffer.now) place zero_position)) }
     ensures low { negsuc 0x7FFF_FFFF ≤ℤ result }
     ensures high { result ≤ℤ pos 0x8000_0000 }
 {

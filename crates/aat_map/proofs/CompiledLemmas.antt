@@ -13,7 +13,7 @@ use Rattle.aat_run.specs.Switches.{by_flags, meets}
 use Rattle.aat_map.specs.Builder.{Builder}
 use Rattle.aat_map.specs.Compiled.{IsLastStart}
 use Rattle.aat_run.specs.Ranges.{last_cluster, flags_in, flags_on, holds, next_start, is_whole_list, switch_for}
-use Rattle.aat_map.specs.Live.{admitted, is_edge, is_cut, cuts_at, is_between_edges, has_one_range, flags_at_cluster}
+use Rattle.aat_map.specs.Live.{admitted, is_edge, is_cut, cuts_at, is_between_edges, is_uncut, flags_at_cluster}
 use Rattle.aat_map.specs.Map.{AreStarts, range_starts, flags_at, list_at}
 use Rattle.aat_map.specs.SwitchedChains.{switched_by, by_requests, switched_at, with_switch}
 use Rattle.aat_map.specs.Spans.{spans}
@@ -283,7 +283,7 @@ module _
   one_range_by :
       (later : List ℕ) → starts ≡ 0 ∷ later → Rises (0 ∷ later)
       → ((c : ℕ) → 0 < c → is_cut requests c ≡ true → list_any (λ t. t == c) later ≡ true)
-      → has_one_range requests ≡ (length starts == 1)
+      → is_uncut requests ≡ (length starts == 1)
   one_range_by [] is up cover =
       all_edges (admitted requests) (λ x. false_from_ne_true (is_cut requests x) (λ k. by_zero x (x == 0) refl k))
       ∙ sym (ap (λ xs. length xs == 1) is)
@@ -299,16 +299,16 @@ module _
       edges_fail s (admitted requests) cuts ∙ sym (ap (λ xs. length xs == 1) is ∙ not_one (length ss))
 
   -- one range alone where nothing cuts
-  one_range : has_one_range requests ≡ (length starts == 1)
+  one_range : is_uncut requests ≡ (length starts == 1)
   one_range = one_range_by places.later places.is places.rises covered
 
   -- how a compiled list switches its chain
   switch_is :
       (c : Chain)
-      → switch_for (map (span_range requests c) (spans starts)) ≡ by_flags (has_one_range requests) (flags_of requests c)
+      → switch_for (map (span_range requests c) (spans starts)) ≡ by_flags (is_uncut requests) (flags_of requests c)
   switch_is c =
       let n : length (map (span_range requests c) (spans starts)) ≡ length starts = length-map (spans starts) (span_range requests c) ∙ length-spans starts in
-      let one : (length (map (span_range requests c) (spans starts)) == 1) ≡ has_one_range requests = ap (λ m. m == 1) n ∙ sym one_range in
+      let one : (length (map (span_range requests c) (spans starts)) == 1) ≡ is_uncut requests = ap (λ m. m == 1) n ∙ sym one_range in
       let some : (length (map (span_range requests c) (spans starts)) == 0) ≡ false = ap (λ m. m == 0) n ∙ ap (λ ss. length ss == 0) places.is ∙ not_none (length places.later) in
       let on : (feature_flags x : ℕ) → ((length (map (span_range requests c) (spans starts)) == 0) || meets (flags_on (map (span_range requests c) (spans starts)) x) feature_flags) ≡ meets (flags_of requests c x) feature_flags = λ feature_flags x. ap (λ b. b || meets (flags_on (map (span_range requests c) (spans starts)) x) feature_flags) some ∙ ap (λ f. meets f feature_flags) (on_is c x) in
       λ i. record { has_one_range = one i; is_on = λ feature_flags x. on feature_flags x i }

@@ -7,7 +7,7 @@ use Rattle.aat_map.specs.declared.feature.feature_range_t.{feature_range_t}
 use Rattle.aat_map.specs.declared.feature.feature_info_t.{feature_info_t}
 use Rattle.aat_font.specs.declared.morx.ChainFeature.{ChainFeature}
 use Rattle.aat_map.specs.ChainFlags.{flags_by}
-use Rattle.aat_map.specs.Live.{is_admitted, admitted, kept, has_setting, flags_at_cluster, has_one_range, is_between_edges}
+use Rattle.aat_map.specs.Live.{is_admitted, admitted, kept, has_setting, flags_at_cluster, is_uncut, is_between_edges}
 use Rattle.aat_map.proofs.CutLemmas.{SameSide, live_same, ordered_all}
 
 both_true : (a b : Bool) → (a && b) ≡ true → (a ≡ true) × (b ≡ true)
@@ -25,7 +25,7 @@ same_sides x (r ∷ rs) edges admits =
     (same_side x r both.0 admits.0, same_sides x rs both.1 admits.1)
 
 -- a chain that has one range has the same flags at each cluster
-pub flags_of_one_range : (rs : List feature_range_t) (default_flags : ℕ) (features : List ChainFeature) (x : ℕ) → has_one_range rs ≡ true → flags_at_cluster rs default_flags features x ≡ flags_at_cluster rs default_flags features 0
+pub flags_of_one_range : (rs : List feature_range_t) (default_flags : ℕ) (features : List ChainFeature) (x : ℕ) → is_uncut rs ≡ true → flags_at_cluster rs default_flags features x ≡ flags_at_cluster rs default_flags features 0
 flags_of_one_range rs default_flags features x one =
     let admits : AllByRecursion (λ r. is_admitted r ≡ true) (admitted rs) = recursion_from_All (λ r. is_admitted r ≡ true) (admitted rs) (λ k d low. filter_passes is_admitted rs k d low) in
     let same = live_same x 0 rs (ordered_all (SameSide x 0) [] (admitted rs) tt (same_sides x (admitted rs) one admits)) in

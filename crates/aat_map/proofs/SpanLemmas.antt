@@ -7,15 +7,15 @@ use Rattle.aat_map.specs.declared.feature.feature_range_t.{feature_range_t}
 use Rattle.aat_run.specs.declared.ranges.range_flags_t.{range_flags_t}
 use Rattle.aat_font.specs.declared.morx.Chain.{Chain}
 use Rattle.aat_map.specs.Builder.{Builder}
-use Rattle.aat_map.specs.Compiled.{compiled_range, compiled_ranges}
+use Rattle.aat_map.specs.Compiled.{compiled_range, compiled_ranges, flags_for}
 use Rattle.std.proofs.lemmas.List.Sorted.{list_any-IsPermutation}
 use Rattle.aat_map.specs.declared.feature.feature_info_t.{feature_info_t}
 use Rattle.aat_map.specs.ChainFlags.{flags_by}
-use Rattle.aat_run.specs.Ranges.{last_cluster, next_start}
+use Rattle.aat_run.specs.Ranges.{last_cluster, next_start, range}
 use Rattle.aat_map.specs.Live.{kept_at, has_setting, requested_at, by_start, live, live_among}
 use Rattle.aat_map.specs.Map.{list_at, resized, with_ranges}
 use Rattle.aat_map.specs.Spans.{spans}
-use Rattle.aat_map.specs.inside.CompiledSpans.{flags_for, all_flags_for, range_with, ranges_with, span_range, ranges_over, compiled_lists, RiseFromZero, IsLastSpan}
+use Rattle.aat_map.specs.inside.CompiledSpans.{all_flags_for, ranges_with, span_range, ranges_over, compiled_lists, RiseFromZero, IsLastSpan}
 
 -- a span that another follows ends before it
 pub span_inner :
@@ -100,7 +100,7 @@ pub ranges_alike :
     → compiled_ranges b chains ≡ ranges_over requests chains s
 ranges_alike requests chains b s moved first last =
     let same = settings_alike s.0 requests b.current_features moved in
-    let alike : compiled_range b ≡ (λ c. span_range requests c s) = λ i c. record { flags = flags_by (same i) c.default_flags c.features.items; cluster_first = first i; cluster_last = last i } in
+    let alike : compiled_range b ≡ (λ c. span_range requests c s) = λ i c. range (first i) (last i) (flags_by (same i) c.default_flags c.features.items) in
     ap (λ f. map f chains) alike
 
 -- the ranges of the flags that a builder's settings give each chain are its ranges
@@ -109,8 +109,8 @@ ranges_with_flags :
     → ranges_with s (all_flags_for b.current_features chains) ≡ compiled_ranges b chains
 ranges_with_flags [] b s first last = refl
 ranges_with_flags (c ∷ cs) b s first last =
-    let one : range_with s (flags_for b.current_features c) ≡ compiled_range b c =
-    λ i. record { flags = flags_for b.current_features c; cluster_first = sym first i; cluster_last = sym last i } in
+    let one : range s.0 s.1 (flags_for b.current_features c) ≡ compiled_range b c =
+    λ i. range (sym first i) (sym last i) (flags_for b.current_features c) in
     ap (λ r. r ∷ ranges_with s (all_flags_for b.current_features cs)) one
     ∙ ap (λ rs. compiled_range b c ∷ rs) (ranges_with_flags cs b s first last)
 

@@ -12,9 +12,14 @@ pub record Builder : Type 0 where
   pub range_first : ℕ
   pub range_last : ℕ
 
--- no request, and the whole text as the range
+-- requests, and the whole text as the range
+abbrev pub builder_with : List feature_range_t → Builder
+builder_with requests =
+    record { features = requests; current_features = []; range_first = 0; range_last = last_cluster }
+
+-- no request
 abbrev pub empty_builder : Builder
-empty_builder = record { features = []; current_features = []; range_first = 0; range_last = last_cluster }
+empty_builder = builder_with []
 
 -- a request more, if there is one
 abbrev pub with_request : Builder → Option feature_range_t → Builder

@@ -2,22 +2,23 @@
 use Rattle.std.specs.Prelude.{◌≡◌, ℕ, ◌<◌, ◌≤◌, List, length, map, Option, Some, None, IsTrue, ◌==◌, ◌||◌, slice_get}
 use Rattle.aat_map.specs.ChainFlags.{flags_by}
 use Rattle.aat_map.specs.Live.{has_setting, is_cut, flags_at_cluster}
+use Rattle.aat_map.specs.declared.feature.feature_info_t.{feature_info_t}
 use Rattle.aat_map.specs.declared.feature.feature_range_t.{feature_range_t}
 use Rattle.aat_map.specs.Builder.{Builder}
-use Rattle.aat_run.specs.Ranges.{next_start, last_cluster}
+use Rattle.aat_run.specs.Ranges.{next_start, last_cluster, range}
 use Rattle.aat_map.specs.Map.{list_at, flags_at, resized, with_ranges}
 use Rattle.aat_font.specs.Morx.{chains_of}
 use Rattle.aat_run.specs.declared.ranges.range_flags_t.{range_flags_t}
 use Rattle.aat_font.specs.declared.morx.Chain.{Chain}
 use Rattle.aat_font.specs.declared.morx.Morx.{Morx}
 
+-- the flags that settings give a chain
+abbrev pub flags_for : List feature_info_t → Chain → ℕ
+flags_for settings c = flags_by (has_setting settings) c.default_flags c.features.items
+
 -- the range of a builder with the flags that its settings give a chain
 abbrev pub compiled_range : Builder → Chain → range_flags_t
-compiled_range b c = record {
-  flags = flags_by (has_setting b.current_features) c.default_flags c.features.items;
-  cluster_first = b.range_first;
-  cluster_last = b.range_last;
-}
+compiled_range b c = range b.range_first b.range_last (flags_for b.current_features c)
 
 -- that range for each chain
 abbrev pub compiled_ranges : Builder → List Chain → List range_flags_t

@@ -1,7 +1,7 @@
 -- Worked rows and examples as statements over the definitions.
 use Rattle.std.specs.Prelude.{◌≡◌, ℕ, Bool, true, false, ◌==◌, ◌&&◌, ◌||◌, List, [], ◌∷◌, map, filter, Some, None}
 use Rattle.aat_map.specs.ChainFlags.{flags_by}
-use Rattle.aat_run.specs.Ranges.{last_cluster}
+use Rattle.aat_run.specs.Ranges.{last_cluster, range}
 use Rattle.aat_map.specs.Live.{is_cut, flags_at_cluster}
 use Rattle.aat_map.specs.Requests.{requests_of, addition, is_too_large}
 use Rattle.aat_map.specs.Spans.{spans}
@@ -46,10 +46,6 @@ ligature_feature setting enable disable =
 -- where the ranges of the rows may begin
 abbrev pub some_clusters : List ℕ
 some_clusters = 0 ∷ 1 ∷ 2 ∷ 3 ∷ 4 ∷ 5 ∷ 6 ∷ 7 ∷ 8 ∷ 9 ∷ 10 ∷ 11 ∷ last_cluster ∷ []
-
--- flags from one cluster to another
-abbrev pub range : ℕ → ℕ → ℕ → range_flags_t
-range first last flags = record { flags = flags; cluster_first = first; cluster_last = last }
 
 -- the ranges of a chain that begins with the lowest flag, where features are asked for
 abbrev pub ranges_for : List Feature → List ChainFeature → List range_flags_t

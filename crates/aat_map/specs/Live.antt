@@ -113,6 +113,6 @@ is_cut requests x = list_any (cuts_at x) (admitted requests)
 abbrev pub is_between_edges : feature_range_t → Bool
 is_between_edges r = is_edge r.start && is_edge r.end
 
--- a chain has one range where each admitted request starts and ends at an end of the text
-abbrev pub has_one_range : List feature_range_t → Bool
-has_one_range requests = list_all is_between_edges (admitted requests)
+-- each admitted request starts and ends at an end of the text: a chain has one range then
+abbrev pub is_uncut : List feature_range_t → Bool
+is_uncut requests = list_all is_between_edges (admitted requests)

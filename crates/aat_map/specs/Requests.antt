@@ -61,15 +61,15 @@ abbrev pub mapped_setting : hb_aat_feature_mapping_t → ℕ → FeatureName →
 mapped_setting m value n = record { kind = m.aat_feature_type; setting = selector m value; is_exclusive = n.exclusive }
 
 -- a feature with a row is known, and is appended where the font has its type with settings
-abbrev pub mapped : List FeatureName → Feature → Option hb_aat_feature_mapping_t → Addition
-mapped names f None = unknown
-mapped names f (Some m) =
+abbrev pub addition_by_row : List FeatureName → Feature → Option hb_aat_feature_mapping_t → Addition
+addition_by_row names f None = unknown
+addition_by_row names f (Some m) =
     record { is_known = true; appended = option_map (mapped_setting m f.value) (name_for names m) }
 
 -- what becomes of a feature, by the font's feature names, if it has them
 abbrev pub addition : Option (List FeatureName) → Feature → Addition
 addition None f = unknown
-addition (Some names) f = if is_alternates f then alternates names f else mapped names f (mapping_of f.tag.0)
+addition (Some names) f = if is_alternates f then alternates names f else addition_by_row names f (mapping_of f.tag.0)
 
 -- a value past the settings of the character alternatives, where the font has them
 abbrev pub is_past_alternates : List FeatureName → Feature → Bool

@@ -2,7 +2,7 @@
 -- chain header and feature subtables.
 use Rattle.std.specs.Prelude.{Bool, List, [], ◌∷◌, map, if◌then◌else◌}
 use Rattle.aat_run.specs.Switches.{Switch, always_on, by_flags}
-use Rattle.aat_map.specs.Live.{has_one_range, flags_at_cluster}
+use Rattle.aat_map.specs.Live.{is_uncut, flags_at_cluster}
 use Rattle.aat_run.specs.Ranges.{switch_for}
 use Rattle.aat_map.specs.Requests.{requests_of}
 use Rattle.aat_font.specs.Face.{tables_of}
@@ -32,7 +32,7 @@ switched_by (c ∷ cs) (l ∷ ls) = with_switch (switch_for l) c ∷ switched_by
 -- a chain that is switched by requests: at each cluster by its flags there
 abbrev pub switched_at : List feature_range_t → Chain → SwitchedChain
 switched_at requests c =
-    with_switch (by_flags (has_one_range requests) (flags_at_cluster requests c.default_flags c.features.items)) c
+    with_switch (by_flags (is_uncut requests) (flags_at_cluster requests c.default_flags c.features.items)) c
 
 -- chains that are switched by requests
 abbrev pub by_requests : List feature_range_t → List Chain → List SwitchedChain

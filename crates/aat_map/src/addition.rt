@@ -2,7 +2,7 @@
 ghost use Rattle.std.specs.Prelude.{◌≡◌, IfOk, IfErr, OnOk, OnErr, option_map, true, false};
 ghost use Rattle.aat_font.specs.Face.{tables_of};
 ghost use Rattle.aat_map.specs.Mappings.{mapping_of};
-ghost use Rattle.aat_map.specs.Requests.{addition, is_too_large, is_past_alternates, alternates, mapped, mapped_setting, exposed, name_for};
+ghost use Rattle.aat_map.specs.Requests.{addition, is_too_large, is_past_alternates, addition_by_row, alternates, mapped_setting, exposed, name_for};
 ghost use Rattle.aat_map.specs.inside.AdditionInside.{addition_from};
 
 use crate::feature::feature_info_t;
@@ -82,7 +82,7 @@ fn alternates_of(feat: &Feat, feature: &Feature) -> Result<AddedFeature, AatErro
 
 /// A feature with a row is known, and is appended where the font has its type with settings.
 fn mapped_to(feat: &Feat, feature: &Feature) -> AddedFeature
-    ensures { addition_from result ≡ mapped feat.now feature.now (mapping_of feature.now.tag.0) }
+    ensures { addition_from result ≡ addition_by_row feat.now feature.now (mapping_of feature.now.tag.0) }
 {
     match mapping_of(feature.tag) {
         Some(mapping) => AddedFeature {

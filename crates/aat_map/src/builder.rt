@@ -1,10 +1,10 @@
 //! The map builder: it gathers requests and compiles them.
-ghost use Rattle.std.specs.Prelude.{◌≡◌, ◌≤◌, IfOk, IfErr, OnOk, OnErr, is_some, false};
+ghost use Rattle.std.specs.Prelude.{◌≡◌, ◌≤◌, IfOk, IfErr, None, OnOk, OnErr, is_some, false};
 ghost use Rattle.aat_font.specs.Face.{tables_of};
 ghost use Rattle.aat_map.specs.Live.{IsRisingByGroup};
-ghost use Rattle.aat_map.specs.Requests.{addition, is_too_large, request_of};
-ghost use Rattle.aat_map.specs.Adding.{RefusesFeature};
-ghost use Rattle.aat_map.specs.Builder.{empty_builder, with_request};
+ghost use Rattle.aat_map.specs.Requests.{addition, is_too_large, request_of, requests_of};
+ghost use Rattle.aat_map.specs.Adding.{RefusesFeature, RefusesFeatures, first_too_large_among};
+ghost use Rattle.aat_map.specs.Builder.{builder_with, empty_builder, with_request};
 
 use crate::addition::addition_of;
 use crate::feature::{feature_info_t, feature_range_t};
@@ -50,6 +50,28 @@ impl<A: Allocator + Copy> hb_aat_map_builder_t<A> {
             range_first: 0,
             range_last: u32::MAX,
         }
+    }
+
+    /// A builder with the requests that features of the user make, in their order, whose range is the whole text.
+    ///
+    /// Refused as [`add_feature`](Self::add_feature) is, of the first feature that is refused: as 1, `AaltValue`, with
+    /// the first value of alternates that is no setting, and as 3, `OutOfMemory`, only where a feature before that one
+    /// makes a request.
+    pub fn with_features(
+        alloc: A,
+        face: &hb_font_t,
+        features: &[Feature],
+    ) -> Result<hb_aat_map_builder_t<A>, AatError>
+        ensures ok { IfOk result (λ builder. builder
+            ≡ builder_with (requests_of (tables_of face.now).feat features.now)) }
+        ensures fits { OnOk result (first_too_large_among (tables_of face.now).feat features.now ≡ None) }
+        ensures refused { IfErr result (RefusesFeatures (tables_of face.now).feat features.now) }
+    {
+        let mut builder = hb_aat_map_builder_t::default(alloc);
+        for feature in features {
+            builder.add_feature(face, feature)?;
+        }
+        Ok(builder)
     }
 
     /// Adds the request that a feature of the user makes, by the names of the font's features.

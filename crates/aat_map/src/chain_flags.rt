@@ -1,9 +1,9 @@
 //! The flags of each chain in the range of a builder.
 ghost use Rattle.std.specs.Prelude.{◌≡◌, ◌<◌, ◌≤◌, length, IfOk, IfErr, OnOk, OnErr, is_none, [], All};
 ghost use Rattle.std.specs.List.{AllWithin};
-ghost use Rattle.aat_map.specs.ChainFlags.{flags_by, is_asked, after_feature};
+ghost use Rattle.aat_map.specs.ChainFlags.{is_asked, after_feature};
 ghost use Rattle.aat_map.specs.Live.{IsRisingByGroup, has_setting};
-ghost use Rattle.aat_map.specs.Compiled.{compiled_range, compiled_ranges, compiled, compiled_for, Follows};
+ghost use Rattle.aat_map.specs.Compiled.{compiled_range, compiled_ranges, compiled, compiled_for, flags_for, Follows};
 ghost use Rattle.aat_map.specs.Map.{with_ranges};
 ghost use Rattle.aat_font.specs.Face.{tables_of, chains_in};
 
@@ -107,7 +107,7 @@ fn compiled_range<A: Allocator + Copy>(
 /// order.
 pub(crate) fn flags_of(settings: &[feature_info_t], chain: &Chain) -> hb_mask_t
     requires { IsRisingByGroup settings.now }
-    ensures { result ≡ flags_by (has_setting settings.now) chain.now.default_flags chain.now.features.items }
+    ensures { result ≡ flags_for settings.now chain.now }
 {
     let mut flags = chain.default_flags;
     for feature in &chain.features {

@@ -56,18 +56,8 @@ impl<A: Allocator + Copy> hb_aat_map_builder_t<A> {
         ensures empty { OnErr result (map.new ≡ []) }
     {
         map.clear();
-        let answer = compile_ranges(self, font_chains(face), map);
+        let answer = compile_ranges(self, face.chains(), map);
         map.empty_on_err(answer)
-    }
-}
-
-/// The font's chains, none where it has no table.
-fn font_chains(face: &hb_font_t) -> &[Chain]
-    ensures { result.now ≡ chains_in (tables_of face.now).morx }
-{
-    match &face.tables().morx {
-        Some(morx) => morx.chains(),
-        None => &[],
     }
 }
 

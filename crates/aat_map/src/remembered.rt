@@ -1,9 +1,9 @@
 //! The flags of the chains, remembered from range to range.
 ghost use Rattle.std.specs.Prelude.{◌≡◌, ◌<◌, ◌≤◌, ℕ, length, true, IfOk, IfErr, OnOk};
-ghost use Rattle.aat_run.specs.Ranges.{next_start};
+ghost use Rattle.aat_run.specs.Ranges.{next_start, range};
 ghost use Rattle.aat_map.specs.Live.{IsRisingByGroup};
 ghost use Rattle.aat_map.specs.Map.{list_at, with_ranges};
-ghost use Rattle.aat_map.specs.inside.CompiledSpans.{all_flags_for, range_with, ranges_with};
+ghost use Rattle.aat_map.specs.inside.CompiledSpans.{all_flags_for, ranges_with};
 
 use crate::chain_flags::flags_of;
 use crate::feature::feature_info_t;
@@ -94,7 +94,7 @@ pub(crate) fn push_flags<A: Allocator + Copy>(
 
 /// A range of flags over a span.
 fn range_of_span(flags: hb_mask_t, span: (u32, u32)) -> range_flags_t
-    ensures { result ≡ range_with span flags }
+    ensures { result ≡ range span.0 span.1 flags }
 {
     range_flags_t {
         flags,

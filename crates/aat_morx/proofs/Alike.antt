@@ -25,12 +25,13 @@ use Rattle.aat_kinds.specs.facts.OrderHolds.{rearrangement_kept, contextual_kept
 use Rattle.aat_run.specs.Context.{Context, Config, Machine, machine_of, start, is_at_end, class_at, cluster_seen}
 use Rattle.aat_run.specs.Driven.{machine_run, outcome_of}
 use Rattle.aat_run.specs.Laws.{IsLawful}
-use Rattle.aat_run.specs.Machine.{Turn, Ends, Goes, left_by, run, marked, settled, acted, by_entry, off, passed, counted, turn, whole}
+use Rattle.aat_run.specs.Machine.{Turn, Ends, Goes, left_by, run, settled_by, marked, stepped, acted, by_entry, off, passed, counted, turn, whole}
 use Rattle.aat_run.specs.Outcome.{Outcome}
 use Rattle.aat_run.specs.Safe.{is_safe}
 use Rattle.aat_run.specs.Budget.{potential}
-use Rattle.aat_run.specs.facts.MachineRuns.{Lower, turn_falls, turn_keeps, whole_keeps, whole_makes_none, below_end}
+use Rattle.aat_run.specs.facts.MachineRuns.{turn_falls, turn_keeps, whole_keeps, whole_makes_none, below_end}
 use Rattle.aat_run.specs.facts.Runs.{OnGoes, followed, followed_same, run_step}
+use Rattle.aat_run.specs.facts.Turns.{Lower}
 
 -- two switches say the same at each cluster of a line, and at 0 of an empty one
 pub record SayAlike (on other : ℕ → Bool) (gs : List hb_glyph_info_t) : Type 0 where
@@ -67,7 +68,7 @@ module _ {T Q : Type 0} (table : TableValue (GenericStateEntry T)) (x : Context 
           (λ inside. let a = good.from d.buffer.cursor (below_end d.buffer inside) in ap on a.2 ∙ (alike.each a.0 a.1 ∙ ap other (sym a.2)))
 
       same_by_entry : (o : Option (GenericStateEntry T)) (d : Config Q) → by_entry m o d ≡ by_entry n o d
-      unfolding by_entry acted marked settled is_safe
+      unfolding by_entry acted marked is_safe
       same_by_entry None d = refl
       same_by_entry (Some e) d = refl
 
@@ -79,14 +80,13 @@ module _ {T Q : Type 0} (table : TableValue (GenericStateEntry T)) (x : Context 
           ap (λ (t : Bool). cond t (by_entry m entry o) (off m o)) (seen_alike d good)
           ∙ ap (λ (t : Turn (Config Q)). cond (other o.last) t (off m o)) (same_by_entry entry o)
 
-      last_of_settled : (e : GenericStateEntry T) (d : Config Q) → (left_by (settled m e d)).last ≡ d.last
-      unfolding settled
-      last_of_settled e d = either (λ (t : Turn (Config Q)). (left_by t).last) (is_at_end d.buffer) (Ends d) (Goes _) _ refl refl
+      last_of_settled : (step : Buffer → Buffer) (d : Config Q) → (left_by (settled_by step d)).last ≡ d.last
+      last_of_settled step d = either (λ (t : Turn (Config Q)). (left_by t).last) (is_at_end d.buffer) (Ends d) (Goes _) _ refl refl
 
       last_of_entry : (o : Option (GenericStateEntry T)) (d : Config Q) → (left_by (by_entry m o d)).last ≡ d.last
       unfolding by_entry acted
       last_of_entry None d = refl
-      last_of_entry (Some e) d = last_of_settled e _
+      last_of_entry (Some e) d = last_of_settled (stepped (x.advances e)) _
 
       last_of_off : (d : Config Q) → (left_by (off m d)).last ≡ d.last
       unfolding off
@@ -109,7 +109,7 @@ module _ {T Q : Type 0} (table : TableValue (GenericStateEntry T)) (x : Context 
       good_turn : (d : Config Q) → Good d → OnGoes Good (turn m d)
       good_turn d good = by_turn (turn m d) (turn_falls m fits law.keeps_fit law.passes_fit law.pays d good.stands) (kept_turn d good) (rw (last_of_turn d) (seen_alike d good))
         where
-          by_turn : (t : Turn (Config Q)) → OnGoes (Lower m fits law.keeps_fit law.passes_fit law.pays (potential d.buffer)) t → ComesFrom b.line (left_by t).buffer.line → on (left_by t).last ≡ other (left_by t).last → OnGoes Good t
+          by_turn : (t : Turn (Config Q)) → OnGoes (Lower fits (potential d.buffer)) t → ComesFrom b.line (left_by t).buffer.line → on (left_by t).last ≡ other (left_by t).last → OnGoes Good t
           by_turn (Ends e) h from last = tt
           by_turn (Goes e) h from last = record { stands = h.1; from = from; last = λ _. last }
 

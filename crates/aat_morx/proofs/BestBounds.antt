@@ -11,14 +11,14 @@ use Rattle.aat_morx.specs.BestBounds.{two_before_and_stay, one_six, MayGrow, Mee
 use Rattle.aat_morx.specs.Rows.{subtable, chain}
 use Rattle.aat_morx.specs.Substitution.{subtable_run, chain_run, prepared, substituted}
 use Rattle.aat_run.specs.Driven.{machine_run}
-use Rattle.aat_run.specs.Machine.{run, whole, turn, off, by_entry, acted, settled, marked}
+use Rattle.aat_run.specs.Machine.{run, whole, turn, off, by_entry, acted, marked}
 use Rattle.aat_run.specs.Outcome.{Outcome, untouched, then_run}
-use Rattle.aat_run.specs.Rows.{buffer_of, all_at, printed}
+use Rattle.aat_run.specs.Rows.{buffer_with, all_at, printed}
 use Rattle.aat_run.specs.Safe.{is_safe}
 
 -- 5 5 6, with what the stay was paid from owed
 abbrev grown : Buffer
-grown = buffer_of (all_at 0 (5 ∷ 5 ∷ 6 ∷ [])) (negsuc 0)
+grown = buffer_with (all_at 0 (5 ∷ 5 ∷ 6 ∷ [])) (negsuc 0)
 
 abbrev one : Subtable
 one = subtable two_before_and_stay
@@ -33,11 +33,11 @@ module _ (z : Sizes) where
   one_run b = subtable_run z (chain []).switch one b
 
   first : one_run (prepared one_six) ≡ record { buffer = grown; turns = 4 }
-  unfolding subtable_run machine_run run whole turn off by_entry acted settled marked is_safe insertion_run insertion.act insertion.at_mark insertion.at_cursor insertion.inserted
+  unfolding subtable_run machine_run run whole turn off by_entry acted marked is_safe insertion_run insertion.act insertion.at_mark insertion.at_cursor insertion.inserted
   first = refl
 
   again : one_run grown ≡ record { buffer = grown; turns = 4 }
-  unfolding subtable_run machine_run run whole turn off by_entry acted settled marked is_safe insertion_run insertion.act insertion.at_mark insertion.at_cursor insertion.inserted
+  unfolding subtable_run machine_run run whole turn off by_entry acted marked is_safe insertion_run insertion.act insertion.at_mark insertion.at_cursor insertion.inserted
   again = refl
 
   -- each copy behind the first passes the line
@@ -66,7 +66,7 @@ length-copies (suc n) = ap suc (length-copies n)
 met : (count : ℕ) → (chains : List SwitchedChain) × (b : Buffer) × MayGrow count b × MeetsBounds count chains b
 met zero = (
   [],
-  buffer_of [] (pos 0),
+  buffer_with [] (pos 0),
   record { ids = λ k d within. absurd (omega (arith, within)); room = omega arith; grows = λ some. absurd (omega (arith, some)) },
   record { counted = refl; turns = λ z. refl; length = λ z. refl },
 )
@@ -83,4 +83,4 @@ met (suc n) =
     )
 
 pub bounds_are_met : BoundsAreMet
-bounds_are_met = record { copies = λ z n. ap printed (all_copies z n); every = met }
+bounds_are_met = record { on_one_six = λ z n. ap printed (all_copies z n); every = met }

@@ -7,7 +7,6 @@ use Rattle.aat_buffer.specs.Marks.{clusters_stay_apart}
 use Rattle.aat_glyph.specs.declared.glyph.hb_glyph_info_t.{hb_glyph_info_t}
 use Rattle.aat_font.specs.declared.morx.Coverage.{Coverage}
 use Rattle.aat_kinds.specs.Kinds.{Sizes, kind_run, reversed_run, is_reversed, ordered_run}
-use Rattle.aat_run.specs.Laws.{HasOrderOf}
 use Rattle.aat_run.specs.Outcome.{Outcome, untouched, then_run}
 use Rattle.aat_buffer.specs.Clusters.{IsOrdered, ClustersMerge}
 use Rattle.aat_morx.specs.Lawful.{ClustersKeepTheirOrder}
@@ -76,16 +75,8 @@ substitution_in_order R same flipped z chains b some level ordered =
     (λ c d k. in_order_of_all b.cluster_level level R (subtable_run z c.switch) c.subtables (untouched d) (λ s x h. in_order_of_subtable b.cluster_level level R same flipped z c.switch s x some h) k) begun).ordered
 
 pub clusters_keep_their_order : ClustersKeepTheirOrder
-clusters_keep_their_order = record {
-  rising = substitution_in_order Rising le_same ge_same;
-  falling = substitution_in_order Falling ge_same le_same;
-  clusters = substitution_comes;
-}
-
--- the same of a line and the one that substitution leaves
-pub substitution_keeps_order : (z : Sizes) (chains : List SwitchedChain) (b : Buffer) → 0 < z.slots → HasOrderOf b (substituted z chains b).buffer
-substitution_keeps_order z chains b some = record {
-  rising = λ merges ordered. substitution_in_order Rising le_same ge_same z chains b some merges ordered;
-  falling = λ merges ordered. substitution_in_order Falling ge_same le_same z chains b some merges ordered;
+clusters_keep_their_order z chains b some = record {
+  rising = substitution_in_order Rising le_same ge_same z chains b some;
+  falling = substitution_in_order Falling ge_same le_same z chains b some;
   clusters = substitution_comes z chains b some;
 }

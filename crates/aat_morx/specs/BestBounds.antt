@@ -11,7 +11,7 @@ use Rattle.aat_morx.specs.InsertionRows.{with_indexes, id}
 use Rattle.aat_morx.specs.Rows.{subtable, chain}
 use Rattle.aat_morx.specs.Substitution.{substituted, subtables_in}
 use Rattle.aat_run.specs.Budget.{extent}
-use Rattle.aat_run.specs.Rows.{buffer_of, entry, glyph, all_at, table, printed, shows_with}
+use Rattle.aat_run.specs.Rows.{buffer_with, entry, glyph, all_at, table, printed, shows_with}
 
 -- an entry that goes to state 1 and does nothing
 abbrev pub passing : GenericStateEntry InsertionEntryData
@@ -34,7 +34,7 @@ two_before_and_stay = SubtableKind.Insertion (record {
 
 -- a 6 alone, with a budget of 2
 abbrev pub one_six : Buffer
-one_six = buffer_of (glyph 6 0 0 ∷ []) (pos 2)
+one_six = buffer_with (glyph 6 0 0 ∷ []) (pos 2)
 
 -- so many subtables leave as many glyphs as there were and the budget allows, in as many turns as the bound, with
 -- any sizes
@@ -52,7 +52,7 @@ pub record MayGrow (count : ℕ) (b : Buffer) : Type 0 where
 -- one copy of that subtable or more makes 5 5 6 of the 6, in 4 turns each; and for every number of subtables there is a
 -- table and a line that meet both bounds with equality, by putting glyphs in
 pub record BoundsAreMet : Type 0 where
-  pub copies : (z : Sizes) (n : ℕ)
+  pub on_one_six : (z : Sizes) (n : ℕ)
       → printed (substituted z (chain (replicate (suc n) (subtable two_before_and_stay)) ∷ []) one_six)
       ≡ shows_with (negsuc 0) (all_at 0 (5 ∷ 5 ∷ 6 ∷ [])) (4 * suc n)
   pub every : (count : ℕ) → (chains : List SwitchedChain) × (b : Buffer) × MayGrow count b × MeetsBounds count chains b

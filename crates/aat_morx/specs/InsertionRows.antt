@@ -5,7 +5,7 @@ use Rattle.aat_font.specs.declared.plan.GlyphId.{GlyphId}
 use Rattle.aat_font.specs.declared.entries.InsertionEntryData.{InsertionEntryData}
 use Rattle.aat_font.specs.declared.morx.SubtableKind.{SubtableKind}
 use Rattle.aat_morx.specs.Rows.{substituted_by, row_on, row, row_with, subtable}
-use Rattle.aat_run.specs.Rows.{shows, shows_with, printed, glyph, rising_from, all_at, table, entry, buffer_of}
+use Rattle.aat_run.specs.Rows.{shows, shows_with, printed, glyph, rising_from, all_at, table, entry, buffer_with}
 
 abbrev pub with_indexes : ℕ → ℕ → InsertionEntryData
 with_indexes current marked = record { current_insert_index = current; marked_insert_index = marked }
@@ -37,7 +37,7 @@ pub record InsertionRows : Type 0 where
   pub row_25a : row_with (pos 3) two_at_mark (rising_from 0 (5 ∷ 6 ∷ [])) ≡ shows_with (pos 1) (glyph 5 0 0 ∷ glyph 7 0 0 ∷ glyph 8 0 0 ∷ glyph 6 1 3 ∷ []) 3
   pub row_25b : row_with (pos 2) two_at_mark (rising_from 0 (5 ∷ 6 ∷ [])) ≡ shows_with (pos 0) (glyph 5 0 0 ∷ glyph 6 1 3 ∷ []) 3
   -- one budget for both subtables
-  pub row_27 : printed (substituted_by (subtable (two_before 0) ∷ subtable (two_before 0) ∷ []) (buffer_of (glyph 5 3 0 ∷ []) (pos 3))) ≡ shows_with (negsuc 0) (all_at 3 (7 ∷ 8 ∷ 5 ∷ [])) 6
+  pub row_27 : printed (substituted_by (subtable (two_before 0) ∷ subtable (two_before 0) ∷ []) (buffer_with (glyph 5 3 0 ∷ []) (pos 3))) ≡ shows_with (negsuc 0) (all_at 3 (7 ∷ 8 ∷ 5 ∷ [])) 6
   -- insertion at the end
   pub row_33 : row_with (pos 2) (inserting (id 5 ∷ []) ((0, 0, entry 0 0x4820 (with_indexes 0 0xFFFF)) ∷ [])) (glyph 6 0 0 ∷ []) ≡ shows_with (negsuc 0) (all_at 0 (6 ∷ 5 ∷ [])) 4
   -- 0x8000 marks the cursor from before the marked run, so that the end puts its 8 before the 7 and not before the 5

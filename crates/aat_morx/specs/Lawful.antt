@@ -1,10 +1,9 @@
 -- What holds of substitution as a whole: its bounds, and the order of its clusters.
 use Rattle.std.specs.Prelude.{◌+◌, ◌*◌, ◌<◌, ◌≤◌, List, length}
 use Rattle.aat_buffer.specs.Buffer.{Buffer}
-use Rattle.aat_buffer.specs.Clusters.{ClustersMerge, IsRisingLine, IsFallingLine, ComesFrom}
 use Rattle.aat_font.specs.declared.morx.Subtable.{Subtable}
 use Rattle.aat_run.specs.Budget.{extent}
-use Rattle.aat_run.specs.Laws.{IsBounded}
+use Rattle.aat_run.specs.Laws.{HasOrderOf, IsBounded}
 use Rattle.aat_run.specs.Switches.{Switch}
 use Rattle.aat_map.specs.SwitchedChains.{SwitchedChain}
 use Rattle.aat_kinds.specs.Kinds.{Sizes}
@@ -21,10 +20,6 @@ pub record RunsAreBounded : Type 0 where
 
 -- where clusters merge, clusters that never fall along the line never fall behind substitution, and those that
 -- never rise never rise; at every level each of them stood on the line before
-pub record ClustersKeepTheirOrder : Type 0 where
-  pub rising : (z : Sizes) (chains : List SwitchedChain) (b : Buffer) → 0 < z.slots → ClustersMerge b.cluster_level
-      → IsRisingLine b.line → IsRisingLine (substituted z chains b).buffer.line
-  pub falling : (z : Sizes) (chains : List SwitchedChain) (b : Buffer) → 0 < z.slots → ClustersMerge b.cluster_level
-      → IsFallingLine b.line → IsFallingLine (substituted z chains b).buffer.line
-  pub clusters : (z : Sizes) (chains : List SwitchedChain) (b : Buffer) → 0 < z.slots
-      → ComesFrom b.line (substituted z chains b).buffer.line
+abbrev pub ClustersKeepTheirOrder : Type 0
+ClustersKeepTheirOrder =
+    (z : Sizes) (chains : List SwitchedChain) (b : Buffer) → 0 < z.slots → HasOrderOf b (substituted z chains b).buffer

@@ -6,7 +6,7 @@ use Rattle.aat_glyph.specs.declared.glyph.Direction.TheVariants.{RightToLeft, To
 use Rattle.aat_font.specs.declared.morx.SubtableKind.{SubtableKind}
 use Rattle.aat_morx.specs.Rows.{substituted_by, row_of_sizes, row, sizes, subtable}
 use Rattle.aat_kinds.specs.Rearrangement.{rearranged, verbs}
-use Rattle.aat_run.specs.Rows.{shows, printed, Printed, glyph, rising_from, all_at, table, entry, buffer_of, many}
+use Rattle.aat_run.specs.Rows.{shows, printed, Printed, glyph, rising_from, all_at, table, entry, buffer_with, many}
 
 -- the first glyph has class 4, which marks the start, and the last class 5, which marks the end and has the verb
 abbrev pub moving : ℕ → ℕ → ℕ → SubtableKind
@@ -19,12 +19,12 @@ bounded_row bound kind line = row_of_sizes (record sizes { bound = bound }) kind
 -- verb 1 on the glyphs 1 and 3, in a direction and with a coverage
 abbrev pub turned_row : Direction → ℕ → Printed
 turned_row direction coverage =
-    printed (substituted_by (record (subtable (moving 1 3 1)) { coverage = record { 0 = coverage } } ∷ []) (record (buffer_of (rising_from 0 (1 ∷ 3 ∷ [])) many) { direction = direction }))
+    printed (substituted_by (record (subtable (moving 1 3 1)) { coverage = record { 0 = coverage } } ∷ []) (record (buffer_with (rising_from 0 (1 ∷ 3 ∷ [])) many) { direction = direction }))
 
 -- a cluster level, and flags of the buffer
 abbrev pub levelled_row : ℕ → ℕ → Printed
 levelled_row level flags =
-    printed (substituted_by (subtable (moving 1 5 5) ∷ []) (record (buffer_of (rising_from 0 (1 ∷ 2 ∷ 5 ∷ [])) many) { cluster_level = level; flags = record { 0 = flags } }))
+    printed (substituted_by (subtable (moving 1 5 5) ∷ []) (record (buffer_with (rising_from 0 (1 ∷ 2 ∷ 5 ∷ [])) many) { cluster_level = level; flags = record { 0 = flags } }))
 
 -- the letters A B x C D are the glyphs 1 2 3 4 5
 pub record RearrangementRows : Type 0 where

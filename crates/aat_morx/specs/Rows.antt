@@ -5,7 +5,7 @@ use Rattle.aat_buffer.specs.Buffer.{Buffer}
 use Rattle.aat_font.specs.declared.morx.Subtable.{Subtable}
 use Rattle.aat_font.specs.declared.morx.SubtableKind.{SubtableKind}
 use Rattle.aat_run.specs.Outcome.{Outcome}
-use Rattle.aat_run.specs.Rows.{buffer_of, many, Printed, printed}
+use Rattle.aat_run.specs.Rows.{buffer_with, many, Printed, printed}
 use Rattle.aat_run.specs.Switches.{by_flags}
 use Rattle.aat_map.specs.SwitchedChains.{SwitchedChain}
 use Rattle.aat_kinds.specs.Kinds.{Sizes}
@@ -33,16 +33,16 @@ substituted_by subtables b = substituted sizes (chain subtables ∷ []) b
 
 -- one subtable run over a line with the budget of most rows
 abbrev pub row : SubtableKind → List hb_glyph_info_t → Printed
-row kind line = printed (substituted_by (subtable kind ∷ []) (buffer_of line many))
+row kind line = printed (substituted_by (subtable kind ∷ []) (buffer_with line many))
 
 -- the same with another budget
 abbrev pub row_with : ℤ → SubtableKind → List hb_glyph_info_t → Printed
-row_with budget kind line = printed (substituted_by (subtable kind ∷ []) (buffer_of line budget))
+row_with budget kind line = printed (substituted_by (subtable kind ∷ []) (buffer_with line budget))
 
 -- the same with other sizes
 abbrev pub row_of_sizes : Sizes → SubtableKind → List hb_glyph_info_t → Printed
-row_of_sizes z kind line = printed (substituted z (chain (subtable kind ∷ []) ∷ []) (buffer_of line many))
+row_of_sizes z kind line = printed (substituted z (chain (subtable kind ∷ []) ∷ []) (buffer_with line many))
 
 -- the same at the clusters that pass a test
 abbrev pub row_on : (ℕ → Bool) → SubtableKind → List hb_glyph_info_t → Printed
-row_on on kind line = printed (substituted sizes (chain_on on (subtable kind ∷ []) ∷ []) (buffer_of line many))
+row_on on kind line = printed (substituted sizes (chain_on on (subtable kind ∷ []) ∷ []) (buffer_with line many))

@@ -13,7 +13,6 @@ pub fn runs_are_bounded()
 
 /// Where clusters merge, clusters that never fall along the line never fall behind substitution, and those that never
 /// rise never rise, whichever subtables run on the reversed line. At every level each cluster stood on the line before.
-#[tactic(auto, using(crate::proofs::OrderOfRuns::clusters_keep_their_order))]
 pub fn clusters_keep_their_order()
     ensures { ClustersKeepTheirOrder }
 {}

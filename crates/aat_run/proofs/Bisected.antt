@@ -2,8 +2,8 @@
 use Rattle.std.proofs.Common.{◌≡◌, ◌∙◌, ap, refl, ℕ, zero, suc, ◌+◌, ◌-◌, ◌/◌, ◌^◌, ◌<◌, ◌≤◌, true, false, IsTrue, List, [], ◌∷◌, length, get_or, fold, Option, option_map, unwrap_or, arith}
 use Rattle.std.proofs.lemmas.Bool.Decides.{nat_tests}
 use Rattle.std.proofs.lemmas.Option.{slice_get-get_or}
-use Rattle.aat_run.specs.RangeOf.{binary_digits, ends_at_last, is_held_at}
-use Rattle.aat_run.specs.Ranges.{FollowFrom, IsGapless, holds, last_cluster, next_start}
+use Rattle.aat_run.specs.RangeOf.{binary_digits, is_held_at}
+use Rattle.aat_run.specs.Ranges.{FollowFrom, IsGapless, ends_at_last, holds, last_cluster, next_start}
 use Rattle.aat_run.specs.declared.ranges.range_flags_t.{range_flags_t}
 use Rattle.aat_run.proofs.Digits.{no_fewer, one_more}
 

@@ -3,7 +3,7 @@ use Rattle.std.proofs.Common.{◌≡◌, ℕ, ◌+◌, ◌≤◌, Bool, true, fa
 use Rattle.aat_buffer.specs.Buffer.{Buffer, with_cursor, without_positions}
 use Rattle.aat_font.specs.Table.{TableValue}
 use Rattle.aat_font.specs.declared.state_table.GenericStateEntry.{GenericStateEntry}
-use Rattle.aat_run.specs.Context.{Context, Machine, machine_of, start}
+use Rattle.aat_run.specs.Context.{Context, Machine, first, machine_of, start}
 use Rattle.aat_run.specs.Driven.{machine_run, outcome_of, IsRefusal}
 use Rattle.aat_run.specs.Laws.{KeepsFit, PassesFit, Pays, KeepsLength}
 use Rattle.aat_run.specs.Machine.{whole}
@@ -12,7 +12,6 @@ use Rattle.aat_run.specs.declared.error.AatError.{AatError}
 use Rattle.aat_run.specs.declared.error.AatError.TheVariants.{AaltValue, TooLong, OutOfMemory, BufferFailed}
 use Rattle.aat_run.specs.facts.MachineRuns.{whole_in_place}
 use Rattle.aat_run.specs.facts.OffRuns.{passed_over}
-use Rattle.aat_run.specs.inside.Places.{first}
 
 -- the buffer before the turns, behind them, and with the cursor back at the front
 pub ran : {T R : Type 0} (on : ℕ → Bool) (table : TableValue (GenericStateEntry T)) (x : Context R (GenericStateEntry T)) (b begun turned last : Buffer) (turns : ℕ) (in_place : Bool)

@@ -2,8 +2,8 @@
 use Rattle.std.specs.Prelude.{◌≡◌, ℕ, ◌+◌, ◌<◌, ◌≤◌, Bool, true, length, None}
 use Rattle.aat_buffer.specs.Buffer.{Buffer}
 use Rattle.aat_run.specs.Budget.{potential, extent}
-use Rattle.aat_run.specs.Context.{Moved, Context, Machine, Config}
-use Rattle.aat_run.specs.Machine.{IsWholeRun, turn}
+use Rattle.aat_run.specs.Context.{Moved, Context, Config}
+use Rattle.aat_run.specs.Machine.{Turn, IsWholeRun}
 use Rattle.aat_run.specs.Outcome.{Outcome}
 use Rattle.aat_buffer.specs.Clusters.{ClustersMerge, IsRisingLine, IsFallingLine, ComesFrom}
 
@@ -23,6 +23,10 @@ PassesFit {R} fits = (r : R) (p n : ℕ) → fits r p n → p < n → fits r (p 
 -- fresh registers fit at the front
 abbrev pub FitsFresh : {R : Type 0} → (R → ℕ → ℕ → Type 0) → R → Type 0
 FitsFresh fits fresh = (n : ℕ) → fits fresh 0 n
+
+-- all registers fit everywhere
+abbrev pub FitsAlways : {R : Type 0} → R → ℕ → ℕ → Type 0
+FitsAlways r p n = Unit {0}
 
 module _ {R E : Type 0} (act : E → R → Buffer → Moved R) (fits : R → ℕ → ℕ → Type 0) where
   -- an act that leaves the cursor below the length keeps the fit
@@ -120,11 +124,14 @@ pub record IsBounded (b : Buffer) (o : Outcome) : Type 0 where
   pub extent : extent o.buffer ≤ extent b
   pub length : length b.line ≤ length o.buffer.line
 
--- each run from registers that fit ends by itself, in no more turns than it is given: the potential and one more
-abbrev pub RunsEnd : {R E : Type 0} → Machine R E → (R → ℕ → ℕ → Type 0) → Type 0
-RunsEnd {R} m fits =
-    (c : Config R) → fits c.registers c.buffer.cursor (length c.buffer.line)
-    → IsWholeRun (turn m) (potential c.buffer + 1) c
+-- a run may stand here: the registers fit the cursor and the length
+abbrev pub Stands : {R : Type 0} → (R → ℕ → ℕ → Type 0) → Config R → Type 0
+Stands fits c = fits c.registers c.buffer.cursor (length c.buffer.line)
+
+-- each run by these turns from registers that fit ends by itself, in no more turns than it is given: the potential and
+-- one more
+abbrev pub RunsEnd : {R : Type 0} → (Config R → Turn (Config R)) → (R → ℕ → ℕ → Type 0) → Type 0
+RunsEnd {R} turn fits = (c : Config R) → Stands fits c → IsWholeRun turn (potential c.buffer + 1) c
 
 -- what an act leaves of the clusters, unless clusters stay apart: those that never fall along the line never fall
 -- behind it, and those that never rise never rise; at every level each of them stood on the line before

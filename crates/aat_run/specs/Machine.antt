@@ -3,7 +3,7 @@ use Rattle.std.specs.Prelude.{◌≡◌, ◌≤◌, zero, suc, ℕ, ◌+◌, ◌
 use Rattle.aat_buffer.specs.Buffer.{Buffer, with_cursor}
 use Rattle.aat_buffer.specs.Marks.{unsafe_to_break}
 use Rattle.aat_run.specs.Budget.{paid, has_operations, potential}
-use Rattle.aat_run.specs.Context.{Machine, Config, is_at_end, is_inside, class_at, cluster_seen}
+use Rattle.aat_run.specs.Context.{Machine, Config, Moved, is_at_end, is_inside, class_at, cluster_seen}
 use Rattle.aat_run.specs.Safe.{is_safe}
 
 -- what a turn leaves: the run ends there, or goes on from there
@@ -35,6 +35,20 @@ pub record IsWholeRun {C : Type 0} (turn : C → Turn C) (n : ℕ) (c : C) : Typ
   pub ends : EndsWithin turn n c
   pub enough : (k : ℕ) → n ≤ k → run turn k c ≡ run turn n c
 
+-- What every machine shares, whatever its turn is.
+module _ {R : Type 0} where
+  -- the whole run: as many turns as the potential and one more are always enough
+  abbrev pub whole_run : (Config R → Turn (Config R)) → Config R → Config R
+  whole_run turn c = run turn (potential c.buffer + 1) c
+
+  -- behind an act: the buffer and the registers that it leaves, and the new state
+  abbrev pub behind_act : Moved R → ℕ → Config R → Config R
+  behind_act left state c = record c { buffer = left.buffer; registers = left.registers; state = state }
+
+  -- then the run ends at the end of the line, and else goes on behind a step
+  abbrev pub settled_by : (Buffer → Buffer) → Config R → Turn (Config R)
+  settled_by step c = if is_at_end c.buffer then Ends c else Goes (record c { buffer = step c.buffer })
+
 -- the cursor one further
 abbrev pub passed : Buffer → Buffer
 passed b = with_cursor b (b.cursor + 1)
@@ -56,15 +70,10 @@ module _ {R E : Type 0} (m : Machine R E) where
       then break_marked_at c.buffer
       else c.buffer
 
-  -- behind an act: the run ends at the end of the line, and else e advances or stays
-  unfoldable pub settled : E → Config R → Turn (Config R)
-  settled e c = if is_at_end c.buffer then Ends c else Goes (record c { buffer = stepped (m.advances e) c.buffer })
-
-  -- the mark, the act and the new state
+  -- the mark, the act and the new state, and then e advances or stays
   unfoldable pub acted : E → Config R → Turn (Config R)
   acted e c =
-      let n = m.act e c.registers (marked e c) in
-      settled e (record c { buffer = n.buffer; registers = n.registers; state = m.next e })
+      settled_by (stepped (m.advances e)) (behind_act (m.act e c.registers (marked e c)) (m.next e) c)
 
   -- a missing entry ends the run
   unfoldable pub by_entry : Option E → Config R → Turn (Config R)
@@ -85,6 +94,6 @@ module _ {R E : Type 0} (m : Machine R E) where
       let d = counted c in
       if m.on d.last then by_entry (m.entry d.state (class_at m.class_of d.buffer)) d else off d
 
-  -- the whole run: as many turns as the potential and one more are always enough
+  -- the whole run
   unfoldable pub whole : Config R → Config R
-  whole c = run turn (potential c.buffer + 1) c
+  whole c = whole_run turn c

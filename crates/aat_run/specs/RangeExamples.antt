@@ -1,12 +1,8 @@
 -- Where clusters stand among the five ranges of a worked row, and how many probes numbers of ranges take at most.
 use Rattle.std.specs.Prelude.{◌≡◌, ℕ, Bool, true, false, List, [], ◌∷◌, map}
 use Rattle.aat_run.specs.RangeOf.{binary_digits, is_held_at}
-use Rattle.aat_run.specs.Ranges.{last_cluster}
+use Rattle.aat_run.specs.Ranges.{last_cluster, range}
 use Rattle.aat_run.specs.declared.ranges.range_flags_t.{range_flags_t}
-
--- flags from one cluster to another
-abbrev pub range : ℕ → ℕ → ℕ → range_flags_t
-range first last flags = record { flags = flags; cluster_first = first; cluster_last = last }
 
 -- the ranges of row 5
 abbrev pub five_ranges : List range_flags_t

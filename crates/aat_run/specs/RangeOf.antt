@@ -1,12 +1,8 @@
 -- Where the range stands that holds a cluster, and how many digits a number has.
-use Rattle.std.specs.Prelude.{ℕ, ◌+◌, ◌==◌, Bool, false, List, length, option_map, slice_get, unwrap_or}
+use Rattle.std.specs.Prelude.{ℕ, Bool, false, List, length, option_map, slice_get, unwrap_or}
 use Rattle.std.specs.Int.Digits.{digits_of}
-use Rattle.aat_run.specs.Ranges.{holds, last_cluster, next_start}
+use Rattle.aat_run.specs.Ranges.{holds}
 use Rattle.aat_run.specs.declared.ranges.range_flags_t.{range_flags_t}
-
--- the last range ends at the last cluster there can be; an empty list does not
-abbrev pub ends_at_last : List range_flags_t → Bool
-ends_at_last ranges = next_start ranges == last_cluster + 1
 
 -- the range at a place holds a cluster; past the end there is none
 abbrev pub is_held_at : List range_flags_t → ℕ → ℕ → Bool

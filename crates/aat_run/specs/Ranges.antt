@@ -8,6 +8,10 @@ use Rattle.aat_run.specs.declared.ranges.range_flags_t.{range_flags_t}
 abbrev pub last_cluster : ℕ
 last_cluster = 0xFFFFFFFF
 
+-- flags from one cluster to another
+abbrev pub range : ℕ → ℕ → ℕ → range_flags_t
+range first last flags = record { flags = flags; cluster_first = first; cluster_last = last }
+
 -- ranges follow one another from n on, without a gap
 abbrev pub FollowFrom : ℕ → List range_flags_t → Type 0
 FollowFrom n [] = Unit {0}
@@ -29,9 +33,13 @@ holds x r = nat_le r.cluster_first x && nat_le x r.cluster_last
 abbrev pub flags_in : List range_flags_t → ℕ → Option ℕ
 flags_in ranges x = option_map (λ r. r.flags) (find (holds x) ranges)
 
+-- the last range ends at the last cluster there can be; an empty list does not
+abbrev pub ends_at_last : List range_flags_t → Bool
+ends_at_last ranges = next_start ranges == last_cluster + 1
+
 -- a list is empty or ends at the last cluster
 abbrev pub is_whole_list : List range_flags_t → Bool
-is_whole_list ranges = (length ranges == 0) || (next_start ranges == last_cluster + 1)
+is_whole_list ranges = (length ranges == 0) || ends_at_last ranges
 
 -- the flags at a cluster, 0 where no range holds it; a number past the last cluster there can be counts as that one
 abbrev pub flags_on : List range_flags_t → ℕ → ℕ

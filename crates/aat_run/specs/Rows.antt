@@ -19,16 +19,16 @@ abbrev pub all_at : ℕ → List ℕ → List hb_glyph_info_t
 all_at cluster ids = map (λ id. glyph id cluster 0) ids
 
 -- a glyph that went into a ligature, and such glyphs with clusters that rise from a first one
-abbrev pub deleted : ℕ → hb_glyph_info_t
-deleted cluster = record (glyph 0xFFFF cluster 0) { unicode_props = 0x20 }
+abbrev pub deleted_in : ℕ → hb_glyph_info_t
+deleted_in cluster = record (glyph 0xFFFF cluster 0) { unicode_props = 0x20 }
 
 abbrev pub deleted_from : ℕ → List ℕ → List hb_glyph_info_t
 deleted_from cluster [] = []
-deleted_from cluster (id ∷ ids) = deleted cluster ∷ deleted_from (cluster + 1) ids
+deleted_from cluster (id ∷ ids) = deleted_in cluster ∷ deleted_from (cluster + 1) ids
 
 -- a buffer, left to right, with a line and a budget
-abbrev pub buffer_of : List hb_glyph_info_t → ℤ → Buffer
-buffer_of line budget = record (empty_buffer 16384 budget) { line = line }
+abbrev pub buffer_with : List hb_glyph_info_t → ℤ → Buffer
+buffer_with line budget = record (empty_buffer 16384 budget) { line = line }
 
 abbrev pub many : ℤ
 many = pos 16384

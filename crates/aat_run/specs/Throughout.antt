@@ -1,7 +1,7 @@
 -- Whether a subtable is on under no range of a list, or under each.
 use Rattle.std.specs.Prelude.{ℕ, ◌==◌, ◌&&◌, not, Bool, List, length}
 use Rattle.std.specs.List.{list_all, list_any}
-use Rattle.aat_run.specs.RangeOf.{ends_at_last}
+use Rattle.aat_run.specs.Ranges.{ends_at_last}
 use Rattle.aat_run.specs.Switches.{meets}
 use Rattle.aat_run.specs.declared.ranges.range_flags_t.{range_flags_t}
 

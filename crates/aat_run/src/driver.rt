@@ -3,12 +3,12 @@ ghost use Rattle.std.specs.Prelude.{◌≡◌, ◌+◌, ◌-◌, ◌<◌, ◌≤
 ghost use Rattle.aat_buffer.specs.Buffer.{with_cursor, without_positions};
 ghost use Rattle.aat_buffer.specs.Clusters.{IsSmall};
 ghost use Rattle.aat_run.specs.Budget.{potential};
-ghost use Rattle.aat_run.specs.Context.{machine_with};
+ghost use Rattle.aat_run.specs.Context.{first, machine_with};
 ghost use Rattle.aat_run.specs.Driven.{IsRefusal, IsRefused, context_from, machine_run, outcome_of, registers_behind, positions_behind};
 ghost use Rattle.aat_run.specs.Laws.{IsBounded, SameSettings};
 ghost use Rattle.aat_run.specs.Machine.{whole};
 ghost use Rattle.aat_run.specs.Ranges.{IsGapless, is_driven_on, ranges_of};
-ghost use Rattle.aat_run.specs.inside.Places.{first, IsRun};
+ghost use Rattle.aat_run.specs.inside.Places.{IsRun};
 
 use crate::aat_layout_common::hb_aat_apply_context_t;
 use crate::driver_context::driver_context_t;

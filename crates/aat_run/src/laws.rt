@@ -8,6 +8,7 @@ ghost use Rattle.aat_run.specs.Budget.{FloorIsUnseen};
 ghost use Rattle.aat_run.specs.Context.{machine_with};
 ghost use Rattle.aat_run.specs.Driven.{context_from, machine_run};
 ghost use Rattle.aat_run.specs.Laws.{HasOrderOf, RunsEnd};
+ghost use Rattle.aat_run.specs.Machine.{turn};
 
 use crate::driver_context::driver_context_t;
 
@@ -19,7 +20,7 @@ pub fn floor_is_unseen()
 
 /// Each run of a context ends by itself, within the turns that it is given, and more turns would change nothing.
 pub fn runs_end<T: Copy, C: driver_context_t<T>>()
-    ensures { (on : ℕ → Bool) (table : TableValue (GenericStateEntry T)) → RunsEnd (machine_with on table C.advances C.actionable C.act) C.fits }
+    ensures { (on : ℕ → Bool) (table : TableValue (GenericStateEntry T)) → RunsEnd (turn (machine_with on table C.advances C.actionable C.act)) C.fits }
 {}
 
 /// A run of a context keeps an order of the clusters along the line, unless clusters stay apart, and makes no new

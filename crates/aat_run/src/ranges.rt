@@ -1,8 +1,8 @@
 //! Ranges of clusters with the flags of a chain, and how they switch a subtable.
 ghost use Rattle.std.specs.Prelude.{◌≡◌, ◌<◌, ◌≤◌, IfSome, IsTrue, [], false, find, length};
 ghost use Rattle.std.specs.List.{list_all, list_any};
-ghost use Rattle.aat_run.specs.RangeOf.{binary_digits, ends_at_last, is_held_at};
-ghost use Rattle.aat_run.specs.Ranges.{IsGapless, flags_in, holds, is_driven_on, switch_for};
+ghost use Rattle.aat_run.specs.RangeOf.{binary_digits, is_held_at};
+ghost use Rattle.aat_run.specs.Ranges.{IsGapless, ends_at_last, flags_in, holds, is_driven_on, switch_for};
 ghost use Rattle.aat_run.specs.Stretches.{IsSwitchedAlike};
 ghost use Rattle.aat_run.specs.Switches.{meets};
 ghost use Rattle.aat_run.specs.Throughout.{is_everywhere_on, is_nowhere_on};
@@ -24,8 +24,8 @@ pub fn flags_in(ranges: &[range_flags_t], cluster: u32) -> Option<hb_mask_t>
 {
     ranges
         .iter()
-        .find(|r| r.cluster_first <= cluster && cluster <= r.cluster_last)
-        .map(|r| r.flags)
+        .find(|range| range.holds(cluster))
+        .map(|range| range.flags)
 }
 
 /// Whether a subtable with some feature flags is on at a cluster: always where no range is compiled.

@@ -178,7 +178,7 @@ fn settle<A: Allocator + Copy>(buffer: &mut hb_buffer_t<A>, does_advance: bool) 
 }
 
 /// The mark, the act and the new state of an entry: whether the run goes on.
-#[tactic(auto, using(crate::specs::facts::Settings::refused_behind), unfolding(crate::specs::Machine::acted, crate::specs::Machine::settled))]
+#[tactic(auto, using(crate::specs::facts::Settings::refused_behind), unfolding(crate::specs::Machine::acted))]
 fn act<T: Copy, C: driver_context_t<T>, A: Allocator + Copy>(
     machine: &ExtendedStateTable<T>,
     context: &mut C,

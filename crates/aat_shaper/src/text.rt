@@ -3,6 +3,7 @@ ghost use Rattle.std.specs.Prelude.{◌≡◌, ◌≢◌, ◌<◌, ◌≤◌, Al
 ghost use Rattle.aat_layout.specs.Clusters.{IsSmall};
 ghost use Rattle.aat_layout.specs.Positions.{IsPlaced};
 ghost use Rattle.aat_layout.specs.Refusals.{first_too_large};
+ghost use Rattle.aat_layout.specs.Removal.{deleted_glyph};
 ghost use Rattle.aat_shaper.specs.ShapedText.{AreRising, IsRisingText, RefusesText, line_glyph, may_be_broken_at, shaped_glyph, shaped_glyphs, shaped_text, text_buffer, text_plan};
 ghost use Rattle.aat_shaper.specs.inside.Lines.{IsLineRefused};
 
@@ -87,7 +88,7 @@ pub fn shape_text(
     ensures long { 16384 < length text.now → result ≡ Err AatError.TooLong }
     ensures refused { IfErr result (RefusesText face.now direction features text.now) }
     ensures fits { OnOk result (first_too_large (text_plan features) face.now ≡ None) }
-    ensures undeleted { IfOk result (λ glyphs. All (λ g. g.glyph_id ≢ 0xFFFF) glyphs.items) }
+    ensures undeleted { IfOk result (λ glyphs. All (λ g. g.glyph_id ≢ deleted_glyph) glyphs.items) }
     ensures rising { IsRisingText text.now → IfOk result (λ glyphs. AreRising glyphs.items) }
     ensures bounded { IfOk result (λ glyphs. length glyphs.items ≤ 16384) }
 {

@@ -12,7 +12,7 @@ use Rattle.aat_buffer.specs.Removal.{cluster_kept_line, lowered_run, removal, re
 use Rattle.aat_buffer.specs.facts.Cases.{chosen}
 use Rattle.aat_buffer.specs.facts.Clusters.{get_before, get_behind, get_inside, length_on_span_of, order_of_clusters, order_of_merged, order_of_spread}
 use Rattle.aat_buffer.specs.facts.Lines.{length_merge}
-use Rattle.aat_buffer.specs.facts.Order.{comes_of_merge, comes_refl, comes_trans, same_on_span}
+use Rattle.aat_buffer.specs.facts.Order.{comes_of_merge, comes_refl, comes_trans, order_of_any_merge, same_on_span}
 use Rattle.aat_shaping.specs.ShapedOrder.{KeepsOrder, RemovalKeepsOrder}
 
 cluster_of_marked : (least : ℕ) (g : hb_glyph_info_t) → (marked_above least 3 g).cluster ≡ g.cluster
@@ -88,31 +88,11 @@ module _ (R : ℕ → ℕ → Type 0) (same : (x y : ℕ) → x ≡ y → R x y)
           front middle_and_here (λ n a. back n (omega (arith, a)));
     }
 
-  -- a merge keeps an order also where clusters stay apart, since marks change no cluster
-  order_of_marks : (gs : List hb_glyph_info_t) (i j : ℕ) → i ≤ j → j ≤ length gs → IsOrdered R gs → IsOrdered R (on_span break_marked i j gs)
-  order_of_marks gs i j low high ordered =
-      let f = marked_above (least_of (slice_range gs i j)) 3 in
-      order_of_clusters R same gs (on_span break_marked i j gs) (length_on_span_of f i j gs low high)
-      (λ k inside. same_on_span f i j gs low high (cluster_of_marked (least_of (slice_range gs i j))) k) ordered
-
-  order_of_any_merge : (b : Buffer) (i j : ℕ) → IsOrdered R b.line → IsOrdered R (merge_clusters b i j).line
-  order_of_any_merge b i j ordered =
-      let e = min j (length b.line) in
-      chosen (λ (gs : List hb_glyph_info_t). IsOrdered R gs) (nat_le (i + 2) e)
-      (cond (clusters_stay_apart b.cluster_level) (on_span break_marked i e b.line) (merged b.line b.cursor i e)) b.line
-      (λ long.
-      let some : i < e = grind (arith, nat_tests, long) in
-      chosen (λ (gs : List hb_glyph_info_t). IsOrdered R gs) (clusters_stay_apart b.cluster_level)
-      (on_span break_marked i e b.line) (merged b.line b.cursor i e)
-      (λ _. order_of_marks b.line i e (omega (arith, some)) (omega arith) ordered)
-      (λ _. order_of_merged R same b.line b.cursor i e some (omega arith) ordered))
-      (λ _. ordered)
-
   kept_merge : (b : Buffer) (i j : ℕ) → IsKept b.line (merge_clusters b i j).line
   kept_merge b i j = record {
     long = length_merge b i j;
     from = comes_of_merge b i j;
-    ordered = order_of_any_merge b i j;
+    ordered = order_of_any_merge R same b i j;
   }
 
   -- handing a cluster on

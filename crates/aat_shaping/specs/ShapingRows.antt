@@ -4,7 +4,7 @@ use Rattle.aat_buffer.specs.Buffer.{Buffer}
 use Rattle.aat_glyph.specs.declared.glyph.Direction.TheVariants.{TopToBottom}
 use Rattle.aat_font.specs.Face.{value_or_zero}
 use Rattle.aat_run.specs.Outcome.{Outcome, untouched}
-use Rattle.aat_run.specs.Rows.{buffer_of, glyph, many}
+use Rattle.aat_run.specs.Rows.{buffer_with, glyph, many}
 use Rattle.aat_morx.specs.LigatureRows.{joining, pair, two}
 use Rattle.aat_morx.specs.Rows.{substituted_by, subtable}
 use Rattle.aat_kerning.specs.Positioning.{kern_positioning}
@@ -24,10 +24,10 @@ shaped_row substitute b =
 pub record ShapingRows : Type 0 where
   -- the pair skips the deleted component, which then goes
   pub row_38a :
-      shaped_row (substituted_by (subtable (joining pair two) ∷ [])) (buffer_of (asking_from 0 (10 ∷ 11 ∷ 12 ∷ [])) many)
+      shaped_row (substituted_by (subtable (joining pair two) ∷ [])) (buffer_with (asking_from 0 (10 ∷ 11 ∷ 12 ∷ [])) many)
       ≡ record (shows_positions (glyph 20 0 8 ∷ glyph 12 2 11 ∷ [])
       (along_x (pos 575) (pos 0) ∷ along_x (pos 375) (negsuc 24) ∷ [])) { turns = 4 }
   -- in a column advances go down; nothing is substituted
   pub row_38b :
-      shaped_row untouched (record (buffer_of (asking_from 0 (20 ∷ [])) many) { direction = TopToBottom })
+      shaped_row untouched (record (buffer_with (asking_from 0 (20 ∷ [])) many) { direction = TopToBottom })
       ≡ shows_positions (glyph 20 0 8 ∷ []) (position (pos 0) (negsuc 599) (pos 0) (pos 0) ∷ [])

@@ -1,9 +1,9 @@
 //! The layer as one call: substitution, advances, kerning, and no deleted glyph is left.
-ghost use Rattle.std.specs.Prelude.{◌≡◌, ◌≢◌, ◌≤◌, ◌^◌, ◌↔◌, All, IfErr, IfOk, IsErrOf, IsSome, IsTrue, None, OnErr, OnOk, false, is_some, length, true};
+ghost use Rattle.std.specs.Prelude.{◌≡◌, ◌≢◌, ◌≤◌, ◌^◌, ◌↔◌, IfErr, IfOk, IsErrOf, IsSome, IsTrue, None, OnErr, OnOk, false, is_some, length, true};
 ghost use Rattle.aat_buffer.specs.Buffer.{failed, with_scratch_flags, without_positions};
 ghost use Rattle.aat_buffer.specs.Clusters.{IsSmall};
-ghost use Rattle.aat_font.specs.Chains.{subtable_count};
-ghost use Rattle.aat_font.specs.Face.{advance_of, chains_in, kern_in, kerx_in, tables_of};
+ghost use Rattle.aat_buffer.specs.Removal.{HasNoneDeleted};
+ghost use Rattle.aat_font.specs.Face.{advance_of};
 ghost use Rattle.aat_kerning_machines.specs.KerningLaws.{IsKernedFrom};
 ghost use Rattle.aat_kerning_machines.specs.Positions.{IsPlaced};
 ghost use Rattle.aat_layout.specs.Refusals.{first_too_large};
@@ -15,7 +15,7 @@ ghost use Rattle.aat_shaping.specs.ShapedOrder.{HasShapedOrderOf};
 ghost use Rattle.aat_shaping.specs.Shaping.{advanced, kerned_by_font, shaping, substituted_by_plan, with_advances};
 
 use aat_layout::buffer::{GlyphPosition, hb_buffer_t, hb_glyph_info_t};
-use aat_layout::font::{Chain, GlyphId, KernSubtable, KerxSubtable, hb_font_t, hb_ot_shape_plan_t};
+use aat_layout::font::{GlyphId, hb_font_t, hb_ot_shape_plan_t};
 use aat_layout::{
     AatError, Turns, hb_aat_layout_position, hb_aat_layout_remove_deleted_glyphs,
     hb_aat_layout_substitute, hb_aat_layout_zero_width_deleted_glyphs, hb_ot_layout_kern,
@@ -60,7 +60,7 @@ pub fn shape<H: Allocator + Copy, A: Allocator + Copy>(
     ensures refused { IfErr result (RefusesShaping plan.now face.now buffer.old buffer.new) }
     ensures fits { IsTrue plan.now.apply_morx → OnOk result (first_too_large plan.now face.now ≡ None) }
     ensures shaped { IfOk result (λ turns. record { buffer = buffer.new; turns = turns } ≡ shaping plan.now face.now buffer.old) }
-    ensures undeleted { OnOk result (All (λ g. g.glyph_id ≢ 0xFFFF) buffer.new.line) }
+    ensures undeleted { OnOk result (HasNoneDeleted buffer.new.line) }
     ensures ids { OnOk result (IsSmall buffer.new) }
     ensures bounded { OnOk result (length buffer.new.line ≤ extent buffer.old) }
     ensures unlengthened { plan.now.apply_morx ≡ false → OnOk result (length buffer.new.line ≤ length buffer.old.line) }
@@ -81,17 +81,6 @@ pub fn shape<H: Allocator + Copy, A: Allocator + Copy>(
     // there are as many positions as glyphs
     let _placed = buffer.has_positions();
     Ok(substituting + kerning)
-}
-
-/// The chains of a font, none without the table.
-fn chains(face: &hb_font_t) -> &[Chain]
-    ensures listed { result.now ≡ chains_in (tables_of face.now).morx }
-    ensures few { subtable_count result.now ≤ 65535 }
-{
-    match &face.tables().morx {
-        Some(morx) => morx.chains(),
-        None => &[],
-    }
 }
 
 /// Substitutes where the plan applies it, and answers the turns; else nothing changes, in none.
@@ -118,7 +107,7 @@ fn substitute_by_plan<H: Allocator + Copy, A: Allocator + Copy>(
         return Ok(0);
     }
     // how many subtables there are, how long the line is and how large the budget, so that the count of turns fits
-    let _chains = chains(face);
+    let _chains = face.chains();
     let _length = buffer.len();
     let _budget = buffer.max_ops();
     hb_aat_layout_substitute(alloc, plan, face, buffer)
@@ -162,28 +151,6 @@ fn advance<A: Allocator + Copy>(
     Ok(())
 }
 
-/// The subtables of a font's extended kerning table, none without the table.
-fn kerx_subtables(face: &hb_font_t) -> &[KerxSubtable]
-    ensures listed { result.now ≡ kerx_in (tables_of face.now).kerx }
-    ensures few { length result.now ≤ 65535 }
-{
-    match &face.tables().kerx {
-        Some(kerx) => kerx.subtables(),
-        None => &[],
-    }
-}
-
-/// The subtables of a font's kerning table, none without the table.
-fn kern_subtables(face: &hb_font_t) -> &[KernSubtable]
-    ensures listed { result.now ≡ kern_in (tables_of face.now).kern }
-    ensures few { length result.now ≤ 65535 }
-{
-    match &face.tables().kern {
-        Some(kern) => kern.subtables(),
-        None => &[],
-    }
-}
-
 /// Kerns by the extended kerning table where the font has it, and else by the kerning table, and answers the turns. A
 /// buffer that has not failed is not refused.
 fn kern_by_font<A: Allocator + Copy>(
@@ -201,8 +168,8 @@ fn kern_by_font<A: Allocator + Copy>(
     ensures few { result ≤ 2 ^ 62 }
 {
     // how many subtables there are, how long the line is and how large the budget, so that the count of turns fits
-    let _kerx = kerx_subtables(face);
-    let _kern = kern_subtables(face);
+    let _kerx = face.kerx_subtables();
+    let _kern = face.kern_subtables();
     let _length = buffer.len();
     let _budget = buffer.max_ops();
     let kerned = if face.tables().kerx.is_some() {

@@ -204,11 +204,24 @@ fn assert_alternates(rt: &impl Abort, face: &hb_font_t, builder: &mut hb_aat_map
     assert!(rt; info.kind == 17 && info.setting == 65535 && info.is_exclusive);
 }
 
+/// Asserts that features make their requests in one call, and that the first alternate of more than 16 bits is refused.
+fn assert_in_one_call(rt: &impl Abort, alloc: Global, face: &hb_font_t) -> Result<(), Fail> {
+    let builder = hb_aat_map_builder_t::with_features(alloc, face, &[aalt(65535), aalt(1)])?;
+    assert!(rt; builder.range() == (0, u32::MAX) && builder.features().len() == 2);
+    assert!(rt;
+        builder.features()[0].info.setting == 65535 && builder.features()[1].info.setting == 1
+    );
+    let refused = hb_aat_map_builder_t::with_features(alloc, face, &[aalt(1), aalt(65536)]).err();
+    assert!(rt; refused == Some(AatError::AaltValue(65536)));
+    Ok(())
+}
+
 #[test]
 fn alternates(rt: HostRuntime) -> Result<(), Fail> {
     let face = alternates_face(rt.alloc())?;
     let mut builder = hb_aat_map_builder_t::default(rt.alloc());
     assert_alternates(&rt, &face, &mut builder);
+    assert_in_one_call(&rt, rt.alloc(), &face)?;
     assert!(rt; AatError::AaltValue(65536).number() == 1);
     Ok(())
 }

@@ -1,10 +1,10 @@
 -- What marks and merges keep of the glyph ids.
-use Rattle.std.proofs.Common.{◌≡◌, get_or, sym, ap, ◌+◌, ◌<◌, ◌≤◌, ◌==◌, cond, min, List, length, refl, ◌∙◌, arith, nat_le}
+use Rattle.std.proofs.Common.{◌≡◌, get_or, sym, ap, ◌+◌, ◌-◌, ◌<◌, ◌≤◌, ◌==◌, ◌&&◌, not, cond, min, List, length, refl, ◌∙◌, arith, nat_le}
 use Rattle.std.proofs.lemmas.List.{length-map, get_or-map}
 use Rattle.std.specs.Prelude.{slice_range, All, Option, ℕ}
 use Rattle.std.proofs.lemmas.Bool.Decides.{nat_tests}
 use Rattle.aat_buffer.specs.Buffer.{Buffer, Is16Bit}
-use Rattle.aat_buffer.specs.Marks.{clusters_stay_apart, on_span, merge_clusters, merged, merge_start, merge_end, least_of, with_cluster, marked_above, with_mask_bits, break_marked, unsafe_to_break, start_place, end_place}
+use Rattle.aat_buffer.specs.Marks.{clusters_stay_apart, on_span, cluster_at, merge_clusters, merge_out_clusters, merged, merged_out, run_after, run_before, merge_start, merge_end, least_of, with_cluster, marked_above, with_mask_bits, break_marked, unsafe_to_break, start_place, end_place}
 use Rattle.aat_glyph.specs.declared.glyph.hb_glyph_info_t.{hb_glyph_info_t}
 use Rattle.aat_buffer.specs.Clusters.{IsSmall, ids}
 use Rattle.aat_buffer.specs.facts.Clusters.{map_span}
@@ -29,6 +29,18 @@ ids_of_merge b i j =
     chosen (λ (gs : List hb_glyph_info_t). ids gs ≡ ids b.line) (clusters_stay_apart b.cluster_level) (on_span break_marked i e b.line) (merged b.line b.cursor i e)
     (λ _. map_span (λ (g : hb_glyph_info_t). g.glyph_id) (marked_above m 3) (id_of_marked m) i e b.line low)
     (λ _. map_span (λ (g : hb_glyph_info_t). g.glyph_id) (with_cluster m) (id_of_cluster m) (merge_start b.line b.cursor i m) (merge_end b.line e m) b.line (omega (arith, low, merge_start_low b.line b.cursor i m, merge_end_low b.line e m))))
+    (λ _. refl)
+
+-- a merge on both sides of the cursor changes no glyph id
+pub ids_of_merge_out : (b : Buffer) (i j : ℕ) → ids (merge_out_clusters b i j).line ≡ ids b.line
+unfolding merged_out
+ids_of_merge_out b i j =
+    let e = min j (length b.line) in
+    let m = least_of (slice_range b.line i e) in
+    chosen (λ (gs : List hb_glyph_info_t). ids gs ≡ ids b.line) (nat_le (i + 2) e && not (clusters_stay_apart b.cluster_level)) (merged_out b.line i e) b.line
+    (λ long.
+    let low : i ≤ e = grind (arith, nat_tests, long) in
+    map_span (λ (g : hb_glyph_info_t). g.glyph_id) (with_cluster m) (id_of_cluster m) (i - run_before b.line 0 i (cluster_at b.line i)) (e + run_after b.line e (cluster_at b.line (e - 1))) b.line (omega (arith, low)))
     (λ _. refl)
 
 -- the ids behind a mark

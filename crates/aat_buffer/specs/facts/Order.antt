@@ -7,7 +7,7 @@ use Rattle.aat_buffer.specs.Buffer.{Buffer, no_glyph}
 use Rattle.aat_buffer.specs.Marks.{clusters_stay_apart, on_span, break_marked, marked_above, with_mask_bits, unsafe_to_break, start_place, end_place, with_cluster, merged, merged_out, merge_start, merge_end, run_after, run_before, least_of, cluster_at, merge_clusters, merge_out_clusters, with_line}
 use Rattle.aat_glyph.specs.declared.glyph.hb_glyph_info_t.{hb_glyph_info_t}
 use Rattle.aat_buffer.specs.Clusters.{ClustersMerge, IsOrdered, ComesFrom}
-use Rattle.aat_buffer.specs.facts.Clusters.{length_on_span_of, get_before, get_inside, get_behind, cluster_set, least_within, order_of_clusters, order_of_merge, order_of_merge_out}
+use Rattle.aat_buffer.specs.facts.Clusters.{length_on_span_of, get_before, get_inside, get_behind, cluster_set, least_within, order_of_clusters, order_of_merge, order_of_merged, order_of_merge_out}
 use Rattle.aat_buffer.specs.facts.Cases.{chosen}
 use Rattle.aat_buffer.specs.facts.Lines.{length_unsafe, of_merge, of_merge_out, run_of_within, merge_end_low, merge_end_high, merge_start_low}
 
@@ -118,6 +118,26 @@ module _ (R : ℕ → ℕ → Type 0) (same : (x y : ℕ) → x ≡ y → R x y)
     from = comes_trans b.line d.line e.line k.from (comes_same d.line e.line long equal);
     ordered = λ low ordered. order_of_clusters R same d.line e.line long equal (k.ordered low ordered);
   }
+
+  -- a merge keeps an order also where clusters stay apart, since marks change no cluster
+  order_of_marks : (gs : List hb_glyph_info_t) (i j : ℕ) → i ≤ j → j ≤ length gs → IsOrdered R gs → IsOrdered R (on_span break_marked i j gs)
+  order_of_marks gs i j low high ordered =
+      let f = marked_above (least_of (slice_range gs i j)) 3 in
+      order_of_clusters R same gs (on_span break_marked i j gs) (length_on_span_of f i j gs low high)
+      (λ k inside. same_on_span f i j gs low high (cluster_of_marked (least_of (slice_range gs i j))) k) ordered
+
+  pub order_of_any_merge : (b : Buffer) (i j : ℕ) → IsOrdered R b.line → IsOrdered R (merge_clusters b i j).line
+  order_of_any_merge b i j ordered =
+      let e = min j (length b.line) in
+      chosen (λ (gs : List hb_glyph_info_t). IsOrdered R gs) (nat_le (i + 2) e)
+      (cond (clusters_stay_apart b.cluster_level) (on_span break_marked i e b.line) (merged b.line b.cursor i e)) b.line
+      (λ long.
+      let some : i < e = grind (arith, nat_tests, long) in
+      chosen (λ (gs : List hb_glyph_info_t). IsOrdered R gs) (clusters_stay_apart b.cluster_level)
+      (on_span break_marked i e b.line) (merged b.line b.cursor i e)
+      (λ _. order_of_marks b.line i e (omega (arith, some)) (omega arith) ordered)
+      (λ _. order_of_merged R same b.line b.cursor i e some (omega arith) ordered))
+      (λ _. ordered)
 
   pub kept_unsafe : (b d : Buffer) (i j : Option ℕ) → Kept b d → Kept b (unsafe_to_break d i j)
   kept_unsafe b d i j k = kept_same b d (unsafe_to_break d i j) refl (length_unsafe d i j) (λ n low. same_unsafe d i j n) k

@@ -17,8 +17,8 @@ use Rattle.aat_buffer.specs.facts.Order.{Kept, kept_refl}
 use Rattle.aat_font.specs.Entries.{is_present}
 use Rattle.aat_run.specs.Budget.{paid, has_overspent, operations_left, potential, extent}
 use Rattle.aat_run.specs.Context.{Moved}
-use Rattle.aat_run.specs.Laws.{KeepsFit, PassesFit, Pays, Bounded, Lengthens, KeepsPlaceWhere, KeepsLengthWhere, MakesNoPositions, KeepsSettings, SameSettings, KeepsClusterOrder}
-use Rattle.aat_driver_contexts.specs.Putting.{Entry, IsFit, actionable, put, act}
+use Rattle.aat_run.specs.Laws.{FitsAlways, KeepsFit, PassesFit, Pays, Bounded, Lengthens, KeepsPlaceWhere, KeepsLengthWhere, MakesNoPositions, KeepsSettings, SameSettings, KeepsClusterOrder}
+use Rattle.aat_driver_contexts.specs.Putting.{Entry, actionable, put, act}
 use Rattle.aat_driver_contexts.specs.declared.putting.PuttingCtx.{PuttingCtx}
 
 -- the glyph that is put in
@@ -58,38 +58,38 @@ less z = grind (arith, ints)
 longer : (g : ℕ) (b : Buffer) → b.cursor < length b.line → length (with_put g b).line ≡ length b.line + 1
 longer g b below = length-insert b.line b.cursor (like g b) (omega (arith, below))
 
-pub keeps_fit : KeepsFit act IsFit
+pub keeps_fit : KeepsFit act FitsAlways
 keeps_fit e r b fit below = tt
 
-pub passes_fit : PassesFit IsFit
+pub passes_fit : PassesFit {R = PuttingCtx} FitsAlways
 passes_fit r p n fit below = tt
 
-pub pays : Pays act IsFit
+pub pays : Pays act FitsAlways
 pays e r b fit =
     of_act (λ d. potential d ≤ potential b) e r b (omega arith) (omega (arith, less b.max_ops))
     (λ below enough. omega (arith, below, longer e.extra b below, spent b.max_ops enough))
 
-pub bounded : Bounded act IsFit
+pub bounded : Bounded act FitsAlways
 bounded e r b fit =
     of_act (λ d. extent d ≤ extent b) e r b (omega arith) (omega (arith, less b.max_ops))
     (λ below enough. omega (arith, below, longer e.extra b below, spent b.max_ops enough))
 
-pub lengthens : Lengthens act IsFit
+pub lengthens : Lengthens act FitsAlways
 lengthens e r b fit = of_act (λ d. length b.line ≤ length d.line) e r b (omega arith) (omega arith) (λ below enough. omega (arith, longer e.extra b below))
 
-pub keeps_place : KeepsPlaceWhere act IsFit false
+pub keeps_place : KeepsPlaceWhere act FitsAlways false
 keeps_place is_so = absurd (grind (arith, is_so))
 
-pub keeps_count : KeepsLengthWhere act IsFit false
+pub keeps_count : KeepsLengthWhere act FitsAlways false
 keeps_count is_so = absurd (grind (arith, is_so))
 
-pub makes_no_positions : MakesNoPositions act IsFit
+pub makes_no_positions : MakesNoPositions act FitsAlways
 makes_no_positions e r b fit none = of_act (λ d. d.positions ≡ None) e r b none none (λ below enough. refl)
 
 same_settings : (b : Buffer) → SameSettings b b
 same_settings b = record { direction = refl; cluster_level = refl; flags = refl; scratch_flags = refl; max_len = refl; successful = refl }
 
-pub keeps_settings : KeepsSettings act IsFit
+pub keeps_settings : KeepsSettings act FitsAlways
 keeps_settings e r b fit =
     of_act (SameSettings b) e r b (same_settings b)
     (record { direction = refl; cluster_level = refl; flags = refl; scratch_flags = refl; max_len = refl; successful = refl })
@@ -160,7 +160,7 @@ kept R same e r b =
       ordered = λ level ordered. put_ordered b.line b.cursor (like e.extra b) below refl R same ordered;
     })
 
-pub keeps_order : KeepsClusterOrder act IsFit
+pub keeps_order : KeepsClusterOrder act FitsAlways
 keeps_order = record {
   rising = λ e r b fit merge. (kept (λ x y. x ≤ y) (λ x y q. omega (arith, q)) e r b).ordered merge;
   falling = λ e r b fit merge. (kept (λ x y. y ≤ x) (λ x y q. omega (arith, q)) e r b).ordered merge;

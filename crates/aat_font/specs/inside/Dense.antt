@@ -1,10 +1,11 @@
 -- Arrays that answer as the rows of a table do. No contract but those of the tables and their arrays cites this.
-use Rattle.std.specs.Prelude.{◌≡◌, ◌+◌, ◌*◌, ◌-◌, ◌/◌, ◌%◌, ◌==◌, ◌<◌, ◌≤◌, ℕ, Bool, List, ◌&&◌, Option, None, Some, if◌then◌else◌, nat_lt, nat_le, length, slice_get, slice_index_or, option_map}
+use Rattle.std.specs.Prelude.{◌≡◌, ◌+◌, ◌*◌, ◌-◌, ◌/◌, ◌%◌, ◌<◌, ◌≤◌, ℕ, Bool, List, ◌&&◌, Option, None, Some, if◌then◌else◌, nat_lt, nat_le, length, slice_get, slice_index_or, option_map}
 use Rattle.std.specs.List.{list_any}
 use Rattle.aat_font.specs.declared.dense.Dense.{Dense}
 use Rattle.aat_font.specs.declared.dense.Dense.TheVariants.{Array, Pages, Search}
 use Rattle.aat_font.specs.Keys.{first, value_in, at_key}
 use Rattle.aat_font.specs.Table.{Rule, rule_key}
+use Rattle.aat_font.specs.inside.GlyphSpans.{cell_count}
 
 -- the value of a glyph in an array over the glyphs from the lowest on, none outside it
 abbrev pub value_over : ℕ → List (Option ℕ) → ℕ → Option ℕ
@@ -43,15 +44,9 @@ AnswersAsPairs (Array array) pairs = AnswersOver array.lowest array.cells.items 
 AnswersAsPairs (Pages pages) pairs = AnswersOnPages pages.starts.items pages.cells.items pairs
 AnswersAsPairs Search pairs = Unit
 
--- the number of glyphs from that of the first pair to that of the last
-abbrev pub span_of_pairs : List (ℕ × ℕ) → ℕ
-span_of_pairs pairs =
-    first (slice_index_or pairs (length pairs - 1) (0, 0)) - first (slice_index_or pairs 0 (0, 0)) + 1
-
--- the number of cells of an array: one for each glyph of the span, and none where these are many times the pairs
+-- the number of cells of an array over the glyphs of pairs, at most about 32 for each pair
 abbrev pub span_count : List (ℕ × ℕ) → ℕ
-span_count pairs =
-    if length pairs == 0 then 0 else if nat_lt (length pairs) (span_of_pairs pairs / 32) then 0 else span_of_pairs pairs
+span_count pairs = cell_count first (0, 0) 32 pairs
 
 -- the glyph of each pair is one of so many from the lowest on
 abbrev pub PairsWithin : ℕ → ℕ → List (ℕ × ℕ) → Type 0

@@ -2,9 +2,9 @@
 use Rattle.std.proofs.Common.{ℕ, List, Option}
 use Rattle.aat_font.specs.AnchorPoints.{Points}
 use Rattle.aat_run.specs.Laws.{KeepsFit, PassesFit}
-use Rattle.aat_kerning_machines.specs.Anchors.{actionable, held_act, held_fit, held_fresh}
+use Rattle.aat_kerning_machines.specs.Anchors.{held_act, held_fit, held_fresh}
 use Rattle.aat_kerning_machines.specs.KerningLaws.{ChangesPositionsAlone, IsLawfulDriver}
-use Rattle.aat_kerning_machines.specs.KerningMachine.{driver_from}
+use Rattle.aat_kerning_machines.specs.KerningMachine.{driver_from, has_action}
 use Rattle.aat_kerning_machines.specs.facts.AnchorLaws as laws
 
 pub keeps_fit : (pairs : List (ℕ × ℕ)) → KeepsFit (held_act pairs) held_fit
@@ -18,7 +18,7 @@ positions_alone pairs e h b fit = laws.anchors_keep_place h.points pairs e h.mar
 
 pub held_is_lawful :
     (points : Option Points) (pairs : List (ℕ × ℕ))
-    → IsLawfulDriver (driver_from actionable (held_act pairs) (held_fresh points)) held_fit
+    → IsLawfulDriver (driver_from has_action (held_act pairs) (held_fresh points)) held_fit
 held_is_lawful points pairs = record {
   fresh = λ n. tt;
   passes_fit = passes_fit;

@@ -6,12 +6,13 @@ use Rattle.aat_buffer.specs.facts.Cases.{chosen}
 use Rattle.aat_glyph.specs.declared.glyph.GlyphPosition.{GlyphPosition}
 use Rattle.aat_font.specs.declared.state_table.GenericStateEntry.{GenericStateEntry}
 use Rattle.aat_font.specs.declared.entries.EntryData.{EntryData}
-use Rattle.aat_font.specs.Entries.{has_flag, is_present}
+use Rattle.aat_font.specs.Entries.{has_flag}
 use Rattle.aat_font.specs.AnchorPoints.{Points}
 use Rattle.aat_run.specs.Context.{Moved}
 use Rattle.aat_run.specs.Laws.{KeepsFit}
 use Rattle.aat_kerning_machines.specs.Anchors.{anchored, behind_anchors, with_mark, anchor_act, anchor_driver, IsFit}
 use Rattle.aat_kerning_machines.specs.KerningLaws.{PositionsAlone, ChangesPositionsAlone, IsLawfulDriver}
+use Rattle.aat_kerning_machines.specs.KerningMachine.{has_action}
 use Rattle.aat_kerning_machines.specs.Positions.{with_attachment_flag}
 use Rattle.aat_kerning_machines.specs.facts.Writes.{same_place, place_of_write, place_of_attachment}
 
@@ -50,7 +51,7 @@ module _ (P : Buffer → Type 0)
     of_anchors points pairs e (Some mark) b p =
         let index = e.extra.action_index in
         let d = anchored points pairs index mark b in
-        chosen (λ (n : Moved (Option ℕ)). P n.buffer) (is_present index && nat_lt b.cursor (length b.line)) _ _
+        chosen (λ (n : Moved (Option ℕ)). P n.buffer) (has_action e && nat_lt b.cursor (length b.line)) _ _
         (λ _. of_behind e (Some mark) mark b d p (of_anchored points pairs index mark b p)) (λ _. p)
 
 pub anchors_keep_place : (points : Option Points) (pairs : List (ℕ × ℕ)) → ChangesPositionsAlone (anchor_act points pairs) IsFit
@@ -79,7 +80,7 @@ regs_fit points pairs e None b fit below = marked_fits e None b.cursor (length b
 regs_fit points pairs e (Some mark) b fit below =
     let index = e.extra.action_index in
     let n = length b.line in
-    chosen (λ (x : Moved (Option ℕ)). IsFit x.registers b.cursor n) (is_present index && nat_lt b.cursor n)
+    chosen (λ (x : Moved (Option ℕ)). IsFit x.registers b.cursor n) (has_action e && nat_lt b.cursor n)
     (behind_anchors e (Some mark) mark b (anchored points pairs index mark b))
     (record { registers = with_mark e (Some mark) b.cursor; buffer = b })
     (λ _. behind_fits e (Some mark) mark b (anchored points pairs index mark b) n fit below)

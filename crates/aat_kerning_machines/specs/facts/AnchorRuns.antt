@@ -7,8 +7,8 @@ use Rattle.aat_font.specs.declared.entries.EntryData.{EntryData}
 use Rattle.aat_font.specs.declared.state_table.GenericStateEntry.{GenericStateEntry}
 use Rattle.aat_run.specs.Context.{start}
 use Rattle.aat_run.specs.Driven.{outcome_of}
-use Rattle.aat_kerning_machines.specs.Anchors.{Held, actionable, anchor_act, anchor_driver, held_act, held_fresh}
-use Rattle.aat_kerning_machines.specs.KerningMachine.{driver_from, driver_run, kerning_machine_of}
+use Rattle.aat_kerning_machines.specs.Anchors.{Held, anchor_act, anchor_driver, held_act, held_fresh}
+use Rattle.aat_kerning_machines.specs.KerningMachine.{driver_from, driver_run, kerning_machine_of, has_action}
 use Rattle.aat_kerning_machines.specs.facts.KerningViews.{kerning_is_seen}
 
 module _ (points : Option Points) (pairs : List (ℕ × ℕ)) where
@@ -31,7 +31,7 @@ module _ (points : Option Points) (pairs : List (ℕ × ℕ)) where
   -- what a driver runs that holds anchor points is the run of an anchor subtable
   pub anchors_are_driven :
       (pays_first : Bool) (table : TableValue (GenericStateEntry EntryData)) (b : Buffer)
-      → driver_run pays_first table (driver_from actionable (held_act pairs) (held_fresh points)) b
+      → driver_run pays_first table (driver_from has_action (held_act pairs) (held_fresh points)) b
       ≡ driver_run pays_first table (anchor_driver points pairs) b
   unfolding driver_run Holds
   anchors_are_driven pays_first table b =

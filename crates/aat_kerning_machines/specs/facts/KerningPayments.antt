@@ -6,11 +6,13 @@ use Rattle.aat_buffer.specs.facts.Cases.{chosen}
 use Rattle.aat_buffer.specs.facts.Lines.{length_unsafe}
 use Rattle.aat_run.specs.Budget.{paid, has_operations, operations_left}
 use Rattle.aat_run.specs.Context.{Config, class_at}
+use Rattle.aat_run.specs.Laws.{Stands}
+use Rattle.aat_run.specs.Machine.{behind_act}
 use Rattle.aat_run.specs.facts.MachineRuns.{paid_rich}
 use Rattle.aat_run.specs.facts.Runs.{OnGoes}
 use Rattle.aat_run.specs.facts.Turns.{settled_goes}
 use Rattle.aat_kerning_machines.specs.KerningLaws.{ChangesPositionsAlone, IsPaidFor, PaysForStaying}
-use Rattle.aat_kerning_machines.specs.KerningMachine.{KerningMachine, moved_on, break_marked_behind, kerning_stepped, kerning_marked, kerning_settled, kerning_acted, looked_ahead, kerning_by_entry, kerning_turn}
+use Rattle.aat_kerning_machines.specs.KerningMachine.{KerningMachine, moved_on, break_marked_behind, kerning_stepped, kerning_marked, kerning_acted, looked_ahead, kerning_by_entry, kerning_turn}
 use Rattle.aat_kerning_machines.specs.facts.KerningRuns.{of_marked, of_moved, paid_before}
 
 module _ {R E : Type 0} (m : KerningMachine R E) (Fits : R → ℕ → ℕ → Type 0)
@@ -39,18 +41,18 @@ module _ {R E : Type 0} (m : KerningMachine R E) (Fits : R → ℕ → ℕ → T
         beyond at = absurd (omega (arith, at, cursor))
 
     acted_pays :
-        (e : E) (b : Buffer) (c : Config R) → Fits c.registers c.buffer.cursor (length c.buffer.line)
+        (e : E) (b : Buffer) (c : Config R) → Stands Fits c
         → c.buffer.cursor ≡ b.cursor → c.buffer.max_ops ≡ b.max_ops
         → OnGoes (λ d. StaysPaid b d.buffer) (kerning_acted m e c)
-    unfolding kerning_acted kerning_settled
+    unfolding kerning_acted
     acted_pays e b c fits cursor budget =
         let n = m.act e c.registers c.buffer in
         let place = places e c.registers c.buffer fits in
-        settled_goes (kerning_stepped m e) (λ (d : Config R). StaysPaid b d.buffer) (record c { buffer = n.buffer; registers = n.registers; state = m.next e })
+        settled_goes (kerning_stepped m e) (λ (d : Config R). StaysPaid b d.buffer) (behind_act n (m.next e) c)
         (λ inside. stepped_pays e b n.buffer (place.cursor ∙ cursor) (place.budget ∙ budget))
 
     ahead_pays :
-        (e : E) (o : Option E) (b : Buffer) (c : Config R) → Fits c.registers c.buffer.cursor (length c.buffer.line)
+        (e : E) (o : Option E) (b : Buffer) (c : Config R) → Stands Fits c
         → c.buffer.cursor ≡ b.cursor → c.buffer.max_ops ≡ b.max_ops
         → OnGoes (λ d. StaysPaid b d.buffer) (looked_ahead m e o c)
     unfolding looked_ahead
@@ -58,12 +60,12 @@ module _ {R E : Type 0} (m : KerningMachine R E) (Fits : R → ℕ → ℕ → T
     ahead_pays e (Some f) b c fits cursor budget =
         let marked = record c { buffer = break_marked_behind c.buffer } in
         let same = length_unsafe c.buffer (Some c.buffer.cursor) (Some (c.buffer.cursor + 2)) in
-        let fits_marked : Fits marked.registers marked.buffer.cursor (length marked.buffer.line) = rw same fits in
+        let fits_marked : Stands Fits marked = rw same fits in
         chosen (λ (d : Config R). OnGoes (λ x. StaysPaid b x.buffer) (kerning_acted m e d)) (m.actionable f) marked c
         (λ _. acted_pays e b marked fits_marked cursor budget) (λ _. acted_pays e b c fits cursor budget)
 
     by_entry_pays :
-        (o : Option E) (c : Config R) → Fits c.registers c.buffer.cursor (length c.buffer.line)
+        (o : Option E) (c : Config R) → Stands Fits c
         → OnGoes (λ d. StaysPaid c.buffer d.buffer) (kerning_by_entry m o c)
     unfolding kerning_by_entry
     by_entry_pays None c fits = tt
@@ -74,12 +76,12 @@ module _ {R E : Type 0} (m : KerningMachine R E) (Fits : R → ℕ → ℕ → T
         of_marked m (λ (x : Buffer). length x.line) e c (length_unsafe c.buffer (Some (c.buffer.cursor - 1)) (Some (c.buffer.cursor + 1))) in
         let cursor : b.cursor ≡ c.buffer.cursor = of_marked m (λ (x : Buffer). x.cursor) e c refl in
         let budget : b.max_ops ≡ c.buffer.max_ops = of_marked m (λ (x : Buffer). x.max_ops) e c refl in
-        let fits_marked : Fits d.registers d.buffer.cursor (length d.buffer.line) = rw (long, cursor) fits in
+        let fits_marked : Stands Fits d = rw (long, cursor) fits in
         chosen (OnGoes (λ (x : Config R). StaysPaid c.buffer x.buffer)) (nat_lt (b.cursor + 1) (length b.line)) (looked_ahead m e (m.entry c.state 0) d) (kerning_acted m e d)
         (λ _. ahead_pays e (m.entry c.state 0) c.buffer d fits_marked cursor budget) (λ _. acted_pays e c.buffer d fits_marked cursor budget)
 
     turn_pays :
-        (c : Config R) → Fits c.registers c.buffer.cursor (length c.buffer.line)
+        (c : Config R) → Stands Fits c
         → OnGoes (λ d. StaysPaid c.buffer d.buffer) (kerning_turn m c)
     unfolding kerning_turn
     turn_pays c fits = by_entry_pays (m.entry c.state (class_at m.class_of c.buffer)) (record c { turns = c.turns + 1 }) fits

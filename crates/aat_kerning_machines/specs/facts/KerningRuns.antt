@@ -9,13 +9,13 @@ use Rattle.aat_buffer.specs.facts.Cases.{chosen, either}
 use Rattle.aat_buffer.specs.facts.Lines.{length_unsafe}
 use Rattle.aat_run.specs.Budget.{paid, has_operations, operations_left, potential}
 use Rattle.aat_run.specs.Context.{Config, is_inside, class_at}
-use Rattle.aat_run.specs.Laws.{KeepsFit, PassesFit}
-use Rattle.aat_run.specs.Machine.{Turn, left_by, passed, break_marked_at}
+use Rattle.aat_run.specs.Laws.{KeepsFit, PassesFit, Stands, RunsEnd}
+use Rattle.aat_run.specs.Machine.{Turn, left_by, behind_act, passed, break_marked_at}
 use Rattle.aat_run.specs.facts.MachineRuns.{below_end, paid_less, paid_rich}
 use Rattle.aat_run.specs.facts.Runs.{OnGoes, weaker}
-use Rattle.aat_run.specs.facts.Turns.{Stands, left, Lower, whole_ends, whole_keeps, whole_spends, settled_turns, settled_keeps, settled_goes}
-use Rattle.aat_kerning_machines.specs.KerningLaws.{ChangesPositionsAlone, KerningRunsEnd}
-use Rattle.aat_kerning_machines.specs.KerningMachine.{KerningMachine, moved_on, break_marked_behind, kerning_stepped, depends_on_before, kerning_marked, kerning_settled, kerning_acted, looked_ahead, kerning_by_entry, kerning_turn, kerning_whole}
+use Rattle.aat_run.specs.facts.Turns.{Lower, LowersPotential, whole_ends, whole_keeps, whole_spends, settled_turns, settled_keeps, settled_goes}
+use Rattle.aat_kerning_machines.specs.KerningLaws.{ChangesPositionsAlone}
+use Rattle.aat_kerning_machines.specs.KerningMachine.{KerningMachine, moved_on, break_marked_behind, kerning_stepped, depends_on_before, kerning_marked, kerning_acted, looked_ahead, kerning_by_entry, kerning_turn, kerning_whole}
 
 -- a payment that leaves operations took one
 pub paid_before :
@@ -40,7 +40,7 @@ of_moved P false b pass stay = by_budget (has_operations b) refl
 
 module _ {R E : Type 0} (m : KerningMachine R E) where
   turns_of_acted : (e : E) (c : Config R) → (left_by (kerning_acted m e c)).turns ≡ c.turns
-  unfolding kerning_acted kerning_settled
+  unfolding kerning_acted
   turns_of_acted e c = settled_turns (kerning_stepped m e) _
 
   turns_ahead : (e : E) (o : Option E) (c : Config R) → (left_by (looked_ahead m e o c)).turns ≡ c.turns
@@ -77,12 +77,6 @@ module _ {R E : Type 0} (m : KerningMachine R E) where
 module _ {R E : Type 0} (m : KerningMachine R E) (Fits : R → ℕ → ℕ → Type 0)
     (places : ChangesPositionsAlone m.act Fits) (keeps : KeepsFit m.act Fits) (passes : PassesFit Fits)
   where
-    CanStand : Config R → Type 0
-    CanStand c = Stands (kerning_turn m) Fits c
-
-    Falling : ℕ → Config R → Type 0
-    Falling n d = Lower (kerning_turn m) Fits n d
-
     Settles : R → ℕ → Buffer → Type 0
     Settles r n b = (potential b < n) × Fits r b.cursor (length b.line)
 
@@ -98,12 +92,12 @@ module _ {R E : Type 0} (m : KerningMachine R E) (Fits : R → ℕ → ℕ → T
         (λ left. (omega (arith, paid_rich b left), fits)))
 
     -- an act and what follows it lower the potential
-    acted_falls : (e : E) (c : Config R) → CanStand c → OnGoes (Falling (potential c.buffer)) (kerning_acted m e c)
-    unfolding kerning_acted kerning_settled Settles CanStand Falling
+    acted_falls : (e : E) (c : Config R) → Stands Fits c → OnGoes (Lower Fits (potential c.buffer)) (kerning_acted m e c)
+    unfolding kerning_acted Settles
     acted_falls e c stands =
         let n = m.act e c.registers c.buffer in
         let place = places e c.registers c.buffer stands in
-        settled_goes (kerning_stepped m e) (Falling (potential c.buffer)) (record c { buffer = n.buffer; registers = n.registers; state = m.next e }) (λ inside.
+        settled_goes (kerning_stepped m e) (Lower Fits (potential c.buffer)) (behind_act n (m.next e) c) (λ inside.
         let below = below_end n.buffer inside in
         let down = steps e n.registers n.buffer (keeps e c.registers c.buffer stands below) below in
         let same : potential n.buffer ≡ potential c.buffer = rw (place.line, place.cursor, place.budget) refl in
@@ -111,28 +105,27 @@ module _ {R E : Type 0} (m : KerningMachine R E) (Fits : R → ℕ → ℕ → T
 
     -- the same of a buffer that was marked before
     marked_falls :
-        (b : Buffer) (t : Turn (Config R)) (n : ℕ) → potential b ≡ n → OnGoes (Falling (potential b)) t
-        → OnGoes (Falling n) t
-    unfolding Falling
+        (b : Buffer) (t : Turn (Config R)) (n : ℕ) → potential b ≡ n → OnGoes (Lower Fits (potential b)) t
+        → OnGoes (Lower Fits n) t
     marked_falls b t n level h =
-        weaker (Falling (potential b)) (Falling n) t (λ d h. (omega (arith, h.0, level), h.1)) h
+        weaker (Lower Fits (potential b)) (Lower Fits n) t (λ d h. (omega (arith, h.0, level), h.1)) h
 
     ahead_falls :
-        (e : E) (o : Option E) (c : Config R) → CanStand c
-        → OnGoes (Falling (potential c.buffer)) (looked_ahead m e o c)
-    unfolding looked_ahead CanStand
+        (e : E) (o : Option E) (c : Config R) → Stands Fits c
+        → OnGoes (Lower Fits (potential c.buffer)) (looked_ahead m e o c)
+    unfolding looked_ahead
     ahead_falls e None c stands = tt
     ahead_falls e (Some f) c stands =
         let same = length_unsafe c.buffer (Some c.buffer.cursor) (Some (c.buffer.cursor + 2)) in
         let marked = record c { buffer = break_marked_behind c.buffer } in
-        let stands_marked : CanStand marked = rw same stands in
-        chosen (λ d. OnGoes (Falling (potential c.buffer)) (kerning_acted m e d)) (m.actionable f) marked c
+        let stands_marked : Stands Fits marked = rw same stands in
+        chosen (λ d. OnGoes (Lower Fits (potential c.buffer)) (kerning_acted m e d)) (m.actionable f) marked c
         (λ _. marked_falls marked.buffer (kerning_acted m e marked) (potential c.buffer) (rw same refl) (acted_falls e marked stands_marked))
         (λ _. acted_falls e c stands)
 
     by_entry_falls :
-        (o : Option E) (c : Config R) → CanStand c → OnGoes (Falling (potential c.buffer)) (kerning_by_entry m o c)
-    unfolding kerning_by_entry CanStand
+        (o : Option E) (c : Config R) → Stands Fits c → OnGoes (Lower Fits (potential c.buffer)) (kerning_by_entry m o c)
+    unfolding kerning_by_entry
     by_entry_falls None c stands = tt
     by_entry_falls (Some e) c stands =
         let b = kerning_marked m e c in
@@ -140,22 +133,20 @@ module _ {R E : Type 0} (m : KerningMachine R E) (Fits : R → ℕ → ℕ → T
         let long = length_of_marked m e c in
         let cursor : b.cursor ≡ c.buffer.cursor = of_marked m (λ (x : Buffer). x.cursor) e c refl in
         let budget : b.max_ops ≡ c.buffer.max_ops = of_marked m (λ (x : Buffer). x.max_ops) e c refl in
-        let stands_marked : CanStand d = rw (long, cursor) stands in
+        let stands_marked : Stands Fits d = rw (long, cursor) stands in
         let level : potential b ≡ potential c.buffer = rw (long, cursor, budget) refl in
-        chosen (OnGoes (Falling (potential c.buffer))) (nat_lt (b.cursor + 1) (length b.line)) (looked_ahead m e (m.entry c.state 0) d) (kerning_acted m e d)
+        chosen (OnGoes (Lower Fits (potential c.buffer))) (nat_lt (b.cursor + 1) (length b.line)) (looked_ahead m e (m.entry c.state 0) d) (kerning_acted m e d)
         (λ _. marked_falls b (looked_ahead m e (m.entry c.state 0) d) (potential c.buffer) level (ahead_falls e (m.entry c.state 0) d stands_marked))
         (λ _. marked_falls b (kerning_acted m e d) (potential c.buffer) level (acted_falls e d stands_marked))
 
     -- a turn that goes on lowers the potential
-    pub turn_falls :
-        (c : Config R) → Stands (kerning_turn m) Fits c
-        → OnGoes (Lower (kerning_turn m) Fits (left (kerning_turn m) Fits c)) (kerning_turn m c)
-    unfolding kerning_turn CanStand Falling
+    pub turn_falls : LowersPotential (kerning_turn m) Fits
+    unfolding kerning_turn
     turn_falls c stands =
         by_entry_falls (m.entry c.state (class_at m.class_of c.buffer)) (record c { turns = c.turns + 1 }) stands
 
     -- a whole run ends by itself
-    pub runs_end : KerningRunsEnd m Fits
+    pub runs_end : RunsEnd (kerning_turn m) Fits
     runs_end c stands = whole_ends (kerning_turn m) Fits turn_falls c stands
 
     module _ (Q : Buffer → Type 0)
@@ -172,30 +163,30 @@ module _ {R E : Type 0} (m : KerningMachine R E) (Fits : R → ℕ → ℕ → T
             chosen Q m.pays_first (moved_on (m.advances e) (paid 1 b)) (paid 1 (moved_on (m.advances e) b))
             (λ _. moved_keeps (m.advances e) (paid 1 b) (on_pay b q)) (λ _. on_pay (moved_on (m.advances e) b) (moved_keeps (m.advances e) b q))
 
-        acted_keeps : (e : E) (c : Config R) → CanStand c → Q c.buffer → Q (left_by (kerning_acted m e c)).buffer
-        unfolding kerning_acted kerning_settled CanStand
+        acted_keeps : (e : E) (c : Config R) → Stands Fits c → Q c.buffer → Q (left_by (kerning_acted m e c)).buffer
+        unfolding kerning_acted
         acted_keeps e c stands q =
             settled_keeps (kerning_stepped m e) Q (stepped_keeps e) _ (on_act e c.registers c.buffer stands q)
 
         ahead_keeps :
-            (e : E) (o : Option E) (c : Config R) → CanStand c → Q c.buffer → Q (left_by (looked_ahead m e o c)).buffer
-        unfolding looked_ahead CanStand
+            (e : E) (o : Option E) (c : Config R) → Stands Fits c → Q c.buffer → Q (left_by (looked_ahead m e o c)).buffer
+        unfolding looked_ahead
         ahead_keeps e None c stands q = q
         ahead_keeps e (Some f) c stands q =
             let marked = record c { buffer = break_marked_behind c.buffer } in
-            let stands_marked : CanStand marked = rw (length_unsafe c.buffer (Some c.buffer.cursor) (Some (c.buffer.cursor + 2))) stands in
+            let stands_marked : Stands Fits marked = rw (length_unsafe c.buffer (Some c.buffer.cursor) (Some (c.buffer.cursor + 2))) stands in
             chosen (λ (d : Config R). Q (left_by (kerning_acted m e d)).buffer) (m.actionable f) marked c
             (λ _. acted_keeps e marked stands_marked (on_mark c.buffer (Some c.buffer.cursor) (Some (c.buffer.cursor + 2)) q)) (λ _. acted_keeps e c stands q)
 
         by_entry_keeps :
-            (o : Option E) (c : Config R) → CanStand c → Q c.buffer → Q (left_by (kerning_by_entry m o c)).buffer
-        unfolding kerning_by_entry kerning_marked CanStand
+            (o : Option E) (c : Config R) → Stands Fits c → Q c.buffer → Q (left_by (kerning_by_entry m o c)).buffer
+        unfolding kerning_by_entry kerning_marked
         by_entry_keeps None c stands q = q
         by_entry_keeps (Some e) c stands q =
             let b = kerning_marked m e c in
             let d = record c { buffer = b } in
             let cursor : b.cursor ≡ c.buffer.cursor = of_marked m (λ (x : Buffer). x.cursor) e c refl in
-            let stands_marked : CanStand d = rw (length_of_marked m e c, cursor) stands in
+            let stands_marked : Stands Fits d = rw (length_of_marked m e c, cursor) stands in
             let marked : Q b =
             chosen Q (is_inside c.buffer && depends_on_before m e c) (break_marked_at c.buffer) c.buffer
             (λ _. on_mark c.buffer (Some (c.buffer.cursor - 1)) (Some (c.buffer.cursor + 1)) q) (λ _. q) in
@@ -204,20 +195,20 @@ module _ {R E : Type 0} (m : KerningMachine R E) (Fits : R → ℕ → ℕ → T
 
         -- what marks, acts, passing and paying keep of a buffer, a turn keeps
         turn_keeps :
-            (c : Config R) → Stands (kerning_turn m) Fits c → Q c.buffer → Q (left_by (kerning_turn m c)).buffer
-        unfolding kerning_turn CanStand
+            (c : Config R) → Stands Fits c → Q c.buffer → Q (left_by (kerning_turn m c)).buffer
+        unfolding kerning_turn
         turn_keeps c stands q =
             by_entry_keeps (m.entry c.state (class_at m.class_of c.buffer)) (record c { turns = c.turns + 1 }) stands q
 
         -- and so does a whole run
-        pub buffer_kept : (c : Config R) → Stands (kerning_turn m) Fits c → Q c.buffer → Q (kerning_whole m c).buffer
+        pub buffer_kept : (c : Config R) → Stands Fits c → Q c.buffer → Q (kerning_whole m c).buffer
         unfolding kerning_whole
         buffer_kept c stands q =
             whole_keeps (kerning_turn m) Fits turn_falls (λ (d : Config R). Q d.buffer) turn_keeps c stands q
 
     -- no turn adds to the potential
     turn_lowers :
-        (c : Config R) → Stands (kerning_turn m) Fits c → potential (left_by (kerning_turn m c)).buffer
+        (c : Config R) → Stands Fits c → potential (left_by (kerning_turn m c)).buffer
         ≤ potential c.buffer
     turn_lowers c stands =
         turn_keeps (λ b. potential b ≤ potential c.buffer)
@@ -227,14 +218,14 @@ module _ {R E : Type 0} (m : KerningMachine R E) (Fits : R → ℕ → ℕ → T
 
     -- a whole run's turns and the potential that it leaves are at most the potential before it and one more
     pub spends :
-        (c : Config R) → Stands (kerning_turn m) Fits c
+        (c : Config R) → Stands Fits c
         → (kerning_whole m c).turns + potential (kerning_whole m c).buffer ≤ c.turns + potential c.buffer + 1
     unfolding kerning_whole
     spends c stands = whole_spends (kerning_turn m) Fits turn_falls (turn_counts m) turn_lowers c stands
 
     -- a whole run keeps the length
     pub keeps_length :
-        (c : Config R) → Stands (kerning_turn m) Fits c → length (kerning_whole m c).buffer.line ≡ length c.buffer.line
+        (c : Config R) → Stands Fits c → length (kerning_whole m c).buffer.line ≡ length c.buffer.line
     keeps_length c stands =
         buffer_kept (λ b. length b.line ≡ length c.buffer.line)
         (λ b i j q. length_unsafe b i j ∙ q)

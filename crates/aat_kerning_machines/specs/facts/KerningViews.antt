@@ -4,9 +4,10 @@ use Rattle.aat_buffer.specs.Buffer.{Buffer}
 use Rattle.aat_buffer.specs.facts.Cases.{chosen}
 use Rattle.aat_run.specs.Budget.{potential}
 use Rattle.aat_run.specs.Context.{Config, Moved, is_at_end, class_at}
-use Rattle.aat_run.specs.Machine.{Turn, Ends, Goes}
+use Rattle.aat_run.specs.Machine.{Turn, Ends, Goes, behind_act, settled_by}
 use Rattle.aat_run.specs.facts.Runs.{OnGoes, mapped, run_maps}
-use Rattle.aat_kerning_machines.specs.KerningMachine.{KerningMachine, kerning_stepped, break_marked_behind, kerning_marked, kerning_settled, kerning_acted, looked_ahead, kerning_by_entry, kerning_turn, kerning_whole}
+use Rattle.aat_run.specs.facts.Turns.{settled_goes}
+use Rattle.aat_kerning_machines.specs.KerningMachine.{KerningMachine, kerning_stepped, break_marked_behind, kerning_marked, kerning_acted, looked_ahead, kerning_by_entry, kerning_turn, kerning_whole}
 
 module _ {R S E : Type 0} (plain : KerningMachine R E) (held_act : E → S → Buffer → Moved S) (view : S → R)
     (Good : S → Type 0)
@@ -39,8 +40,9 @@ module _ {R S E : Type 0} (plain : KerningMachine R E) (held_act : E → S → B
     by_test true x y u v p q = p
     by_test false x y u v p q = q
 
-    same_settled : (e : E) (c : Config S) → kerning_settled plain e (seen c) ≡ mapped seen (kerning_settled held e c)
-    unfolding kerning_settled
+    same_settled :
+        (e : E) (c : Config S)
+        → settled_by (kerning_stepped plain e) (seen c) ≡ mapped seen (settled_by (kerning_stepped held e) c)
     same_settled e c =
         by_test (is_at_end c.buffer) (Ends (seen c)) (Goes (seen (record c { buffer = kerning_stepped held e c.buffer })))
         (Ends c) (Goes (record c { buffer = kerning_stepped held e c.buffer })) refl refl
@@ -50,10 +52,8 @@ module _ {R S E : Type 0} (plain : KerningMachine R E) (held_act : E → S → B
     unfolding kerning_acted GoodAt
     same_acted e c good =
         let n = held_act e c.registers c.buffer in
-        let settled : Moved R → Turn (Config R) = λ x.
-        kerning_settled plain e (record { buffer = x.buffer; registers = x.registers; state = plain.next e; last = c.last; turns = c.turns }) in
-        ap settled (same_act e c.registers c.buffer good)
-        ∙ same_settled e (record c { buffer = n.buffer; registers = n.registers; state = plain.next e })
+        ap (λ (x : Moved R). settled_by (kerning_stepped plain e) (behind_act x (plain.next e) (seen c))) (same_act e c.registers c.buffer good)
+        ∙ same_settled e (behind_act n (plain.next e) c)
 
     marked_behind : Config S → Config S
     marked_behind c = record c { buffer = break_marked_behind c.buffer }
@@ -90,11 +90,10 @@ module _ {R S E : Type 0} (plain : KerningMachine R E) (held_act : E → S → B
         same_by_entry (plain.entry c.state (class_at plain.class_of c.buffer)) (record c { turns = c.turns + 1 }) good
 
     good_acted : (e : E) (c : Config S) → GoodAt c → OnGoes GoodAt (kerning_acted held e c)
-    unfolding kerning_acted kerning_settled GoodAt
+    unfolding kerning_acted GoodAt
     good_acted e c good =
         let n = held_act e c.registers c.buffer in
-        chosen (OnGoes GoodAt) (is_at_end n.buffer) (Ends _) (Goes _)
-        (λ _. tt) (λ _. stays_good e c.registers c.buffer good)
+        settled_goes (kerning_stepped held e) GoodAt (behind_act n (plain.next e) c) (λ _. stays_good e c.registers c.buffer good)
 
     good_ahead : (e : E) (o : Option E) (c : Config S) → GoodAt c → OnGoes GoodAt (looked_ahead held e o c)
     unfolding looked_ahead marked_behind GoodAt

@@ -10,10 +10,12 @@ use Rattle.aat_font.specs.declared.entries.EntryData.{EntryData}
 use Rattle.aat_font.specs.declared.entries.KernEntryData.{KernEntryData}
 use Rattle.aat_font.specs.Entries.{has_flag, is_present}
 use Rattle.aat_run.specs.Context.{Moved}
+use Rattle.aat_run.specs.Laws.{FitsAlways}
 use Rattle.aat_run.specs.Switches.{meets}
 use Rattle.aat_kerning_machines.specs.KerningLaws.{PositionsAlone, ChangesPositionsAlone, IsLawfulDriver}
+use Rattle.aat_kerning_machines.specs.KerningMachine.{has_action}
 use Rattle.aat_kerning_machines.specs.Positions.{with_attachment_flag, with_cross_offset, attached_as, cross_offset, plus, with_shift, with_advance}
-use Rattle.aat_kerning_machines.specs.Stack.{FitsAlways, across, along, even, with_value_for, ends_list, popped, kerx_act, kern_act, kerx_value, kern_value, pushed_by, kerx_driver, kern_driver}
+use Rattle.aat_kerning_machines.specs.Stack.{across, along, even, with_value_for, ends_list, popped, kerx_act, kern_act, kerx_value, kern_value, pushed_by, kerx_driver, kern_driver}
 use Rattle.aat_kerning_machines.specs.facts.Writes.{same_place, place_of_write, place_of_attachment}
 
 -- a property that writes of positions and scratch flags keep
@@ -84,7 +86,7 @@ module _ (P : Buffer → Type 0)
     unfolding kerx_act
     of_kerx is_cross kern_mask tuple_count values e stack b p =
         let step = max tuple_count 1 in
-        chosen (λ (n : Moved (List ℕ)). P n.buffer) (is_present e.extra.action_index && nat_le tuple_count 65535) _ _
+        chosen (λ (n : Moved (List ℕ)). P n.buffer) (has_action e && nat_le tuple_count 65535) _ _
         (λ _. of_popped is_cross kern_mask (kerx_value values step) step
         (pushed_by e b.cursor (cond (has_flag e 0x2000) [] stack)) e.extra.action_index b p)
         (λ _. p)

@@ -5,7 +5,7 @@ use Rattle.aat_buffer.specs.Marks.{unsafe_to_break}
 use Rattle.aat_font.specs.Entries.{has_flag}
 use Rattle.aat_run.specs.Context.{Moved}
 use Rattle.aat_run.specs.Laws.{KeepsFit, PassesFit, FitsFresh, Pays, Bounded, Lengthens, KeepsLength, KeepsCursor, KeepsPositions, KeepsSettings, SameSettings}
-use Rattle.aat_kinds.specs.Contextual.{Entry, Registers, IsFit, act, answer_of, changed_by, looked_up, at_mark, at_cursor, behind_mark, behind_cursor, with_glyph, with_mark, can_act, fresh}
+use Rattle.aat_kinds.specs.Contextual.{Entry, Registers, IsFit, act, answer_of, changed_by, looked_up, at_mark, at_cursor, behind_mark, behind_cursor, replaced_at, with_mark, can_act, fresh}
 use Rattle.aat_run.specs.facts.InPlace.{Keeps, KeepsAll, pays_in_place, bounded_in_place, lengthens_in_place}
 use Rattle.aat_buffer.specs.facts.Cases.{chosen}
 use Rattle.aat_buffer.specs.facts.Lines.{length_unsafe}
@@ -31,7 +31,7 @@ module _ (classes : Option (List (ℕ × ℕ))) (lookups : List (List (ℕ × �
   module _ (P : Buffer → Type 0) (Good : ℕ → Type 0)
       (good : (index g : ℕ) → OnValue Good (answer_of classes lookups index g))
       (on_unsafe : (d : Buffer) (i j : Option ℕ) → P d → P (unsafe_to_break d i j))
-      (on_glyph : (d : Buffer) (i v : ℕ) → Good v → P d → P (with_glyph classes lookups i v d))
+      (on_glyph : (d : Buffer) (i v : ℕ) → Good v → P d → P (replaced_at classes lookups i v d))
     where
       of_answer : (change : ℕ → Buffer) (b : Buffer) (o : Option (Option ℕ)) → P b → OnValue Good o → ((v : ℕ) → Good v → P (change v)) → OnSomeBuffer P (changed_by classes lookups o change b)
       unfolding OnSomeBuffer OnValue
@@ -74,7 +74,7 @@ module _ (classes : Option (List (ℕ × ℕ))) (lookups : List (List (ℕ × �
   any_value (Some (Some v)) = tt
 
   -- what marking and replacing keep, an act keeps
-  pub of_act : (P : Buffer → Type 0) → ((d : Buffer) (i j : Option ℕ) → P d → P (unsafe_to_break d i j)) → ((d : Buffer) (i v : ℕ) → P d → P (with_glyph classes lookups i v d))
+  pub of_act : (P : Buffer → Type 0) → ((d : Buffer) (i j : Option ℕ) → P d → P (unsafe_to_break d i j)) → ((d : Buffer) (i v : ℕ) → P d → P (replaced_at classes lookups i v d))
       → (e : Entry) (r : Registers) (b : Buffer) → P b → P (act classes lookups e r b).buffer
   of_act P on_unsafe on_glyph e r b p = of_good_act P (λ v. Unit {0}) (λ index g. any_value (answer_of classes lookups index g)) on_unsafe (λ d i v _. on_glyph d i v) e r b p
 

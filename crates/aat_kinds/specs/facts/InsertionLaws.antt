@@ -79,7 +79,7 @@ module _ (glyphs : List GlyphId) where
   mark_grows e r b rich =
       let d = paid (marked_count e) b in
       let new = run_for glyphs d e.extra.marked_insert_index (marked_count e) in
-      let put = put_in glyphs new r.mark (not (has_flag e 0x0400)) (length new) d in
+      let put = put_in new r.mark (not (has_flag e 0x0400)) (d.cursor + length new) d in
       let long : length put.line ≡ length b.line + length new = length_inserted new r.mark (not (has_flag e 0x0400)) b.line in
       let same : length (unsafe_to_break put (Some r.mark) (Some (min (put.cursor + 1) (length put.line)))).line ≡ length put.line = length_unsafe put (Some r.mark) (Some (min (put.cursor + 1) (length put.line))) in
       let few = length_run d e.extra.marked_insert_index (marked_count e) in
@@ -92,7 +92,7 @@ module _ (glyphs : List GlyphId) where
       let d = paid (current_count e) b in
       let new = run_for glyphs d e.extra.current_insert_index (current_count e) in
       let by = cond (goes_on e) (length new) 0 in
-      let put = put_in glyphs new d.cursor (not (has_flag e 0x0800)) by d in
+      let put = put_in new d.cursor (not (has_flag e 0x0800)) (d.cursor + by) d in
       let long : length put.line ≡ length b.line + length new = length_inserted new d.cursor (not (has_flag e 0x0800)) b.line in
       let few = length_run d e.extra.current_insert_index (current_count e) in
       chosen (Grows b) (has_overspent d) d put (λ _. pay_grows (current_count e) b) (λ solvent.
@@ -152,14 +152,14 @@ module _ (glyphs : List GlyphId) where
   module _ (P : Buffer → Type 0)
       (on_pay : (n : ℕ) (d : Buffer) → P d → P (paid n d))
       (on_unsafe : (d : Buffer) (i j : Option ℕ) → P d → P (unsafe_to_break d i j))
-      (on_put : (index count i : ℕ) (behind : Bool) (by : ℕ) (d : Buffer) → P d → P (put_in glyphs (run_for glyphs d index count) i behind by d))
+      (on_put : (index count i : ℕ) (behind : Bool) (by : ℕ) (d : Buffer) → P d → P (put_in (run_for glyphs d index count) i behind (d.cursor + by) d))
     where
       of_current : (e : Entry) (r : Registers) (b : Buffer) → P b → P (current_part glyphs e r b).buffer
       unfolding at_cursor
       of_current e r b p =
           let d = paid (current_count e) b in
           let new = run_for glyphs d e.extra.current_insert_index (current_count e) in
-          let put = put_in glyphs new d.cursor (not (has_flag e 0x0800)) (cond (goes_on e) (length new) 0) d in
+          let put = put_in new d.cursor (not (has_flag e 0x0800)) (d.cursor + cond (goes_on e) (length new) 0) d in
           chosen P (is_present e.extra.current_insert_index) (at_cursor glyphs e b) b
           (λ _. chosen P (has_overspent d) d put (λ _. on_pay (current_count e) b p) (λ _. on_put e.extra.current_insert_index (current_count e) d.cursor (not (has_flag e 0x0800)) (cond (goes_on e) (length new) 0) d (on_pay (current_count e) b p)))
           (λ _. p)
@@ -171,7 +171,7 @@ module _ (glyphs : List GlyphId) where
           let d = paid (marked_count e) b in
           let s = with_mark e r b.cursor in
           let new = run_for glyphs d e.extra.marked_insert_index (marked_count e) in
-          let put = put_in glyphs new r.mark (not (has_flag e 0x0400)) (length new) d in
+          let put = put_in new r.mark (not (has_flag e 0x0400)) (d.cursor + length new) d in
           let marked : P (at_mark glyphs e r d) = on_unsafe put (Some r.mark) (Some (min (put.cursor + 1) (length put.line))) (on_put e.extra.marked_insert_index (marked_count e) r.mark (not (has_flag e 0x0400)) (length new) d (on_pay (marked_count e) b p)) in
           chosen (λ (n : Moved Registers). P n.buffer) (is_present e.extra.marked_insert_index) (cond (has_operations d) (current_part glyphs e s (at_mark glyphs e r d)) (record { registers = r; buffer = d })) (current_part glyphs e s b)
           (λ _. chosen (λ (n : Moved Registers). P n.buffer) (has_operations d) (current_part glyphs e s (at_mark glyphs e r d)) (record { registers = r; buffer = d })

@@ -1,5 +1,5 @@
 -- The laws of the ligature act.
-use Rattle.std.proofs.Common.{◌≡◌, ◌≢◌, ◌⊎◌, inl, inr, zero, suc, ℕ, ◌+◌, ◌-◌, ◌%◌, ◌<◌, ◌≤◌, ◌&&◌, ◌==◌, not, min, pos, ◌+ℤ◌, List, length, nat_le, Option, Some, None, refl, sym, ap, ◌∙◌, arith, nat_lt, length-set, get_or, set, get_or-set_same, get_or-set_other}
+use Rattle.std.proofs.Common.{◌≡◌, ◌≢◌, ◌⊎◌, inl, inr, zero, suc, ℕ, ◌+◌, ◌-◌, ◌%◌, ◌<◌, ◌≤◌, ◌&&◌, ◌==◌, not, min, pos, ◌+ℤ◌, List, length, nat_le, IsTrue, Option, Some, None, refl, sym, ap, ◌∙◌, arith, nat_lt, length-set, get_or, set, get_or-set_same, get_or-set_other}
 use Rattle.std.proofs.lemmas.Bool.{cases_eq}
 use Rattle.std.specs.Prelude.{slice_get, slice_set, slice_range, All}
 use Rattle.std.proofs.lemmas.Bool.Decides.{nat_tests}
@@ -19,6 +19,7 @@ use Rattle.aat_run.specs.Laws.{KeepsFit, PassesFit, FitsFresh, Pays, Bounded, Le
 use Rattle.aat_kinds.specs.Ligature.{Registers, IsFit, fresh, component, with_place_held, with_component, act, ligated, component_step, summed, stored_by, stored, later_deleted, deleted_at, deleted, with_ligature, Step, Stops, GoesOn, is_last, is_store, offset_of, element_at}
 use Rattle.aat_run.specs.facts.InPlace.{Keeps, KeepsAll, pays_in_place, bounded_in_place, lengthens_in_place}
 use Rattle.aat_buffer.specs.facts.Cases.{chosen}
+use Rattle.aat_buffer.specs.facts.Ids.{ids_of_merge_out}
 use Rattle.aat_buffer.specs.facts.Lines.{length_merge_out, of_merge_out}
 
 -- what holds of what one component leaves
@@ -64,21 +65,6 @@ fit_of_fewer held most r s p q n fit is_held is_most same =
     let e : s.slots ≡ r.slots = same.slots ∙ sym is_held in
     record { some = rw e fit.some; within = λ j le. rw e (fit.within j (omega (arith, le, same.count, is_most))) }
 
-id_of_cluster : (c : ℕ) (g : hb_glyph_info_t) → (with_cluster c g).glyph_id ≡ g.glyph_id
-id_of_cluster c g = chosen (λ (x : hb_glyph_info_t). x.glyph_id ≡ g.glyph_id) (g.cluster == c) g _ (λ _. refl) (λ _. refl)
-
--- a merge on both sides of the cursor changes no glyph id
-ids_of_merge_out : (b : Buffer) (i j : ℕ) → ids (merge_out_clusters b i j).line ≡ ids b.line
-unfolding merged_out
-ids_of_merge_out b i j =
-    let e = min j (length b.line) in
-    let m = least_of (slice_range b.line i e) in
-    chosen (λ (gs : List hb_glyph_info_t). ids gs ≡ ids b.line) (nat_le (i + 2) e && not (clusters_stay_apart b.cluster_level)) (merged_out b.line i e) b.line
-    (λ long.
-    let low : i ≤ e = grind (arith, nat_tests, long) in
-    map_span (λ (g : hb_glyph_info_t). g.glyph_id) (with_cluster m) (id_of_cluster m) (i - run_before b.line 0 i (cluster_at b.line i)) (e + run_after b.line e (cluster_at b.line (e - 1))) b.line (omega (arith, low)))
-    (λ _. refl)
-
 -- where two lines have the same ids, so have their glyphs at each place
 id_of_ids : (gs hs : List hb_glyph_info_t) → ids hs ≡ ids gs → (k : ℕ) (d : hb_glyph_info_t) → k < length hs → (get_or hs k d).glyph_id ≡ (get_or gs k d).glyph_id
 id_of_ids gs hs same k d low =
@@ -90,6 +76,10 @@ pub small_of_merge_out : (b : Buffer) (i j : ℕ) → IsSmall b → IsSmall (mer
 small_of_merge_out b i j small k d low =
     let same = id_of_ids b.line (merge_out_clusters b i j).line (ids_of_merge_out b i j) k d low in
     omega (arith, same, small k d (omega (arith, low, length_merge_out b i j)))
+
+-- whose id is that of the deleted glyph is deleted
+pub deleted_by_id : (id : ℕ) → id ≡ 0xFFFF → IsTrue (id == 0xFFFF)
+deleted_by_id id same = rw same refl
 
 -- a deleted glyph stays deleted where others are
 kept_deleted : (r : Registers) (c n p : ℕ) (line : List hb_glyph_info_t) → p < length line → (glyph_at line p).glyph_id ≡ 0xFFFF → (glyph_at (later_deleted r c n line) p).glyph_id ≡ 0xFFFF

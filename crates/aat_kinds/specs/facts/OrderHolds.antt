@@ -211,7 +211,7 @@ module _ (R : ℕ → ℕ → Type 0) (same : (x y : ℕ) → x ≡ y → R x y)
   inserted_kept b d new n behind by some k =
       let a = cond (behind && nat_lt n (length d.line)) (n + 1) n in
       let model = min n (length d.line - 1) in
-      let copies = map (λ (g : GlyphId). record (model_at d.line n) { glyph_id = g.0 }) new in
+      let copies = i.copies (model_at d.line n) new in
       let like : All (λ g. g.cluster ≡ cluster_at d.line model) copies = λ j e low. ap (λ (g : hb_glyph_info_t). g.cluster) (copy_at d.line n new j e low) in
       let inside : model < length d.line = omega (arith, some) in
       let near : (model ≤ min a (length d.line)) × (min a (length d.line) ≤ model + 1) =
@@ -230,9 +230,9 @@ module _ (R : ℕ → ℕ → Type 0) (same : (x y : ℕ) → x ≡ y → R x y)
       let a = cond (behind && nat_lt n (length d.line)) (n + 1) n in
       kept_same R same b d _ refl (ap length (made_of_none d.line a)) (λ j low. ap (λ gs. cluster_at gs j) (made_of_none d.line a)) k
 
-  put_kept : (glyphs : List GlyphId) (b d : Buffer) (index count n : ℕ) (behind : Bool) (by : ℕ) → Kept R same b d → Kept R same b (i.put_in glyphs (i.run_for glyphs d index count) n behind by d)
+  put_kept : (glyphs : List GlyphId) (b d : Buffer) (index count n : ℕ) (behind : Bool) (by : ℕ) → Kept R same b d → Kept R same b (i.put_in (i.run_for glyphs d index count) n behind (d.cursor + by) d)
   put_kept glyphs b d index count n behind by k =
-      chosen (λ (new : List GlyphId). Kept R same b (i.put_in glyphs new n behind by d)) (nat_lt 0 (length d.line) && nat_le (index + count) (length glyphs)) (slice_range glyphs index (index + count)) []
+      chosen (λ (new : List GlyphId). Kept R same b (i.put_in new n behind (d.cursor + by) d)) (nat_lt 0 (length d.line) && nat_le (index + count) (length glyphs)) (slice_range glyphs index (index + count)) []
       (λ yes. let some : 0 < length d.line = grind (arith, nat_tests, yes) in inserted_kept b d (slice_range glyphs index (index + count)) n behind by some k) (λ _. none_kept b d n behind by k)
 
   pub insertion_kept : (glyphs : List GlyphId) (e : i.Entry) (s : i.Registers) (b : Buffer) → Kept R same b (i.act glyphs e s b).buffer

@@ -3,16 +3,14 @@ use Rattle.std.specs.Prelude.{ℕ, slice_get}
 use Rattle.aat_buffer.specs.Buffer.{Buffer}
 use Rattle.aat_font.specs.Subtables.{LigatureTables}
 use Rattle.aat_run.specs.Context.{Moved}
+use Rattle.aat_run.specs.inside.Places.{left_with}
 use Rattle.aat_kinds.specs.Ligature.{Registers, Step, component_step, ligated}
-
-abbrev pub moved : Registers → Buffer → Moved Registers
-moved r b = record { registers = r; buffer = b }
 
 -- one component by the action at a place
 abbrev pub step_of : LigatureTables → ℕ → ℕ → ℕ → Registers → Buffer → Step
 step_of t place c sum r b =
-    component_step t.actions t.components t.ligatures (slice_get t.actions place) c sum (moved r b)
+    component_step t.actions t.components t.ligatures (slice_get t.actions place) c sum (left_with r b)
 
 -- all components that are held, by the actions from a place on
 abbrev pub all_taken : LigatureTables → ℕ → Registers → Buffer → Moved Registers
-all_taken t first r b = ligated t.actions t.components t.ligatures r.count first 0 (moved r b)
+all_taken t first r b = ligated t.actions t.components t.ligatures r.count first 0 (left_with r b)

@@ -2,10 +2,10 @@
 use Rattle.std.specs.Prelude.{◌≡◌, ℕ, ◌-◌, ◌≤◌, List, map, length, slice_get, Some, All}
 use Rattle.std.specs.List.Sorted.{IsStrictlyIncreasing}
 use Rattle.aat_map.specs.Builder.{Builder, AreKeptAt}
-use Rattle.aat_run.specs.Ranges.{last_cluster}
-use Rattle.aat_map.specs.ChainFlags.{flags_by}
+use Rattle.aat_run.specs.Ranges.{last_cluster, range}
+use Rattle.aat_map.specs.Compiled.{flags_for}
 use Rattle.aat_map.specs.declared.feature.feature_info_t.{feature_info_t}
-use Rattle.aat_map.specs.Live.{flags_at_cluster, has_setting}
+use Rattle.aat_map.specs.Live.{flags_at_cluster}
 use Rattle.aat_map.specs.Map.{AreStarts}
 use Rattle.aat_map.specs.Spans.{spans}
 use Rattle.aat_map.specs.declared.feature.feature_range_t.{feature_range_t}
@@ -14,27 +14,15 @@ use Rattle.aat_font.specs.declared.morx.Chain.{Chain}
 
 -- a chain's range over a span
 abbrev pub span_range : List feature_range_t → Chain → ℕ × ℕ → range_flags_t
-span_range requests c s = record {
-  flags = flags_at_cluster requests c.default_flags c.features.items s.0;
-  cluster_first = s.0;
-  cluster_last = s.1;
-}
+span_range requests c s = range s.0 s.1 (flags_at_cluster requests c.default_flags c.features.items s.0)
 
--- the flags that settings give a chain
-abbrev pub flags_for : List feature_info_t → Chain → ℕ
-flags_for settings c = flags_by (has_setting settings) c.default_flags c.features.items
-
--- the same of each chain
+-- the flags that settings give each chain
 abbrev pub all_flags_for : List feature_info_t → List Chain → List ℕ
 all_flags_for settings chains = map (flags_for settings) chains
 
--- a range of flags over a span
-abbrev pub range_with : ℕ × ℕ → ℕ → range_flags_t
-range_with s flags = record { flags = flags; cluster_first = s.0; cluster_last = s.1 }
-
--- the same of each chain's flags
+-- each chain's range of flags over a span
 abbrev pub ranges_with : ℕ × ℕ → List ℕ → List range_flags_t
-ranges_with s flags = map (range_with s) flags
+ranges_with s flags = map (range s.0 s.1) flags
 
 -- each chain's range over a span
 abbrev pub ranges_over : List feature_range_t → List Chain → ℕ × ℕ → List range_flags_t

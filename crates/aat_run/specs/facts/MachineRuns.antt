@@ -8,12 +8,14 @@ use Rattle.aat_buffer.specs.Buffer.{Buffer}
 use Rattle.aat_run.specs.Budget.{paid, has_operations, operations_left, potential, extent}
 use Rattle.aat_run.specs.Context.{cluster_seen, Machine, Config, is_at_end, is_inside, class_at}
 use Rattle.aat_run.specs.facts.Settings.{settings_stay, settings_then}
-use Rattle.aat_run.specs.Laws.{KeepsFit, PassesFit, Pays, Bounded, Lengthens, KeepsLength, KeepsPositions, MakesNoPositions, KeepsSettings, SameSettings, RunsEnd}
-use Rattle.aat_run.specs.Machine.{Turn, Ends, Goes, left_by, passed, stepped, break_marked_at, marked, settled, acted, by_entry, off, counted, turn, whole}
+use Rattle.aat_run.specs.Laws.{KeepsFit, PassesFit, Pays, Bounded, Lengthens, KeepsLength, KeepsPositions, MakesNoPositions, KeepsSettings, SameSettings, Stands, RunsEnd}
+use Rattle.aat_run.specs.Machine.{Turn, Ends, Goes, left_by, behind_act, passed, stepped, break_marked_at, marked, acted, by_entry, off, counted, turn, whole}
 use Rattle.aat_run.specs.Safe.{is_safe}
 use Rattle.aat_buffer.specs.facts.Cases.{chosen, either}
 use Rattle.aat_buffer.specs.facts.Lines.{length_unsafe}
-use Rattle.aat_run.specs.facts.Runs.{OnGoes, followed, weaker, Falls, is_whole_run, first_turn, run_keeps, run_counts}
+use Rattle.aat_run.specs.facts.Runs.{OnGoes, followed}
+use Rattle.aat_run.specs.facts.Turns as turns
+use Rattle.aat_run.specs.facts.Turns.{Lower, LowersPotential, settled_turns, settled_keeps, settled_goes}
 
 -- paying takes one from a operations_left that is not empty, and never adds to it
 pub paid_rich : (b : Buffer) → has_operations b ≡ true → operations_left (paid 1 b).max_ops + 1 ≡ operations_left b.max_ops
@@ -30,14 +32,10 @@ pub below_end : (b : Buffer) → is_at_end b ≡ false → b.cursor < length b.l
 below_end b h = grind (arith, nat_tests, h)
 
 module _ {R E : Type 0} (m : Machine R E) where
-  turns_of_settled : (e : E) (c : Config R) → (left_by (settled m e c)).turns ≡ c.turns
-  unfolding settled
-  turns_of_settled e c = either (λ (t : Turn (Config R)). (left_by t).turns) (is_at_end c.buffer) (Ends c) (Goes _) _ refl refl
-
   turns_of_entry : (o : Option E) (c : Config R) → (left_by (by_entry m o c)).turns ≡ c.turns
   unfolding by_entry acted
   turns_of_entry None c = refl
-  turns_of_entry (Some e) c = turns_of_settled e _
+  turns_of_entry (Some e) c = settled_turns (stepped (m.advances e)) _
 
   turns_of_off : (c : Config R) → (left_by (off m c)).turns ≡ c.turns
   unfolding off
@@ -75,33 +73,9 @@ module _ {R E : Type 0} (m : Machine R E) where
   pub budget_of_marked : (e : E) (c : Config R) → (marked m e c).max_ops ≡ c.buffer.max_ops
   budget_of_marked e c = of_marked (λ (b : Buffer). b.max_ops) e c refl
 
-  -- behind an act the line stays
-  pub line_of_settled : (e : E) (c : Config R) → (left_by (settled m e c)).buffer.line ≡ c.buffer.line
-  unfolding settled
-  line_of_settled e c =
-      either (λ (t : Turn (Config R)). (left_by t).buffer.line) (is_at_end c.buffer) (Ends c) (Goes _) _ refl
-      (either (λ (b : Buffer). b.line) (m.advances e) (passed c.buffer) (cond (has_operations c.buffer) (paid 1 c.buffer) (paid 1 (passed c.buffer))) _ refl
-      (either (λ (b : Buffer). b.line) (has_operations c.buffer) (paid 1 c.buffer) (paid 1 (passed c.buffer)) _ refl refl))
-
-  -- the line that an entry leaves is that of its act
-  pub line_of_acted : (e : E) (c : Config R) → (left_by (acted m e c)).buffer.line ≡ (m.act e c.registers (marked m e c)).buffer.line
-  unfolding acted
-  line_of_acted e c = line_of_settled e _
-
 module _ {R E : Type 0} (m : Machine R E) (Fits : R → ℕ → ℕ → Type 0)
     (keeps : KeepsFit m.act Fits) (passes : PassesFit Fits) (pays : Pays m.act Fits)
   where
-    -- a run may stand here
-    abbrev pub Stands : Config R → Type 0
-    Stands c = Fits c.registers c.buffer.cursor (length c.buffer.line)
-
-    abbrev pub left : Config R → ℕ
-    left c = potential c.buffer
-
-    -- the potential is lower, and the run may stand there
-    abbrev pub Lower : ℕ → Config R → Type 0
-    Lower n d = Falls (turn m) left Stands n d
-
     Settles : R → ℕ → Buffer → Type 0
     Settles r n b = (potential b < n) × Fits r b.cursor (length b.line)
 
@@ -112,61 +86,56 @@ module _ {R E : Type 0} (m : Machine R E) (Fits : R → ℕ → ℕ → Type 0)
         chosen (Settles r (potential b)) (has_operations b) (paid 1 b) (paid 1 (passed b)) (λ rich. (omega (arith, paid_rich b rich), fits))
         (λ _. (omega (arith, paid_less 1 b.max_ops), passes _ _ _ fits below)))
 
-    settled_falls : (e : E) (c : Config R) → (c.buffer.cursor < length c.buffer.line → Stands c) → OnGoes (Lower (left c)) (settled m e c)
-    unfolding settled Settles
-    settled_falls e c stands =
-        chosen (OnGoes (Lower (left c))) (is_at_end c.buffer) (Ends c) (Goes _) (λ _. tt) (λ inside.
-        let below = below_end c.buffer inside in
-        steps (m.advances e) c.registers c.buffer (stands below) below)
-
-    acted_falls : (e : E) (c : Config R) → Stands c → OnGoes (Lower (left c)) (acted m e c)
-    unfolding acted
+    acted_falls : (e : E) (c : Config R) → Stands Fits c → OnGoes (Lower Fits (potential c.buffer)) (acted m e c)
+    unfolding acted Settles
     acted_falls e c stands =
         let b = marked m e c in
         let fits : Fits c.registers b.cursor (length b.line) = rw (length_of_marked m e c, cursor_of_marked m e c) stands in
-        let same : potential b ≡ left c = rw (length_of_marked m e c, cursor_of_marked m e c, budget_of_marked m e c) refl in
+        let same : potential b ≡ potential c.buffer = rw (length_of_marked m e c, cursor_of_marked m e c, budget_of_marked m e c) refl in
         let n = m.act e c.registers b in
-        weaker (Lower (potential n.buffer)) (Lower (left c)) _ (λ d h. (omega (arith, h.0, pays e c.registers b fits, same), h.1))
-        (settled_falls e (record c { buffer = n.buffer; registers = n.registers; state = m.next e }) (keeps e c.registers b fits))
+        settled_goes (stepped (m.advances e)) (Lower Fits (potential c.buffer)) (behind_act n (m.next e) c) (λ inside.
+        let below = below_end n.buffer inside in
+        let down = steps (m.advances e) n.registers n.buffer (keeps e c.registers b fits below) below in
+        (omega (arith, down.0, pays e c.registers b fits, same), down.1))
 
-    by_entry_falls : (o : Option E) (c : Config R) → Stands c → OnGoes (Lower (left c)) (by_entry m o c)
+    by_entry_falls : (o : Option E) (c : Config R) → Stands Fits c → OnGoes (Lower Fits (potential c.buffer)) (by_entry m o c)
     unfolding by_entry
     by_entry_falls None c stands = tt
     by_entry_falls (Some e) c stands = acted_falls e c stands
 
-    off_falls : (c : Config R) → Stands c → OnGoes (Lower (left c)) (off m c)
+    off_falls : (c : Config R) → Stands Fits c → OnGoes (Lower Fits (potential c.buffer)) (off m c)
     unfolding off
     off_falls c stands =
-        chosen (OnGoes (Lower (left c))) (is_at_end c.buffer) (Ends c) (Goes _) (λ _. tt) (λ inside.
+        chosen (OnGoes (Lower Fits (potential c.buffer))) (is_at_end c.buffer) (Ends c) (Goes _) (λ _. tt) (λ inside.
         let below = below_end c.buffer inside in
         (omega arith, passes _ _ _ stands below))
 
     -- a turn that goes on lowers the potential
-    pub turn_falls : (c : Config R) → Stands c → OnGoes (Lower (left c)) (turn m c)
+    pub turn_falls : LowersPotential (turn m) Fits
     unfolding turn
     turn_falls c stands =
         let d = counted m c in
-        chosen (OnGoes (Lower (left c))) (m.on d.last) (by_entry m (m.entry d.state (class_at m.class_of d.buffer)) d) (off m d)
+        chosen (OnGoes (Lower Fits (potential c.buffer))) (m.on d.last) (by_entry m (m.entry d.state (class_at m.class_of d.buffer)) d) (off m d)
         (λ _. by_entry_falls (m.entry d.state (class_at m.class_of d.buffer)) d stands) (λ _. off_falls d stands)
 
     -- a whole run is one turn, and the whole run of what it leaves
-    pub whole_step : (c : Config R) → Stands c → whole m c ≡ followed (whole m) (turn m c)
+    pub whole_step : (c : Config R) → Stands Fits c → whole m c ≡ followed (whole m) (turn m c)
     unfolding whole
-    whole_step c stands = first_turn (turn m) left Stands turn_falls c stands
+    whole_step c stands = turns.whole_step (turn m) Fits turn_falls c stands
 
     -- it ends by itself
-    pub runs_end : RunsEnd m Fits
-    runs_end c stands = is_whole_run (turn m) left Stands turn_falls (potential c.buffer + 1) c stands (omega arith)
+    pub runs_end : RunsEnd (turn m) Fits
+    runs_end c stands = turns.whole_ends (turn m) Fits turn_falls c stands
 
     -- its turns are at most the potential and one more
-    pub whole_counts : (c : Config R) → Stands c → (whole m c).turns ≤ c.turns + (potential c.buffer + 1)
+    pub whole_counts : (c : Config R) → Stands Fits c → (whole m c).turns ≤ c.turns + (potential c.buffer + 1)
     unfolding whole
-    whole_counts c stands = run_counts (turn m) left Stands turn_falls (λ (d : Config R). d.turns) (turn_counts m) (potential c.buffer + 1) c stands
+    whole_counts c stands = turns.whole_counts (turn m) Fits turn_falls (turn_counts m) c stands
 
     -- what each turn keeps, a whole run keeps
-    pub whole_keeps : (P : Config R → Type 0) → ((c : Config R) → Stands c → P c → P (left_by (turn m c))) → (c : Config R) → Stands c → P c → P (whole m c)
+    pub whole_keeps : (P : Config R → Type 0) → ((c : Config R) → Stands Fits c → P c → P (left_by (turn m c))) → (c : Config R) → Stands Fits c → P c → P (whole m c)
     unfolding whole
-    whole_keeps P step c stands p = run_keeps (turn m) left Stands turn_falls P step (potential c.buffer + 1) c stands p
+    whole_keeps P step c stands p = turns.whole_keeps (turn m) Fits turn_falls P step c stands p
 
     module _ (Q : Buffer → Type 0)
         (on_mark : (b : Buffer) → Q b → Q (break_marked_at b))
@@ -184,24 +153,20 @@ module _ {R E : Type 0} (m : Machine R E) (Fits : R → ℕ → ℕ → Type 0)
         marked_keeps e c q =
             chosen Q (is_inside c.buffer && not (is_safe m e (m.entry 0 (class_at m.class_of c.buffer)) (m.entry c.state 0) c)) (break_marked_at c.buffer) c.buffer (λ _. on_mark c.buffer q) (λ _. q)
 
-        settled_keeps : (e : E) (c : Config R) → Q c.buffer → Q (left_by (settled m e c)).buffer
-        unfolding settled
-        settled_keeps e c q = chosen (λ (t : Turn (Config R)). Q (left_by t).buffer) (is_at_end c.buffer) (Ends c) (Goes _) (λ _. q) (λ _. stepped_keeps (m.advances e) c.buffer q)
-
-        by_entry_keeps : (o : Option E) (c : Config R) → Stands c → Q c.buffer → Q (left_by (by_entry m o c)).buffer
+        by_entry_keeps : (o : Option E) (c : Config R) → Stands Fits c → Q c.buffer → Q (left_by (by_entry m o c)).buffer
         unfolding by_entry acted
         by_entry_keeps None c stands q = q
         by_entry_keeps (Some e) c stands q =
             let b = marked m e c in
             let fits : Fits c.registers b.cursor (length b.line) = rw (length_of_marked m e c, cursor_of_marked m e c) stands in
-            settled_keeps e _ (on_act e c.registers b fits (marked_keeps e c q))
+            settled_keeps (stepped (m.advances e)) Q (stepped_keeps (m.advances e)) _ (on_act e c.registers b fits (marked_keeps e c q))
 
         off_keeps : (c : Config R) → Q c.buffer → Q (left_by (off m c)).buffer
         unfolding off
         off_keeps c q = chosen (λ (t : Turn (Config R)). Q (left_by t).buffer) (is_at_end c.buffer) (Ends c) (Goes _) (λ _. q) (λ _. on_pass c.buffer q)
 
         -- what marks, acts, passing and paying keep of a buffer, a turn keeps
-        pub turn_keeps : (c : Config R) → Stands c → Q c.buffer → Q (left_by (turn m c)).buffer
+        pub turn_keeps : (c : Config R) → Stands Fits c → Q c.buffer → Q (left_by (turn m c)).buffer
         unfolding turn
         turn_keeps c stands q =
             let d = counted m c in
@@ -209,11 +174,11 @@ module _ {R E : Type 0} (m : Machine R E) (Fits : R → ℕ → ℕ → Type 0)
             (λ _. by_entry_keeps (m.entry d.state (class_at m.class_of d.buffer)) d stands q) (λ _. off_keeps d q)
 
         -- and so does a whole run
-        pub buffer_kept : (c : Config R) → Stands c → Q c.buffer → Q (whole m c).buffer
+        pub buffer_kept : (c : Config R) → Stands Fits c → Q c.buffer → Q (whole m c).buffer
         buffer_kept c stands q = whole_keeps (λ (d : Config R). Q d.buffer) turn_keeps c stands q
 
     -- where no act adds to length and budget, no run does
-    pub whole_bounded : Bounded m.act Fits → (c : Config R) → Stands c → extent (whole m c).buffer ≤ extent c.buffer
+    pub whole_bounded : Bounded m.act Fits → (c : Config R) → Stands Fits c → extent (whole m c).buffer ≤ extent c.buffer
     whole_bounded law c stands =
         buffer_kept (λ b. extent b ≤ extent c.buffer)
         (λ b q. omega (arith, q, length_unsafe b (Some (b.cursor - 1)) (Some (b.cursor + 1))))
@@ -221,7 +186,7 @@ module _ {R E : Type 0} (m : Machine R E) (Fits : R → ℕ → ℕ → Type 0)
         (λ b q. q) (λ b q. omega (arith, q, paid_less 1 b.max_ops)) c stands (omega arith)
 
     -- where no act shortens the line, no run does
-    pub whole_longer : Lengthens m.act Fits → (n : ℕ) (c : Config R) → Stands c → n ≤ length c.buffer.line → n ≤ length (whole m c).buffer.line
+    pub whole_longer : Lengthens m.act Fits → (n : ℕ) (c : Config R) → Stands Fits c → n ≤ length c.buffer.line → n ≤ length (whole m c).buffer.line
     whole_longer law n c stands more =
         buffer_kept (λ b. n ≤ length b.line)
         (λ b q. omega (arith, q, length_unsafe b (Some (b.cursor - 1)) (Some (b.cursor + 1))))
@@ -229,16 +194,16 @@ module _ {R E : Type 0} (m : Machine R E) (Fits : R → ℕ → ℕ → Type 0)
         (λ b q. q) (λ b q. q) c stands more
 
     -- a line that is long behind a turn is long behind the run
-    pub longer_after : Lengthens m.act Fits → (n : ℕ) (c : Config R) → Stands c → n ≤ length (left_by (turn m c)).buffer.line → n ≤ length (whole m c).buffer.line
+    pub longer_after : Lengthens m.act Fits → (n : ℕ) (c : Config R) → Stands Fits c → n ≤ length (left_by (turn m c)).buffer.line → n ≤ length (whole m c).buffer.line
     longer_after law n c stands more =
         rw (whole_step c stands) (by_turn (turn m c) (turn_falls c stands) more)
       where
-        by_turn : (t : Turn (Config R)) → OnGoes (Lower (left c)) t → n ≤ length (left_by t).buffer.line → n ≤ length (followed (whole m) t).buffer.line
+        by_turn : (t : Turn (Config R)) → OnGoes (Lower Fits (potential c.buffer)) t → n ≤ length (left_by t).buffer.line → n ≤ length (followed (whole m) t).buffer.line
         by_turn (Ends d) h more = more
         by_turn (Goes d) h more = whole_longer law n d h.1 more
 
     -- where acts keep the length, a run does
-    pub whole_in_place : KeepsLength m.act Fits → (c : Config R) → Stands c → length (whole m c).buffer.line ≡ length c.buffer.line
+    pub whole_in_place : KeepsLength m.act Fits → (c : Config R) → Stands Fits c → length (whole m c).buffer.line ≡ length c.buffer.line
     whole_in_place law c stands =
         buffer_kept (λ b. length b.line ≡ length c.buffer.line)
         (λ b q. length_unsafe b (Some (b.cursor - 1)) (Some (b.cursor + 1)) ∙ q)
@@ -246,7 +211,7 @@ module _ {R E : Type 0} (m : Machine R E) (Fits : R → ℕ → ℕ → Type 0)
         (λ b q. q) (λ b q. q) c stands refl
 
     -- where acts keep the settings, a turn does, and a run
-    pub turn_settings : KeepsSettings m.act Fits → (b : Buffer) (c : Config R) → Stands c → SameSettings b c.buffer → SameSettings b (left_by (turn m c)).buffer
+    pub turn_settings : KeepsSettings m.act Fits → (b : Buffer) (c : Config R) → Stands Fits c → SameSettings b c.buffer → SameSettings b (left_by (turn m c)).buffer
     turn_settings law b c stands same =
         turn_keeps (SameSettings b)
         (λ d q. settings_then b d _ q (record { direction = refl; cluster_level = refl; flags = refl; scratch_flags = refl; max_len = refl; successful = refl }))
@@ -255,14 +220,14 @@ module _ {R E : Type 0} (m : Machine R E) (Fits : R → ℕ → ℕ → Type 0)
         (λ d q. settings_then b d _ q (record { direction = refl; cluster_level = refl; flags = refl; scratch_flags = refl; max_len = refl; successful = refl }))
         c stands same
 
-    pub turn_longer : Lengthens m.act Fits → (n : ℕ) (c : Config R) → Stands c → n ≤ length c.buffer.line → n ≤ length (left_by (turn m c)).buffer.line
+    pub turn_longer : Lengthens m.act Fits → (n : ℕ) (c : Config R) → Stands Fits c → n ≤ length c.buffer.line → n ≤ length (left_by (turn m c)).buffer.line
     turn_longer law n c stands more =
         turn_keeps (λ b. n ≤ length b.line)
         (λ b q. omega (arith, q, length_unsafe b (Some (b.cursor - 1)) (Some (b.cursor + 1))))
         (λ e r b fit q. omega (arith, q, law e r b fit))
         (λ b q. q) (λ b q. q) c stands more
 
-    pub whole_settings : KeepsSettings m.act Fits → (c : Config R) → Stands c → SameSettings c.buffer (whole m c).buffer
+    pub whole_settings : KeepsSettings m.act Fits → (c : Config R) → Stands Fits c → SameSettings c.buffer (whole m c).buffer
     whole_settings law c stands =
         buffer_kept (SameSettings c.buffer)
         (λ b q. settings_then c.buffer b _ q (record { direction = refl; cluster_level = refl; flags = refl; scratch_flags = refl; max_len = refl; successful = refl }))
@@ -272,10 +237,10 @@ module _ {R E : Type 0} (m : Machine R E) (Fits : R → ℕ → ℕ → Type 0)
         c stands (settings_stay c.buffer)
 
     -- where acts keep the positions, a run does, and where they make none, it makes none
-    pub whole_keeps_positions : KeepsPositions m.act Fits → (c : Config R) → Stands c → (whole m c).buffer.positions ≡ c.buffer.positions
+    pub whole_keeps_positions : KeepsPositions m.act Fits → (c : Config R) → Stands Fits c → (whole m c).buffer.positions ≡ c.buffer.positions
     whole_keeps_positions law c stands =
         buffer_kept (λ b. b.positions ≡ c.buffer.positions) (λ b q. q) (λ e r b fit q. law e r b fit ∙ q) (λ b q. q) (λ b q. q) c stands refl
 
-    pub whole_makes_none : MakesNoPositions m.act Fits → (c : Config R) → Stands c → c.buffer.positions ≡ None → (whole m c).buffer.positions ≡ None
+    pub whole_makes_none : MakesNoPositions m.act Fits → (c : Config R) → Stands Fits c → c.buffer.positions ≡ None → (whole m c).buffer.positions ≡ None
     whole_makes_none law c stands none =
         buffer_kept (λ b. b.positions ≡ None) (λ b q. q) (λ e r b fit q. law e r b fit q) (λ b q. q) (λ b q. q) c stands none

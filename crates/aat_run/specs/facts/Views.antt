@@ -3,13 +3,14 @@ use Rattle.std.proofs.Common.{◌≡◌, ℕ, ◌+◌, ◌&&◌, ◌==◌, not, 
 use Rattle.aat_buffer.specs.Buffer.{Buffer}
 use Rattle.aat_run.specs.Context.{Machine, Moved, Config, is_at_end, is_inside, class_at}
 use Rattle.aat_run.specs.Truth.{is_alike}
-use Rattle.aat_run.specs.Machine.{Turn, Ends, Goes, stepped, break_marked_at, marked, settled, acted, by_entry, off, passed, counted, turn, whole}
+use Rattle.aat_run.specs.Machine.{Turn, Ends, Goes, behind_act, settled_by, stepped, break_marked_at, marked, acted, by_entry, off, passed, counted, turn, whole}
 use Rattle.aat_run.specs.Safe.{is_safe}
 use Rattle.aat_run.specs.Budget.{potential}
 use Rattle.aat_run.specs.inside.Branches.{safe_branches, acts, does_alike, is_idle_at_end}
 use Rattle.aat_buffer.specs.facts.Cases.{chosen}
 use Rattle.aat_run.specs.facts.Runs.{OnGoes, mapped, run_maps}
 use Rattle.aat_run.specs.facts.SafeBranches.{safe_by_branches}
+use Rattle.aat_run.specs.facts.Turns.{settled_goes}
 
 module _ {R S E : Type 0} (on : ℕ → Bool) (class_of : ℕ → Option ℕ) (entry : ℕ → ℕ → Option E) (next : E → ℕ) (advances : E → Bool)
     (actionable : E → R → ℕ → ℕ → Bool) (act : E → R → Buffer → Moved R)
@@ -55,8 +56,7 @@ module _ {R S E : Type 0} (on : ℕ → Bool) (class_of : ℕ → Option ℕ) (e
     same_marked e c good =
         ap (λ t. cond (is_inside c.buffer && not t) (break_marked_at c.buffer) c.buffer) (sym (same_safe e (entry 0 (class_at class_of c.buffer)) (entry c.state 0) c good))
 
-    same_settled : (e : E) (c : Config S) → settled plain e (seen c) ≡ mapped seen (settled held e c)
-    unfolding settled
+    same_settled : (e : E) (c : Config S) → settled_by (stepped (advances e)) (seen c) ≡ mapped seen (settled_by (stepped (advances e)) c)
     same_settled e c = by_end (is_at_end c.buffer)
       where
         by_end : (t : Bool) → cond t (Ends (seen c)) (Goes (record (seen c) { buffer = stepped (advances e) c.buffer })) ≡ mapped seen (cond t (Ends c) (Goes (record c { buffer = stepped (advances e) c.buffer })))
@@ -69,8 +69,8 @@ module _ {R S E : Type 0} (on : ℕ → Bool) (class_of : ℕ → Option ℕ) (e
         let b = marked held e c in
         let n = held_act e c.registers b in
         let moved : act e (view c.registers) (marked plain e (seen c)) ≡ record { registers = view n.registers; buffer = n.buffer } = ap (λ (d : Buffer). act e (view c.registers) d) (same_marked e c good) ∙ same_act e c.registers b good in
-        ap (λ (x : Moved R). settled plain e (record { buffer = x.buffer; registers = x.registers; state = next e; last = c.last; turns = c.turns })) moved
-        ∙ same_settled e (record c { buffer = n.buffer; registers = n.registers; state = next e })
+        ap (λ (x : Moved R). settled_by (stepped (advances e)) (behind_act x (next e) (seen c))) moved
+        ∙ same_settled e (behind_act n (next e) c)
 
     same_by_entry : (o : Option E) (c : Config S) → Good c.registers → by_entry plain o (seen c) ≡ mapped seen (by_entry held o c)
     unfolding by_entry
@@ -97,10 +97,10 @@ module _ {R S E : Type 0} (on : ℕ → Bool) (class_of : ℕ → Option ℕ) (e
         by_switch (on d.last) (by_entry plain o (seen d)) (off plain (seen d)) (by_entry held o d) (off held d) (same_by_entry o d good) (same_off d)
 
     good_acted : (e : E) (c : Config S) → Good c.registers → OnGoes (λ (d : Config S). Good d.registers) (acted held e c)
-    unfolding acted settled
+    unfolding acted
     good_acted e c good =
         let n = held_act e c.registers (marked held e c) in
-        chosen (OnGoes (λ (d : Config S). Good d.registers)) (is_at_end n.buffer) (Ends _) (Goes _) (λ _. tt) (λ _. stays_good e c.registers (marked held e c) good)
+        settled_goes (stepped (advances e)) (λ (d : Config S). Good d.registers) (behind_act n (next e) c) (λ _. stays_good e c.registers (marked held e c) good)
 
     good_by_entry : (o : Option E) (c : Config S) → Good c.registers → OnGoes (λ (d : Config S). Good d.registers) (by_entry held o c)
     unfolding by_entry

@@ -19,9 +19,9 @@ loop-place-preserved c =
     let chain = c.chain-item.result in
     let before : List Line = map line_of c.loop-place.ranges.items in
     let read = c.ranges-in-loop-place.ensures in
-    let below : i < length chains = rw c.chains_of-chain-items.ensures at c.loop-place-test.true in
+    let below : i < length chains = rw c.chains-chain-items.ensures.listed at c.loop-place-test.true in
     let there : slice_get chains i ≡ Some chain =
-    read_at chains i chain below (rw c.chains_of-chain-items.ensures at c.chain-item.is)
+    read_at chains i chain below (rw c.chains-chain-items.ensures.listed at c.chain-item.is)
     in
     let whole : IsTrue (is_whole_list (list_at m i)) = rw read.list at (read.whole c.in_ok-map.ensures.whole) in
     let gapless : IsGapless (list_at m i) = rw read.list at read.gapless in

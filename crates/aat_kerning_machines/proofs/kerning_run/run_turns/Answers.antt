@@ -1,9 +1,8 @@
 use Rattle.std.proofs.Common.{◌≡◌, ap, arith}
-use Rattle.aat_run.specs.Context.{Config}
+use Rattle.aat_run.specs.Context.{Config, first}
 use Rattle.aat_run.specs.Machine.{Goes, Ends}
-use Rattle.aat_run.specs.inside.Places.{first}
-use Rattle.aat_kerning_machines.specs.KerningMachine.{kerning_turn}
-use Rattle.aat_kerning_machines.specs.inside.Places.{config, machine_by}
+use Rattle.aat_kerning_machines.specs.KerningMachine.{kerning_machine_with, kerning_turn}
+use Rattle.aat_kerning_machines.specs.inside.Places.{config}
 use Rattle.aat_kerning_machines.proofs.Coming.{goes_on, ends, ends_paid}
 use Rattle.aat_kerning_machines.proofs.kerning_run.run_turns.Goals as goal
 
@@ -15,14 +14,14 @@ loop-smaller g c =
     let is_cross = run.has_cross_stream in
     let kern_mask = run.plan.now.kern_mask in
     let act = d.act run.table.now is_cross kern_mask run.tuple_count in
-    let m = machine_by c.args.pays_first run.state_table.now d.actionable act in
+    let m = kerning_machine_with c.args.pays_first run.state_table.now d.actionable act in
     let places = laws.positions_alone run.table.now is_cross kern_mask run.tuple_count in
     let keeps = laws.keeps_fit run.table.now is_cross kern_mask run.tuple_count in
     let from = first c.args.buffer.now c.args.driver.now in
     let old = config c.loop.buffer c.loop.driver c.loop.place in
     let new = config c.turn_once.new.buffer c.turn_once.new.driver c.turn_once.new.place in
     let goes : kerning_turn m old ≡ Goes new = rw c.loop-test.true at c.turn_once.ensures.turn in
-    (goes_on m d.fits places keeps laws.passes_fit from old c.loop.invariant new goes c.turn_once.ensures.ids c.turn_once.ensures.placed).0
+    (goes_on m d.fits places keeps laws.passes_fit from old c.loop.invariant.come new goes).0
 
 pub loop-preserved : goal.loop-preserved
 loop-preserved g c =
@@ -32,14 +31,15 @@ loop-preserved g c =
     let is_cross = run.has_cross_stream in
     let kern_mask = run.plan.now.kern_mask in
     let act = d.act run.table.now is_cross kern_mask run.tuple_count in
-    let m = machine_by c.args.pays_first run.state_table.now d.actionable act in
+    let m = kerning_machine_with c.args.pays_first run.state_table.now d.actionable act in
     let places = laws.positions_alone run.table.now is_cross kern_mask run.tuple_count in
     let keeps = laws.keeps_fit run.table.now is_cross kern_mask run.tuple_count in
     let from = first c.args.buffer.now c.args.driver.now in
     let old = config c.loop.buffer c.loop.driver c.loop.place in
     let new = config c.turn_once.new.buffer c.turn_once.new.driver c.turn_once.new.place in
     let goes : kerning_turn m old ≡ Goes new = rw c.loop-test.true at c.turn_once.ensures.turn in
-    (goes_on m d.fits places keeps laws.passes_fit from old c.loop.invariant new goes c.turn_once.ensures.ids c.turn_once.ensures.placed).1
+    let come = (goes_on m d.fits places keeps laws.passes_fit from old c.loop.invariant.come new goes).1 in
+    record { come = come; ids = c.turn_once.ensures.ids; placed = c.turn_once.ensures.placed }
 
 pub returns-clause-run : goal.returns-clause-run
 returns-clause-run g c =
@@ -49,14 +49,14 @@ returns-clause-run g c =
     let is_cross = run.has_cross_stream in
     let kern_mask = run.plan.now.kern_mask in
     let act = d.act run.table.now is_cross kern_mask run.tuple_count in
-    let m = machine_by c.args.pays_first run.state_table.now d.actionable act in
+    let m = kerning_machine_with c.args.pays_first run.state_table.now d.actionable act in
     let places = laws.positions_alone run.table.now is_cross kern_mask run.tuple_count in
     let keeps = laws.keeps_fit run.table.now is_cross kern_mask run.tuple_count in
     let from = first c.args.buffer.now c.args.driver.now in
     let old = config c.loop.buffer c.loop.driver c.loop.place in
     let new = config c.turn_once.new.buffer c.turn_once.new.driver c.turn_once.new.place in
     let last : kerning_turn m old ≡ Ends new = rw c.loop-test.false at c.turn_once.ensures.turn in
-    let done = ends m d.fits places keeps laws.passes_fit from old c.loop.invariant new last in
+    let done = ends m d.fits places keeps laws.passes_fit from old c.loop.invariant.come new last in
     record {
       buffer = ap (λ (x : Config _). x.buffer) done;
       registers = ap (λ (x : Config _). x.registers) done;
@@ -71,12 +71,12 @@ returns-clause-paid g c =
     let is_cross = run.has_cross_stream in
     let kern_mask = run.plan.now.kern_mask in
     let act = d.act run.table.now is_cross kern_mask run.tuple_count in
-    let m = machine_by c.args.pays_first run.state_table.now d.actionable act in
+    let m = kerning_machine_with c.args.pays_first run.state_table.now d.actionable act in
     let places = laws.positions_alone run.table.now is_cross kern_mask run.tuple_count in
     let keeps = laws.keeps_fit run.table.now is_cross kern_mask run.tuple_count in
     let from = first c.args.buffer.now c.args.driver.now in
     let old = config c.loop.buffer c.loop.driver c.loop.place in
     let new = config c.turn_once.new.buffer c.turn_once.new.driver c.turn_once.new.place in
     let last : kerning_turn m old ≡ Ends new = rw c.loop-test.false at c.turn_once.ensures.turn in
-    let done = ends m d.fits places keeps laws.passes_fit from old c.loop.invariant new last in
+    let done = ends m d.fits places keeps laws.passes_fit from old c.loop.invariant.come new last in
     omega (arith, ends_paid m d.fits places keeps laws.passes_fit from new c.requires.fit done)

@@ -1,15 +1,22 @@
+use Rattle.aat_buffer.specs.Clusters.{IsSmall}
 use Rattle.aat_run.specs.Budget.{potential}
-use Rattle.aat_run.specs.inside.Places.{first}
-use Rattle.aat_kerning_machines.specs.inside.Places.{config, machine_by}
-use Rattle.aat_kerning_machines.specs.inside.Standing.{HasCome}
+use Rattle.aat_run.specs.Context.{first}
+use Rattle.aat_run.specs.inside.Standing.{HasCome}
+use Rattle.aat_kerning_machines.specs.KerningMachine.{kerning_machine_with, kerning_turn}
+use Rattle.aat_kerning_machines.specs.Positions.{IsPlaced}
+use Rattle.aat_kerning_machines.specs.inside.Places.{config}
 use Rattle.aat_kerning_machines.proofs.kerning_run.run_turns.Given as goal
 
 abbrev pub invariant-loop : goal.invariant-loop
 invariant-loop g l =
     let d = g.D.StateTableDriver in
     let act = d.act l.fn.run.table.now l.fn.run.has_cross_stream l.fn.run.plan.now.kern_mask l.fn.run.tuple_count in
-    let m = machine_by l.fn.pays_first l.fn.run.state_table.now d.actionable act in
-    HasCome m d.fits (first l.fn.buffer l.fn.driver) (config l.buffer l.driver l.place)
+    let m = kerning_machine_with l.fn.pays_first l.fn.run.state_table.now d.actionable act in
+    record {
+      come : HasCome (kerning_turn m) d.fits (first l.fn.buffer l.fn.driver) (config l.buffer l.driver l.place);
+      ids : IsSmall l.buffer;
+      placed : IsPlaced l.buffer;
+    }
 
 abbrev pub decreases-loop : goal.decreases-loop
 decreases-loop g l = potential l.buffer

@@ -1,6 +1,6 @@
 use Rattle.std.proofs.Common.{◌≡◌, length, take, All}
 use Rattle.aat_buffer.specs.Buffer.{Is16Bit}
-use Rattle.aat_kinds.specs.inside.Run.{copies}
+use Rattle.aat_kinds.specs.Insertion.{copies}
 use Rattle.aat_kinds.proofs.insertion.records_of.Given as goal
 
 abbrev pub invariant-loop-i : goal.invariant-loop-i

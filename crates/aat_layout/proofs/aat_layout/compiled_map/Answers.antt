@@ -1,4 +1,4 @@
-use Rattle.std.proofs.Common.{◌≡◌, ◌∙◌, ◌++◌, ap, refl}
+use Rattle.std.proofs.Common.{◌≡◌, ◌∙◌, ap, refl}
 use Rattle.aat_map.specs.Builder.{Builder}
 use Rattle.aat_font.specs.Face.{tables_of, chains_in}
 use Rattle.aat_map.specs.SwitchedChains.{switched_by, by_requests, plan_requests}
@@ -11,9 +11,8 @@ pub returns-clause-ok : goal.returns-clause-ok
 returns-clause-ok g c = elim c.if-plan.branch [
   | then-plan+in_ok-compile w ↦
       (let chains = chains_in (tables_of c.args.face.now).morx in
-      let requests : c.add_features.new.builder.features ≡ plan_requests c.args.plan.now c.args.face.now =
-      c.in_ok-add_features.ensures.ok
-      ∙ ap (λ (b : Builder). b.features ++ requests_of (tables_of c.args.face.now).feat c.deref.result.now) c.default-builder.ensures
+      let requests : c.in_ok-builder.builder.features ≡ plan_requests c.args.plan.now c.args.face.now =
+      ap (λ (b : Builder). b.features) c.in_ok-builder.ensures.ok
       ∙ ap (λ fs. requests_of (tables_of c.args.face.now).feat fs) c.deref.ensures.value in
       ap (λ m. switched_by chains m) w.map-is
       ∙ w.in_ok-compile.ensures.switches

@@ -1,5 +1,5 @@
 use Rattle.std.proofs.Common.{◌≡◌, take, map}
-use Rattle.aat_map.specs.inside.CompiledSpans.{flags_for}
+use Rattle.aat_map.specs.Compiled.{flags_for}
 use Rattle.aat_map.proofs.remembered.flags_of_chains.Given as goal
 
 abbrev pub invariant-loop-chain : goal.invariant-loop-chain

@@ -2,7 +2,7 @@ use Rattle.std.proofs.Common.{◌≡◌, ◌<◌, ◌≤◌, ◌∙◌, ap, sym,
 use Rattle.std.proofs.lemmas.List.{take_more, map_push, get_or_default}
 use Rattle.aat_run.specs.declared.ranges.range_flags_t.{range_flags_t}
 use Rattle.aat_map.specs.Map.{with_ranges, list_at}
-use Rattle.aat_map.specs.inside.CompiledSpans.{range_with}
+use Rattle.aat_run.specs.Ranges.{range}
 use Rattle.aat_map.specs.inside.MapLists.{with_range_at}
 use Rattle.aat_run.specs.Ranges.{next_start}
 use Rattle.aat_map.proofs.CompileLemmas.{with_ranges_more, list_at-with_ranges, length-with_ranges, length_taken}
@@ -10,12 +10,12 @@ use Rattle.aat_map.proofs.remembered.push_flags.Goals as goal
 
 pub push-requires-clause-exists : goal.push-requires-clause-exists
 push-requires-clause-exists g c =
-    let n = length-with_ranges (map (range_with c.args.span) (take c.loop-i.i c.args.flags.now)) c.args.map.now in
+    let n = length-with_ranges (map (range c.args.span.0 c.args.span.1) (take c.loop-i.i c.args.flags.now)) c.args.map.now in
     rw c.loop-i.invariant (omega (arith, n, c.requires.lists))
 
 pub push-requires-clause-follows : goal.push-requires-clause-follows
 push-requires-clause-follows g c =
-    let f = range_with c.args.span in
+    let f = range c.args.span.0 c.args.span.1 in
     let taken = map f (take c.loop-i.i c.args.flags.now) in
     let short : length taken ≤ c.loop-i.i = omega (arith, length_taken f c.args.flags.now c.loop-i.i c.loop-i-test.true) in
     ap next_start
@@ -26,7 +26,7 @@ push-requires-clause-follows g c =
 
 pub loop-i-preserved : goal.loop-i-preserved
 loop-i-preserved g c =
-    let f = range_with c.args.span in
+    let f = range c.args.span.0 c.args.span.1 in
     let flags = c.args.flags.now in
     let i = c.loop-i.i in
     let x = slice_index_or flags i 0 in

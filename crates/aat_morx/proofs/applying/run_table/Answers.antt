@@ -6,7 +6,7 @@ use Rattle.aat_font.specs.Chains.{subtable_count}
 use Rattle.aat_font.specs.Face.{chains_in, tables_of}
 use Rattle.aat_kinds.specs.Kinds.{sizes_of}
 use Rattle.aat_map.specs.SwitchedChains.{switched_by}
-use Rattle.aat_morx.proofs.OrderOfRuns.{substitution_keeps_order}
+use Rattle.aat_morx.proofs.OrderOfRuns.{clusters_keep_their_order}
 use Rattle.aat_morx.proofs.Room.{number_without_insertion, none_refused, too_long_by_extent}
 use Rattle.aat_morx.specs.Kept.{has_insertion}
 use Rattle.aat_morx.specs.Substitution.{chain_run, substituted}
@@ -35,7 +35,7 @@ returns-in-None-clause-within g c = rw c.prepare.ensures (prepared_within c.args
 pub returns-in-None-clause-order : goal.returns-in-None-clause-order
 returns-in-None-clause-order g c =
     let b = c.args.buffer.now in
-    subst (HasOrderOf b) (sym c.prepare.ensures) (substitution_keeps_order (sizes_of g.row.SLOTS g.row.LONGEST c.args.face.now) [] b c.requires.slots)
+    subst (HasOrderOf b) (sym c.prepare.ensures) (clusters_keep_their_order (sizes_of g.row.SLOTS g.row.LONGEST c.args.face.now) [] b c.requires.slots)
 
 pub returns-in_ok-run_chains-in-Some-clause-order : goal.returns-in_ok-run_chains-in-Some-clause-order
 returns-in_ok-run_chains-in-Some-clause-order g c =
@@ -44,7 +44,7 @@ returns-in_ok-run_chains-in-Some-clause-order g c =
     let chains = switched_by c.chains.result.now c.args.map.now in
     let ran : c.run_chains.new.buffer ≡ (substituted z chains b).buffer =
     ap (λ (o : Outcome). o.buffer) c.in_ok-run_chains-in-Some.ensures.run ∙ ap (λ (d : Buffer). (in_order (chain_run z) chains d).buffer) c.prepare.ensures in
-    subst (HasOrderOf b) (sym ran) (substitution_keeps_order z chains b c.requires.slots)
+    subst (HasOrderOf b) (sym ran) (clusters_keep_their_order z chains b c.requires.slots)
 
 pub returns-in_ok-run_chains-in-Some-clause-number : goal.returns-in_ok-run_chains-in-Some-clause-number
 returns-in_ok-run_chains-in-Some-clause-number g c = λ none.

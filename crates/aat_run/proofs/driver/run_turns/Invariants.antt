@@ -1,8 +1,11 @@
+use Rattle.std.specs.Prelude.{◌≤◌, length}
 use Rattle.aat_buffer.specs.Clusters.{IsSmall}
 use Rattle.aat_run.specs.Budget.{potential}
-use Rattle.aat_run.specs.Context.{machine_with}
+use Rattle.aat_run.specs.Context.{first, machine_with}
+use Rattle.aat_run.specs.Laws.{SameSettings}
+use Rattle.aat_run.specs.Machine.{turn}
 use Rattle.aat_run.specs.Ranges.{is_driven_on}
-use Rattle.aat_run.specs.inside.Places.{config, first}
+use Rattle.aat_run.specs.inside.Places.{config}
 use Rattle.aat_run.specs.inside.Standing.{HasCome}
 use Rattle.aat_run.proofs.driver.run_turns.Given as goal
 
@@ -11,8 +14,10 @@ invariant-loop g l =
     let context = g.C.driver_context_t in
     let m = machine_with (is_driven_on l.fn.ranges l.fn.feature_flags) l.fn.machine context.advances context.actionable context.act in
     record {
-      come : HasCome m context.fits (first l.fn.buffer l.fn.context) (config l.buffer l.context l.place);
+      come : HasCome (turn m) context.fits (first l.fn.buffer l.fn.context) (config l.buffer l.context l.place);
       ids : IsSmall l.buffer;
+      settings : SameSettings l.fn.buffer l.buffer;
+      longer : length l.fn.buffer.line ≤ length l.buffer.line;
     }
 
 abbrev pub decreases-loop : goal.decreases-loop

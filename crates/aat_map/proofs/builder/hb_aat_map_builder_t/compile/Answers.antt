@@ -14,7 +14,7 @@ compiled_map :
     c.empty_on_err.result
     (IsCompiled c.args.self.now.features (chains_in (tables_of c.args.face.now).morx) c.empty_on_err.new.self c.compile_ranges-answer.new.builder)
 compiled_map g c =
-    let made = rw c.font_chains.ensures at c.compile_ranges-answer.ensures.ok in
+    let made = rw c.chains.ensures.listed at c.compile_ranges-answer.ensures.ok in
     compiled_kept _ _ _ _ _ _ _ c.empty_on_err.ensures.same c.empty_on_err.ensures.ok made
 
 pub returns-clause-flags : goal.returns-clause-flags

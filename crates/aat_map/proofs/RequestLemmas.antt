@@ -11,10 +11,9 @@ use Rattle.aat_run.specs.declared.error.AatError.{AatError}
 use Rattle.aat_run.specs.declared.error.AatError.TheVariants.{AaltValue, TooLong, OutOfMemory, BufferFailed}
 use Rattle.aat_map.specs.declared.feature.feature_range_t.{feature_range_t}
 use Rattle.aat_map.specs.declared.feature.feature_info_t.{feature_info_t}
-use Rattle.aat_map.specs.Builder.{Builder, with_request}
+use Rattle.aat_map.specs.Builder.{builder_with, with_request}
 use Rattle.aat_map.specs.Requests.{is_too_large, request_of, requests_of, addition}
-use Rattle.aat_map.specs.Adding.{RefusesFeature}
-use Rattle.aat_layout.specs.Refusals.{RefusesFeatures, before_too_large}
+use Rattle.aat_map.specs.Adding.{RefusesFeature, RefusesFeatures, before_too_large}
 
 -- any feature: it is never read
 abbrev pub no_feature : Feature
@@ -24,9 +23,9 @@ no_feature = record { tag = record { 0 = 0 }; value = 0; start = 0; end = 0 }
 pub find_step : (p : Feature → Bool) (xs : List Feature) (i : ℕ) (d : Feature) → i < length xs → find p (drop i xs) ≡ cond (p (get_or xs i d)) (Some (get_or xs i d)) (find p (drop (i + 1) xs))
 find_step p xs i d below = rw (add-one, drop-cons xs i d below) refl
 
-added_one : (b : Builder) (o : Option feature_range_t) → (with_request b o).features ≡ b.features ++ filter_map (λ x. x) (o ∷ [])
-added_one b None = sym (append-nil b.features)
-added_one b (Some r) = refl
+added_one : (rs : List feature_range_t) (o : Option feature_range_t) → with_request (builder_with rs) o ≡ builder_with (rs ++ filter_map (λ x. x) (o ∷ []))
+added_one rs None = ap builder_with (sym (append-nil rs))
+added_one rs (Some r) = refl
 
 one_request : (names : Option (List FeatureName)) (f : Feature) → requests_of names (f ∷ []) ≡ filter_map (λ x. x) (request_of names f ∷ [])
 one_request names f = by_answer (request_of names f) refl
@@ -36,14 +35,12 @@ one_request names f = by_answer (request_of names f) refl
     by_answer (Some r) e = rw e refl
 
 -- a request more, if the feature at place i makes one
-pub requests_more : (names : Option (List FeatureName)) (xs : List Feature) (i : ℕ) (d : Feature) (before : List feature_range_t) (b : Builder) → i < length xs → b.features ≡ before ++ requests_of names (take i xs) → (with_request b (request_of names (get_or xs i d))).features ≡ before ++ requests_of names (take (i + 1) xs)
-requests_more names xs i d before b below was =
-    added_one b (request_of names (get_or xs i d))
-    ∙ ap (λ fs. fs ++ filter_map (λ x. x) (request_of names (get_or xs i d) ∷ [])) was
-    ∙ append_assoc before _ _
-    ∙ ap (λ fs. before ++ (requests_of names (take i xs) ++ fs)) (sym (one_request names (get_or xs i d)))
-    ∙ ap (λ fs. before ++ fs) (sym (filter_map-append (request_of names) (take i xs) (get_or xs i d ∷ [])))
-    ∙ ap (λ fs. before ++ requests_of names fs) (sym (take_more xs i d below))
+pub requests_more : (names : Option (List FeatureName)) (xs : List Feature) (i : ℕ) (d : Feature) → i < length xs → with_request (builder_with (requests_of names (take i xs))) (request_of names (get_or xs i d)) ≡ builder_with (requests_of names (take (i + 1) xs))
+requests_more names xs i d below =
+    added_one (requests_of names (take i xs)) (request_of names (get_or xs i d))
+    ∙ ap (λ fs. builder_with (requests_of names (take i xs) ++ fs)) (sym (one_request names (get_or xs i d)))
+    ∙ ap builder_with (sym (filter_map-append (request_of names) (take i xs) (get_or xs i d ∷ [])))
+    ∙ ap (λ fs. builder_with (requests_of names fs)) (sym (take_more xs i d below))
 
 asks : (names : Option (List FeatureName)) (f : Feature) (o : Option feature_info_t) → (addition names f).appended ≡ o → IsSome o → is_some (request_of names f) ≡ true
 asks names f None e h = cc
