@@ -3,6 +3,7 @@ pub mod Examples
 pub mod Filled
 pub mod Gap
 pub mod Lowering
+pub mod Pairs
 pub mod Pending
 pub mod Reaching
 pub mod Removing

@@ -11,20 +11,20 @@ abbrev pub in_cluster : ℕ → hb_glyph_info_t
 in_cluster c = record no_glyph { cluster = c }
 
 -- a glyph of a cluster, with a mask
-abbrev pub masked : ℕ → ℕ → hb_glyph_info_t
-masked c m = record no_glyph { cluster = c; mask = m }
+abbrev pub in_cluster_with : ℕ → ℕ → hb_glyph_info_t
+in_cluster_with c m = record no_glyph { cluster = c; mask = m }
 
 -- a deleted glyph
 abbrev pub gone : ℕ → ℕ → hb_glyph_info_t
 gone c m = record no_glyph { glyph_id = 0xFFFF; cluster = c; mask = m }
 
 -- a buffer with the cursor p
-abbrev pub at_cursor : ℕ → List hb_glyph_info_t → Buffer
-at_cursor p gs = record (empty_buffer 100 (pos 0)) { line = gs; cursor = p }
+abbrev pub buffer_at : ℕ → List hb_glyph_info_t → Buffer
+buffer_at p gs = record (empty_buffer 100 (pos 0)) { line = gs; cursor = p }
 
 -- glyphs of these clusters
-abbrev pub line_of : List ℕ → List hb_glyph_info_t
-line_of cs = map in_cluster cs
+abbrev pub glyphs_in : List ℕ → List hb_glyph_info_t
+glyphs_in cs = map in_cluster cs
 
 -- the clusters along a line
 abbrev pub clusters_of : Buffer → List ℕ
@@ -40,21 +40,22 @@ apart b = with_cluster_level b 2
 
 -- a line from left to right
 abbrev pub rising : Buffer
-rising = at_cursor 0 (line_of (0 ∷ 1 ∷ 1 ∷ 2 ∷ 2 ∷ []))
+rising = buffer_at 0 (glyphs_in (0 ∷ 1 ∷ 1 ∷ 2 ∷ 2 ∷ []))
 
 -- a line from right to left, with the cursor p
 abbrev pub falling : ℕ → Buffer
-falling p = at_cursor p (line_of (3 ∷ 3 ∷ 2 ∷ 2 ∷ []))
+falling p = buffer_at p (glyphs_in (3 ∷ 3 ∷ 2 ∷ 2 ∷ []))
 
 -- what merges leave
 pub record MergeExamples : Type 0 where
   pub grows_right : clusters_of (merge_clusters rising 0 2) ≡ 0 ∷ 0 ∷ 0 ∷ 2 ∷ 2 ∷ []
   pub grows_left : clusters_of (merge_clusters (falling 0) 1 3) ≡ 2 ∷ 2 ∷ 2 ∷ 2 ∷ []
   pub stops_at_cursor : clusters_of (merge_clusters (falling 1) 1 3) ≡ 3 ∷ 2 ∷ 2 ∷ 2 ∷ []
-  pub out_grows_over_cursor : clusters_of (merge_out_clusters (at_cursor 3 rising.line) 2 4) ≡ 0 ∷ 1 ∷ 1 ∷ 1 ∷ 1 ∷ []
+  pub out_grows_over_cursor : clusters_of (merge_out_clusters (buffer_at 3 rising.line) 2 4) ≡ 0 ∷ 1 ∷ 1 ∷ 1 ∷ 1 ∷ []
   pub end_past_line : clusters_of (merge_clusters (falling 0) 1 9) ≡ 2 ∷ 2 ∷ 2 ∷ 2 ∷ []
   pub short_span_stays : clusters_of (merge_clusters rising 1 2) ≡ 0 ∷ 1 ∷ 1 ∷ 2 ∷ 2 ∷ []
-  pub changed_loses_flags : masks_of (merge_clusters (at_cursor 0 (masked 1 15 ∷ masked 2 15 ∷ [])) 0 2) ≡ 15 ∷ 8 ∷ []
+  pub changed_loses_flags :
+      masks_of (merge_clusters (buffer_at 0 (in_cluster_with 1 15 ∷ in_cluster_with 2 15 ∷ [])) 0 2) ≡ 15 ∷ 8 ∷ []
   pub level_1_merges : clusters_of (merge_clusters (with_cluster_level rising 1) 0 2) ≡ 0 ∷ 0 ∷ 0 ∷ 2 ∷ 2 ∷ []
   pub apart_keeps_clusters : clusters_of (merge_clusters (apart rising) 0 4) ≡ 0 ∷ 1 ∷ 1 ∷ 2 ∷ 2 ∷ []
   pub apart_marks : masks_of (merge_clusters (apart rising) 0 4) ≡ 0 ∷ 3 ∷ 3 ∷ 3 ∷ 0 ∷ []
@@ -70,19 +71,19 @@ pub record MarkExamples : Type 0 where
   pub least_of_span : masks_of (unsafe_to_break rising (Some 1) (Some 4)) ≡ 0 ∷ 0 ∷ 0 ∷ 3 ∷ 0 ∷ []
   pub least_last : masks_of (unsafe_to_break (falling 2) (Some 1) (Some 9)) ≡ 0 ∷ 3 ∷ 0 ∷ 0 ∷ []
   pub keeps_other_bits :
-      masks_of (unsafe_to_break (at_cursor 0 (masked 0 8 ∷ masked 1 9 ∷ [])) None None) ≡ 8 ∷ 11 ∷ []
+      masks_of (unsafe_to_break (buffer_at 0 (in_cluster_with 0 8 ∷ in_cluster_with 1 9 ∷ [])) None None) ≡ 8 ∷ 11 ∷ []
   pub short_span_stays : masks_of (unsafe_to_break rising (Some 2) (Some 3)) ≡ 0 ∷ 0 ∷ 0 ∷ 0 ∷ 0 ∷ []
   pub concat_whole_span : masks_of (unsafe_to_concat (asking rising) (Some 1) (Some 3)) ≡ 0 ∷ 2 ∷ 2 ∷ 0 ∷ 0 ∷ []
-  pub concat_one_glyph : masks_of (unsafe_to_concat (asking (at_cursor 0 (line_of (7 ∷ [])))) None None) ≡ 2 ∷ []
+  pub concat_one_glyph : masks_of (unsafe_to_concat (asking (buffer_at 0 (glyphs_in (7 ∷ [])))) None None) ≡ 2 ∷ []
   pub concat_not_asked : masks_of (unsafe_to_concat rising None None) ≡ 0 ∷ 0 ∷ 0 ∷ 0 ∷ 0 ∷ []
 
 -- the clusters that a removal leaves
 abbrev pub left_clusters : List hb_glyph_info_t → List ℕ
-left_clusters gs = clusters_of (removed is_deleted (at_cursor 0 gs))
+left_clusters gs = clusters_of (removed is_deleted (buffer_at 0 gs))
 
 -- the masks that a removal leaves
 abbrev pub left_masks : List hb_glyph_info_t → List ℕ
-left_masks gs = masks_of (removed is_deleted (at_cursor 0 gs))
+left_masks gs = masks_of (removed is_deleted (buffer_at 0 gs))
 
 -- positions that can be told apart
 abbrev pub place : ℕ → GlyphPosition
@@ -94,7 +95,7 @@ standing qs b = record b { positions = Some qs }
 
 -- a line of three glyphs, of which the middle one is deleted
 abbrev pub three_glyphs : Buffer
-three_glyphs = at_cursor 2 (in_cluster 0 ∷ gone 1 0 ∷ in_cluster 2 ∷ [])
+three_glyphs = buffer_at 2 (in_cluster 0 ∷ gone 1 0 ∷ in_cluster 2 ∷ [])
 
 -- what removals leave
 pub record RemovalExamples : Type 0 where
@@ -103,19 +104,19 @@ pub record RemovalExamples : Type 0 where
   pub kept_take_lower :
       left_clusters (in_cluster 9 ∷ in_cluster 5 ∷ in_cluster 5 ∷ gone 4 0 ∷ in_cluster 3 ∷ [])
       ≡ 9 ∷ 4 ∷ 4 ∷ 3 ∷ []
-  pub kept_take_its_flags : left_masks (masked 5 15 ∷ masked 5 9 ∷ gone 4 18 ∷ []) ≡ 10 ∷ 10 ∷ []
+  pub kept_take_its_flags : left_masks (in_cluster_with 5 15 ∷ in_cluster_with 5 9 ∷ gone 4 18 ∷ []) ≡ 10 ∷ 10 ∷ []
   pub kept_are_lower : left_clusters (in_cluster 0 ∷ gone 1 0 ∷ in_cluster 2 ∷ []) ≡ 0 ∷ 2 ∷ []
   pub last_goes : left_clusters (in_cluster 2 ∷ gone 1 0 ∷ []) ≡ 1 ∷ []
   pub none_kept_merges : left_clusters (gone 0 0 ∷ in_cluster 1 ∷ in_cluster 1 ∷ in_cluster 2 ∷ []) ≡ 0 ∷ 0 ∷ 2 ∷ []
   pub none_kept_higher : left_clusters (gone 3 0 ∷ in_cluster 2 ∷ []) ≡ 2 ∷ []
-  pub asked_as_it_stands : clusters_of (removed (λ g. g.cluster == 0) (at_cursor 0 (line_of (0 ∷ 1 ∷ 2 ∷ [])))) ≡ []
+  pub asked_as_it_stands : clusters_of (removed (λ g. g.cluster == 0) (buffer_at 0 (glyphs_in (0 ∷ 1 ∷ 2 ∷ [])))) ≡ []
   pub all_go : left_clusters (gone 1 0 ∷ gone 0 0 ∷ []) ≡ []
   pub apart_kept_take_lower :
-      clusters_of (removed is_deleted (apart (at_cursor 0 (in_cluster 2 ∷ gone 1 0 ∷ [])))) ≡ 1 ∷ []
+      clusters_of (removed is_deleted (apart (buffer_at 0 (in_cluster 2 ∷ gone 1 0 ∷ [])))) ≡ 1 ∷ []
   pub apart_none_kept_marks :
-      masks_of (removed is_deleted (apart (at_cursor 0 (gone 0 0 ∷ in_cluster 1 ∷ [])))) ≡ 3 ∷ []
+      masks_of (removed is_deleted (apart (buffer_at 0 (gone 0 0 ∷ in_cluster 1 ∷ [])))) ≡ 3 ∷ []
   pub positions_go_along :
       (removed is_deleted (standing (place 1 ∷ place 2 ∷ place 3 ∷ []) three_glyphs)).positions
       ≡ Some (place 1 ∷ place 3 ∷ [])
   pub positions_stand_on_nothing :
-      (removed is_deleted (standing (place 1 ∷ []) (at_cursor 1 (gone 0 0 ∷ [])))).positions ≡ Some []
+      (removed is_deleted (standing (place 1 ∷ []) (buffer_at 1 (gone 0 0 ∷ [])))).positions ≡ Some []

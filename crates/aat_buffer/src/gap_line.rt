@@ -144,7 +144,9 @@ impl<A: Allocator + Copy> GapLine<A> {
         requires { self.old.cursor < length self.old.glyphs }
         ensures { self.new ≡ moved_to self.old (self.old.cursor + 1) }
     {
-        self.cells[self.gap_start] = self.cells[self.gap_end];
+        if self.gap_start != self.gap_end {
+            self.cells[self.gap_start] = self.cells[self.gap_end];
+        }
         self.gap_start += 1;
         self.gap_end += 1;
     }

@@ -1,7 +1,7 @@
 //! Marks and merges, written over the calls that read and write a glyph at a place or the glyphs of a span.
 ghost use Rattle.std.specs.Prelude.{◌≡◌, ◌+◌, ◌-◌, ◌<◌, ◌≤◌, fold, map, min, length, slice_range};
 ghost use Rattle.aat_buffer.specs.Buffer.{with_line};
-ghost use Rattle.aat_buffer.specs.Marks.{on_line_span, least_of, marked_above, with_mask_bits, break_marked, concat_marked, unsafe_to_break, unsafe_to_concat, with_cluster, run_after, run_before, merged, merged_out, merge_clusters, merge_out_clusters};
+ghost use Rattle.aat_buffer.specs.Marks.{on_line_span, least_of, marked_above, break_marked, concat_marked, unsafe_to_break, unsafe_to_concat, with_cluster, run_after, run_before, merged, merged_out, merge_clusters, merge_out_clusters};
 
 use crate::buffer::hb_buffer_t;
 use aat_glyph::{BufferFlags, HB_BUFFER_CLUSTER_LEVEL_CHARACTERS, glyph_flag, hb_glyph_info_t};
@@ -21,7 +21,11 @@ impl<A: Allocator + Copy> hb_buffer_t<A> {
         let from = start.unwrap_or(0);
         let to = end.unwrap_or(len).min(len);
         if from < to && to - from >= 2 {
-            self.mark_break_span(from, to);
+            if to - from == 2 {
+                self.mark_break_pair(from, to);
+            } else {
+                self.mark_break_span(from, to);
+            }
         }
     }
 
@@ -44,7 +48,14 @@ impl<A: Allocator + Copy> hb_buffer_t<A> {
         let start = start.unwrap_or(0);
         let end = end.unwrap_or(len).min(len);
         if self.flags().contains(BufferFlags::PRODUCE_UNSAFE_TO_CONCAT) && start < end {
-            self.change_span(start, end, |glyph| concat_marked_glyph(*glyph));
+            self.change_span(
+                start,
+                end,
+                |glyph| hb_glyph_info_t {
+                    mask: glyph.mask | glyph_flag::UNSAFE_TO_CONCAT,
+                    ..*glyph
+                },
+            );
         }
     }
 
@@ -104,6 +115,24 @@ impl<A: Allocator + Copy> hb_buffer_t<A> {
     {
         let least = self.least_cluster(start, end);
         self.change_span(start, end, |glyph| break_marked_glyph(*glyph, least));
+    }
+
+    /// The same of a span of two glyphs: of two clusters the greater one's glyph is marked, without a walk.
+    #[tactic(auto, using(crate::proofs::Pairs::same_stay, crate::proofs::Pairs::first_marked, crate::proofs::Pairs::second_marked))]
+    fn mark_break_pair(&mut self, start: usize, end: usize)
+        requires two { start + 2 ≡ end }
+        requires in_line { end ≤ length self.old.line }
+        ensures after { self.new ≡ on_line_span break_marked start end self.old }
+        ensures count { length self.new.line ≡ length self.old.line }
+    {
+        let first = self.info(start).cluster;
+        let second = self.info(start + 1).cluster;
+        let bits = glyph_flag::UNSAFE_TO_BREAK | glyph_flag::UNSAFE_TO_CONCAT;
+        if first < second {
+            self.info_mut(start + 1).mask |= bits;
+        } else if second < first {
+            self.info_mut(start).mask |= bits;
+        }
     }
 
     fn set_cluster(&mut self, start: usize, end: usize, cluster: u32)
@@ -208,15 +237,6 @@ fn break_marked_glyph(glyph: hb_glyph_info_t, least: u32) -> hb_glyph_info_t
     }
     hb_glyph_info_t {
         mask: glyph.mask | (glyph_flag::UNSAFE_TO_BREAK | glyph_flag::UNSAFE_TO_CONCAT),
-        ..glyph
-    }
-}
-
-fn concat_marked_glyph(glyph: hb_glyph_info_t) -> hb_glyph_info_t
-    ensures { result ≡ with_mask_bits 2 glyph }
-{
-    hb_glyph_info_t {
-        mask: glyph.mask | glyph_flag::UNSAFE_TO_CONCAT,
         ..glyph
     }
 }

@@ -1,6 +1,9 @@
-//! Tests of what stands on the layer: shaping in one call, the printed rows, and the three callers.
+//! Tests of what stands on the layer: shaping in one call, the printed rows, the three callers, and the calls one by
+//! one.
 #![tactic(auto)]
 
+#[cfg(test)]
+mod calls_tests;
 #[cfg(test)]
 mod inspector_tests;
 #[cfg(test)]

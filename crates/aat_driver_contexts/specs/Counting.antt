@@ -13,7 +13,11 @@ abbrev pub actionable : Entry → CountingCtx → ℕ → ℕ → Bool
 actionable e r p n = is_present e.extra && nat_lt p n
 
 abbrev pub masked : Buffer → Buffer
-masked b = with_info b b.cursor (record (glyph_at b.line b.cursor) { mask = bit_or (glyph_at b.line b.cursor).mask 256 })
+masked b =
+    with_info b b.cursor (record (glyph_at b.line b.cursor) { mask = bit_or (glyph_at b.line b.cursor).mask 256 })
 
 abbrev pub act : Entry → CountingCtx → Buffer → Moved CountingCtx
-act e r b = if actionable e r b.cursor (length b.line) then record { registers = record { count = min (r.count + 1) 0xFFFFFFFF }; buffer = masked b } else record { registers = r; buffer = b }
+act e r b =
+    if actionable e r b.cursor (length b.line)
+    then record { registers = record { count = min (r.count + 1) 0xFFFFFFFF }; buffer = masked b }
+    else record { registers = r; buffer = b }

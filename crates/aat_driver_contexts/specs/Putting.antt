@@ -18,4 +18,6 @@ abbrev pub put : ℕ → Buffer → Buffer
 put g b = if has_overspent (paid 1 b) then paid 1 b else output (paid 1 b) g
 
 abbrev pub act : Entry → PuttingCtx → Buffer → Moved PuttingCtx
-act e r b = if actionable e r b.cursor (length b.line) then record { registers = r; buffer = put e.extra b } else record { registers = r; buffer = b }
+act e r b =
+    if actionable e r b.cursor (length b.line) then record { registers = r; buffer = put e.extra b }
+    else record { registers = r; buffer = b }

@@ -1,4 +1,4 @@
-use Rattle.std.proofs.Common.{◌≡◌, ℕ, zero, suc, ◌<◌, ◌≤◌, ◌≢◌, List, [], ◌∷◌, length, get_or, Some, None, Result, Ok, Err, MatchResult, sym, ap, refl, arith}
+use Rattle.std.proofs.Common.{◌≡◌, ℕ, zero, suc, ◌<◌, ◌≤◌, ◌≢◌, List, [], ◌∷◌, length, get_or, Some, None, Result, Ok, Err, MatchResult, sym, ap, refl, ◌∙◌, arith}
 use Rattle.std.specs.List.Sorted.{IsSearchInRange, IsBinarySearchResult, IsNonDecreasingBy}
 use Rattle.std.specs.Ordering.{nat_cmp, ordering_index}
 use Rattle.std.proofs.lemmas.Cmp.{ranked}
@@ -49,3 +49,9 @@ module _ {X : Type 0} (key : X → ℕ) where
         let low : j < i → key (get_or xs j d) < k = λ below. ranked _ k _ (sym (sides.0 j d (omega arith) below)) in
         let high : i ≤ j → k < key (get_or xs j d) = λ above. ranked _ k _ (sym (sides.1 j d above lt)) in
         grind (arith, low, high))
+
+    -- an element with the key, at whatever place, is the one that is found
+    pub found_there : (i : ℕ) (x : X) → i < length xs → x ≡ get_or xs i x → key x ≡ k → Some x ≡ at_key key xs k
+    found_there i x within read has =
+        let there : key (get_or xs i x) ≡ k = ap key (sym read) ∙ has in
+        ap Some read ∙ sym (at_key_some xs k i x within there (λ j below. λ e. omega (arith, there, e, rising j i x below within)))

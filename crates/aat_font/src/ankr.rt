@@ -6,7 +6,7 @@ ghost use Rattle.aat_font.specs.TableErrors.{RefusesFall};
 
 use crate::entries::Point;
 use crate::error::TableError;
-use crate::keys::{Keyed, first_fall, row_in};
+use crate::keys::{Keyed, first_fall, row_close};
 use crate::plan::GlyphId;
 use std::marker::Model;
 
@@ -47,11 +47,12 @@ impl Ankr {
         Ok(Ankr { rows })
     }
 
-    /// The point that is listed for a glyph at an index, if there is one. The glyph is found by bisection.
+    /// The point that is listed for a glyph at an index, if there is one. The glyph is looked for where it stands if
+    /// all glyphs from the first one up to it have rows, and else found by bisection.
     pub fn point(&self, glyph: GlyphId, index: u16) -> Option<Point>
         ensures { result ≡ listed_point self.now glyph.0 index }
     {
-        match row_in(&self.rows, glyph.0 as u32) {
+        match row_close(&self.rows, glyph.0 as u32) {
             Some(row) => point_at(&row.1, index),
             None => None,
         }

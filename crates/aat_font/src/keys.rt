@@ -44,3 +44,23 @@ pub(crate) fn row_in<R: Keyed>(rows: &[R], key: u32) -> Option<&R>
         Err(_) => None,
     }
 }
+
+/// The row that has the key, where it stands, if there is one, for rows that often lie close. Since keys rise by at
+/// least 1 a row, it stands no further from the first row than its key is above that row's: it is looked for there, and
+/// else found by bisection.
+pub(crate) fn row_close<R: Keyed>(rows: &[R], key: u32) -> Option<&R>
+    requires { IsRising R.key_of rows.now }
+    ensures { option_copied result ≡ at_key R.key_of rows.now key }
+{
+    if rows.is_empty() {
+        return None;
+    }
+    let place = key.saturating_sub(rows[0].key()) as usize;
+    if place < rows.len() {
+        let row = &rows[place];
+        if row.key() == key {
+            return Some(row);
+        }
+    }
+    row_in(rows, key)
+}

@@ -1,2 +1,1 @@
-pub mod Features
 pub mod Lines

@@ -13,7 +13,7 @@ use Rattle.aat_layout.specs.Ranges.{FollowFrom, IsGapless, flags_in, holds, is_w
 use Rattle.aat_layout.specs.Switches.{meets}
 use Rattle.aat_layout.specs.feature_range_t.{feature_range_t}
 use Rattle.aat_layout.specs.range_flags_t.{range_flags_t}
-use Rattle.aat_inspector.specs.Inspected.{IsAsked, IsAskedAt, Lead, Line, chain_and_cluster, line_of}
+use Rattle.aat_inspector.specs.Inspected.{IsAsked, IsAskedAt, Lead, TableLine, chain_and_cluster, table_line}
 use Rattle.aat_inspector.specs.declared.ranges.InspectedRange.{InspectedRange}
 use Rattle.aat_inspector.specs.inside.Lines.{line_over}
 
@@ -26,22 +26,22 @@ read_at (y ∷ ys) (suc i) x low is = read_at ys i x (omega (arith, low)) is
 -- a line more, for the range at place i
 pub lines_more :
     (k : ℕ) (c : Chain) (rs : List range_flags_t) (i : ℕ) (d : range_flags_t) (before after : List InspectedRange)
-    (start : List Line) (l : InspectedRange)
-    → i < length rs → line_of l ≡ line_over k c (get_or rs i d) → after ≡ before ++ l ∷ []
-    → map line_of before ≡ start ++ map (line_over k c) (take i rs)
-    → map line_of after ≡ start ++ map (line_over k c) (take (i + 1) rs)
+    (start : List TableLine) (l : InspectedRange)
+    → i < length rs → table_line l ≡ line_over k c (get_or rs i d) → after ≡ before ++ l ∷ []
+    → map table_line before ≡ start ++ map (line_over k c) (take i rs)
+    → map table_line after ≡ start ++ map (line_over k c) (take (i + 1) rs)
 lines_more k c rs i d before after start l low same added was =
-    ap (map line_of) added
-    ∙ map-append line_of before (l ∷ [])
-    ∙ ap (λ (ls : List Line). ls ++ line_of l ∷ []) was
-    ∙ append_assoc start (map (line_over k c) (take i rs)) (line_of l ∷ [])
-    ∙ ap (λ (m : Line). start ++ (map (line_over k c) (take i rs) ++ m ∷ [])) same
-    ∙ ap (λ (ls : List Line). start ++ ls) (sym (map-append (line_over k c) (take i rs) (get_or rs i d ∷ [])))
+    ap (map table_line) added
+    ∙ map-append table_line before (l ∷ [])
+    ∙ ap (λ (ls : List TableLine). ls ++ table_line l ∷ []) was
+    ∙ append_assoc start (map (line_over k c) (take i rs)) (table_line l ∷ [])
+    ∙ ap (λ (m : TableLine). start ++ (map (line_over k c) (take i rs) ++ m ∷ [])) same
+    ∙ ap (λ (ls : List TableLine). start ++ ls) (sym (map-append (line_over k c) (take i rs) (get_or rs i d ∷ [])))
     ∙ ap (λ (ts : List range_flags_t). start ++ map (line_over k c) ts) (sym (take_more rs i d low))
 
 -- lines that lead to where others begin
 pub lead_append :
-    (from mid to : ℕ × ℕ) (ls ms : List Line) → Lead from mid ls → Lead mid to ms → Lead from to (ls ++ ms)
+    (from mid to : ℕ × ℕ) (ls ms : List TableLine) → Lead from mid ls → Lead mid to ms → Lead from to (ls ++ ms)
 lead_append from mid to [] ms first second = subst (λ (p : ℕ × ℕ). Lead p to ms) (sym first) second
 lead_append from mid to (l ∷ ls) ms first second = (
   first.0,
@@ -126,7 +126,7 @@ module _ (requests : List feature_range_t) (chains : List Chain) (k : ℕ) (c : 
       (rw unended (ap (λ (x : ℕ). (k, x)) follow.0), follow.1, lead_from (r.cluster_last + 1) rs follow.2 whole)
 
   -- the lines so far and those of the next chain
-  module _ (m : List (List range_flags_t)) (have : HaveFlags requests chains m) (whole : IsTrue (is_whole_list (list_at m k))) (gapless : IsGapless (list_at m k)) (ls : List Line) where
+  module _ (m : List (List range_flags_t)) (have : HaveFlags requests chains m) (whole : IsTrue (is_whole_list (list_at m k))) (gapless : IsGapless (list_at m k)) (ls : List TableLine) where
     ends : end_from 0 (list_at m k) ≡ last_cluster + 1
     ends = whole_ends (list_at m k) (flags_of 0) (have k 0 c there (omega arith)) whole
 

@@ -1,21 +1,21 @@
 -- What an inspection lists of a font's chains. Apple's TrueType Reference Manual, "The 'morx' table", chain header and
 -- feature subtables.
-use Rattle.std.specs.Prelude.{◌≡◌, ℕ, ◌+◌, ◌≤◌, ◌==◌, Bool, List, [], ◌∷◌, map, Option, Some, slice_get, find, option_map, if◌then◌else◌}
+use Rattle.std.specs.Prelude.{◌≡◌, ℕ, ◌+◌, ◌≤◌, ◌==◌, ◌⊎◌, Bool, List, [], ◌∷◌, map, Option, Some, slice_get, if◌then◌else◌}
+use Rattle.aat_layout.specs.Adding.{RefusesFeatures}
 use Rattle.aat_layout.specs.Live.{flags_at_cluster}
 use Rattle.aat_layout.specs.Ranges.{last_cluster}
-use Rattle.aat_layout.specs.Requests.{is_too_large}
 use Rattle.aat_layout.specs.SwitchedChains.{switched_at}
 use Rattle.aat_layout.specs.FeatureName.{FeatureName}
 use Rattle.aat_layout.specs.Chain.{Chain}
 use Rattle.aat_layout.specs.Feature.{Feature}
 use Rattle.aat_layout.specs.feature_range_t.{feature_range_t}
 use Rattle.aat_layout.specs.AatError.{AatError}
-use Rattle.aat_layout.specs.AatError.TheVariants.{AaltValue, TooLong, OutOfMemory, BufferFailed}
+use Rattle.aat_layout.specs.AatError.TheVariants.{OutOfMemory}
 use Rattle.aat_inspector.specs.declared.ranges.InspectedRange.{InspectedRange}
 
 -- a line of the table: a chain, the first and the last cluster of a range, the flags there, and for each subtable
 -- whether it is on
-pub record Line : Type 0 where
+pub record TableLine : Type 0 where
   pub chain : ℕ
   pub first : ℕ
   pub last : ℕ
@@ -23,17 +23,17 @@ pub record Line : Type 0 where
   pub on : List Bool
 
 -- the line of a range
-abbrev pub line_of : InspectedRange → Line
-line_of r = record { chain = r.chain; first = r.first; last = r.last; flags = r.flags; on = r.on.items }
+abbrev pub table_line : InspectedRange → TableLine
+table_line r = record { chain = r.chain; first = r.first; last = r.last; flags = r.flags; on = r.on.items }
 
 -- at cluster x a line has what substitution asks of its chain: the chain's flags there, and of each of its subtables
 -- whether it is on there
-pub record IsAskedAt (requests : List feature_range_t) (c : Chain) (x : ℕ) (line : Line) : Type 0 where
+pub record IsAskedAt (requests : List feature_range_t) (c : Chain) (x : ℕ) (line : TableLine) : Type 0 where
   pub flags : line.flags ≡ flags_at_cluster requests c.default_flags c.features.items x
   pub on : line.on ≡ map (λ s. (switched_at requests c).switch.is_on s.feature_flags x) c.subtables.items
 
 -- so it is at each cluster of the line
-abbrev pub IsAsked : List feature_range_t → List Chain → Line → Type 0
+abbrev pub IsAsked : List feature_range_t → List Chain → TableLine → Type 0
 IsAsked requests chains line =
     (c : Chain) (x : ℕ) → slice_get chains line.chain ≡ Some c → line.first ≤ x → x ≤ line.last
     → IsAskedAt requests c x line
@@ -43,15 +43,11 @@ abbrev pub chain_and_cluster : ℕ → ℕ → ℕ × ℕ
 chain_and_cluster k x = if x == last_cluster + 1 then (k + 1, 0) else (k, x)
 
 -- lines lead from a chain and cluster to another: each one begins right behind the one before
-abbrev pub Lead : ℕ × ℕ → ℕ × ℕ → List Line → Type 0
+abbrev pub Lead : ℕ × ℕ → ℕ × ℕ → List TableLine → Type 0
 Lead from to [] = from ≡ to
 Lead from to (l ∷ ls) =
     ((l.chain, l.first) ≡ from) × (l.first ≤ l.last) × Lead (chain_and_cluster l.chain (l.last + 1)) to ls
 
 -- why an inspection is refused: the first value of alternates that is no setting, or want of memory
 abbrev pub RefusesInspection : Option (List FeatureName) → List Feature → AatError → Type 0
-RefusesInspection names features (AaltValue value) =
-    option_map (λ f. f.value) (find (is_too_large names) features) ≡ Some value
-RefusesInspection names features TooLong = ⊥
-RefusesInspection names features OutOfMemory = Unit {0}
-RefusesInspection names features BufferFailed = ⊥
+RefusesInspection names features error = (error ≡ OutOfMemory) ⊎ RefusesFeatures names features error

@@ -1,12 +1,13 @@
 //! What substitution asks of each chain of a font, range by range.
-ghost use Rattle.std.specs.Prelude.{◌≡◌, ◌++◌, All, IfErr, IfOk, IsTrue, None, OnOk, find, length, map};
+ghost use Rattle.std.specs.Prelude.{◌≡◌, ◌++◌, All, IfErr, IfOk, IsTrue, None, OnOk, length, map};
 ghost use Rattle.std.specs.List.{list_all};
+ghost use Rattle.aat_layout.specs.Adding.{first_too_large_among};
 ghost use Rattle.aat_layout.specs.Compiled.{HaveFlags};
 ghost use Rattle.aat_layout.specs.Face.{chains_in, tables_of};
 ghost use Rattle.aat_layout.specs.Ranges.{is_whole_list};
 ghost use Rattle.aat_layout.specs.Switches.{meets};
-ghost use Rattle.aat_layout.specs.Requests.{is_too_large, requests_of};
-ghost use Rattle.aat_inspector.specs.Inspected.{IsAsked, Lead, RefusesInspection, line_of};
+ghost use Rattle.aat_layout.specs.Requests.{requests_of};
+ghost use Rattle.aat_inspector.specs.Inspected.{IsAsked, Lead, RefusesInspection, table_line};
 ghost use Rattle.aat_inspector.specs.inside.Lines.{line_over};
 
 use aat_layout::buffer::hb_mask_t;
@@ -48,9 +49,9 @@ pub fn inspect(
     face: &hb_font_t,
     features: &[Feature],
 ) -> Result<Vec<InspectedRange>, AatError>
-    ensures asked { IfOk result (λ ranges. All (IsAsked (requests_of (tables_of face.now).feat features.now) (chains_in (tables_of face.now).morx)) (map line_of ranges.items)) }
-    ensures whole { IfOk result (λ ranges. Lead (0, 0) (length (chains_in (tables_of face.now).morx), 0) (map line_of ranges.items)) }
-    ensures fits { OnOk result (find (is_too_large (tables_of face.now).feat) features.now ≡ None) }
+    ensures asked { IfOk result (λ ranges. All (IsAsked (requests_of (tables_of face.now).feat features.now) (chains_in (tables_of face.now).morx)) (map table_line ranges.items)) }
+    ensures whole { IfOk result (λ ranges. Lead (0, 0) (length (chains_in (tables_of face.now).morx), 0) (map table_line ranges.items)) }
+    ensures fits { OnOk result (first_too_large_among (tables_of face.now).feat features.now ≡ None) }
     ensures reason { IfErr result (RefusesInspection (tables_of face.now).feat features.now) }
 {
     let map = map_of(alloc, face, features)?;
@@ -65,30 +66,13 @@ pub fn inspect(
 fn map_of(alloc: Global, face: &hb_font_t, features: &[Feature]) -> Result<hb_aat_map_t, AatError>
     ensures flags { IfOk result (λ map. HaveFlags (requests_of (tables_of face.now).feat features.now) (chains_in (tables_of face.now).morx) map) }
     ensures whole { IfOk result (λ map. IsTrue (list_all is_whole_list map)) }
-    ensures fits { OnOk result (find (is_too_large (tables_of face.now).feat) features.now ≡ None) }
+    ensures fits { OnOk result (first_too_large_among (tables_of face.now).feat features.now ≡ None) }
     ensures reason { IfErr result (RefusesInspection (tables_of face.now).feat features.now) }
 {
-    let mut builder = hb_aat_map_builder_t::default(alloc);
+    let mut builder = hb_aat_map_builder_t::with_features(alloc, face, features)?;
     let mut map = hb_aat_map_t::default(alloc);
-    add_features(&mut builder, face, features)?;
     builder.compile(face, &mut map)?;
     Ok(map)
-}
-
-/// Adds features in their order.
-fn add_features(
-    builder: &mut hb_aat_map_builder_t,
-    face: &hb_font_t,
-    features: &[Feature],
-) -> Result<(), AatError>
-    ensures ok { OnOk result (builder.new.features ≡ builder.old.features ++ requests_of (tables_of face.now).feat features.now) }
-    ensures fits { OnOk result (find (is_too_large (tables_of face.now).feat) features.now ≡ None) }
-    ensures reason { IfErr result (RefusesInspection (tables_of face.now).feat features.now) }
-{
-    for feature in features {
-        builder.add_feature(face, feature)?;
-    }
-    Ok(())
 }
 
 /// Adds each range of a chain, with its subtables.
@@ -99,7 +83,7 @@ fn add_chain(
     ranges: &[range_flags_t],
     inspected: &mut Vec<InspectedRange>,
 ) -> Result<(), AatError>
-    ensures ok { OnOk result (map line_of inspected.new.items ≡ map line_of inspected.old.items ++ map (line_over place chain.now) ranges.now) }
+    ensures ok { OnOk result (map table_line inspected.new.items ≡ map table_line inspected.old.items ++ map (line_over place chain.now) ranges.now) }
     ensures err { IfErr result (λ e. e ≡ AatError.OutOfMemory) }
 {
     for range in ranges {

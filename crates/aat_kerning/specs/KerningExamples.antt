@@ -122,7 +122,8 @@ pub record PairExamples : Type 0 where
   pub values_added : all_values three_values four_glyphs (pairs_of kern_skips 8 four_glyphs) ≡ negsuc 9
   -- two subtables that are for the text change them twice, so they become 1980
   pub advances_added_twice :
-      all_advances true (positions_of (by_kern three_tables (buffer_with_advances LeftToRight many four_glyphs))) ≡ pos 1980
+      all_advances true (positions_of (by_kern three_tables (buffer_with_advances LeftToRight many four_glyphs)))
+      ≡ pos 1980
   pub values_added_twice :
       values_by_all (kern_kerning 8) (λ s. kern_values s.kind) kern_skips 8 three_tables
       (buffer_with_advances LeftToRight many four_glyphs) ≡ negsuc 19
@@ -423,7 +424,8 @@ pub record CutExamples : Type 0 where
   -- within a cluster no glyph is flagged
   pub within_cluster :
       kern_pairs LeftToRight (one_pair (negsuc 24)) (glyph 1 0 8 ∷ glyph 2 0 8 ∷ [])
-      ≡ shows_positions (glyph 1 0 8 ∷ glyph 2 0 8 ∷ []) (along_x (pos 487) (pos 0) ∷ along_x (pos 488) (negsuc 11) ∷ [])
+      ≡ shows_positions (glyph 1 0 8 ∷ glyph 2 0 8 ∷ [])
+      (along_x (pos 487) (pos 0) ∷ along_x (pos 488) (negsuc 11) ∷ [])
   -- a skipped glyph is the left one of a pair where it begins the line, and not where a solid one stands before it
   pub before_skipped :
       kern_pairs LeftToRight ((3, 2, negsuc 24) ∷ []) (with_middle (skipped_mark 3 1 8))

@@ -40,7 +40,8 @@ IsPaidBeyond free b o = o.turns + operations_left o.buffer.max_ops ≤ free + op
 pub record KerningIsBounded : Type 0 where
   pub kerx :
       (requested : Bool) (kern_mask : ℕ) (points : Option Points) (subtables : List KerxSubtable) (b : Buffer)
-      → IsPaidBeyond (length subtables * (length b.line + 1)) b (kerx_positioning requested kern_mask points subtables b)
+      → IsPaidBeyond (length subtables * (length b.line + 1)) b
+      (kerx_positioning requested kern_mask points subtables b)
   pub kern :
       (requested : Bool) (kern_mask : ℕ) (subtables : List KernSubtable) (b : Buffer)
       → IsPaidBeyond (length subtables * (length b.line + 1)) b (kern_positioning requested kern_mask subtables b)

@@ -132,23 +132,12 @@ fn is_of_kern_pairs(subtable: &KernSubtable) -> bool
     }
 }
 
-/// The subtables of a font's kerning table, none without the table.
-fn kern_subtables(face: &hb_font_t) -> &[KernSubtable]
-    ensures listed { result.now ≡ kern_in (tables_of face.now).kern }
-    ensures few { length result.now ≤ 65535 }
-{
-    match &face.tables().kern {
-        Some(kern) => kern.subtables(),
-        None => &[],
-    }
-}
-
 /// Whether all subtables of a font's kerning table are of pairs, as they are without the table. Then a line that
 /// `hb_ot_layout_kern` kerns can be cut as it says. In as many steps as there are subtables.
 pub fn has_kern_pairs_alone(face: &hb_font_t) -> bool
     ensures { IsTrue result ↔ AreKernPairs (kern_in (tables_of face.now).kern) }
 {
-    kern_subtables(face)
+    face.kern_subtables()
         .iter()
         .all(|subtable| is_of_kern_pairs(subtable))
 }
@@ -161,8 +150,8 @@ pub fn has_kern_pairs_alone(face: &hb_font_t) -> bool
 /// alone are skipped (`KERN_SKIPS`), and machines run as `drive_kern` does, with `StateMachineDriver`.
 ///
 /// K subtables over n glyphs with a budget of M operations, 0 where it is negative, take at most K(n + 1) + M turns,
-/// and each one beyond K(n + 1) is paid for with an operation. A turn that leaves the cursor where it was took one and
-/// left some, so a machine cannot stay for ever.
+/// and each one beyond K(n + 1) is paid for with an operation. A turn that goes on and leaves the cursor where it was
+/// took one and left some, so a machine cannot stay for ever.
 ///
 /// Each glyph id has to be at most 0xFFFF, which `all_glyphs_16` tells, and positions have to stand, which
 /// `has_positions` tells. They stand afterwards too, one for each glyph.
@@ -199,5 +188,5 @@ pub fn hb_ot_layout_kern<A: Allocator + Copy>(
     }
     // there are as many positions as glyphs
     let _placed = buffer.has_positions();
-    Ok(position_by_kern(plan, kern_subtables(face), buffer))
+    Ok(position_by_kern(plan, face.kern_subtables(), buffer))
 }

@@ -183,17 +183,6 @@ fn is_of_kerx_pairs(subtable: &KerxSubtable) -> bool
     }
 }
 
-/// The subtables of a font's extended kerning table, none without the table.
-fn kerx_subtables(face: &hb_font_t) -> &[KerxSubtable]
-    ensures listed { result.now ≡ kerx_in (tables_of face.now).kerx }
-    ensures few { length result.now ≤ 65535 }
-{
-    match &face.tables().kerx {
-        Some(kerx) => kerx.subtables(),
-        None => &[],
-    }
-}
-
 /// The anchor points of a font, if it has them.
 fn anchor_points(face: &hb_font_t) -> Option<&Ankr>
     ensures { option_copied result ≡ (tables_of face.now).ankr }
@@ -206,7 +195,7 @@ fn anchor_points(face: &hb_font_t) -> Option<&Ankr>
 pub fn has_kerx_pairs_alone(face: &hb_font_t) -> bool
     ensures { IsTrue result ↔ AreKerxPairs (kerx_in (tables_of face.now).kerx) }
 {
-    kerx_subtables(face)
+    face.kerx_subtables()
         .iter()
         .all(|subtable| is_of_kerx_pairs(subtable))
 }
@@ -233,12 +222,12 @@ pub fn has_kerx_pairs_alone(face: &hb_font_t) -> bool
 /// of the line, as those subtables give them, modulo 2^32.
 ///
 /// K subtables over n glyphs with a budget of M operations, 0 where it is negative, take at most K(n + 1) + M turns,
-/// and each one beyond K(n + 1) is paid for with an operation. A turn that leaves the cursor where it was began with
-/// operations left and took one, so a machine cannot stay for ever.
+/// and each one beyond K(n + 1) is paid for with an operation. A turn that goes on and leaves the cursor where it was
+/// began with operations left and took one, so a machine cannot stay for ever.
 ///
 /// A subtable of pairs takes as many steps as the line is long, a search of its pairs for each pair of the line, and
-/// the marks; a machine its turns, each with a search of its classes and its entries, and with at most eight values or
-/// a search of two glyphs' anchor points.
+/// the marks; a machine its turns, each with a look-up of a class and one of an entry, and with at most eight values or
+/// look-ups of two glyphs' anchor points.
 ///
 /// Each glyph id has to be at most 0xFFFF, which `all_glyphs_16` tells, and positions have to stand, which
 /// `has_positions` tells. They stand afterwards too, one for each glyph.
@@ -276,5 +265,5 @@ pub fn hb_aat_layout_position<A: Allocator + Copy>(
     // there are as many positions as glyphs
     let _placed = buffer.has_positions();
     mark_line(true, buffer);
-    Ok(position_by_kerx(plan, anchor_points(face), kerx_subtables(face), buffer))
+    Ok(position_by_kerx(plan, anchor_points(face), face.kerx_subtables(), buffer))
 }

@@ -4,12 +4,12 @@ ghost use Rattle.std.specs.Bool.{OnTrue};
 ghost use Rattle.std.specs.Int.{int_rem_euclid, int_wrap, w16};
 ghost use Rattle.aat_buffer.specs.Clusters.{IsSmall};
 ghost use Rattle.aat_font.specs.AnchorPoints.{point_of};
-ghost use Rattle.aat_kerning_machines.specs.Anchors.{anchored, attached_to_mark, held_act, held_fit, held_fresh, with_anchor};
+ghost use Rattle.aat_kerning_machines.specs.Anchors.{anchored, attached_to_mark, held_act, held_fit, held_fresh};
 ghost use Rattle.aat_kerning_machines.specs.Positions.{IsPlaced};
 
 use crate::attachment::note_attachment;
 use crate::state_table_driver::StateTableDriver;
-use aat_buffer::{GlyphPosition, hb_buffer_t};
+use aat_buffer::hb_buffer_t;
 use aat_font::{Ankr, EntryData, GenericStateEntry, GlyphId, Point, Subtable4, hb_ot_shape_plan_t};
 use std::alloc::Allocator;
 use std::marker::Model;
@@ -166,7 +166,8 @@ fn meet_points<A: Allocator + Copy>(
     let marked = point_of(ankr, buffer.info(mark).glyph_id, pair.0);
     let current = point_of(ankr, buffer.info(place).glyph_id, pair.1);
     let position = buffer.pos_mut(place);
-    *position = with_anchor(marked, current, *position);
+    position.x_offset = way_between(current.x, marked.x);
+    position.y_offset = way_between(current.y, marked.y);
     true
 }
 
@@ -192,17 +193,6 @@ fn way_between(from: i16, to: i16) -> i32
     ensures { result ≡ to -ℤ from }
 {
     to as i32 - from as i32
-}
-
-/// A position whose offsets are the marked glyph's point minus the current glyph's, in units of the font.
-fn with_anchor(marked: Point, current: Point, position: GlyphPosition) -> GlyphPosition
-    ensures { result ≡ with_anchor marked current position }
-{
-    GlyphPosition {
-        x_offset: way_between(current.x, marked.x),
-        y_offset: way_between(current.y, marked.y),
-        ..position
-    }
 }
 
 /// The way from one place to another, in places, of which the low 16 bits are kept.
@@ -234,10 +224,7 @@ fn attach_to_mark<A: Allocator + Copy>(mark: usize, buffer: &mut hb_buffer_t<A>)
     let place = buffer.backtrack_len();
     let attach_chain = chain_between(place, mark);
     let position = buffer.pos_mut(place);
-    *position = GlyphPosition {
-        attach_type: MARK,
-        attach_chain,
-        ..*position
-    };
+    position.attach_type = MARK;
+    position.attach_chain = attach_chain;
     note_attachment(buffer);
 }

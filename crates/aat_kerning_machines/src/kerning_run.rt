@@ -4,7 +4,7 @@ ghost use Rattle.aat_buffer.specs.Clusters.{IsSmall};
 ghost use Rattle.aat_kerning_machines.specs.KerningMachine.{driver_from, driver_run, kerning_machine_with, kerning_whole};
 ghost use Rattle.aat_kerning_machines.specs.Positions.{IsPlaced};
 ghost use Rattle.aat_run.specs.Budget.{operations_left, potential};
-ghost use Rattle.aat_run.specs.Context.{first};
+ghost use Rattle.aat_run.specs.Context.{first_config};
 ghost use Rattle.aat_run.specs.inside.Places.{IsRun};
 
 use crate::kerning_turns::turn_once;
@@ -24,7 +24,7 @@ fn run_turns<Table, E: Copy, D: StateTableDriver<Table, E>, A: Allocator + Copy>
     requires fit { D.fits driver.old buffer.old.cursor (length buffer.old.line) }
     requires ids { IsSmall buffer.old }
     requires placed { IsPlaced buffer.old }
-    ensures run { IsRun (kerning_whole (kerning_machine_with pays_first run.now.state_table.now D.actionable (D.act run.now.table.now run.now.has_cross_stream run.now.plan.now.kern_mask run.now.tuple_count)) (first buffer.old driver.old)) buffer.new driver.new result }
+    ensures run { IsRun (kerning_whole (kerning_machine_with pays_first run.now.state_table.now D.actionable (D.act run.now.table.now run.now.has_cross_stream run.now.plan.now.kern_mask run.now.tuple_count)) (first_config buffer.old driver.old)) buffer.new driver.new result }
     ensures paid { result + operations_left buffer.new.max_ops ≤ potential buffer.old + 1 }
     ensures ids { IsSmall buffer.new }
     ensures placed { IsPlaced buffer.new }

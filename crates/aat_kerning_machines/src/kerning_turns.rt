@@ -1,6 +1,6 @@
 //! One turn of a kerning machine, by its parts: the marks before the cursor, the look ahead, the act, and what follows
 //! it.
-ghost use Rattle.std.specs.Prelude.{◌≡◌, ◌+◌, ◌<◌, ◌^◌, ◌==◌, ◌&&◌, ◌||◌, if◌then◌else◌, Bool, Some, length, not};
+ghost use Rattle.std.specs.Prelude.{◌≡◌, ◌+◌, ◌<◌, ◌^◌, ◌==◌, ◌&&◌, ◌||◌, if◌then◌else◌, Bool, Some, length, nat_lt, not};
 ghost use Rattle.aat_buffer.specs.Buffer.{Buffer};
 ghost use Rattle.aat_buffer.specs.Clusters.{IsSmall};
 ghost use Rattle.aat_buffer.specs.Marks.{unsafe_to_break};
@@ -12,6 +12,7 @@ ghost use Rattle.aat_kerning_machines.specs.Positions.{IsPlaced};
 ghost use Rattle.aat_kerning_machines.specs.inside.Places.{config};
 ghost use Rattle.aat_run.specs.Budget.{paid};
 ghost use Rattle.aat_run.specs.Context.{Moved, is_at_end};
+ghost use Rattle.aat_run.specs.Machine.{Ends};
 ghost use Rattle.aat_run.specs.inside.Places.{turn_of};
 
 use crate::place::Place;
@@ -162,35 +163,36 @@ fn mark_before<Table, E: Copy, D: StateTableDriver<Table, E>, A: Allocator + Cop
     }
 }
 
-/// The look at the end of the text, behind the glyph at the cursor, and then the act of an entry.
+/// The look at the end of the text, where two glyphs or more are left: whether the run goes on to the act of an entry.
 #[tactic(auto, unfolding(crate::specs::KerningMachine::looked_ahead))]
 fn look_ahead<Table, E: Copy, D: StateTableDriver<Table, E>, A: Allocator + Copy>(
     run: &KerningRun<Table, E>,
-    pays_first: bool,
-    driver: &mut D,
+    driver: &D,
     buffer: &mut hb_buffer_t<A>,
-    entry: &GenericStateEntry<E>,
-    place: &mut Place,
+    place: Place,
 ) -> bool
-    requires fit { D.fits driver.old buffer.old.cursor (length buffer.old.line) }
     requires ids { IsSmall buffer.old }
-    requires placed { IsPlaced buffer.old }
-    ensures turn { looked_ahead (kerning_machine_with pays_first run.now.state_table.now D.actionable (D.act run.now.table.now run.now.has_cross_stream run.now.plan.now.kern_mask run.now.tuple_count)) entry.now (entry_of run.now.state_table.now place.old.state 0) (config buffer.old driver.old place.old) ≡ turn_of result (config buffer.new driver.new place.new) }
+    ensures turn { (pays_first : Bool) (act : GenericStateEntry E → D → Buffer → Moved D) (e : GenericStateEntry E) → (if nat_lt (buffer.old.cursor + 1) (length buffer.old.line) then looked_ahead (kerning_machine_with pays_first run.now.state_table.now D.actionable act) e (entry_of run.now.state_table.now place.state 0) (config buffer.old driver.now place) else kerning_acted (kerning_machine_with pays_first run.now.state_table.now D.actionable act) e (config buffer.old driver.now place)) ≡ (if result then kerning_acted (kerning_machine_with pays_first run.now.state_table.now D.actionable act) e (config buffer.new driver.now place) else Ends (config buffer.new driver.now place)) }
+    ensures length { length buffer.new.line ≡ length buffer.old.line }
+    ensures cursor { buffer.new.cursor ≡ buffer.old.cursor }
+    ensures positions { buffer.new.positions ≡ buffer.old.positions }
     ensures ids { IsSmall buffer.new }
-    ensures placed { IsPlaced buffer.new }
 {
-    match run.state_table.entry(place.state, 0) {
-        Some(at_end) => {
-            if driver.is_actionable(&at_end) {
-                mark_behind(buffer);
-            }
-            act(run, pays_first, driver, buffer, entry, place)
-        }
-        None => false,
+    // how long the line is, so that the place behind the cursor fits
+    let len = buffer.len();
+    if buffer.backtrack_len() + 1 >= len {
+        return true;
     }
+    let Some(at_end) = run.state_table.entry(place.state, 0) else {
+        return false;
+    };
+    if driver.is_actionable(&at_end) {
+        mark_behind(buffer);
+    }
+    true
 }
 
-/// What an entry does, by how many glyphs are left.
+/// What an entry does: the marks before the cursor, the look ahead, and then the act.
 #[tactic(auto, unfolding(crate::specs::KerningMachine::kerning_by_entry))]
 fn take_entry<Table, E: Copy, D: StateTableDriver<Table, E>, A: Allocator + Copy>(
     run: &KerningRun<Table, E>,
@@ -208,12 +210,10 @@ fn take_entry<Table, E: Copy, D: StateTableDriver<Table, E>, A: Allocator + Copy
     ensures placed { IsPlaced buffer.new }
 {
     mark_before(&*driver, buffer, entry, *place);
-    let len = buffer.len();
-    if buffer.backtrack_len() + 1 < len {
-        look_ahead(run, pays_first, driver, buffer, entry, place)
-    } else {
-        act(run, pays_first, driver, buffer, entry, place)
+    if !look_ahead(run, &*driver, buffer, *place) {
+        return false;
     }
+    act(run, pays_first, driver, buffer, entry, place)
 }
 
 /// One turn: whether the run goes on.

@@ -40,61 +40,40 @@ pub(crate) struct ValueList<'a> {
     pub is_cross_stream: bool,
 }
 
-/// A position with a value more in its advance and its offset along the line.
-fn moved_along(is_horizontal: bool, value: i32, position: GlyphPosition) -> GlyphPosition
-    ensures { result ≡ with_shift is_horizontal value (with_advance is_horizontal value position) }
+/// Adds a value to the advance and the offset of a position along the line.
+fn move_along(is_horizontal: bool, value: i32, position: &mut GlyphPosition)
+    ensures { position.new ≡ with_shift is_horizontal value (with_advance is_horizontal value position.old) }
 {
     if is_horizontal {
-        GlyphPosition {
-            x_advance: position.x_advance.wrapping_add(value),
-            x_offset: position.x_offset.wrapping_add(value),
-            ..position
-        }
+        position.x_advance = position.x_advance.wrapping_add(value);
+        position.x_offset = position.x_offset.wrapping_add(value);
     } else {
-        GlyphPosition {
-            y_advance: position.y_advance.wrapping_add(value),
-            y_offset: position.y_offset.wrapping_add(value),
-            ..position
-        }
+        position.y_advance = position.y_advance.wrapping_add(value);
+        position.y_offset = position.y_offset.wrapping_add(value);
     }
 }
 
-/// A position with a value more in its offset across the line.
-fn moved_across(is_horizontal: bool, value: i32, position: GlyphPosition) -> GlyphPosition
-    ensures { result ≡ with_cross_offset is_horizontal (plus (cross_offset is_horizontal position) value) position }
+/// Adds a value to the offset of a position across the line.
+fn add_across(is_horizontal: bool, value: i32, position: &mut GlyphPosition)
+    ensures { position.new ≡ with_cross_offset is_horizontal (plus (cross_offset is_horizontal position.old) value) position.old }
 {
     if is_horizontal {
-        GlyphPosition {
-            y_offset: position.y_offset.wrapping_add(value),
-            ..position
-        }
+        position.y_offset = position.y_offset.wrapping_add(value);
     } else {
-        GlyphPosition {
-            x_offset: position.x_offset.wrapping_add(value),
-            ..position
-        }
+        position.x_offset = position.x_offset.wrapping_add(value);
     }
 }
 
-/// A position that is attached to no glyph, and on the line.
-fn back_on_line(is_horizontal: bool, position: GlyphPosition) -> GlyphPosition
-    ensures { result ≡ with_cross_offset is_horizontal (pos 0) (attached_as 0 (pos 0) position) }
+/// Takes a position back to the line, attached to no glyph.
+fn take_back(is_horizontal: bool, position: &mut GlyphPosition)
+    ensures { position.new ≡ with_cross_offset is_horizontal (pos 0) (attached_as 0 (pos 0) position.old) }
 {
-    let unattached = GlyphPosition {
-        attach_type: UNATTACHED,
-        attach_chain: 0,
-        ..position
-    };
+    position.attach_type = UNATTACHED;
+    position.attach_chain = 0;
     if is_horizontal {
-        GlyphPosition {
-            y_offset: 0,
-            ..unattached
-        }
+        position.y_offset = 0;
     } else {
-        GlyphPosition {
-            x_offset: 0,
-            ..unattached
-        }
+        position.x_offset = 0;
     }
 }
 
@@ -123,8 +102,7 @@ fn move_across<A: Allocator + Copy>(value: i32, place: usize, buffer: &mut hb_bu
     ensures { buffer.new ≡ with_attachment_flag (on_position (λ q. with_cross_offset (is_horizontal buffer.old.direction) (plus (cross_offset (is_horizontal buffer.old.direction) q) value) q) place buffer.old) }
 {
     let is_horizontal = buffer.direction().is_horizontal();
-    let position = buffer.pos_mut(place);
-    *position = moved_across(is_horizontal, value, *position);
+    add_across(is_horizontal, value, buffer.pos_mut(place));
     note_attachment(buffer);
 }
 
@@ -140,8 +118,7 @@ fn give_across<A: Allocator + Copy>(value: i16, place: usize, buffer: &mut hb_bu
     let even = even(value);
     if even == BACK_TO_LINE {
         let is_horizontal = buffer.direction().is_horizontal();
-        let position = buffer.pos_mut(place);
-        *position = back_on_line(is_horizontal, *position);
+        take_back(is_horizontal, buffer.pos_mut(place));
     } else if buffer.pos(place).attach_type != UNATTACHED {
         move_across(even, place, buffer);
     }
@@ -170,7 +147,7 @@ fn give_along<A: Allocator + Copy>(
     let is_asked = meets(buffer.info(place).mask, kern_mask);
     let position = buffer.pos_mut(place);
     if may_move(is_horizontal, is_asked, position.y_offset) {
-        *position = moved_along(is_horizontal, even(value), *position);
+        move_along(is_horizontal, even(value), position);
     }
 }
 

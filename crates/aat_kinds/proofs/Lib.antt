@@ -1,3 +1,4 @@
+pub mod Ends
 pub mod KindsKeep
 pub mod LaterDeleted
 pub mod LawsHold

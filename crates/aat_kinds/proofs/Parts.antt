@@ -1,10 +1,10 @@
 -- Spans of a list that are copied, and written part by part.
-use Rattle.std.proofs.Common.{◌≡◌, ◌∙◌, ap, sym, refl, ℕ, ◌<◌, ◌≤◌, ◌+◌, ◌-◌, List, [], ◌∷◌, ◌++◌, take, drop, length, get_or, set, arith, append_assoc, length-append, reverse}
+use Rattle.std.proofs.Common.{◌≡◌, ◌∙◌, ap, sym, ℕ, ◌<◌, ◌≤◌, ◌+◌, ◌-◌, List, [], ◌∷◌, ◌++◌, take, drop, length, get_or, set, arith, append_assoc, length-append}
 use Rattle.std.proofs.lemmas.List.{take_more, drop_more, set_at, length-take-le, length-drop, get_or-append_right, get_or_append_left, take-append-drop, get_or-drop, get_or-take, drop-drop, drop-take, take-take, take-append-le, take_rest}
 use Rattle.std.proofs.Math.Seq.{take-append_seam, drop-append_seam, drop-append-add}
 use Rattle.std.specs.Prelude.{slice_range}
 use Rattle.aat_buffer.specs.Buffer.{Buffer, with_line}
-use Rattle.aat_buffer.specs.facts.Lines.{length_slice}
+use Rattle.aat_buffer.specs.facts.Lines.{length_slice, range_at}
 use Rattle.aat_glyph.specs.declared.glyph.hb_glyph_info_t.{hb_glyph_info_t}
 use Rattle.aat_kinds.specs.Rearrangement.{Verb, in_its_order, rearranged, size_of}
 use Rattle.aat_kinds.specs.facts.RearrangementLaws.{length_put_down}
@@ -63,27 +63,6 @@ covered_joined gs xs ys s m e fit more within =
     ∙ (ap (λ t. (take s gs ++ xs) ++ (ys ++ t)) behind
     ∙ (append_assoc (take s gs) xs (ys ++ drop e gs) ∙ ap (λ t. take s gs ++ t) (sym (append_assoc xs ys (drop e gs)))))
 
--- two elements in the opposite order
-pub two_turned : {X : Type 0} (xs : List X) (d : X) → length xs ≡ 2 → get_or xs 1 d ∷ get_or xs 0 d ∷ [] ≡ reverse xs
-two_turned [] d two = absurd (omega (arith, two))
-two_turned (x ∷ []) d two = absurd (omega (arith, two))
-two_turned (x ∷ y ∷ []) d two = refl
-two_turned (x ∷ y ∷ z ∷ zs) d two = absurd (omega (arith, two))
-
--- one element of a range was copied
-pub copied_step : {X : Type 0} (xs ys now : List X) (s e i : ℕ) (d y : X) → s ≤ i → i < e → e ≤ length xs → s + length ys ≡ e
-    → now ≡ take (i - s) (slice_range xs s e) ++ drop (i - s) ys → y ≡ get_or xs i d → set now (i - s) y ≡ take (i + 1 - s) (slice_range xs s e) ++ drop (i + 1 - s) ys
-copied_step xs ys now s e i d y from to within fit was read =
-    let long : length (slice_range xs s e) ≡ e - s = length_slice s e xs (omega (arith, from, to)) within in
-    let place : s + (i - s) ≡ i = omega (arith, from) in
-    let next : (i - s) + 1 ≡ i + 1 - s = omega (arith, from) in
-    let value : y ≡ get_or (slice_range xs s e) (i - s) d =
-    read ∙ (ap (λ n. get_or xs n d) (sym place) ∙ (sym (get_or-drop s xs (i - s) d) ∙ sym (get_or-take (e - s) (drop s xs) (i - s) d (omega (arith, from, to))))) in
-    ap (λ t. set t (i - s) y) was
-    ∙ (ap (set (take (i - s) (slice_range xs s e) ++ drop (i - s) ys) (i - s)) value
-    ∙ (blended_step (slice_range xs s e) ys (i - s) d (omega (arith, long, from, to)) (omega (arith, long, fit))
-    ∙ ap (λ n. take n (slice_range xs s e) ++ drop n ys) next))
-
 -- the last places of ys are written as those of xs
 pub blended_step_back : {X : Type 0} (xs ys : List X) (i : ℕ) (d : X) → i < length xs → length ys ≡ length xs → set (take (i + 1) ys ++ drop (i + 1) xs) i (get_or xs i d) ≡ take i ys ++ drop i xs
 blended_step_back xs ys i d below same =
@@ -105,10 +84,6 @@ module _ {X : Type 0} (gs xs : List X) (s e : ℕ) (fit : s + length xs ≡ e) (
   covered_all_back =
       let n : length (take s gs) ≡ s = length-take-le s gs (omega (arith, fit, within)) in
       ap (λ t. take s gs ++ t) (ap (λ k. drop k (covered gs s e xs)) (sym n) ∙ drop-append_seam (take s gs) (xs ++ drop e gs))
-
--- an element of a range
-pub range_at : {X : Type 0} (xs : List X) (s e i : ℕ) (d : X) → i < e - s → get_or (slice_range xs s e) i d ≡ get_or xs (s + i) d
-range_at xs s e i d low = get_or-take (e - s) (drop s xs) i d low ∙ get_or-drop s xs i d
 
 -- what stands before xs was put there after it
 pub covered_before : {X : Type 0} (gs xs ys : List X) (s m e : ℕ) → s + length xs ≡ m → m + length ys ≡ e → e ≤ length gs → covered (covered gs m e ys) s m xs ≡ covered gs s e (xs ++ ys)

@@ -78,7 +78,8 @@ module _ (classes : Option (List (ℕ × ℕ))) (lookups : List (List (ℕ × �
   -- the act of an entry: the marked glyph, the glyph at the cursor, then the mark
   unfoldable pub act : Entry → Registers → Buffer → Moved Registers
   act e r b =
-      if can_act r b.cursor (length b.line) then behind_mark e r b (at_mark e r b) else record { registers = r; buffer = b }
+      if can_act r b.cursor (length b.line) then behind_mark e r b (at_mark e r b)
+      else record { registers = r; buffer = b }
 
   abbrev pub context : Context Registers Entry
   context = record { fresh = fresh; in_place = true; advances = goes_on; actionable = actionable; act = act }

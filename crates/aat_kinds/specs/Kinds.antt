@@ -29,20 +29,26 @@ unfoldable pub rearrangement_run : ℕ → (ℕ → Bool) → TableValue (Generi
 rearrangement_run bound on table b = machine_run on table (rearrangement.context bound) b
 
 -- a contextual subtable, with the glyph classes of the font where it has them
-unfoldable pub contextual_run : (ℕ → Bool) → Option (List (ℕ × ℕ)) → TableValue (GenericStateEntry ContextualEntryData) → List (List (ℕ × ℕ)) → Buffer → Outcome
+unfoldable pub contextual_run :
+    (ℕ → Bool) → Option (List (ℕ × ℕ)) → TableValue (GenericStateEntry ContextualEntryData) → List (List (ℕ × ℕ))
+    → Buffer → Outcome
 contextual_run on classes table lookups b = machine_run on table (contextual.context classes lookups) b
 
 -- a ligature subtable, with so many slots
-unfoldable pub ligature_run : ℕ → (ℕ → Bool) → TableValue (GenericStateEntry ℕ) → List ℕ → List ℕ → List GlyphId → Buffer → Outcome
-ligature_run size on table actions components ligatures b = machine_run on table (ligature.context actions components ligatures size) b
+unfoldable pub ligature_run :
+    ℕ → (ℕ → Bool) → TableValue (GenericStateEntry ℕ) → List ℕ → List ℕ → List GlyphId → Buffer → Outcome
+ligature_run size on table actions components ligatures b =
+    machine_run on table (ligature.context actions components ligatures size) b
 
 -- an insertion subtable
-unfoldable pub insertion_run : (ℕ → Bool) → TableValue (GenericStateEntry InsertionEntryData) → List GlyphId → Buffer → Outcome
+unfoldable pub insertion_run :
+    (ℕ → Bool) → TableValue (GenericStateEntry InsertionEntryData) → List GlyphId → Buffer → Outcome
 insertion_run on table glyphs b = machine_run on table (insertion.context glyphs) b
 
 -- a noncontextual subtable takes as many turns as there are glyphs
 unfoldable pub noncontextual_run : (ℕ → Bool) → Option (List (ℕ × ℕ)) → List (ℕ × ℕ) → Buffer → Outcome
-noncontextual_run on classes lookup b = record { buffer = with_line b (noncontextual on classes lookup b.line); turns = length b.line }
+noncontextual_run on classes lookup b =
+    record { buffer = with_line b (noncontextual on classes lookup b.line); turns = length b.line }
 
 -- Whether a subtable runs on the line in the opposite order. The line stands as the text is read. A subtable in logical
 -- order says by itself whether it takes the glyphs backwards. Any other is meant for the order in which the glyphs are
@@ -50,7 +56,8 @@ noncontextual_run on classes lookup b = record { buffer = with_line b (noncontex
 -- backward and the subtable does not, or the other way about.
 abbrev pub is_reversed : Coverage → Direction → Bool
 is_reversed coverage direction =
-    if is_logical coverage then is_backwards coverage else not (is_alike (is_backwards coverage) (is_backward direction))
+    if is_logical coverage then is_backwards coverage
+    else not (is_alike (is_backwards coverage) (is_backward direction))
 
 -- a run on the line in the opposite order, which is then turned back
 abbrev pub reversed_run : (Buffer → Outcome) → Buffer → Outcome
@@ -92,4 +99,5 @@ is_insertion (Insertion s) = true
 
 -- a subtable is for text of this direction
 abbrev pub is_for : Direction → Coverage → Bool
-is_for direction coverage = is_all_directions coverage || is_alike (is_vertical_coverage coverage) (is_vertical direction)
+is_for direction coverage =
+    is_all_directions coverage || is_alike (is_vertical_coverage coverage) (is_vertical direction)

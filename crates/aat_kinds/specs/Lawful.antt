@@ -19,10 +19,18 @@ use Rattle.aat_kinds.specs.Insertion as insertion
 pub record ContextsAreLawful : Type 0 where
   pub rearrangement_is_lawful : (bound : ℕ) → IsLawful (rearrangement.context bound) rearrangement.IsFit
   pub rearrangement_stays : (bound : ℕ) → StaysInPlace (rearrangement.context bound) rearrangement.IsFit
-  pub contextual_is_lawful : (classes : Option (List (ℕ × ℕ))) (lookups : List (List (ℕ × ℕ))) → IsLawful (contextual.context classes lookups) contextual.IsFit
-  pub contextual_stays : (classes : Option (List (ℕ × ℕ))) (lookups : List (List (ℕ × ℕ))) → StaysInPlace (contextual.context classes lookups) contextual.IsFit
-  pub ligature_is_lawful : (actions values : List ℕ) (ligatures : List GlyphId) (size : ℕ) → 0 < size → IsLawful (ligature.context actions values ligatures size) ligature.IsFit
-  pub ligature_keeps_length : (actions values : List ℕ) (ligatures : List GlyphId) → KeepsLength (ligature.act actions values ligatures) ligature.IsFit
+  pub contextual_is_lawful :
+      (classes : Option (List (ℕ × ℕ))) (lookups : List (List (ℕ × ℕ)))
+      → IsLawful (contextual.context classes lookups) contextual.IsFit
+  pub contextual_stays :
+      (classes : Option (List (ℕ × ℕ))) (lookups : List (List (ℕ × ℕ)))
+      → StaysInPlace (contextual.context classes lookups) contextual.IsFit
+  pub ligature_is_lawful :
+      (actions values : List ℕ) (ligatures : List GlyphId) (size : ℕ) → 0 < size
+      → IsLawful (ligature.context actions values ligatures size) ligature.IsFit
+  pub ligature_keeps_length :
+      (actions values : List ℕ) (ligatures : List GlyphId)
+      → KeepsLength (ligature.act actions values ligatures) ligature.IsFit
   pub insertion_is_lawful : (glyphs : List GlyphId) → IsLawful (insertion.context glyphs) insertion.IsFit
 
 -- an act keeps glyph ids to 16 bits
@@ -41,8 +49,12 @@ HasSmallIds glyphs = All (λ g. g.0 ≤ 65535) glyphs
 -- the acts keep glyph ids to 16 bits
 pub record ActsKeepSmall : Type 0 where
   pub rearrangement_keeps : (bound : ℕ) → KeepsSmall (rearrangement.act bound) rearrangement.IsFit
-  pub contextual_keeps : (classes : Option (List (ℕ × ℕ))) (lookups : List (List (ℕ × ℕ))) → HasSmallValues lookups → KeepsSmall (contextual.act classes lookups) contextual.IsFit
-  pub ligature_keeps : (actions values : List ℕ) (ligatures : List GlyphId) → HasSmallIds ligatures → KeepsSmall (ligature.act actions values ligatures) ligature.IsFit
+  pub contextual_keeps :
+      (classes : Option (List (ℕ × ℕ))) (lookups : List (List (ℕ × ℕ))) → HasSmallValues lookups
+      → KeepsSmall (contextual.act classes lookups) contextual.IsFit
+  pub ligature_keeps :
+      (actions values : List ℕ) (ligatures : List GlyphId) → HasSmallIds ligatures
+      → KeepsSmall (ligature.act actions values ligatures) ligature.IsFit
   pub insertion_keeps : (glyphs : List GlyphId) → HasSmallIds glyphs → KeepsSmall (insertion.act glyphs) insertion.IsFit
 
 -- once a ligature is stored at component c, each later component is the deleted glyph
@@ -53,16 +65,28 @@ LaterComponentsAreDeleted =
 
 pub record ActsKeepOrder : Type 0 where
   pub rearrangement_keeps : (bound : ℕ) → KeepsClusterOrder (rearrangement.act bound) rearrangement.IsFit
-  pub contextual_keeps : (classes : Option (List (ℕ × ℕ))) (lookups : List (List (ℕ × ℕ))) → KeepsClusterOrder (contextual.act classes lookups) contextual.IsFit
-  pub ligature_keeps : (actions values : List ℕ) (ligatures : List GlyphId) → KeepsClusterOrder (ligature.act actions values ligatures) ligature.IsFit
+  pub contextual_keeps :
+      (classes : Option (List (ℕ × ℕ))) (lookups : List (List (ℕ × ℕ)))
+      → KeepsClusterOrder (contextual.act classes lookups) contextual.IsFit
+  pub ligature_keeps :
+      (actions values : List ℕ) (ligatures : List GlyphId)
+      → KeepsClusterOrder (ligature.act actions values ligatures) ligature.IsFit
   pub insertion_keeps : (glyphs : List GlyphId) → KeepsClusterOrder (insertion.act glyphs) insertion.IsFit
 
 -- a run of rearrangement permutes the glyph ids, and runs of contextual, ligature and noncontextual subtables keep
 -- the number of glyphs
 pub record GlyphsAreKept : Type 0 where
-  pub rearrangement_permutes : (bound : ℕ) (on : ℕ → Bool) (table : TableValue (GenericStateEntry (Unit {0}))) (b : Buffer) → IsPermutation (ids b.line) (ids (rearrangement_run bound on table b).buffer.line)
-  pub contextual_number : (on : ℕ → Bool) (classes : Option (List (ℕ × ℕ))) (table : TableValue (GenericStateEntry ContextualEntryData)) (lookups : List (List (ℕ × ℕ))) (b : Buffer)
+  pub rearrangement_permutes :
+      (bound : ℕ) (on : ℕ → Bool) (table : TableValue (GenericStateEntry (Unit {0}))) (b : Buffer)
+      → IsPermutation (ids b.line) (ids (rearrangement_run bound on table b).buffer.line)
+  pub contextual_number :
+      (on : ℕ → Bool) (classes : Option (List (ℕ × ℕ))) (table : TableValue (GenericStateEntry ContextualEntryData))
+      (lookups : List (List (ℕ × ℕ))) (b : Buffer)
       → length (contextual_run on classes table lookups b).buffer.line ≡ length b.line
-  pub ligature_number : (size : ℕ) (on : ℕ → Bool) (table : TableValue (GenericStateEntry ℕ)) (actions values : List ℕ) (ligatures : List GlyphId) (b : Buffer) → 0 < size
+  pub ligature_number :
+      (size : ℕ) (on : ℕ → Bool) (table : TableValue (GenericStateEntry ℕ)) (actions values : List ℕ)
+      (ligatures : List GlyphId) (b : Buffer) → 0 < size
       → length (ligature_run size on table actions values ligatures b).buffer.line ≡ length b.line
-  pub noncontextual_number : (on : ℕ → Bool) (classes : Option (List (ℕ × ℕ))) (lookup : List (ℕ × ℕ)) (b : Buffer) → length (noncontextual_run on classes lookup b).buffer.line ≡ length b.line
+  pub noncontextual_number :
+      (on : ℕ → Bool) (classes : Option (List (ℕ × ℕ))) (lookup : List (ℕ × ℕ)) (b : Buffer)
+      → length (noncontextual_run on classes lookup b).buffer.line ≡ length b.line

@@ -92,7 +92,8 @@ module _ (actions : List ℕ) (values : List ℕ) (ligatures : List GlyphId) whe
   abbrev pub stored_by : ℕ → ℕ → ℕ → Option GlyphId → Moved Registers → Step
   stored_by action c sum None n = Stops n
   stored_by action c sum (Some g) n =
-      if is_last action then Stops (stored c g.0 n.registers n.buffer) else GoesOn sum (stored c g.0 n.registers n.buffer)
+      if is_last action then Stops (stored c g.0 n.registers n.buffer)
+      else GoesOn sum (stored c g.0 n.registers n.buffer)
 
   abbrev pub summed : ℕ → ℕ → ℕ → Option ℕ → Moved Registers → Step
   summed action c sum None n = Stops n

@@ -26,8 +26,10 @@ with_answer classes (Some v) g = with_value classes v g
 
 -- a glyph that is on at its own cluster and has a value gets it
 abbrev pub with_looked_up_value : (ℕ → Bool) → Option (List (ℕ × ℕ)) → List (ℕ × ℕ) → hb_glyph_info_t → hb_glyph_info_t
-with_looked_up_value on classes lookup g = if on g.cluster then with_answer classes (value_in lookup g.glyph_id) g else g
+with_looked_up_value on classes lookup g =
+    if on g.cluster then with_answer classes (value_in lookup g.glyph_id) g else g
 
 -- the noncontextual map: this of each glyph of the line
-abbrev pub noncontextual : (ℕ → Bool) → Option (List (ℕ × ℕ)) → List (ℕ × ℕ) → List hb_glyph_info_t → List hb_glyph_info_t
+abbrev pub noncontextual :
+    (ℕ → Bool) → Option (List (ℕ × ℕ)) → List (ℕ × ℕ) → List hb_glyph_info_t → List hb_glyph_info_t
 noncontextual on classes lookup line = map (with_looked_up_value on classes lookup) line

@@ -1,12 +1,13 @@
 //! Rearrangement: spans of a line whose ends change their places.
-ghost use Rattle.std.specs.Prelude.{◌≡◌, ◌+◌, ◌-◌, ◌<◌, ◌≤◌, length, IfErr, IsOk, IsPermutation, OnErr, OnOk};
+ghost use Rattle.std.specs.Prelude.{◌≡◌, ◌+◌, ◌-◌, ◌<◌, ◌≤◌, length, min, IfErr, IsOk, IsPermutation, OnErr, OnOk};
 ghost use Rattle.aat_buffer.specs.Clusters.{IsSmall, ids};
+ghost use Rattle.aat_buffer.specs.Marks.{merge_clusters};
 ghost use Rattle.aat_run.specs.Driven.{IsRefusal, IsRefused};
 ghost use Rattle.aat_kinds.specs.Rearrangement.{IsFit, act, fresh, is_within, moved, size_of, with_marks};
 
 use crate::rearrangement_span::move_span;
 use crate::verb::{Verb, verb_of};
-use aat_buffer::hb_buffer_t;
+use aat_buffer::{HB_BUFFER_CLUSTER_LEVEL_CHARACTERS, hb_buffer_t};
 use aat_font::GenericStateEntry;
 use aat_run::{AatError, driver_context_t};
 use std::alloc::Allocator;
@@ -73,7 +74,26 @@ impl<const LONGEST: usize> RearrangementCtx<LONGEST> {
         verb.front.size() + verb.back.size() <= len && len <= LONGEST
     }
 
-    /// Merges the clusters from the start of the span to the cursor, then those of the span, and then moves it.
+    /// Merges the clusters from the start of the span to the cursor, and then those of the span. Where the span ends
+    /// right behind the cursor, the second merge is left out, since it would change nothing; at the level CHARACTERS it
+    /// is done.
+    #[tactic(auto, using(aat_buffer::specs::facts::MergedTwice::merged_again))]
+    fn merge_marked<A: Allocator + Copy>(&self, buffer: &mut hb_buffer_t<A>)
+        requires some { self.now.start < self.now.end }
+        requires in_line { self.now.end ≤ length buffer.old.line }
+        ensures after { buffer.new ≡ merge_clusters (merge_clusters buffer.old self.now.start (min (buffer.old.cursor + 1) (length buffer.old.line))) self.now.start self.now.end }
+        ensures count { length buffer.new.line ≡ length buffer.old.line }
+    {
+        let len = buffer.len();
+        let marked = buffer.backtrack_len() + 1;
+        buffer.merge_clusters(self.start, marked.min(len));
+        if marked == self.end && buffer.cluster_level() != HB_BUFFER_CLUSTER_LEVEL_CHARACTERS {
+            return;
+        }
+        buffer.merge_clusters(self.start, self.end);
+    }
+
+    /// Merges the clusters up to the cursor and those of the span, and then moves the span.
     #[tactic(auto, unfolding(crate::specs::Rearrangement::moved))]
     fn move_marked<A: Allocator + Copy>(&self, verb: Verb, buffer: &mut hb_buffer_t<A>)
         requires room { size_of verb.front + size_of verb.back ≤ self.now.end - self.now.start }
@@ -81,9 +101,7 @@ impl<const LONGEST: usize> RearrangementCtx<LONGEST> {
         requires in_line { self.now.end ≤ length buffer.old.line }
         ensures { buffer.new ≡ moved verb self.now buffer.old }
     {
-        let len = buffer.len();
-        buffer.merge_clusters(self.start, (buffer.backtrack_len() + 1).min(len));
-        buffer.merge_clusters(self.start, self.end);
+        self.merge_marked(buffer);
         move_span(verb, buffer, self.start, self.end);
     }
 

@@ -1,5 +1,5 @@
 //! A span of a line that is moved as a verb says: its ends change their places, and what is between them makes room.
-ghost use Rattle.std.specs.Prelude.{◌≡◌, ◌+◌, ◌-◌, ◌≤◌, length, slice_range};
+ghost use Rattle.std.specs.Prelude.{◌≡◌, ◌+◌, ◌-◌, ◌≤◌, [], ◌∷◌, length, slice_range, take};
 ghost use Rattle.aat_buffer.specs.Marks.{on_line_span};
 ghost use Rattle.aat_glyph.specs.declared.glyph.hb_glyph_info_t.{hb_glyph_info_t};
 ghost use Rattle.aat_kinds.specs.Rearrangement.{in_its_order, rearranged, size_of};
@@ -8,57 +8,48 @@ use crate::verb::{Part, Verb};
 use aat_buffer::{hb_buffer_t, hb_glyph_info_t};
 use std::alloc::Allocator;
 
-/// Copies the glyphs of a line from place `start` up to place `end`.
-fn copy_glyphs<A: Allocator + Copy>(
+/// The glyphs of a part of a span, from place `start` up to place `end` of a line. Those that the part has not are any.
+fn copied_part<A: Allocator + Copy>(
+    part: Part,
     buffer: &hb_buffer_t<A>,
     start: usize,
     end: usize,
-    copy: &mut [hb_glyph_info_t],
-)
-    requires fit { start + length copy.old ≡ end }
+) -> (hb_glyph_info_t, hb_glyph_info_t)
+    requires fit { start + size_of part ≡ end }
     requires in_line { end ≤ length buffer.now.line }
-    ensures { copy.new ≡ slice_range buffer.now.line start end }
+    ensures { take (size_of part) (result.0 ∷ result.1 ∷ []) ≡ slice_range buffer.now.line start end }
 {
-    for i in start..end {
-        copy[i - start] = *buffer.info(i);
-    }
-}
-
-/// Puts glyphs in place of those of a line from place `start` up to place `end`.
-fn put_glyphs<A: Allocator + Copy>(
-    buffer: &mut hb_buffer_t<A>,
-    start: usize,
-    end: usize,
-    glyphs: &[hb_glyph_info_t],
-)
-    requires fit { start + length glyphs.now ≡ end }
-    requires in_line { end ≤ length buffer.old.line }
-    ensures after { buffer.new ≡ on_line_span (λ _. glyphs.now) start end buffer.old }
-    ensures count { length buffer.new.line ≡ length buffer.old.line }
-{
-    for i in start..end {
-        *buffer.info_mut(i) = glyphs[i - start];
+    match part {
+        Part::Nothing => (hb_glyph_info_t::default(), hb_glyph_info_t::default()),
+        Part::One => (*buffer.info(start), hb_glyph_info_t::default()),
+        Part::Two | Part::TwoTurned => (*buffer.info(start), *buffer.info(end - 1)),
     }
 }
 
 /// Puts the glyphs of a part of a span in place of those of a line from place `start` up to place `end`.
-#[tactic(auto, using(crate::proofs::Parts::two_turned))]
 fn put_part<A: Allocator + Copy>(
     part: Part,
     buffer: &mut hb_buffer_t<A>,
     start: usize,
     end: usize,
-    glyphs: &[hb_glyph_info_t],
+    glyphs: (hb_glyph_info_t, hb_glyph_info_t),
 )
-    requires whole { length glyphs.now ≡ size_of part }
-    requires fit { start + length glyphs.now ≡ end }
+    requires fit { start + size_of part ≡ end }
     requires in_line { end ≤ length buffer.old.line }
-    ensures after { buffer.new ≡ on_line_span (λ _. in_its_order {X = hb_glyph_info_t} part glyphs.now) start end buffer.old }
+    ensures after { buffer.new ≡ on_line_span (λ _. in_its_order {X = hb_glyph_info_t} part (take (size_of part) (glyphs.0 ∷ glyphs.1 ∷ []))) start end buffer.old }
     ensures count { length buffer.new.line ≡ length buffer.old.line }
 {
     match part {
-        Part::TwoTurned => put_glyphs(buffer, start, end, &[glyphs[1], glyphs[0]]),
-        Part::Nothing | Part::One | Part::Two => put_glyphs(buffer, start, end, glyphs),
+        Part::Nothing => {}
+        Part::One => *buffer.info_mut(start) = glyphs.0,
+        Part::Two => {
+            *buffer.info_mut(start) = glyphs.0;
+            *buffer.info_mut(end - 1) = glyphs.1;
+        }
+        Part::TwoTurned => {
+            *buffer.info_mut(start) = glyphs.1;
+            *buffer.info_mut(end - 1) = glyphs.0;
+        }
     }
 }
 
@@ -114,31 +105,6 @@ fn move_middle<A: Allocator + Copy>(
     }
 }
 
-/// Moves a span from place `start` up to place `end` as a verb says, given its front and its back.
-#[tactic(auto, unfolding(crate::specs::Rearrangement::rearranged))]
-fn put_moved<A: Allocator + Copy>(
-    verb: Verb,
-    buffer: &mut hb_buffer_t<A>,
-    start: usize,
-    end: usize,
-    front: &[hb_glyph_info_t],
-    back: &[hb_glyph_info_t],
-)
-    requires room { size_of verb.front + size_of verb.back ≤ end - start }
-    requires ordered { start ≤ end }
-    requires in_line { end ≤ length buffer.old.line }
-    requires front { front.now ≡ slice_range buffer.old.line start (start + size_of verb.front) }
-    requires back { back.now ≡ slice_range buffer.old.line (end - size_of verb.back) end }
-    ensures after { buffer.new ≡ on_line_span (rearranged verb) start end buffer.old }
-    ensures count { length buffer.new.line ≡ length buffer.old.line }
-{
-    let left = verb.front.size();
-    let right = verb.back.size();
-    move_middle(buffer, start, end, left, right);
-    put_part(verb.back, buffer, start, start + right, back);
-    put_part(verb.front, buffer, end - left, end, front);
-}
-
 /// Moves the span from place `start` up to place `end` as a verb says. In as many steps as the span is long, and in a
 /// bounded number where the verb takes as many glyphs from its front as from its back.
 pub(crate) fn move_span<A: Allocator + Copy>(
@@ -155,10 +121,9 @@ pub(crate) fn move_span<A: Allocator + Copy>(
 {
     let left = verb.front.size();
     let right = verb.back.size();
-    let mut ends = [hb_glyph_info_t::default(); 4];
-    let (front, rest) = ends.split_at_mut(left);
-    let (back, _) = rest.split_at_mut(right);
-    copy_glyphs(buffer, start, start + left, front);
-    copy_glyphs(buffer, end - right, end, back);
-    put_moved(verb, buffer, start, end, front, back);
+    let front = copied_part(verb.front, buffer, start, start + left);
+    let back = copied_part(verb.back, buffer, end - right, end);
+    move_middle(buffer, start, end, left, right);
+    put_part(verb.back, buffer, start, start + right, back);
+    put_part(verb.front, buffer, end - left, end, front);
 }

@@ -32,6 +32,7 @@ pub use Rattle.aat_morx.specs.Kept
 pub use Rattle.aat_morx.specs.Substitution
 pub use Rattle.aat_kerning.specs.Advances
 pub use Rattle.aat_kerning.specs.Cut
+pub use Rattle.aat_kerning.specs.KerningLawful
 pub use Rattle.aat_kerning.specs.PairKerning
 pub use Rattle.aat_kerning.specs.Pairs
 pub use Rattle.aat_kerning.specs.Positioning

@@ -26,7 +26,8 @@ abbrev pub IsIsolatedWith : Sizes → hb_ot_shape_plan_t → hb_font_t → Buffe
 IsIsolatedWith z plan face old new =
     (requests : List feature_range_t)
     → AskAlike (plan_requests plan face) requests (chains_in (tables_of face).morx) old.line
-    → AreOneButCursor new (substituted z (switched plan.apply_morx requests (chains_in (tables_of face).morx)) old).buffer
+    → AreOneButCursor new
+    (substituted z (switched plan.apply_morx requests (chains_in (tables_of face).morx)) old).buffer
 
 -- the same with the usual sizes
 abbrev pub IsIsolated : hb_ot_shape_plan_t → hb_font_t → Buffer → Buffer → Type 0

@@ -18,7 +18,8 @@ first_too_large plan face = first_too_large_among (tables_of face).feat plan.use
 -- a plan makes a request, or where no feature is too large has its requests compiled
 abbrev pub wants_memory : hb_ot_shape_plan_t → hb_font_t → Bool
 wants_memory plan face =
-    makes_request (tables_of face).feat plan.user_features.items || (plan.apply_morx && is_none (first_too_large plan face))
+    makes_request (tables_of face).feat plan.user_features.items
+    || (plan.apply_morx && is_none (first_too_large plan face))
 
 -- why a plan is refused
 abbrev pub RefusesPlan : hb_ot_shape_plan_t → hb_font_t → AatError → Type 0
@@ -45,7 +46,8 @@ grows_with z plan face b = is_none (first_too_large plan face) && passes_with z 
 -- why a substitution with sizes is refused: first a buffer that had failed; then the plan; then a line that would pass
 -- the longest one, or want of memory where the line would get longer
 abbrev pub RefusesSubstitutionWith : Sizes → hb_ot_shape_plan_t → hb_font_t → Buffer → AatError → Type 0
-RefusesSubstitutionWith z plan face b (AaltValue value) = (b.successful ≡ true) × (first_too_large plan face ≡ Some value)
+RefusesSubstitutionWith z plan face b (AaltValue value) =
+    (b.successful ≡ true) × (first_too_large plan face ≡ Some value)
 RefusesSubstitutionWith z plan face b TooLong =
     (b.successful ≡ true) × (first_too_large plan face ≡ None) × IsTrue (passes_with z plan face b b.max_len)
 RefusesSubstitutionWith z plan face b OutOfMemory =

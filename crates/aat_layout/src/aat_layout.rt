@@ -41,17 +41,17 @@ pub type Turns = u64;
 ///
 /// Refused, in this order: as 4, `BufferFailed`, where a call of the buffer was refused before; then for each feature
 /// in turn as 1, `AaltValue`, for a value of alternates that is no setting, and as 3, `OutOfMemory`, where its request
-/// gets no memory; then as 3 where compiling gets no memory. After each of these the buffer is unchanged (of 3 the
-/// contract says so where substitution leaves no longer line, or a feature asks for alternates by such a value). At
-/// last, in the middle of a run, as 2, `TooLong`, only where substitution leaves a line longer than the buffer's
-/// `max_len`, and as 3 only where it leaves a longer line than it found; then the buffer has failed, its line is some
-/// line of 16-bit glyphs that has at most its greatest length, and all but line, cursor, positions and budget is as
-/// before.
+/// gets no memory; then as 3, `OutOfMemory`, where compiling gets no memory. After each of these the buffer is
+/// unchanged (of 3, `OutOfMemory`, the contract says so where substitution leaves no longer line, or a feature asks for
+/// alternates by such a value). At last, in the middle of a run, as 2, `TooLong`, only where substitution leaves a line
+/// longer than the buffer's `max_len`, and as 3, `OutOfMemory`, only where it leaves a longer line than it found; then
+/// the buffer has failed, its line is some line of 16-bit glyphs that has at most its greatest length, and all but
+/// line, cursor, positions and budget is as before.
 ///
 /// With S subtables in all chains, n glyphs and a budget M (0 where it is negative) it takes at most S(n + M + 1) turns
-/// and leaves at most n + M glyphs. So it is never refused as `TooLong` where n + M is at most `max_len`; and where no
-/// subtable is one of insertion the number of glyphs stays, and a refusal has a reason that stands before the subtables
-/// and leaves the buffer unchanged.
+/// and leaves at most n + M glyphs. So it is never refused as 2, `TooLong`, where n + M is at most `max_len`; and where
+/// no subtable is one of insertion the number of glyphs stays, and a refusal has a reason that stands before the
+/// subtables and leaves the buffer unchanged.
 ///
 /// At each cluster level but `HB_BUFFER_CLUSTER_LEVEL_CHARACTERS`, clusters that never fall along the line never fall
 /// afterwards, and those that never rise never rise. At every level each cluster stood on the line before. What is

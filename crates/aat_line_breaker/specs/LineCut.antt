@@ -21,7 +21,7 @@ advance_before q b =
 
 -- a line whose kerning skips these glyph props may be cut at q, in processing order, and goes before q no further than
 -- the limit
-pub record IsFit (limit : ℤ) (skips : ℕ) (b : Buffer) (q : ℕ) : Type 0 where
+pub record IsCutWithin (limit : ℤ) (skips : ℕ) (b : Buffer) (q : ℕ) : Type 0 where
   pub cut : IsCutPlace skips q b
   pub within : advance_before q b ≤ℤ limit
 

@@ -6,7 +6,7 @@ ghost use Rattle.aat_layout.specs.Clusters.{IsSmall};
 ghost use Rattle.aat_layout.specs.Face.{kern_in, tables_of};
 ghost use Rattle.aat_layout.specs.Pairs.{kern_skips};
 ghost use Rattle.aat_layout.specs.Positioning.{AreKernPairs, kern_positioning};
-ghost use Rattle.aat_line_breaker.specs.LineCut.{IsFit, IsLast, IsLeftOfPartsAt};
+ghost use Rattle.aat_line_breaker.specs.LineCut.{IsCutWithin, IsLast, IsLeftOfPartsAt};
 
 mod order;
 mod place;
@@ -48,7 +48,7 @@ pub fn kern_and_cut<A: Allocator + Copy>(
     ensures reason { IfErr result (λ error. error ≡ AatError.BufferFailed) }
     ensures unchanged { OnErr result (buffer.new ≡ buffer.old) }
     ensures kerned { OnOk result (buffer.new ≡ (kern_positioning plan.now.requested_kerning plan.now.kern_mask (kern_in (tables_of face.now).kern) buffer.old).buffer) }
-    ensures last { IfOk result (λ place. IsLast (IsFit limit kern_skips buffer.new) place) }
+    ensures last { IfOk result (λ place. IsLast (IsCutWithin limit kern_skips buffer.new) place) }
     ensures apart { IfOk result (λ place. IfSome place (λ q. IsLeftOfPartsAt q (kern_positioning plan.now.requested_kerning plan.now.kern_mask (kern_in (tables_of face.now).kern)) buffer.old buffer.new)) }
 {
     hb_ot_layout_kern(plan, face, buffer)?;

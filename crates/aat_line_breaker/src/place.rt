@@ -5,7 +5,7 @@ ghost use Rattle.aat_layout.specs.Cut.{IsCutPlace, IsLeftOfAlikeParts, PairsAlon
 ghost use Rattle.aat_layout.specs.Outcome.{Outcome};
 ghost use Rattle.aat_layout.specs.Positioning.{Kerning};
 ghost use Rattle.aat_layout.specs.Positions.{IsPlaced};
-ghost use Rattle.aat_line_breaker.specs.LineCut.{IsFit, IsLast, IsLeftOfPartsAt, advance_before};
+ghost use Rattle.aat_line_breaker.specs.LineCut.{IsCutWithin, IsLast, IsLeftOfPartsAt, advance_before};
 
 use crate::order::{advance_at, glyph_at};
 use aat_layout::buffer::{glyph_flag, hb_buffer_t};
@@ -44,7 +44,7 @@ fn fits<A: Allocator + Copy>(
     requires in_line { place < length buffer.now.line }
     requires placed { IsPlaced buffer.now }
     requires before { advance ≡ advance_before place buffer.now }
-    ensures { IsTrue result ↔ IsFit limit skips buffer.now place }
+    ensures { IsTrue result ↔ IsCutWithin limit skips buffer.now place }
 {
     advance <= limit && may_be_cut(skips, buffer, place)
 }
@@ -76,7 +76,7 @@ pub fn last_cut<A: Allocator + Copy>(
     buffer: &hb_buffer_t<A>,
 ) -> Option<usize>
     requires placed { IsPlaced buffer.now }
-    ensures last { IsLast (IsFit limit skips buffer.now) result }
+    ensures last { IsLast (IsCutWithin limit skips buffer.now) result }
     ensures apart { (ks : List Kerning) (kern : Buffer → Outcome) (line : Buffer) → PairsAlone ks line → IsLeftOfAlikeParts skips ks kern line buffer.now → IfSome result (λ q. IsLeftOfPartsAt q kern line buffer.now) }
 {
     let mut last = None;

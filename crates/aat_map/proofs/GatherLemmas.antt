@@ -188,7 +188,7 @@ kept_apart (x ∷ xs) =
     (AllPairs-filter (λ a b. in_group a b ≡ false) p (kept xs) (kept_apart xs))
 
 -- the same without an order of the places
-abbrev IsDistinct : List feature_info_t → Type 0
+abbrev pub IsDistinct : List feature_info_t → Type 0
 IsDistinct l =
     (i j : ℕ) (d : feature_info_t)
     → i < length l → j < length l → i ≢ j
@@ -224,7 +224,7 @@ swap_distinct l a b la lb distinct i j d li lj ne =
     rw (get_or-swap l a b i d la lb li', get_or-swap l a b j d la lb lj') (distinct _ _ d pi pj apart)
 
 -- what is kept, in any order
-kept_distinct : (xs ys : List feature_info_t) → IsPermutation (kept xs) ys → IsDistinct ys
+pub kept_distinct : (xs ys : List feature_info_t) → IsPermutation (kept xs) ys → IsDistinct ys
 kept_distinct xs ys moved = IsPermutation-keeps (kept xs) IsDistinct (distinct_from_apart (kept xs) (kept_apart xs)) (λ l a b la lb distinct. swap_distinct l a b la lb distinct) ys moved
 
 rising_order : (o : Ordering) → o ≢ Equal → is_lt (ordering_reverse o) ≡ false → o ≡ Less

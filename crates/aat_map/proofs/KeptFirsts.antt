@@ -1,15 +1,15 @@
 -- What is kept is the first of each group.
-use Rattle.std.proofs.Common.{◌≡◌, ◌∙◌, ap, sym, refl, ℕ, ◌+◌, ◌<◌, take, length, get_or, Bool, true, false, not, ◌||◌, cond, List, [], ◌∷◌, ◌++◌, filter, fold, IsPermutation, Option, Some, None}
+use Rattle.std.proofs.Common.{◌≡◌, ◌∙◌, ap, sym, refl, arith, ℕ, suc, ◌+◌, ◌<◌, take, length, get_or, Bool, true, false, not, ◌||◌, cond, List, [], ◌∷◌, ◌++◌, filter, fold, IsPermutation, Option, Some, None}
 use Rattle.std.proofs.Math.Bool.{or-true}
 use Rattle.std.specs.List.{list_any, AllByRecursion}
 use Rattle.std.proofs.lemmas.List.{map-append, take_more}
-use Rattle.std.proofs.lemmas.List.Sorted.{IsPermutation-refl, IsPermutation-trans, IsPermutation-append_right, IsPermutation-filter_both}
+use Rattle.std.proofs.lemmas.List.Sorted.{IsPermutation-refl, IsPermutation-trans, IsPermutation-append_right, IsPermutation-filter_both, list_any-IsPermutation}
 use Rattle.aat_map.specs.declared.feature.feature_info_t.{feature_info_t}
 use Rattle.aat_map.specs.declared.feature.feature_range_t.{feature_range_t}
 use Rattle.aat_map.specs.Live.{is_equal, in_group, kept, infos, without_earliest, live_among, has_begun, has_ended}
-use Rattle.aat_map.specs.inside.Firsts.{first_of, firsts_of, present, AreApart, AreGrouped}
+use Rattle.aat_map.specs.inside.Firsts.{first_of, firsts_of, present, AreApart, AreGrouped, AreGroupsOf}
 use Rattle.aat_map.proofs.Truth.{true_not_false}
-use Rattle.aat_map.proofs.GatherLemmas.{group_trans, group_sym, any_kept_step, kept_more}
+use Rattle.aat_map.proofs.GatherLemmas.{IsDistinct, group_trans, group_sym, any_kept_step, kept_distinct, kept_more}
 use Rattle.aat_map.proofs.FirstLemmas.{apart_from, group_self, false_is}
 
 abbrev of_group : feature_info_t → feature_info_t → Bool
@@ -171,45 +171,6 @@ kept_present (g ∷ gs) list apart grouped =
     (rw is at parts)
     (rw whole at (IsPermutation-append_right (there (first_of list g)) (kept rest) (present (firsts_of gs rest)) later))
 
--- what is kept is of different groups
-all_step :
-    (P : feature_info_t → Type 0) (b : Bool) (x : feature_info_t) (xs : List feature_info_t) → P x
-    → AllByRecursion P xs → AllByRecursion P (cond b (x ∷ xs) xs)
-all_step P true x xs h k = (h, k)
-all_step P false x xs h k = k
-
-apart_filter :
-    (P : feature_info_t → Type 0) (p : feature_info_t → Bool) (xs : List feature_info_t)
-    → AllByRecursion P xs → AllByRecursion P (filter p xs)
-apart_filter P p [] h = tt
-apart_filter P p (x ∷ xs) h = all_step P (p x) x (filter p xs) h.0 (apart_filter P p xs h.1)
-
-rest_step :
-    (b : Bool) (x : feature_info_t) (xs : List feature_info_t) → AllByRecursion (λ j. in_group x j ≡ false) xs
-    → AreApart xs → AreApart (cond b (x ∷ xs) xs)
-rest_step true x xs h k = (h, k)
-rest_step false x xs h k = k
-
-apart_rest : (p : feature_info_t → Bool) (xs : List feature_info_t) → AreApart xs → AreApart (filter p xs)
-apart_rest p [] h = tt
-apart_rest p (x ∷ xs) h =
-    rest_step (p x) x (filter p xs) (apart_filter (λ j. in_group x j ≡ false) p xs h.0) (apart_rest p xs h.1)
-
-passed_step :
-    (b : Bool) (i x : feature_info_t) (xs : List feature_info_t) → in_group i x ≡ b
-    → AllByRecursion (λ j. in_group i j ≡ false) xs
-    → AllByRecursion (λ j. in_group i j ≡ false) (cond (not b) (x ∷ xs) xs)
-passed_step true i x xs e h = h
-passed_step false i x xs e h = (e, h)
-
-passed : (i : feature_info_t) (xs : List feature_info_t) → AllByRecursion (λ j. in_group i j ≡ false) (filter (apart_of i) xs)
-passed i [] = tt
-passed i (x ∷ xs) = passed_step (in_group i x) i x (filter (apart_of i) xs) refl (passed i xs)
-
-pub groups_apart : (xs : List feature_info_t) → AreApart (kept xs)
-groups_apart [] = tt
-groups_apart (x ∷ xs) = (passed x (kept xs), apart_rest (apart_of x) (kept xs) (groups_apart xs))
-
 -- each of a list is of a group that is kept
 any_kept :
     (i : feature_info_t) (xs : List feature_info_t)
@@ -265,14 +226,42 @@ begun_all P p (r ∷ rs) h = begun_step P (p r) r (filter p rs) h.0 (begun_all P
 -- what is kept of what is live, from the first of each group of requests
 pub live_present :
     (x : ℕ) (ordered : List feature_range_t) (groups : List feature_info_t) (active : List feature_info_t)
-    → groups ≡ kept (infos ordered) → active ≡ live_among x ordered
+    → AreGroupsOf (infos ordered) groups → active ≡ live_among x ordered
     → IsPermutation (kept active) (present (firsts_of groups active))
-live_present x ordered groups active is live =
-    let each : AreGrouped (kept (infos ordered)) (live_among x ordered) =
-    taken_all (λ i. list_any (λ g. in_group g i) (kept (infos ordered)) ≡ true) (infos (filter (has_ended x) ordered)) (infos (filter (has_begun x) ordered))
-    (begun_all (λ i. list_any (λ g. in_group g i) (kept (infos ordered)) ≡ true) (has_begun x) ordered
-    (grouped_kept (infos ordered) (infos ordered) (grouped_self (infos ordered)))) in
-    rw (is, live) (kept_present (kept (infos ordered)) (live_among x ordered) (groups_apart (infos ordered)) each)
+live_present x ordered groups active one_each live =
+    let each : AreGrouped groups (live_among x ordered) =
+    taken_all (λ i. list_any (λ g. in_group g i) groups ≡ true) (infos (filter (has_ended x) ordered)) (infos (filter (has_begun x) ordered))
+    (begun_all (λ i. list_any (λ g. in_group g i) groups ≡ true) (has_begun x) ordered one_each.each) in
+    rw live (kept_present groups (live_among x ordered) one_each.apart each)
+
+-- what is so of each element
+each_of :
+    (P : feature_info_t → Type 0) (xs : List feature_info_t)
+    → ((j : ℕ) (d : feature_info_t) → j < length xs → P (get_or xs j d)) → AllByRecursion P xs
+each_of P [] h = tt
+each_of P (x ∷ xs) h = (h 0 x (omega arith), each_of P xs (λ j d low. h (suc j) d (omega (arith, low))))
+
+-- what is of different groups at different places is apart
+apart_from_distinct : (xs : List feature_info_t) → IsDistinct xs → AreApart xs
+apart_from_distinct [] distinct = tt
+apart_from_distinct (x ∷ xs) distinct = (
+  each_of (λ h. in_group x h ≡ false) xs (λ j d low. distinct 0 (suc j) d (omega arith) (omega (arith, low)) (λ same. absurd (omega (arith, same)))),
+  apart_from_distinct xs (λ i j d low high other. distinct (suc i) (suc j) d (omega (arith, low)) (omega (arith, high)) (λ same. other (omega (arith, same)))),
+)
+
+grouped_moved :
+    (xs ys list : List feature_info_t) → IsPermutation xs ys → AreGrouped xs list → AreGrouped ys list
+grouped_moved xs ys [] moved h = tt
+grouped_moved xs ys (i ∷ is) moved h =
+    (sym (list_any-IsPermutation (λ g. in_group g i) xs ys moved) ∙ h.0, grouped_moved xs ys is moved h.1)
+
+-- what is kept of a list, in any order, is one of each group
+pub groups_moved :
+    (list groups : List feature_info_t) → IsPermutation (kept list) groups → AreGroupsOf list groups
+groups_moved list groups moved = record {
+  apart = apart_from_distinct groups (kept_distinct list groups moved);
+  each = grouped_moved (kept list) groups list moved (grouped_kept list list (grouped_self list));
+}
 
 -- of one request more the group is there where it is new
 pub group_more :

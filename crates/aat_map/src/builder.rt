@@ -12,6 +12,7 @@ use aat_font::{Feature, hb_font_t};
 use aat_run::AatError;
 use std::alloc::{Allocator, Global};
 use std::marker::Model;
+use std::mem;
 
 /// Gathers requests for features, and compiles them into the flags of each chain.
 ///
@@ -55,8 +56,8 @@ impl<A: Allocator + Copy> hb_aat_map_builder_t<A> {
     /// A builder with the requests that features of the user make, in their order, whose range is the whole text.
     ///
     /// Refused as [`add_feature`](Self::add_feature) is, of the first feature that is refused: as 1, `AaltValue`, with
-    /// the first value of alternates that is no setting, and as 3, `OutOfMemory`, only where a feature before that one
-    /// makes a request.
+    /// the first value of alternates that is no setting, and as 3, `OutOfMemory`, only where a feature makes a request
+    /// before any with such a value.
     pub fn with_features(
         alloc: A,
         face: &hb_font_t,
@@ -125,17 +126,18 @@ impl<A: Allocator + Copy> hb_aat_map_builder_t<A> {
         &self.current_features
     }
 
-    /// Sets the range and the settings that are kept in it, which have to rise by their group.
-    pub(crate) fn set_range(&mut self, range: (u32, u32), settings: Vec<feature_info_t, A>)
+    /// Sets the range, and takes the settings that are kept in it, which have to rise by their group. Those that were
+    /// kept are handed out for them, so that their list can be filled anew.
+    pub(crate) fn set_range(&mut self, range: (u32, u32), settings: &mut Vec<feature_info_t, A>)
         requires ordered { range.0 ≤ range.1 }
-        requires rising { IsRisingByGroup settings.items }
+        requires rising { IsRisingByGroup settings.old.items }
         ensures { self.new ≡ record self.old {
-          current_features = settings.items;
+          current_features = settings.old.items;
           range_first = range.0;
           range_last = range.1;
         } }
     {
-        self.current_features = settings;
+        mem::swap(&mut self.current_features, settings);
         self.range_first = range.0;
         self.range_last = range.1;
     }

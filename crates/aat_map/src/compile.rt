@@ -17,7 +17,7 @@ ghost use Rattle.aat_map.specs.inside.Walked.{AreWalked};
 
 use crate::builder::hb_aat_map_builder_t;
 use crate::feature::{feature_info_t, feature_range_t};
-use crate::gather::{by_start, count_up_to, kept_of};
+use crate::gather::{by_start, count_up_to, keep};
 use crate::live::live_at_start;
 use crate::map::hb_aat_map_t;
 use crate::remembered::{flags_of_chains, push_flags, renew};
@@ -109,10 +109,19 @@ fn compile_spans<A: Allocator + Copy>(
     let mut live = live_at_start(builder.allocator(), ordered)?;
     let mut flags = flags_of_chains(builder.allocator(), chains, builder.current_features())?;
     let mut passed = (count_up_to(ordered, 0), count_ending(ending, 0));
+    let mut kept = Vec::new(builder.allocator());
     for i in 0..starts.len() {
         let span = span_at(starts, i);
         passed = go_on(&mut live, passed, ordered, ending, span.0)?;
-        compile_span(builder, chains, map, &live.firsts, &mut flags, span)?;
+        compile_span(
+            builder,
+            chains,
+            map,
+            &live.firsts,
+            &mut flags,
+            &mut kept,
+            span,
+        )?;
     }
     Ok(())
 }
@@ -132,13 +141,15 @@ fn span_at(starts: &[u32], i: usize) -> (u32, u32)
     }
 }
 
-/// Compiles one range, which follows the others, from the first of each group that is live there.
+/// Compiles one range, which follows the others, from the first of each group that is live there. What is kept there
+/// goes by way of a list, which is handed on from range to range.
 fn compile_span<A: Allocator + Copy>(
     builder: &mut hb_aat_map_builder_t<A>,
     chains: &[Chain],
     map: &mut hb_aat_map_t<A>,
     firsts: &[Option<feature_info_t>],
     flags: &mut [hb_mask_t],
+    kept: &mut Vec<feature_info_t, A>,
     span: (u32, u32),
 ) -> Result<(), AatError>
     requires kept { IsPermutation (kept_at span.0 builder.old.features) (present firsts.now) }
@@ -153,9 +164,8 @@ fn compile_span<A: Allocator + Copy>(
     ensures requests { builder.new.features ≡ builder.old.features }
     ensures err { IfErr result (λ e. e ≡ AatError.OutOfMemory) }
 {
-    let alloc = builder.allocator();
-    let kept = kept_of(alloc, firsts)?;
-    renew(flags, chains, builder.current_features(), &kept);
+    keep(kept, firsts)?;
+    renew(flags, chains, builder.current_features(), kept);
     builder.set_range(span, kept);
     push_flags(flags, span, map)
 }

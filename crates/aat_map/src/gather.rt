@@ -1,11 +1,11 @@
-//! Gathering the requests that count at a cluster, and the clusters where that changes.
+//! Gathering the requests that count at a cluster: in order, by their groups, and what is kept of each.
 ghost use Rattle.std.specs.Prelude.{◌≡◌, ◌≤◌, [], ◌∷◌, ◌++◌, if◌then◌else◌, length, take_while, nat_le, not};
 ghost use Rattle.std.specs.Prelude.{IfOk, IfErr, OnOk, IsPermutation};
 ghost use Rattle.std.specs.Prelude.{List};
 ghost use Rattle.aat_map.specs.declared.feature.feature_info_t.{feature_info_t};
 ghost use Rattle.aat_map.specs.Live.{by_start, admitted, infos, without_earliest};
 ghost use Rattle.aat_map.specs.Live.{is_equal, kept, in_group, IsRisingByGroup};
-ghost use Rattle.aat_map.specs.inside.Firsts.{present};
+ghost use Rattle.aat_map.specs.inside.Firsts.{AreGroupsOf, present};
 ghost use Rattle.std.specs.List.{list_any};
 
 use crate::feature::{feature_info_t, feature_order, feature_range_t};
@@ -16,8 +16,8 @@ use std::collections::VecDeque;
 
 /// The admitted requests by start, and where starts are equal in the order of adding.
 ///
-/// A request whose start is not below its end holds no cluster. It is dropped here, since its end would
-/// else come before it has begun, and take out an equal request that is still live.
+/// A request whose start is not below its end holds no cluster. It is dropped here, since its end, which comes no later
+/// than its start, would else take out an equal request that is still live.
 pub(crate) fn by_start<A: Allocator + Copy>(
     alloc: A,
     requests: &[feature_range_t],
@@ -38,7 +38,7 @@ fn admitted<A: Allocator + Copy>(
     ensures ok { IfOk result (λ list. list.items ≡ admitted requests.now) }
     ensures err { IfErr result (λ e. e ≡ AatError.OutOfMemory) }
 {
-    let mut list = Vec::new(alloc);
+    let mut list = Vec::with_capacity(alloc, requests.len())?;
     for request in requests {
         if request.start < request.end {
             list.push(*request)?;
@@ -82,34 +82,34 @@ pub(crate) fn is_equal(a: &feature_info_t, b: &feature_info_t) -> bool
     a == b
 }
 
-/// What is there of the first of each group, in the order of groups.
-pub(crate) fn kept_of<A: Allocator + Copy>(
-    alloc: A,
+/// Leaves in a list what is there of the first of each group, in the order of groups.
+pub(crate) fn keep<A: Allocator>(
+    list: &mut Vec<feature_info_t, A>,
     firsts: &[Option<feature_info_t>],
-) -> Result<Vec<feature_info_t, A>, AatError>
-    ensures kept { IfOk result (λ list. IsPermutation (present firsts.now) list.items) }
-    ensures rising { IfOk result (λ list. (xs : List feature_info_t) → IsPermutation (kept xs) (present firsts.now)
-        → IsRisingByGroup list.items) }
+) -> Result<(), AatError>
+    ensures kept { OnOk result (IsPermutation (present firsts.now) list.new.items) }
+    ensures rising { OnOk result ((xs : List feature_info_t) → IsPermutation (kept xs) (present firsts.now)
+        → IsRisingByGroup list.new.items) }
     ensures err { IfErr result (λ e. e ≡ AatError.OutOfMemory) }
 {
-    let mut list = present(alloc, firsts)?;
+    fill(list, firsts)?;
     list.sort_unstable_by(|a, b| feature_order(a, b));
-    Ok(list)
+    Ok(())
 }
 
-/// What is there of the first of each group.
-fn present<A: Allocator + Copy>(
-    alloc: A,
+/// Leaves in a list what is there of the first of each group.
+fn fill<A: Allocator>(
+    list: &mut Vec<feature_info_t, A>,
     firsts: &[Option<feature_info_t>],
-) -> Result<Vec<feature_info_t, A>, AatError>
-    ensures ok { IfOk result (λ list. list.items ≡ present firsts.now) }
+) -> Result<(), AatError>
+    ensures ok { OnOk result (list.new.items ≡ present firsts.now) }
     ensures err { IfErr result (λ e. e ≡ AatError.OutOfMemory) }
 {
-    let mut list = Vec::new(alloc);
+    list.clear();
     for first in firsts {
-        push_present(&mut list, first)?;
+        push_present(list, first)?;
     }
-    Ok(list)
+    Ok(())
 }
 
 /// Puts a setting last, if there is one.
@@ -126,8 +126,22 @@ fn push_present<A: Allocator>(
     Ok(())
 }
 
-/// Of each group of requests the first.
+/// Of each group of requests one, in the order of groups, so that what is there of the first of each needs hardly any
+/// sorting.
 pub(crate) fn groups_of<A: Allocator + Copy>(
+    alloc: A,
+    requests: &[feature_range_t],
+) -> Result<Vec<feature_info_t, A>, AatError>
+    ensures ok { IfOk result (λ groups. AreGroupsOf (infos requests.now) groups.items) }
+    ensures err { IfErr result (λ e. e ≡ AatError.OutOfMemory) }
+{
+    let mut groups = first_of_each(alloc, requests)?;
+    groups.sort_unstable_by(|a, b| feature_order(a, b));
+    Ok(groups)
+}
+
+/// Of each group of requests the first.
+fn first_of_each<A: Allocator + Copy>(
     alloc: A,
     requests: &[feature_range_t],
 ) -> Result<Vec<feature_info_t, A>, AatError>

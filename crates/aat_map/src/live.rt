@@ -1,8 +1,8 @@
 //! What is live, and of each group the first.
 ghost use Rattle.std.specs.Prelude.{◌≡◌, ◌≤◌, [], ◌∷◌, ◌++◌, length, filter, not, take_while};
 ghost use Rattle.std.specs.Prelude.{IfOk, IfErr, OnOk};
-ghost use Rattle.aat_map.specs.Live.{has_begun, in_group, infos, kept, without_earliest};
-ghost use Rattle.aat_map.specs.inside.Firsts.{first_of, firsts_of, AreApart};
+ghost use Rattle.aat_map.specs.Live.{has_begun, in_group, infos, without_earliest};
+ghost use Rattle.aat_map.specs.inside.Firsts.{first_of, firsts_of, AreApart, AreGroupsOf};
 
 use crate::feature::{feature_info_t, feature_range_t};
 use crate::gather::{groups_of, is_one_group, take_out};
@@ -27,7 +27,7 @@ pub(crate) fn live_at_start<A: Allocator + Copy>(
     ordered: &[feature_range_t],
 ) -> Result<Live<A>, AatError>
     ensures active { IfOk result (λ live. live.active.items ≡ infos (filter (has_begun 0) ordered.now)) }
-    ensures groups { IfOk result (λ live. live.groups.items ≡ kept (infos ordered.now)) }
+    ensures groups { IfOk result (λ live. AreGroupsOf (infos ordered.now) live.groups.items) }
     ensures firsts { IfOk result (λ live. live.firsts.items ≡ firsts_of live.groups.items live.active.items) }
     ensures err { IfErr result (λ e. e ≡ AatError.OutOfMemory) }
 {

@@ -35,7 +35,7 @@ fn ending_within<A: Allocator + Copy>(
     ensures ok { IfOk result (λ ending. ending.items ≡ filter ends_within ordered.now) }
     ensures err { IfErr result (λ e. e ≡ AatError.OutOfMemory) }
 {
-    let mut ending = Vec::new(alloc);
+    let mut ending = Vec::with_capacity(alloc, ordered.len())?;
     for request in ordered {
         if request.end != u32::MAX {
             ending.push(*request)?;

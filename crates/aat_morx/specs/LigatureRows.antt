@@ -9,7 +9,13 @@ use Rattle.aat_run.specs.Rows.{shows, shows_with, Printed, glyph, rising_from, d
 
 -- 10 has class 4 and 11 class 5; two component values of 0, and one ligature
 abbrev pub joining : List (ℕ × ℕ × GenericStateEntry ℕ) → List ℕ → SubtableKind
-joining listed actions = SubtableKind.Ligature (record { state = table 0 6 ((10, 4) ∷ (11, 5) ∷ []) listed; actions = actions; components = 0 ∷ 0 ∷ []; ligatures = record { 0 = 20 } ∷ [] })
+joining listed actions =
+    SubtableKind.Ligature (record {
+      state = table 0 6 ((10, 4) ∷ (11, 5) ∷ []) listed;
+      actions = actions;
+      components = 0 ∷ 0 ∷ [];
+      ligatures = record { 0 = 20 } ∷ [];
+    })
 
 -- 10 is held as a component, and 11 behind it takes both in
 abbrev pub pair : List (ℕ × ℕ × GenericStateEntry ℕ)
@@ -27,16 +33,40 @@ wrapping actions = joining ((0, 4, entry 0 0x8000 0) ∷ (0, 5, entry 0 0xA000 0
 abbrev pub sized_row : ℕ → SubtableKind → List hb_glyph_info_t → Printed
 sized_row slots kind line = row_of_sizes (record sizes { slots = slots }) kind line
 
+-- 10, 11 and 12 are joined by three actions, of which the second one stores
+abbrev pub storing : SubtableKind
+storing =
+    SubtableKind.Ligature (record {
+      state = table 0 7 ((10, 4) ∷ (11, 5) ∷ (12, 6) ∷ [])
+          ((0, 4, entry 1 0x8000 0) ∷ (1, 5, entry 1 0x8000 0) ∷ (1, 6, entry 0 0xA000 0) ∷ []);
+      actions = 0x3FFFFFF6 ∷ 0x7FFFFFF6 ∷ 0xBFFFFFF6 ∷ [];
+      components = 1 ∷ 1 ∷ 0 ∷ [];
+      ligatures = record { 0 = 20 } ∷ record { 0 = 21 } ∷ record { 0 = 22 } ∷ [];
+    })
+
+-- the sum of the components leads past the one ligature
+abbrev pub without_ligature : SubtableKind
+without_ligature =
+    SubtableKind.Ligature (record {
+      state = table 0 6 ((10, 4) ∷ (11, 5) ∷ []) pair;
+      actions = two;
+      components = 0 ∷ 1 ∷ [];
+      ligatures = record { 0 = 20 } ∷ [];
+    })
+
 pub record LigatureRows : Type 0 where
   pub row_11a : row (joining pair two) (rising_from 0 (10 ∷ 11 ∷ [])) ≡ shows (glyph 20 0 0 ∷ deleted_in 0 ∷ []) 3
-  pub row_11b : (removed is_deleted (substituted_by (subtable (joining pair two) ∷ []) (buffer_with (rising_from 0 (10 ∷ 11 ∷ [])) many)).buffer).line ≡ glyph 20 0 0 ∷ []
+  pub row_11b :
+      (removed is_deleted (substituted_by (subtable (joining pair two) ∷ [])
+      (buffer_with (rising_from 0 (10 ∷ 11 ∷ [])) many)).buffer).line
+      ≡ glyph 20 0 0 ∷ []
   -- a glyph that is off in between leaves the registers
   pub row_12 :
       row_on (λ x. not (x == 1)) (joining ((0, 5, entry 0 0xA000 0) ∷ pair) two) (rising_from 0 (10 ∷ 50 ∷ 11 ∷ []))
       ≡ shows (glyph 20 0 0 ∷ glyph 50 0 0 ∷ deleted_in 0 ∷ []) 4
   -- a store keeps the sum, and its ligature is taken by the last one
   pub row_24 :
-      row (SubtableKind.Ligature (record { state = table 0 7 ((10, 4) ∷ (11, 5) ∷ (12, 6) ∷ []) ((0, 4, entry 1 0x8000 0) ∷ (1, 5, entry 1 0x8000 0) ∷ (1, 6, entry 0 0xA000 0) ∷ []); actions = 0x3FFFFFF6 ∷ 0x7FFFFFF6 ∷ 0xBFFFFFF6 ∷ []; components = 1 ∷ 1 ∷ 0 ∷ []; ligatures = record { 0 = 20 } ∷ record { 0 = 21 } ∷ record { 0 = 22 } ∷ [] })) (rising_from 0 (10 ∷ 11 ∷ 12 ∷ []))
+      row storing (rising_from 0 (10 ∷ 11 ∷ 12 ∷ []))
       ≡ shows (glyph 22 0 0 ∷ deleted_in 0 ∷ deleted_in 0 ∷ []) 4
   -- the two newest components stand in the slots of the two oldest, so the ligature is deleted as a component
   pub row_31 :
@@ -44,15 +74,25 @@ pub record LigatureRows : Type 0 where
       ≡ shows (rising_from 0 (10 ∷ 10 ∷ []) ++ (deleted_from 2 (replicate 63 0) ++ deleted_in 64 ∷ [])) 67
   -- the last ligature stands behind its components, and nothing merges
   pub row_32 :
-      row (wrapping (0x3FFFFFF6 ∷ 0x3FFFFFF6 ∷ 0x7FFFFFF6 ∷ replicate 61 0x3FFFFFF6 ++ 0xBFFF0001 ∷ [])) (rising_from 0 (replicate 65 10 ++ 11 ∷ []))
-      ≡ shows (rising_from 0 (10 ∷ 10 ∷ []) ++ (deleted_from 2 (replicate 62 0) ++ deleted_in 63 ∷ record (deleted_in 63) { glyph_id = 20 } ∷ [])) 67
-  pub row_37a : sized_row 1 (joining pair two) (rising_from 0 (10 ∷ 11 ∷ [])) ≡ shows (glyph 10 0 0 ∷ record (deleted_in 1) { mask = 3 } ∷ []) 3
-  pub row_37b : sized_row 2 (joining pair two) (rising_from 0 (10 ∷ 11 ∷ [])) ≡ shows (glyph 20 0 0 ∷ deleted_in 0 ∷ []) 3
+      row (wrapping (0x3FFFFFF6 ∷ 0x3FFFFFF6 ∷ 0x7FFFFFF6 ∷ replicate 61 0x3FFFFFF6 ++ 0xBFFF0001 ∷ []))
+      (rising_from 0 (replicate 65 10 ++ 11 ∷ []))
+      ≡ shows (rising_from 0 (10 ∷ 10 ∷ [])
+      ++ (deleted_from 2 (replicate 62 0) ++ deleted_in 63 ∷ record (deleted_in 63) { glyph_id = 20 } ∷ [])) 67
+  pub row_37a :
+      sized_row 1 (joining pair two) (rising_from 0 (10 ∷ 11 ∷ []))
+      ≡ shows (glyph 10 0 0 ∷ record (deleted_in 1) { mask = 3 } ∷ []) 3
+  pub row_37b :
+      sized_row 2 (joining pair two) (rising_from 0 (10 ∷ 11 ∷ [])) ≡ shows (glyph 20 0 0 ∷ deleted_in 0 ∷ []) 3
   -- a ligature keeps the glyph props of the glyph that it replaces
-  pub kept_props : row (joining pair two) (record (glyph 10 0 0) { glyph_props = 2 } ∷ glyph 11 1 0 ∷ []) ≡ shows (record (glyph 20 0 0) { glyph_props = 2 } ∷ deleted_in 0 ∷ []) 3
+  pub kept_props :
+      row (joining pair two) (record (glyph 10 0 0) { glyph_props = 2 } ∷ glyph 11 1 0 ∷ [])
+      ≡ shows (record (glyph 20 0 0) { glyph_props = 2 } ∷ deleted_in 0 ∷ []) 3
   -- an entry that stays holds its glyph once: two components are taken, and the last action is not reached
   pub held_once :
-      row (joining ((0, 4, entry 1 0xC000 0) ∷ (1, 4, entry 1 0x8000 0) ∷ (1, 5, entry 0 0xA000 0) ∷ []) (0x3FFFFFF6 ∷ two)) (rising_from 0 (10 ∷ 11 ∷ [])) ≡ shows_with (pos 16383) (glyph 10 0 0 ∷ glyph 11 1 3 ∷ []) 4
+      row (joining ((0, 4, entry 1 0xC000 0) ∷ (1, 4, entry 1 0x8000 0) ∷ (1, 5, entry 0 0xA000 0) ∷ [])
+      (0x3FFFFFF6 ∷ two)) (rising_from 0 (10 ∷ 11 ∷ []))
+      ≡ shows_with (pos 16383) (glyph 10 0 0 ∷ glyph 11 1 3 ∷ []) 4
   -- a store whose ligature is missing ends the act
   pub missing :
-      row (SubtableKind.Ligature (record { state = table 0 6 ((10, 4) ∷ (11, 5) ∷ []) pair; actions = two; components = 0 ∷ 1 ∷ []; ligatures = record { 0 = 20 } ∷ [] })) (rising_from 0 (10 ∷ 11 ∷ [])) ≡ shows (glyph 10 0 0 ∷ glyph 11 1 3 ∷ []) 3
+      row without_ligature (rising_from 0 (10 ∷ 11 ∷ []))
+      ≡ shows (glyph 10 0 0 ∷ glyph 11 1 3 ∷ []) 3

@@ -25,7 +25,8 @@ chain subtables = record { switch = by_flags true (λ cluster. 1); subtables = s
 
 -- a chain of several ranges, whose lowest flag is set at the clusters that pass a test
 abbrev pub chain_on : (ℕ → Bool) → List Subtable → SwitchedChain
-chain_on on subtables = record { switch = by_flags false (λ cluster. if on cluster then 1 else 0); subtables = subtables }
+chain_on on subtables =
+    record { switch = by_flags false (λ cluster. if on cluster then 1 else 0); subtables = subtables }
 
 -- subtables of one chain over a buffer
 abbrev pub substituted_by : List Subtable → Buffer → Outcome

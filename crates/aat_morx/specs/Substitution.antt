@@ -16,7 +16,8 @@ prepared b = unsafe_to_concat (without_positions b) None None
 
 -- a subtable is left out: its chain has one range alone and it is off there, or it is not for text of this direction
 abbrev pub is_skipped : Switch → Subtable → Direction → Bool
-is_skipped switch s direction = (switch.has_one_range && not (switch.is_on s.feature_flags 0)) || not (is_for direction s.coverage)
+is_skipped switch s direction =
+    (switch.has_one_range && not (switch.is_on s.feature_flags 0)) || not (is_for direction s.coverage)
 
 -- the run of a subtable: by its kind, in the order of its coverage; one that is left out leaves the buffer, in no turn
 unfoldable pub subtable_run : Sizes → Switch → Subtable → Buffer → Outcome

@@ -38,7 +38,7 @@ use std::alloc::Allocator;
 /// `TooLong`, only where substitution leaves a line longer than the buffer's `max_len`, and as 3, `OutOfMemory`, only
 /// where it leaves a longer line than it found; then the buffer has failed, its line is some line of 16-bit glyphs that
 /// has at most its greatest length, all but line, cursor, positions and budget is as before, the run has no ranges and
-/// no feature flags, and no turns are added. So it is never refused as `TooLong` where the number of glyphs and the
+/// no feature flags, and no turns are added. So it is never refused as 2, `TooLong`, where the number of glyphs and the
 /// budget (0 where it is negative) together are at most `max_len`; and where no subtable is one of insertion the number
 /// of glyphs stays, and neither comes.
 ///

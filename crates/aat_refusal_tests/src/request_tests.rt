@@ -223,7 +223,7 @@ fn blocks_to_compile(
 }
 
 /// Row 5. A block more is left each time, until nothing is refused. `compile` takes a list of the requests in their
-/// order, one by their ends, one of the starts, those of what is live, of groups and of their firsts, one of what is
+/// order, one by their ends, one of the starts, those of what is live, of groups and of their firsts, two of what is
 /// kept, one of flags, the map's two, and what sorting takes.
 #[test]
 fn each_growth_of_compiling_refused(rt: HostRuntime) -> Result<(), Fail> {

@@ -59,12 +59,12 @@ pub record Config (R : Type 0) : Type 0 where
   pub turns : ℕ
 
 -- a run begins in state 0, with no glyph looked at and no turn taken
-abbrev pub first : {R : Type 0} → Buffer → R → Config R
-first b r = record { buffer = b; registers = r; state = 0; last = 0; turns = 0 }
+abbrev pub first_config : {R : Type 0} → Buffer → R → Config R
+first_config b r = record { buffer = b; registers = r; state = 0; last = 0; turns = 0 }
 
 -- it begins at the front; a context that is not in place drops the positions
 abbrev pub start : {R : Type 0} → Bool → Buffer → R → Config R
-start in_place b r = first (with_cursor (if in_place then b else without_positions b) 0) r
+start in_place b r = first_config (with_cursor (if in_place then b else without_positions b) 0) r
 
 abbrev pub is_at_end : Buffer → Bool
 is_at_end b = not (nat_lt b.cursor (length b.line))

@@ -140,9 +140,14 @@ pub record KeepsClusterOrder {R E : Type 0} (act : E → R → Buffer → Moved 
   pub falling : KeepsFalling act fits
   pub clusters : KeepsClusters act fits
 
+-- where something holds, clusters that never fall along the line never fall behind it, and those that never rise never
+-- rise; each of them stood on the line, whether it holds or not
+pub record KeepsOrderWhere (holds : Type 0) (old new : Buffer) : Type 0 where
+  pub rising : holds → IsRisingLine old.line → IsRisingLine new.line
+  pub falling : holds → IsFallingLine old.line → IsFallingLine new.line
+  pub clusters : ComesFrom old.line new.line
+
 -- what a run leaves of the clusters: an order along the line, unless they stay apart, and each of them stood on the
 -- line
-pub record HasOrderOf (old new : Buffer) : Type 0 where
-  pub rising : ClustersMerge old.cluster_level → IsRisingLine old.line → IsRisingLine new.line
-  pub falling : ClustersMerge old.cluster_level → IsFallingLine old.line → IsFallingLine new.line
-  pub clusters : ComesFrom old.line new.line
+abbrev pub HasOrderOf : Buffer → Buffer → Type 0
+HasOrderOf old new = KeepsOrderWhere (ClustersMerge old.cluster_level) old new

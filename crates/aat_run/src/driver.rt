@@ -3,7 +3,7 @@ ghost use Rattle.std.specs.Prelude.{◌≡◌, ◌+◌, ◌-◌, ◌<◌, ◌≤
 ghost use Rattle.aat_buffer.specs.Buffer.{with_cursor, without_positions};
 ghost use Rattle.aat_buffer.specs.Clusters.{IsSmall};
 ghost use Rattle.aat_run.specs.Budget.{potential};
-ghost use Rattle.aat_run.specs.Context.{first, machine_with};
+ghost use Rattle.aat_run.specs.Context.{first_config, machine_with};
 ghost use Rattle.aat_run.specs.Driven.{IsRefusal, IsRefused, context_from, machine_run, outcome_of, registers_behind, positions_behind};
 ghost use Rattle.aat_run.specs.Laws.{IsBounded, SameSettings};
 ghost use Rattle.aat_run.specs.Machine.{whole};
@@ -32,10 +32,10 @@ fn run_turns<T: Copy, C: driver_context_t<T>, A: Allocator + Copy>(
     requires fit { C.fits context.old buffer.old.cursor (length buffer.old.line) }
     requires ids { IsSmall buffer.old }
     requires gapless { IsGapless ranges.now }
-    ensures run { IfOk result (IsRun (whole (machine_with (is_driven_on ranges.now feature_flags) machine.now C.advances C.actionable C.act) (first buffer.old context.old)) buffer.new context.new) }
+    ensures run { IfOk result (IsRun (whole (machine_with (is_driven_on ranges.now feature_flags) machine.now C.advances C.actionable C.act) (first_config buffer.old context.old)) buffer.new context.new) }
     ensures few { IfOk result (λ turns. turns ≤ potential buffer.old + 1) }
     ensures ids { OnOk result (IsSmall buffer.new) }
-    ensures reason { IfErr result (IsRefusal buffer.old (whole (machine_with (is_driven_on ranges.now feature_flags) machine.now C.advances C.actionable C.act) (first buffer.old context.old)).buffer) }
+    ensures reason { IfErr result (IsRefusal buffer.old (whole (machine_with (is_driven_on ranges.now feature_flags) machine.now C.advances C.actionable C.act) (first_config buffer.old context.old)).buffer) }
     ensures refused { OnErr result (IsRefused buffer.old buffer.new) }
 {
     // how long the line is and how large the budget, so that the count of turns fits
@@ -83,11 +83,11 @@ fn take_turns<T: Copy, C: driver_context_t<T>, A: Allocator + Copy>(
     requires fit { C.fits context.old 0 (length buffer.old.line) }
     requires ids { IsSmall buffer.old }
     requires gapless { IsGapless ranges.now }
-    ensures run { IfOk result (λ turns. record { buffer = with_cursor buffer.new 0; turns = turns } ≡ outcome_of (whole (machine_with (is_driven_on ranges.now feature_flags) machine.now C.advances C.actionable C.act) (first buffer.old context.old))) }
-    ensures registers { OnOk result (context.new ≡ (whole (machine_with (is_driven_on ranges.now feature_flags) machine.now C.advances C.actionable C.act) (first buffer.old context.old)).registers) }
+    ensures run { IfOk result (λ turns. record { buffer = with_cursor buffer.new 0; turns = turns } ≡ outcome_of (whole (machine_with (is_driven_on ranges.now feature_flags) machine.now C.advances C.actionable C.act) (first_config buffer.old context.old))) }
+    ensures registers { OnOk result (context.new ≡ (whole (machine_with (is_driven_on ranges.now feature_flags) machine.now C.advances C.actionable C.act) (first_config buffer.old context.old)).registers) }
     ensures few { IfOk result (λ turns. turns ≤ potential buffer.old + 1) }
     ensures ids { OnOk result (IsSmall buffer.new) }
-    ensures reason { IfErr result (IsRefusal buffer.old (whole (machine_with (is_driven_on ranges.now feature_flags) machine.now C.advances C.actionable C.act) (first buffer.old context.old)).buffer) }
+    ensures reason { IfErr result (IsRefusal buffer.old (whole (machine_with (is_driven_on ranges.now feature_flags) machine.now C.advances C.actionable C.act) (first_config buffer.old context.old)).buffer) }
     ensures refused { OnErr result (IsRefused buffer.old buffer.new) }
 {
     if ranges.len() > 1 && is_nowhere_on(ranges, feature_flags) {

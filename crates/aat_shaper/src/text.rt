@@ -73,8 +73,8 @@ pub struct ShapedGlyph {
 ///
 /// Refused first as 2, `TooLong`, where the text is longer than a line, whatever the features are. Then as 1,
 /// `AaltValue`, with the first value above 65535 that a feature `aalt` asks for, where the font has settings of
-/// character alternatives and memory is not wanting before; as 2 where substitution would make the line too long; and
-/// as 3, `OutOfMemory`, where memory is wanting. It is never refused as 4, `BufferFailed`.
+/// character alternatives and memory is not wanting before; as 2, `TooLong`, where substitution would make the line too
+/// long; and as 3, `OutOfMemory`, where memory is wanting. It is never refused as 4, `BufferFailed`.
 ///
 /// Apple's TrueType Reference Manual, "The 'morx' table", "The 'kerx' table" and "The 'kern' table".
 pub fn shape_text(

@@ -7,7 +7,7 @@ use Rattle.std.specs.Prelude.{remove, slice_range}
 use Rattle.aat_glyph.specs.declared.glyph.hb_glyph_info_t.{hb_glyph_info_t}
 use Rattle.aat_buffer.specs.Buffer.{Buffer, no_glyph, glyph_at, with_cursor}
 use Rattle.aat_buffer.specs.Clusters.{ComesFrom, IsOrdered}
-use Rattle.aat_buffer.specs.Marks.{break_marked, cluster_at, clusters_stay_apart, least_of, marked_above, merge_clusters, merged, on_span, run_before, with_mask_bits, merged_line}
+use Rattle.aat_buffer.specs.Marks.{cluster_at, marked_above, merge_clusters, on_span, run_before, with_mask_bits, merged_line}
 use Rattle.aat_buffer.specs.Removal.{cluster_kept_line, lowered_run, removal, removal_step, removed, with_cluster_and_flags, with_cluster_kept, without_glyph_at_cursor}
 use Rattle.aat_buffer.specs.facts.Cases.{chosen}
 use Rattle.aat_buffer.specs.facts.Clusters.{get_before, get_behind, get_inside, length_on_span_of, order_of_clusters, order_of_merged, order_of_spread}
@@ -216,7 +216,7 @@ pub order_of_removed : (test : hb_glyph_info_t → Bool) (b : Buffer) → KeepsO
 order_of_removed test b =
     let up = all_steps (λ x y. x ≤ y) rises test b in
     let down = all_steps (λ x y. y ≤ x) falls test b in
-    record { rising = up.ordered; falling = down.ordered; clusters = up.from }
+    record { rising = λ _. up.ordered; falling = λ _. down.ordered; clusters = up.from }
 
 pub removal_keeps_order : RemovalKeepsOrder
 removal_keeps_order = record { at_every_level = order_of_removed }

@@ -94,23 +94,23 @@ order_of_marked b d marked =
     let long : length d.line ≡ length b.line = AllZip-long IsMarkedFrom b.line d.line marked in
     let equal = marked_cluster b d marked in
     record {
-      rising = order_of_clusters (λ x y. x ≤ y) rises b.line d.line long equal;
-      falling = order_of_clusters (λ x y. y ≤ x) falls b.line d.line long equal;
+      rising = λ _. order_of_clusters (λ x y. x ≤ y) rises b.line d.line long equal;
+      falling = λ _. order_of_clusters (λ x y. y ≤ x) falls b.line d.line long equal;
       clusters = λ k low. let inside : k < length b.line = omega (arith, low, long) in (k, inside, equal k inside);
     }
 
 -- one step behind another
 order_behind : (applied : Bool) (b c d : Buffer) → HasShapedOrderOf applied b c → KeepsOrder c d → HasShapedOrderOf applied b d
 order_behind applied b c d first second = record {
-  rising = λ merges up. second.rising (first.rising merges up);
-  falling = λ merges down. second.falling (first.falling merges down);
+  rising = λ merges up. second.rising tt (first.rising merges up);
+  falling = λ merges down. second.falling tt (first.falling merges down);
   clusters = comes_trans b.line c.line d.line first.clusters second.clusters;
 }
 
 same_order : (b d : Buffer) → d.line ≡ b.line → KeepsOrder b d
 same_order b d e = record {
-  rising = λ up. rw e up;
-  falling = λ down. rw e down;
+  rising = λ _ up. rw e up;
+  falling = λ _ down. rw e down;
   clusters = λ k low. (k, omega (arith, low, ap length e), ap (λ line. cluster_at line k) e);
 }
 

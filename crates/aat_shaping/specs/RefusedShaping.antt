@@ -9,7 +9,8 @@ use Rattle.aat_layout.specs.Refusals.{LeavesBehind, RefusesSubstitution, first_t
 use Rattle.aat_shaping.specs.Shaping.{substituted_by_plan}
 
 -- the plan applies substitution, which is refused so and leaves this
-pub record IsSubstitutionRefused (plan : hb_ot_shape_plan_t) (face : hb_font_t) (old new : Buffer) (error : AatError) : Type 0
+pub record IsSubstitutionRefused
+    (plan : hb_ot_shape_plan_t) (face : hb_font_t) (old new : Buffer) (error : AatError) : Type 0
   where
     pub applied : plan.apply_morx ≡ true
     pub reason : RefusesSubstitution plan face old error

@@ -1,16 +1,15 @@
 -- What shaping leaves of the clusters.
 use Rattle.std.specs.Prelude.{◌≡◌, Bool, true}
 use Rattle.aat_buffer.specs.Buffer.{Buffer}
-use Rattle.aat_buffer.specs.Clusters.{ClustersMerge, ComesFrom, IsFallingLine, IsRisingLine}
+use Rattle.aat_buffer.specs.Clusters.{ClustersMerge}
 use Rattle.aat_buffer.specs.Removal.{removed}
 use Rattle.aat_glyph.specs.declared.glyph.hb_glyph_info_t.{hb_glyph_info_t}
+use Rattle.aat_run.specs.Laws.{KeepsOrderWhere}
 
 -- clusters that never fall along the line never fall behind it, and those that never rise never rise; each of them
 -- stood on the line
-pub record KeepsOrder (old new : Buffer) : Type 0 where
-  pub rising : IsRisingLine old.line → IsRisingLine new.line
-  pub falling : IsFallingLine old.line → IsFallingLine new.line
-  pub clusters : ComesFrom old.line new.line
+abbrev pub KeepsOrder : Buffer → Buffer → Type 0
+KeepsOrder old new = KeepsOrderWhere (Unit {0}) old new
 
 -- removal does so at every cluster level, whatever its test names
 pub record RemovalKeepsOrder : Type 0 where
@@ -18,7 +17,5 @@ pub record RemovalKeepsOrder : Type 0 where
 
 -- shaping does so where clusters merge, and at every cluster level where the plan does not apply substitution; at
 -- every level each cluster stood on the line
-pub record HasShapedOrderOf (applied : Bool) (old new : Buffer) : Type 0 where
-  pub rising : (applied ≡ true → ClustersMerge old.cluster_level) → IsRisingLine old.line → IsRisingLine new.line
-  pub falling : (applied ≡ true → ClustersMerge old.cluster_level) → IsFallingLine old.line → IsFallingLine new.line
-  pub clusters : ComesFrom old.line new.line
+abbrev pub HasShapedOrderOf : Bool → Buffer → Buffer → Type 0
+HasShapedOrderOf applied old new = KeepsOrderWhere (applied ≡ true → ClustersMerge old.cluster_level) old new

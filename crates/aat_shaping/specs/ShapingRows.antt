@@ -24,7 +24,8 @@ shaped_row substitute b =
 pub record ShapingRows : Type 0 where
   -- the pair skips the deleted component, which then goes
   pub row_38a :
-      shaped_row (substituted_by (subtable (joining pair two) ∷ [])) (buffer_with (asking_from 0 (10 ∷ 11 ∷ 12 ∷ [])) many)
+      shaped_row (substituted_by (subtable (joining pair two) ∷ []))
+      (buffer_with (asking_from 0 (10 ∷ 11 ∷ 12 ∷ [])) many)
       ≡ record (shows_positions (glyph 20 0 8 ∷ glyph 12 2 11 ∷ [])
       (along_x (pos 575) (pos 0) ∷ along_x (pos 375) (negsuc 24) ∷ [])) { turns = 4 }
   -- in a column advances go down; nothing is substituted

@@ -44,9 +44,10 @@ use std::alloc::Allocator;
 /// Refused first as 4, `BufferFailed`, where a call of the buffer was refused before: nothing changes then, also where
 /// the plan does not apply substitution. Then, only where the plan applies it, as `hb_aat_layout_substitute` is, with
 /// what it leaves: as 1, `AaltValue`, and nothing changes; as 2, `TooLong`, and the buffer has failed; as 3,
-/// `OutOfMemory`, and either nothing changes or, in the middle of a run, the buffer has failed. At last as 3 where the
-/// positions get no memory: the buffer has failed then, no positions stand, and its line is the one that substitution
-/// leaves, or where the plan does not apply it the line as it was. Nothing behind that can be refused.
+/// `OutOfMemory`, and either nothing changes or, in the middle of a run, the buffer has failed. At last as 3,
+/// `OutOfMemory`, where the positions get no memory: the buffer has failed then, no positions stand, and its line is
+/// the one that substitution leaves, or where the plan does not apply it the line as it was. Nothing behind that can be
+/// refused.
 ///
 /// Apple's TrueType Reference Manual, "The 'morx' table", "The 'kerx' table" and "The 'kern' table".
 pub fn shape<H: Allocator + Copy, A: Allocator + Copy>(

@@ -1,7 +1,7 @@
 -- What edits of a line keep.
-use Rattle.std.proofs.Common.{◌≡◌, ℕ, ◌+◌, ◌-◌, ◌≤◌, ◌&&◌, ◌==◌, not, cond, List, ◌++◌, length, take, drop, map, min, Option, refl, arith, length-append, length-take, length-drop, nat_le, nat_lt}
+use Rattle.std.proofs.Common.{◌≡◌, ◌∙◌, ℕ, ◌+◌, ◌-◌, ◌<◌, ◌≤◌, ◌&&◌, ◌==◌, not, cond, List, ◌++◌, length, take, drop, get_or, map, min, Option, refl, arith, length-append, length-take, length-drop, nat_le, nat_lt}
 use Rattle.std.proofs.lemmas.Bool.Decides.{nat_tests}
-use Rattle.std.proofs.lemmas.List.{length-map}
+use Rattle.std.proofs.lemmas.List.{length-map, get_or-drop, get_or-take}
 use Rattle.std.specs.Prelude.{slice_range}
 use Rattle.std.specs.List.{prefix_len}
 use Rattle.aat_buffer.specs.Buffer.{Buffer}
@@ -11,6 +11,10 @@ use Rattle.aat_buffer.specs.facts.Cases.{chosen}
 
 pub length_slice : {X : Type 0} (i j : ℕ) (xs : List X) → i ≤ j → j ≤ length xs → length (slice_range xs i j) ≡ j - i
 length_slice i j xs low high = rw (length-take (j - i) (drop i xs), length-drop i xs) (omega arith)
+
+-- an element of a span
+pub range_at : {X : Type 0} (xs : List X) (s e i : ℕ) (d : X) → i < e - s → get_or (slice_range xs s e) i d ≡ get_or xs (s + i) d
+range_at xs s e i d low = get_or-take (e - s) (drop s xs) i d low ∙ get_or-drop s xs i d
 
 pub length_of_span : (f : List hb_glyph_info_t → List hb_glyph_info_t) (i j : ℕ) (gs : List hb_glyph_info_t) → length (f (slice_range gs i j)) ≡ length (slice_range gs i j) → i ≤ j → j ≤ length gs → length (on_span f i j gs) ≡ length gs
 length_of_span f i j gs same low high =

@@ -7,7 +7,7 @@ use Rattle.std.proofs.lemmas.List.Elements.{All-set}
 use Rattle.std.proofs.lemmas.Option.{get_or_from_slice_get, slice_get_within}
 use Rattle.std.proofs.lemmas.List.{length-map, length-replicate, get_or-map}
 use Rattle.aat_buffer.specs.Buffer.{Buffer, Is16Bit, glyph_at, no_glyph}
-use Rattle.aat_buffer.specs.Marks.{clusters_stay_apart, merge_out_clusters, merged_out, least_of, run_after, run_before, with_cluster, with_line, cluster_at}
+use Rattle.aat_buffer.specs.Marks.{merge_out_clusters, with_line, cluster_at}
 use Rattle.aat_buffer.specs.Clusters.{IsSmall, ids}
 use Rattle.aat_buffer.specs.facts.Clusters.{map_span}
 use Rattle.aat_glyph.specs.declared.glyph.hb_glyph_info_t.{hb_glyph_info_t}

@@ -27,3 +27,8 @@ AreApart (g ∷ gs) = AllByRecursion (λ h. in_group g h ≡ false) gs × AreApa
 -- each is of one of the groups
 abbrev pub AreGrouped : List feature_info_t → List feature_info_t → Type 0
 AreGrouped groups list = AllByRecursion (λ i. list_any (λ g. in_group g i) groups ≡ true) list
+
+-- of each group of a list one
+pub record AreGroupsOf (list groups : List feature_info_t) : Type 0 where
+  pub apart : AreApart groups
+  pub each : AreGrouped groups list

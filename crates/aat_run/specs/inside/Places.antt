@@ -1,7 +1,7 @@
 -- Where a run stands, and what it leaves.
 use Rattle.std.specs.Prelude.{◌≡◌, ℕ, Bool, true, false}
 use Rattle.aat_buffer.specs.Buffer.{Buffer}
-use Rattle.aat_run.specs.Context.{Config, Moved, first}
+use Rattle.aat_run.specs.Context.{Config, Moved, first_config}
 use Rattle.aat_run.specs.Machine.{Turn, Ends, Goes}
 use Rattle.aat_run.specs.declared.place.Place.{Place}
 
@@ -11,7 +11,7 @@ left_with r b = record { registers = r; buffer = b }
 
 -- a buffer, registers and a place make up where a run stands
 abbrev pub config : {R : Type 0} → Buffer → R → Place → Config R
-config b r place = record (first b r) { state = place.state; last = place.last; turns = place.turns }
+config b r place = record (first_config b r) { state = place.state; last = place.last; turns = place.turns }
 
 -- a turn leaves this: the run goes on from there, or ends there
 abbrev pub turn_of : {C : Type 0} → Bool → C → Turn C

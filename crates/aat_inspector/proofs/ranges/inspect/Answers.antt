@@ -5,7 +5,7 @@ use Rattle.aat_layout.specs.Map.{list_at}
 use Rattle.aat_layout.specs.Ranges.{IsGapless, is_whole_list}
 use Rattle.aat_layout.specs.Requests.{requests_of}
 use Rattle.aat_layout.specs.range_flags_t.{range_flags_t}
-use Rattle.aat_inspector.specs.Inspected.{IsAsked, Lead, Line, line_of}
+use Rattle.aat_inspector.specs.Inspected.{IsAsked, Lead, TableLine, table_line}
 use Rattle.aat_inspector.specs.inside.Lines.{line_over}
 use Rattle.aat_inspector.proofs.Lines.{asked_more, lead_more, read_at}
 use Rattle.aat_inspector.proofs.ranges.inspect.Goals as goal
@@ -17,7 +17,7 @@ loop-place-preserved c =
     let m = c.in_ok-map.map in
     let i = c.loop-place.place in
     let chain = c.chain-item.result in
-    let before : List Line = map line_of c.loop-place.ranges.items in
+    let before : List TableLine = map table_line c.loop-place.ranges.items in
     let read = c.ranges-in-loop-place.ensures in
     let below : i < length chains = rw c.chains-chain-items.ensures.listed at c.loop-place-test.true in
     let there : slice_get chains i ≡ Some chain =
@@ -25,15 +25,15 @@ loop-place-preserved c =
     in
     let whole : IsTrue (is_whole_list (list_at m i)) = rw read.list at (read.whole c.in_ok-map.ensures.whole) in
     let gapless : IsGapless (list_at m i) = rw read.list at read.gapless in
-    let added : map line_of c.add_chain.new.inspected.items ≡ before ++ map (line_over i chain) (list_at m i) =
+    let added : map table_line c.add_chain.new.inspected.items ≡ before ++ map (line_over i chain) (list_at m i) =
     c.in_ok-add_chain.ensures.ok ∙ ap (λ (rs : List range_flags_t). before ++ map (line_over i chain) rs) read.list
     in
     record {
       asked =
-          subst (λ (ls : List Line). All (IsAsked requests chains) ls) (sym added)
+          subst (λ (ls : List TableLine). All (IsAsked requests chains) ls) (sym added)
           (asked_more requests chains i chain there m c.in_ok-map.ensures.flags whole gapless before c.loop-place.invariant.asked);
       lead =
-          subst (λ (ls : List Line). Lead (0, 0) (i + 1, 0) ls) (sym added)
+          subst (λ (ls : List TableLine). Lead (0, 0) (i + 1, 0) ls) (sym added)
           (lead_more requests chains i chain there m c.in_ok-map.ensures.flags whole gapless before c.loop-place.invariant.lead);
       within = omega (arith, below);
     }

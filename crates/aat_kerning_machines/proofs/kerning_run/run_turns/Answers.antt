@@ -1,5 +1,5 @@
 use Rattle.std.proofs.Common.{◌≡◌, ap, arith}
-use Rattle.aat_run.specs.Context.{Config, first}
+use Rattle.aat_run.specs.Context.{Config, first_config}
 use Rattle.aat_run.specs.Machine.{Goes, Ends}
 use Rattle.aat_kerning_machines.specs.KerningMachine.{kerning_machine_with, kerning_turn}
 use Rattle.aat_kerning_machines.specs.inside.Places.{config}
@@ -17,7 +17,7 @@ loop-smaller g c =
     let m = kerning_machine_with c.args.pays_first run.state_table.now d.actionable act in
     let places = laws.positions_alone run.table.now is_cross kern_mask run.tuple_count in
     let keeps = laws.keeps_fit run.table.now is_cross kern_mask run.tuple_count in
-    let from = first c.args.buffer.now c.args.driver.now in
+    let from = first_config c.args.buffer.now c.args.driver.now in
     let old = config c.loop.buffer c.loop.driver c.loop.place in
     let new = config c.turn_once.new.buffer c.turn_once.new.driver c.turn_once.new.place in
     let goes : kerning_turn m old ≡ Goes new = rw c.loop-test.true at c.turn_once.ensures.turn in
@@ -34,7 +34,7 @@ loop-preserved g c =
     let m = kerning_machine_with c.args.pays_first run.state_table.now d.actionable act in
     let places = laws.positions_alone run.table.now is_cross kern_mask run.tuple_count in
     let keeps = laws.keeps_fit run.table.now is_cross kern_mask run.tuple_count in
-    let from = first c.args.buffer.now c.args.driver.now in
+    let from = first_config c.args.buffer.now c.args.driver.now in
     let old = config c.loop.buffer c.loop.driver c.loop.place in
     let new = config c.turn_once.new.buffer c.turn_once.new.driver c.turn_once.new.place in
     let goes : kerning_turn m old ≡ Goes new = rw c.loop-test.true at c.turn_once.ensures.turn in
@@ -52,7 +52,7 @@ returns-clause-run g c =
     let m = kerning_machine_with c.args.pays_first run.state_table.now d.actionable act in
     let places = laws.positions_alone run.table.now is_cross kern_mask run.tuple_count in
     let keeps = laws.keeps_fit run.table.now is_cross kern_mask run.tuple_count in
-    let from = first c.args.buffer.now c.args.driver.now in
+    let from = first_config c.args.buffer.now c.args.driver.now in
     let old = config c.loop.buffer c.loop.driver c.loop.place in
     let new = config c.turn_once.new.buffer c.turn_once.new.driver c.turn_once.new.place in
     let last : kerning_turn m old ≡ Ends new = rw c.loop-test.false at c.turn_once.ensures.turn in
@@ -74,7 +74,7 @@ returns-clause-paid g c =
     let m = kerning_machine_with c.args.pays_first run.state_table.now d.actionable act in
     let places = laws.positions_alone run.table.now is_cross kern_mask run.tuple_count in
     let keeps = laws.keeps_fit run.table.now is_cross kern_mask run.tuple_count in
-    let from = first c.args.buffer.now c.args.driver.now in
+    let from = first_config c.args.buffer.now c.args.driver.now in
     let old = config c.loop.buffer c.loop.driver c.loop.place in
     let new = config c.turn_once.new.buffer c.turn_once.new.driver c.turn_once.new.place in
     let last : kerning_turn m old ≡ Ends new = rw c.loop-test.false at c.turn_once.ensures.turn in

@@ -1,6 +1,6 @@
 use Rattle.std.proofs.Common.{◌≡◌, ℕ, ℤ, ◌+ℤ◌, to_z, of_z, w64, arith, true≢false, ap, sym, ◌∙◌, subst}
 use Rattle.std.proofs.lemmas.Int.{ints, to_z-of_z}
-use Rattle.aat_line_breaker.specs.LineCut.{IsFit, advance_before}
+use Rattle.aat_line_breaker.specs.LineCut.{IsCutWithin, advance_before}
 use Rattle.aat_line_breaker.proofs.Advanced.{advance_more, length-ordered_line}
 use Rattle.aat_line_breaker.proofs.Lasts.{IsLastBelow, last_here, last_stays, last_of_all}
 use Rattle.aat_line_breaker.proofs.Parts.{apart_at}
@@ -13,7 +13,7 @@ loop-place-preserved g c =
     let more = c.advance_at-advance.result in
     let b = c.args.buffer.now in
     let place = c.loop-place.place in
-    let IsSo : ℕ → Type 0 = IsFit (to_z w64 (of_z w64 c.args.limit)) c.args.skips b in
+    let IsSo : ℕ → Type 0 = IsCutWithin (to_z w64 (of_z w64 c.args.limit)) c.args.skips b in
     let sum : to_z w64 (of_z w64 (a +ℤ to_z w64 (of_z w64 more))) ≡ a +ℤ more = omega (arith, ints) in
     record {
       value =
@@ -33,9 +33,9 @@ loop-place-preserved g c =
 pub returns-clause-last : goal.returns-clause-last
 returns-clause-last g c =
     let limit_is : to_z w64 (of_z w64 c.args.limit) ≡ c.args.limit = to_z-of_z w64 c.args.limit c.ranges.limit in
-    last_of_all (IsFit c.args.limit c.args.skips c.args.buffer.now) c.loop-place.place c.loop-place.last
+    last_of_all (IsCutWithin c.args.limit c.args.skips c.args.buffer.now) c.loop-place.place c.loop-place.last
     (λ p fit. omega (arith, fit.cut.before_end, length-ordered_line c.args.buffer.now))
-    (subst (λ (x : ℤ). IsLastBelow (IsFit x c.args.skips c.args.buffer.now) c.loop-place.place c.loop-place.last) limit_is
+    (subst (λ (x : ℤ). IsLastBelow (IsCutWithin x c.args.skips c.args.buffer.now) c.loop-place.place c.loop-place.last) limit_is
     c.loop-place.invariant.last)
 
 pub returns-clause-apart : goal.returns-clause-apart

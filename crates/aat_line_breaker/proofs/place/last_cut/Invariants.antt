@@ -1,5 +1,5 @@
 use Rattle.std.proofs.Common.{◌≡◌, ◌*◌, pos, ◌+ℤ◌, ◌≤ℤ◌}
-use Rattle.aat_line_breaker.specs.LineCut.{IsFit, advance_before}
+use Rattle.aat_line_breaker.specs.LineCut.{IsCutWithin, advance_before}
 use Rattle.aat_line_breaker.proofs.Lasts.{IsLastBelow}
 use Rattle.aat_line_breaker.proofs.place.last_cut.Given as goal
 
@@ -8,5 +8,5 @@ invariant-loop-place g l = record {
   value : l.advance ≡ advance_before l.place l.buffer;
   low : pos 0 ≤ℤ (l.advance +ℤ pos (0x8000_0000 * l.place));
   high : l.advance ≤ℤ pos (0x8000_0000 * l.place);
-  last : IsLastBelow (IsFit l.fn.limit l.fn.skips l.buffer) l.place l.last;
+  last : IsLastBelow (IsCutWithin l.fn.limit l.fn.skips l.buffer) l.place l.last;
 }

@@ -10,7 +10,8 @@ use Rattle.std.proofs.lemmas.List.Folds.{length-prefix_len}
 use Rattle.aat_map.specs.Live.{has_begun, infos, by_start, live as live_at}
 use Rattle.aat_map.specs.inside.Walked.{ends_by}
 use Rattle.aat_map.proofs.WalkLemmas.{walked_later, nothing_ended}
-use Rattle.aat_map.proofs.KeptFirsts.{live_present, groups_apart}
+use Rattle.aat_map.specs.inside.Firsts.{AreGroupsOf}
+use Rattle.aat_map.proofs.KeptFirsts.{live_present}
 use Rattle.aat_map.proofs.compile.compile_spans.Goals as goal
 
 pub compile_span-requires-clause-follows : goal.compile_span-requires-clause-follows
@@ -26,14 +27,14 @@ pub compile_span-requires-clause-kept : goal.compile_span-requires-clause-kept
 compile_span-requires-clause-kept g c =
     let ordered = c.args.ordered.now in
     let live = c.go_on.new.live in
-    let groups = c.in_ok-passed.ensures.groups ∙ c.loop-i.invariant.groups in
+    let groups : AreGroupsOf (infos ordered) live.groups.items = rw c.in_ok-passed.ensures.groups c.loop-i.invariant.groups in
     let kept_now = live_present c.span_at-span.result.0 ordered live.groups.items live.active.items groups c.in_ok-passed.ensures.live in
     let is : live.active.items ≡ live_at c.span_at-span.result.0 c.loop-i.builder.features =
     c.in_ok-passed.ensures.live ∙ live_of c.span_at-span.result.0 c.loop-i.builder.features ordered (c.requires.ordered ∙ ap by_start (sym c.loop-i.invariant.requests)) in
     rw (c.deref.ensures.value, c.in_ok-passed.ensures.firsts, ← is) kept_now
 
 pub go_on-requires-clause-apart : goal.go_on-requires-clause-apart
-go_on-requires-clause-apart g c = rw c.loop-i.invariant.groups (groups_apart (infos c.args.ordered.now))
+go_on-requires-clause-apart g c = c.loop-i.invariant.groups.apart
 
 pub go_on-requires-clause-up_to : goal.go_on-requires-clause-up_to
 go_on-requires-clause-up_to g c = rw c.span_at-span.ensures.first (c.loop-i.invariant.walked c.loop-i-test.true)
@@ -84,7 +85,7 @@ loop-i-preserved g c =
           with_items_is c.loop-i.flags c.compile_span.new.flags
           (ap length done.flags ∙ length-map chains _ ∙ sym (length-map chains _) ∙ sym (ap length c.loop-i.invariant.flags) ∙ sym c.loop-i.flags.ok.0)
           ∙ done.flags;
-      groups = c.in_ok-passed.ensures.groups ∙ c.loop-i.invariant.groups;
+      groups = rw c.in_ok-passed.ensures.groups c.loop-i.invariant.groups;
       firsts = c.in_ok-passed.ensures.firsts;
       walked = λ more.
           let up = c.requires.starts.rising i (omega arith) in

@@ -2,8 +2,8 @@ use Rattle.std.proofs.Common.{◌≡◌, ◌<◌, ◌≤◌, ◌-◌, take, slic
 use Rattle.aat_map.specs.Builder.{AreKeptAt}
 use Rattle.aat_map.specs.Spans.{spans}
 use Rattle.aat_map.specs.inside.CompiledSpans.{all_flags_for, compiled_lists}
-use Rattle.aat_map.specs.Live.{kept, infos}
-use Rattle.aat_map.specs.inside.Firsts.{firsts_of}
+use Rattle.aat_map.specs.Live.{infos}
+use Rattle.aat_map.specs.inside.Firsts.{AreGroupsOf, firsts_of}
 use Rattle.aat_map.specs.inside.Walked.{IsWalkedUpTo}
 use Rattle.aat_map.proofs.compile.compile_spans.Given as goal
 
@@ -16,7 +16,7 @@ invariant-loop-i g l = record {
   begun : l.passed.0 ≤ length l.fn.ordered;
   ended : l.passed.1 ≤ length l.fn.ending;
   flags : l.flags.items ≡ all_flags_for l.builder.current_features l.fn.chains;
-  groups : l.live.groups.items ≡ kept (infos l.fn.ordered);
+  groups : AreGroupsOf (infos l.fn.ordered) l.live.groups.items;
   firsts : l.live.firsts.items ≡ firsts_of l.live.groups.items l.live.active.items;
   walked :
       l.i < length l.fn.starts
