@@ -25,7 +25,8 @@ const MIN_CLASSES: u16 = 4;
 /// table does not have.
 const OUT_OF_BOUNDS: u16 = 1;
 
-/// The deleted glyph: a machine deletes a glyph by putting this one in its place.
+/// The deleted glyph: a machine deletes a glyph by putting this one in its place. The buffer's constant is not known
+/// here.
 const DELETED_GLYPH: u16 = 0xFFFF;
 
 /// The class of the deleted glyph, which the manual keeps for it: a table lists no glyph under it.

@@ -63,6 +63,7 @@ LaterComponentsAreDeleted =
     (c g : ℕ) (r : ligature.Registers) (b : Buffer) (p j : ℕ) → ligature.IsFit r p (length b.line) → c < j → j < r.count
     → IsTrue (is_deleted (glyph_at (ligature.stored c g r b).buffer.line (ligature.component r j)))
 
+-- the act of each kind keeps the order of the clusters
 pub record ActsKeepOrder : Type 0 where
   pub rearrangement_keeps : (bound : ℕ) → KeepsClusterOrder (rearrangement.act bound) rearrangement.IsFit
   pub contextual_keeps :

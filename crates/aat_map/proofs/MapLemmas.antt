@@ -7,9 +7,8 @@ use Rattle.std.proofs.lemmas.List.{length-map, take-map, take_all, map-set, get_
 use Rattle.std.proofs.lemmas.Grind.{common_steps}
 use Rattle.std.proofs.lemmas.List.Elements.{All-append, All-take, All-set, All-replicate}
 use Rattle.aat_run.specs.declared.ranges.range_flags_t.{range_flags_t}
-use Rattle.aat_map.specs.inside.MapLists.{lists}
 use Rattle.aat_run.specs.Ranges.{FollowFrom, IsGapless, is_whole_list, next_start}
-use Rattle.aat_map.specs.Map.{list_at, resized}
+use Rattle.aat_map.specs.Map.{list_at, lists, resized}
 use Rattle.aat_map.specs.inside.MapLists.{with_range_at}
 
 module _ {Z : Type 0} where

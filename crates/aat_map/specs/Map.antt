@@ -1,11 +1,15 @@
 -- Lists of ranges with flags, and what they say of a cluster.
-use Rattle.std.specs.Prelude.{◌≡◌, ℕ, ◌-◌, ◌==◌, ◌||◌, List, [], ◌∷◌, ◌++◌, length, map, take, replicate, Option, slice_index_or}
+use Rattle.std.specs.Prelude.{◌≡◌, ℕ, ◌-◌, ◌==◌, ◌||◌, List, [], ◌∷◌, ◌++◌, length, map, take, replicate, Option, slice_index_or, Vec}
 use Rattle.std.specs.List.{list_any}
 use Rattle.std.specs.List.Sorted.{IsStrictlyIncreasing}
 use Rattle.aat_run.specs.Ranges.{flags_in}
 use Rattle.aat_map.specs.Live.{is_cut}
 use Rattle.aat_map.specs.declared.feature.feature_range_t.{feature_range_t}
 use Rattle.aat_run.specs.declared.ranges.range_flags_t.{range_flags_t}
+
+-- the lists in a vector of vectors
+abbrev pub lists : {Z : Type 0} → List (Vec range_flags_t Z) → List (List range_flags_t)
+lists {Z} vectors = map (λ (v : Vec range_flags_t Z). v.items) vectors
 
 -- a chain's list, empty where it has none
 abbrev pub list_at : List (List range_flags_t) → ℕ → List range_flags_t

@@ -1,10 +1,9 @@
 //! The flags of each chain over ranges of clusters.
 ghost use Rattle.std.specs.Prelude.{IsTrue, ◌≡◌, ◌≤◌, ◌<◌, length, IfErr, OnOk, OnErr, [], Option, slice_index_or, All};
 ghost use Rattle.std.specs.List.{list_all};
-ghost use Rattle.aat_map.specs.Map.{flags_at, resized, list_at};
+ghost use Rattle.aat_map.specs.Map.{flags_at, resized, list_at, lists};
 ghost use Rattle.aat_map.specs.inside.MapLists.{with_range_at};
 ghost use Rattle.aat_run.specs.Ranges.{is_whole_list, next_start, IsGapless};
-ghost use Rattle.aat_map.specs.inside.MapLists.{lists};
 
 use aat_buffer::hb_mask_t;
 use aat_run::{AatError, ends_at_last, flags_in, range_flags_t, range_of};
@@ -22,7 +21,7 @@ impl<A: Allocator + Copy> Model for hb_aat_map_t<A> {
     ghost use Rattle.std.specs.Prelude.{List, All};
     ghost use Rattle.aat_run.specs.declared.ranges.range_flags_t.{range_flags_t};
     ghost use Rattle.aat_run.specs.Ranges.{IsGapless};
-    ghost use Rattle.aat_map.specs.inside.MapLists.{lists};
+    ghost use Rattle.aat_map.specs.Map.{lists};
 
     ghost Value = { List (List range_flags_t) };
 

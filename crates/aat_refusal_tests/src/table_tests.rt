@@ -14,8 +14,8 @@ const CLOSE: [(u16, u16); 6] = [(1, 4), (2, 5), (3, 6), (4, 7), (5, 8), (6, 9)];
 /// Pairs of glyphs that lie far from one another, without an array beside them.
 const FAR: [(u16, u16); 5] = [(1, 4), (15000, 5), (30000, 6), (45000, 7), (60000, 8)];
 
-/// Pairs for kerning.
-const KERNING: [(u16, u16, i16); 4] = [(1, 2, -25), (1, 3, 4), (2, 1, 5), (2, 2, 6)];
+/// Pairs for kerning, whose left glyphs lie close, so that a list of starts goes beside them.
+const KERNING: [(u16, u16, i16); 4] = [(1, 2, -25), (1, 3, 4), (2, 1, 5), (4, 2, 6)];
 
 /// A rule of a state and a class, whose entry goes to a state.
 macro_rules! rule {
@@ -58,12 +58,12 @@ enum Made {
 }
 
 /// Each constructor, and how often it asks for memory, for two blocks of a heap at least: once for each copy, each
-/// array and each grid.
+/// array, each grid and each list of starts.
 const REQUESTS: [(Made, usize); 6] = [
     (Made::CloseLookup, 2),
     (Made::FarLookup, 1),
     (Made::Names, 1),
-    (Made::Kerning, 1),
+    (Made::Kerning, 2),
     (Made::Grid, 4),
     (Made::Rules, 2),
 ];

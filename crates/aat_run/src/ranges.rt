@@ -96,7 +96,7 @@ pub fn is_nowhere_on(ranges: &[range_flags_t], feature_flags: hb_mask_t) -> bool
 }
 
 /// Whether the ranges end at the last cluster there can be and each of them switches a subtable with some feature flags
-/// on. It looks at each range at most once.
+/// on. It looks at each range at most once, and at the last one twice.
 pub fn is_everywhere_on(ranges: &[range_flags_t], feature_flags: hb_mask_t) -> bool
     ensures { result ≡ is_everywhere_on ranges.now feature_flags }
 {
@@ -104,7 +104,7 @@ pub fn is_everywhere_on(ranges: &[range_flags_t], feature_flags: hb_mask_t) -> b
 }
 
 /// The ranges that have to be asked whether a subtable is on at a cluster: none where it is on everywhere. It looks at
-/// each range at most once. The ranges have to follow one another from 0 without a gap.
+/// each range at most once, and at the last one twice. The ranges have to follow one another from 0 without a gap.
 pub fn ranges_to_ask(ranges: &[range_flags_t], feature_flags: hb_mask_t) -> &[range_flags_t]
     requires { IsGapless ranges.now }
     ensures gapless { IsGapless result.now }

@@ -1,9 +1,10 @@
 //! The public paths of the layer, named once, but for its theorems: this file compiles only while each of them stands.
 
 pub use aat_layout::buffer::{
-    BufferError, BufferFlags, Direction, GlyphPosition, HB_BUFFER_CLUSTER_LEVEL_CHARACTERS,
-    HB_BUFFER_CLUSTER_LEVEL_MONOTONE_CHARACTERS, HB_BUFFER_CLUSTER_LEVEL_MONOTONE_GRAPHEMES,
-    ScratchFlags, UnicodeProps, glyph_flag, hb_buffer_t, hb_glyph_info_t, hb_mask_t,
+    BufferError, BufferFlags, DELETED_GLYPH as BUFFER_DELETED_GLYPH, Direction, GlyphPosition,
+    HB_BUFFER_CLUSTER_LEVEL_CHARACTERS, HB_BUFFER_CLUSTER_LEVEL_MONOTONE_CHARACTERS,
+    HB_BUFFER_CLUSTER_LEVEL_MONOTONE_GRAPHEMES, ScratchFlags, UnicodeProps, glyph_flag,
+    hb_buffer_t, hb_glyph_info_t, hb_mask_t,
 };
 pub use aat_layout::font::keys::{Keyed, row_at};
 pub use aat_layout::font::{

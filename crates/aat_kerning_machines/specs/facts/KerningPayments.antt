@@ -8,7 +8,7 @@ use Rattle.aat_run.specs.Budget.{paid, has_operations, operations_left}
 use Rattle.aat_run.specs.Context.{Config, class_at}
 use Rattle.aat_run.specs.Laws.{Stands}
 use Rattle.aat_run.specs.Machine.{behind_act}
-use Rattle.aat_run.specs.facts.MachineRuns.{paid_rich}
+use Rattle.aat_run.specs.facts.MachineRuns.{paid_with_operations}
 use Rattle.aat_run.specs.facts.Runs.{OnGoes}
 use Rattle.aat_run.specs.facts.Turns.{settled_goes}
 use Rattle.aat_kerning_machines.specs.KerningLaws.{ChangesPositionsAlone, IsPaidFor, PaysForStaying}
@@ -34,7 +34,7 @@ module _ {R E : Type 0} (m : KerningMachine R E) (Fits : R → ℕ → ℕ → T
         }))
         (λ behind. of_moved (λ d. StaysPaid b (paid 1 d)) (m.advances e) n beyond (λ left at. record {
           had = ap (λ t. has_operations (cond t (paid 1 n) b)) behind ∙ (ap (λ z. int_lt (pos 0) z) (sym budget) ∙ left);
-          one = paid_rich n left ∙ ap operations_left budget;
+          one = paid_with_operations n left ∙ ap operations_left budget;
         }))
       where
         beyond : {A : Type 0} → n.cursor + 1 ≡ b.cursor → A

@@ -11,7 +11,7 @@ use Rattle.aat_run.specs.Budget.{paid, has_operations, operations_left, potentia
 use Rattle.aat_run.specs.Context.{Config, is_inside, class_at}
 use Rattle.aat_run.specs.Laws.{KeepsFit, PassesFit, Stands, RunsEnd}
 use Rattle.aat_run.specs.Machine.{Turn, left_by, behind_act, passed, break_marked_at}
-use Rattle.aat_run.specs.facts.MachineRuns.{below_end, paid_less, paid_rich}
+use Rattle.aat_run.specs.facts.MachineRuns.{below_end, paid_less, paid_with_operations}
 use Rattle.aat_run.specs.facts.Runs.{OnGoes, weaker}
 use Rattle.aat_run.specs.facts.Turns.{Lower, LowersPotential, whole_ends, whole_keeps, whole_spends, settled_turns, settled_keeps, settled_goes}
 use Rattle.aat_kerning_machines.specs.KerningLaws.{ChangesPositionsAlone}
@@ -89,7 +89,7 @@ module _ {R E : Type 0} (m : KerningMachine R E) (Fits : R → ℕ → ℕ → T
         (λ _. of_moved (Settles r (potential b)) (m.advances e) (paid 1 b) (omega (arith, paid_less 1 b.max_ops), passes _ _ _ fits below)
         (λ left. (omega (arith, paid_before b left), fits)))
         (λ _. of_moved (λ d. Settles r (potential b) (paid 1 d)) (m.advances e) b (omega (arith, paid_less 1 b.max_ops), passes _ _ _ fits below)
-        (λ left. (omega (arith, paid_rich b left), fits)))
+        (λ left. (omega (arith, paid_with_operations b left), fits)))
 
     -- an act and what follows it lower the potential
     acted_falls : (e : E) (c : Config R) → Stands Fits c → OnGoes (Lower Fits (potential c.buffer)) (kerning_acted m e c)

@@ -25,8 +25,8 @@ use Rattle.aat_buffer.specs.facts.Lines.{length_slice, length_unsafe}
 spent : (n : ℕ) (z : ℤ) → int_lt (int_max (z -ℤ pos n) (negsuc 2147483647)) (pos 0) ≡ false → operations_left (int_max (z -ℤ pos n) (negsuc 2147483647)) + n ≡ operations_left z
 spent n z h = grind (arith, ints, h)
 
-rich_spent : (n : ℕ) (z : ℤ) → int_lt (pos 0) (int_max (z -ℤ pos n) (negsuc 2147483647)) ≡ true → operations_left (int_max (z -ℤ pos n) (negsuc 2147483647)) + n ≡ operations_left z
-rich_spent n z h = grind (arith, ints, h)
+spent_with_operations : (n : ℕ) (z : ℤ) → int_lt (pos 0) (int_max (z -ℤ pos n) (negsuc 2147483647)) ≡ true → operations_left (int_max (z -ℤ pos n) (negsuc 2147483647)) + n ≡ operations_left z
+spent_with_operations n z h = grind (arith, ints, h)
 
 spent_less : (n : ℕ) (z : ℤ) → operations_left (int_max (z -ℤ pos n) (negsuc 2147483647)) ≤ operations_left z
 spent_less n z = grind (arith, ints)
@@ -76,14 +76,14 @@ module _ (glyphs : List GlyphId) where
 
   mark_grows : (e : Entry) (r : Registers) (b : Buffer) → has_operations (paid (marked_count e) b) ≡ true → Grows b (at_mark glyphs e r (paid (marked_count e) b))
   unfolding at_mark
-  mark_grows e r b rich =
+  mark_grows e r b has_one =
       let d = paid (marked_count e) b in
       let new = run_for glyphs d e.extra.marked_insert_index (marked_count e) in
       let put = put_in new r.mark (not (has_flag e 0x0400)) (d.cursor + length new) d in
       let long : length put.line ≡ length b.line + length new = length_inserted new r.mark (not (has_flag e 0x0400)) b.line in
       let same : length (unsafe_to_break put (Some r.mark) (Some (min (put.cursor + 1) (length put.line)))).line ≡ length put.line = length_unsafe put (Some r.mark) (Some (min (put.cursor + 1) (length put.line))) in
       let few = length_run d e.extra.marked_insert_index (marked_count e) in
-      let exact = rich_spent (marked_count e) b.max_ops rich in
+      let exact = spent_with_operations (marked_count e) b.max_ops has_one in
       record { cursor = omega arith; length = omega (arith, long, same); potential = omega (arith, long, same, few, exact); extent = omega (arith, long, same, few, exact) }
 
   cursor_grows : (e : Entry) (b : Buffer) → Grows b (at_cursor glyphs e b)
@@ -109,20 +109,20 @@ module _ (glyphs : List GlyphId) where
       let s = with_mark e r b.cursor in
       chosen (λ (n : Moved Registers). Grows b n.buffer) (is_present e.extra.marked_insert_index) (cond (has_operations d) (current_part glyphs e s (at_mark glyphs e r d)) (record { registers = r; buffer = d })) (current_part glyphs e s b)
       (λ _. chosen (λ (n : Moved Registers). Grows b n.buffer) (has_operations d) (current_part glyphs e s (at_mark glyphs e r d)) (record { registers = r; buffer = d })
-      (λ rich. grows_trans b (at_mark glyphs e r d) _ (mark_grows e r b rich) (current_grows e s (at_mark glyphs e r d))) (λ _. pay_grows (marked_count e) b))
+      (λ has_one. grows_trans b (at_mark glyphs e r d) _ (mark_grows e r b has_one) (current_grows e s (at_mark glyphs e r d))) (λ _. pay_grows (marked_count e) b))
       (λ _. current_grows e s b)
 
   -- behind the marked run no act makes the line shorter
   pub marked_within : (e : Entry) (r : Registers) (b : Buffer) → is_present e.extra.marked_insert_index ≡ true → has_operations (paid (marked_count e) b) ≡ true
       → length (at_mark glyphs e r (paid (marked_count e) b)).line ≤ length (act glyphs e r b).buffer.line
   unfolding act
-  marked_within e r b named rich =
+  marked_within e r b named has_one =
       let d = paid (marked_count e) b in
       let s = with_mark e r b.cursor in
       let marked = at_mark glyphs e r d in
       chosen (λ (n : Moved Registers). length marked.line ≤ length n.buffer.line) (is_present e.extra.marked_insert_index) (cond (has_operations d) (current_part glyphs e s marked) (record { registers = r; buffer = d })) (current_part glyphs e s b)
       (λ _. chosen (λ (n : Moved Registers). length marked.line ≤ length n.buffer.line) (has_operations d) (current_part glyphs e s marked) (record { registers = r; buffer = d })
-      (λ _. (current_grows e s marked).length) (λ poor. absurd (grind (arith, rich, poor)))) (λ none. absurd (grind (arith, named, none)))
+      (λ _. (current_grows e s marked).length) (λ has_none. absurd (grind (arith, has_one, has_none)))) (λ none. absurd (grind (arith, named, none)))
 
   pub pays : Pays (act glyphs) IsFit
   pays e r b fit = (grows e r b).potential

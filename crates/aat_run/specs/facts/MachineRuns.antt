@@ -18,11 +18,11 @@ use Rattle.aat_run.specs.facts.Turns as turns
 use Rattle.aat_run.specs.facts.Turns.{Lower, LowersPotential, settled_turns, settled_keeps, settled_goes}
 
 -- paying takes one from a operations_left that is not empty, and never adds to it
-pub paid_rich : (b : Buffer) → has_operations b ≡ true → operations_left (paid 1 b).max_ops + 1 ≡ operations_left b.max_ops
-paid_rich b h = rich b.max_ops h
+pub paid_with_operations : (b : Buffer) → has_operations b ≡ true → operations_left (paid 1 b).max_ops + 1 ≡ operations_left b.max_ops
+paid_with_operations b h = has_one b.max_ops h
   where
-    rich : (z : ℤ) → int_lt (pos 0) z ≡ true → operations_left (int_max (z -ℤ pos 1) (negsuc 2147483647)) + 1 ≡ operations_left z
-    rich z h = grind (arith, ints)
+    has_one : (z : ℤ) → int_lt (pos 0) z ≡ true → operations_left (int_max (z -ℤ pos 1) (negsuc 2147483647)) + 1 ≡ operations_left z
+    has_one z h = grind (arith, ints)
 
 pub paid_less : (n : ℕ) (z : ℤ) → operations_left (int_max (z -ℤ pos n) (negsuc 2147483647)) ≤ operations_left z
 paid_less n z = grind (arith, ints)
@@ -83,7 +83,7 @@ module _ {R E : Type 0} (m : Machine R E) (Fits : R → ℕ → ℕ → Type 0)
     unfolding Settles
     steps a r b fits below =
         chosen (Settles r (potential b)) a (passed b) (cond (has_operations b) (paid 1 b) (paid 1 (passed b))) (λ _. (omega arith, passes _ _ _ fits below)) (λ _.
-        chosen (Settles r (potential b)) (has_operations b) (paid 1 b) (paid 1 (passed b)) (λ rich. (omega (arith, paid_rich b rich), fits))
+        chosen (Settles r (potential b)) (has_operations b) (paid 1 b) (paid 1 (passed b)) (λ has_one. (omega (arith, paid_with_operations b has_one), fits))
         (λ _. (omega (arith, paid_less 1 b.max_ops), passes _ _ _ fits below)))
 
     acted_falls : (e : E) (c : Config R) → Stands Fits c → OnGoes (Lower Fits (potential c.buffer)) (acted m e c)

@@ -24,12 +24,12 @@ module _ {R E : Type 0} (m : Machine R E) (c : Config R) where
   alike_is e None = refl
   alike_is e (Some f) = idle_and_alike (acts m c f) (m.next f == m.next e) (is_alike (m.advances f) (m.advances e))
 
-  calm_is : (o : Option E) → is_some_and o (λ f. not (acts m c f)) ≡ is_idle_at_end m c o
-  calm_is None = refl
-  calm_is (Some f) = refl
+  idle_is : (o : Option E) → is_some_and o (λ f. not (acts m c f)) ≡ is_idle_at_end m c o
+  idle_is None = refl
+  idle_is (Some f) = refl
 
   -- the formula is the branches
   pub safe_by_branches : (e : E) (from_start at_end : Option E) → is_safe m e from_start at_end c ≡ safe_branches m c e from_start at_end
   unfolding is_safe
   safe_by_branches e from_start at_end =
-      rw (alike_is e from_start, calm_is at_end, formula (acts m c e) (c.state == 0) (not (m.advances e) && (m.next e == 0)) (does_alike m c e from_start) (is_idle_at_end m c at_end)) refl
+      rw (alike_is e from_start, idle_is at_end, formula (acts m c e) (c.state == 0) (not (m.advances e) && (m.next e == 0)) (does_alike m c e from_start) (is_idle_at_end m c at_end)) refl

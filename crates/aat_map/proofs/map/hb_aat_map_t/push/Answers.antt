@@ -1,5 +1,5 @@
 use Rattle.std.proofs.Common.{◌<◌, length, arith}
-use Rattle.aat_map.specs.inside.MapLists.{lists}
+use Rattle.aat_map.specs.Map.{lists}
 use Rattle.aat_map.proofs.MapLemmas.{lists_pushed, lists_kept, length_lists, gapless_pushed}
 use Rattle.aat_map.proofs.map.hb_aat_map_t.push.Goals as goal
 

@@ -1,7 +1,7 @@
 use Rattle.std.proofs.Common.{◌≡◌, ◌∙◌, ap, arith, length, [], ◌∷◌, ◌++◌, All}
 use Rattle.aat_run.specs.Ranges.{IsGapless}
 use Rattle.aat_map.proofs.MapLemmas.{length_lists, lists_take, lists_more, resized_start, resized_more, gapless_resized}
-use Rattle.aat_map.specs.inside.MapLists.{lists}
+use Rattle.aat_map.specs.Map.{lists}
 use Rattle.aat_map.proofs.map.hb_aat_map_t.resize.Goals as goal
 
 pub loop-next-init : goal.loop-next-init

@@ -1,6 +1,5 @@
 use Rattle.std.proofs.Common.{◌≡◌, ◌≤◌, min, length}
-use Rattle.aat_map.specs.Map.{resized}
-use Rattle.aat_map.specs.inside.MapLists.{lists}
+use Rattle.aat_map.specs.Map.{lists, resized}
 use Rattle.aat_map.proofs.map.hb_aat_map_t.resize.Given as goal
 
 abbrev pub invariant-loop-next : goal.invariant-loop-next
