@@ -68,9 +68,12 @@ fn tag_of(number: u32) -> hb_tag_t {
     })
 }
 
-/// One of so many requests, which do not come in the order of their clusters. Four are off, the next four on.
-fn request_of(number: u32, count: u32, size: &Size) -> Feature {
-    let place = number.wrapping_mul(7919).checked_rem(count).unwrap_or(0);
+/// The request of a number. Requests do not come in the order of their clusters. Four are off, the next four on.
+fn request_of(number: u32, size: &Size) -> Feature {
+    let place = number
+        .wrapping_mul(7919)
+        .checked_rem(size.places)
+        .unwrap_or(0);
     let start = place.wrapping_mul(size.stride);
     let end = start.wrapping_add(size.span);
     Feature::new(tag_of(number), number / 4 % 2, start..end)
@@ -85,7 +88,7 @@ pub(crate) fn builder_of(
 ) -> Result<hb_aat_map_builder_t, Stop> {
     let mut builder = hb_aat_map_builder_t::default(alloc);
     for number in 0..count {
-        builder.add_feature(face, &request_of(number, count, size))?;
+        builder.add_feature(face, &request_of(number, size))?;
     }
     Ok(builder)
 }

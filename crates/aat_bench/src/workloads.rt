@@ -52,7 +52,9 @@ pub(crate) struct Size {
     pub(crate) count: u32,
     /// The budget of a line.
     pub(crate) max_ops: i32,
-    /// How many clusters a request starts behind the one before it.
+    /// At how many places requests may start.
+    pub(crate) places: u32,
+    /// How many clusters such a place is behind the one before it.
     pub(crate) stride: u32,
     /// How many clusters a request has.
     pub(crate) span: u32,
@@ -60,11 +62,15 @@ pub(crate) struct Size {
     pub(crate) rounds: u32,
 }
 
+/// So many requests of a substituted line make 370 ranges.
+const OF_370_RANGES: u32 = 185;
+
 /// The lines, each with a budget of 64 operations for a glyph, and at least 16384.
 const LINES: &[Size] = &[
     Size {
         count: 20,
         max_ops: 16384,
+        places: OF_370_RANGES,
         stride: 2,
         span: 1,
         rounds: 200,
@@ -72,6 +78,7 @@ const LINES: &[Size] = &[
     Size {
         count: 2_000,
         max_ops: 128_000,
+        places: OF_370_RANGES,
         stride: 10,
         span: 5,
         rounds: 50,
@@ -79,35 +86,42 @@ const LINES: &[Size] = &[
     Size {
         count: 200_000,
         max_ops: 12_800_000,
+        places: OF_370_RANGES,
         stride: 1_000,
         span: 500,
         rounds: 5,
     },
 ];
 
-/// A number of requests, of which two or three hold a cluster.
+/// A number of requests of 25 clusters, which start at so many places, so many clusters apart.
 macro_rules! requests {
-    ($count:literal, $rounds:literal) => {
+    ($count:literal, $places:literal, $stride:literal, $rounds:literal) => {
         Size {
             count: $count,
             max_ops: 0,
-            stride: 10,
+            places: $places,
+            stride: $stride,
             span: 25,
             rounds: $rounds,
         }
     };
 }
 
-/// The numbers of requests.
+/// Requests over a text of ten clusters for each, so that two or three hold a cluster, but at its ends.
 const REQUESTS: &[Size] = &[
-    requests!(20, 200),
-    requests!(200, 50),
-    requests!(2_000, 10),
-    requests!(20_000, 3),
+    requests!(20, 20, 10, 200),
+    requests!(200, 200, 10, 50),
+    requests!(2_000, 2_000, 10, 10),
+    requests!(20_000, 20_000, 10, 3),
 ];
 
-/// So many requests of a substituted line make 370 ranges.
-const OF_370_RANGES: u32 = 185;
+/// Requests over a text of some 2,000 clusters, of which the more hold a cluster the more there are.
+const DENSE_REQUESTS: &[Size] = &[
+    requests!(20, 1_999, 1, 200),
+    requests!(200, 1_999, 1, 50),
+    requests!(2_000, 1_999, 1, 10),
+    requests!(20_000, 1_999, 1, 3),
+];
 
 /// A workload of substituted lines: its name, its subtables, and the number of requests.
 macro_rules! substitution {
@@ -132,7 +146,7 @@ macro_rules! kerning {
 }
 
 /// The workloads, in the order in which they are printed.
-pub(crate) static WORKLOADS: [Workload; 13] = [
+pub(crate) static WORKLOADS: [Workload; 14] = [
     substitution!("noncontextual", NonContextual, 0),
     substitution!("ligatures", Ligature, 0),
     substitution!("contextual", Contextual, 0),
@@ -149,5 +163,10 @@ pub(crate) static WORKLOADS: [Workload; 13] = [
         name: "compiling",
         work: Work::Compilation,
         sizes: REQUESTS,
+    },
+    Workload {
+        name: "compiling-dense",
+        work: Work::Compilation,
+        sizes: DENSE_REQUESTS,
     },
 ];
