@@ -2,7 +2,7 @@
 use Rattle.std.proofs.Common.{◌≡◌, ◌∙◌, ap, sym, refl, ℕ, suc, ◌+◌, ◌<◌, ◌≤◌, Bool, true, false, not, cond, List, [], ◌∷◌, ◌++◌, set, take_while, length, get_or, arith, Option, Some, None}
 use Rattle.std.specs.List.{AllByRecursion, prefix_len}
 use Rattle.std.specs.Option.{option_or}
-use Rattle.std.proofs.lemmas.List.{get_or-map}
+use Rattle.std.proofs.lemmas.List.{get_or-map, length-map}
 use Rattle.std.proofs.lemmas.List.Folds.{length-prefix_len}
 use Rattle.aat_map.specs.declared.feature.feature_info_t.{feature_info_t}
 use Rattle.aat_map.specs.Live.{is_equal, in_group, without_earliest}
@@ -240,3 +240,9 @@ pub ended_set :
     → g ≡ get_or gs n g → f ≡ first_of now g → set firsts n f ≡ firsts_of gs now
 ended_set gs was now firsts i g n f are apart gone e read is =
     ap (λ os. set os n f) are ∙ ended_put gs was now i g n f apart gone e (is ∙ ap (first_of now) read)
+
+-- there are as many as groups
+pub length_firsts :
+    (gs list : List feature_info_t) (firsts : List (Option feature_info_t)) → firsts ≡ firsts_of gs list
+    → length firsts ≡ length gs
+length_firsts gs list firsts are = ap length are ∙ length-map gs (first_of list)

@@ -8,6 +8,7 @@ pub mod KeptFirsts
 pub mod KeptSearch
 pub mod MapLemmas
 pub mod OneRange
+pub mod PlacedLemmas
 pub mod RequestLemmas
 pub mod SpanLemmas
 pub mod StartLemmas

@@ -1,13 +1,11 @@
 -- Ranges as they are compiled, one span after another.
-use Rattle.std.proofs.Common.{◌≡◌, ◌∙◌, ap, sym, refl, ℕ, zero, suc, ◌+◌, ◌-◌, ◌<◌, List, [], ◌∷◌, ◌++◌, map, take, replicate, length, get_or, arith, Some, Option, slice_get, fold, unwrap_or, add-one, IsPermutation, ◌==◌, ◌&&◌}
+use Rattle.std.proofs.Common.{◌≡◌, ◌∙◌, ap, sym, refl, ℕ, zero, suc, ◌+◌, ◌-◌, ◌<◌, List, [], ◌∷◌, ◌++◌, map, take, replicate, length, get_or, arith, Some, slice_get, fold, add-one, IsPermutation, ◌==◌, ◌&&◌, Bool}
 use Rattle.std.proofs.lemmas.List.{take_all, map_push, take_more}
 use Rattle.std.proofs.lemmas.List.Sums.{fold_push}
-use Rattle.std.proofs.lemmas.Option.{get_or_from_slice_get, slice_get-get_or}
+use Rattle.std.proofs.lemmas.Option.{get_or_from_slice_get}
 use Rattle.aat_map.specs.declared.feature.feature_range_t.{feature_range_t}
 use Rattle.aat_run.specs.declared.ranges.range_flags_t.{range_flags_t}
 use Rattle.aat_font.specs.declared.morx.Chain.{Chain}
-use Rattle.aat_map.specs.Builder.{Builder}
-use Rattle.aat_map.specs.Compiled.{compiled_range, compiled_ranges, flags_for}
 use Rattle.std.proofs.lemmas.List.Sorted.{list_any-IsPermutation}
 use Rattle.aat_map.specs.declared.feature.feature_info_t.{feature_info_t}
 use Rattle.aat_map.specs.ChainFlags.{flags_by}
@@ -15,7 +13,7 @@ use Rattle.aat_run.specs.Ranges.{last_cluster, next_start, range}
 use Rattle.aat_map.specs.Live.{kept_at, has_setting, requested_at, by_start, live, live_among}
 use Rattle.aat_map.specs.Map.{list_at, resized, with_ranges}
 use Rattle.aat_map.specs.Spans.{spans}
-use Rattle.aat_map.specs.inside.CompiledSpans.{all_flags_for, ranges_with, span_range, ranges_over, compiled_lists, RiseFromZero, IsLastSpan}
+use Rattle.aat_map.specs.inside.CompiledSpans.{all_flags_for, ranges_with, span_range, compiled_lists, RiseFromZero}
 
 -- a span that another follows ends before it
 pub span_inner :
@@ -64,6 +62,10 @@ next_of_spans ss (suc j) rise lt =
     ∙ fold_push (λ n s. s.1 + 1) 0 (take j (spans ss)) (get_or ss j 0, get_or ss (suc j) 0 - 1)
     ∙ e
 
+-- each chain's range over a span
+abbrev pub ranges_over : List feature_range_t → List Chain → ℕ × ℕ → List range_flags_t
+ranges_over requests chains s = map (λ c. span_range requests c s) chains
+
 -- each chain's range over one span more
 pub compiled_more :
     (requests : List feature_range_t) (chains : List Chain) (ss : List (ℕ × ℕ)) (s : ℕ × ℕ)
@@ -93,32 +95,16 @@ settings_alike :
     → IsPermutation (kept_at x requests) list → has_setting list ≡ requested_at x requests
 settings_alike x requests list moved = λ i kind setting. sym (list_any-IsPermutation (λ j. (j.kind == kind) && (j.setting == setting)) (kept_at x requests) list moved) i
 
--- so a builder that has them gives each chain its flags
-pub ranges_alike :
-    (requests : List feature_range_t) (chains : List Chain) (b : Builder) (s : ℕ × ℕ)
-    → IsPermutation (kept_at s.0 requests) b.current_features → b.range_first ≡ s.0 → b.range_last ≡ s.1
-    → compiled_ranges b chains ≡ ranges_over requests chains s
-ranges_alike requests chains b s moved first last =
-    let same = settings_alike s.0 requests b.current_features moved in
-    let alike : compiled_range b ≡ (λ c. span_range requests c s) = λ i c. range (first i) (last i) (flags_by (same i) c.default_flags c.features.items) in
-    ap (λ f. map f chains) alike
-
--- the ranges of the flags that a builder's settings give each chain are its ranges
-ranges_with_flags :
-    (chains : List Chain) (b : Builder) (s : ℕ × ℕ) → b.range_first ≡ s.0 → b.range_last ≡ s.1
-    → ranges_with s (all_flags_for b.current_features chains) ≡ compiled_ranges b chains
-ranges_with_flags [] b s first last = refl
-ranges_with_flags (c ∷ cs) b s first last =
-    let one : range s.0 s.1 (flags_for b.current_features c) ≡ compiled_range b c =
-    λ i. range (sym first i) (sym last i) (flags_for b.current_features c) in
-    ap (λ r. r ∷ ranges_with s (all_flags_for b.current_features cs)) one
-    ∙ ap (λ rs. compiled_range b c ∷ rs) (ranges_with_flags cs b s first last)
-
-pub ranges_of_flags :
-    (chains : List Chain) (b : Builder) (s : ℕ × ℕ) (flags : List ℕ)
-    → flags ≡ all_flags_for b.current_features chains → b.range_first ≡ s.0 → b.range_last ≡ s.1
-    → ranges_with s flags ≡ compiled_ranges b chains
-ranges_of_flags chains b s flags is first last = ap (ranges_with s) is ∙ ranges_with_flags chains b s first last
+-- so the ranges of the flags that these settings give the chains are those of the requests
+pub ranges_of_settings :
+    (requests : List feature_range_t) (chains : List Chain) (list : List feature_info_t) (s : ℕ × ℕ)
+    → IsPermutation (kept_at s.0 requests) list
+    → ranges_with s (all_flags_for list chains) ≡ ranges_over requests chains s
+ranges_of_settings requests [] list s moved = refl
+ranges_of_settings requests (c ∷ cs) list s moved =
+    ap (λ (h : ℕ → ℕ → Bool). range s.0 s.1 (flags_by h c.default_flags c.features.items) ∷ ranges_with s (all_flags_for list cs))
+    (settings_alike s.0 requests list moved)
+    ∙ ap (λ rs. span_range requests c s ∷ rs) (ranges_of_settings requests cs list s moved)
 
 -- no ranges for each chain
 empty_lists :
@@ -141,25 +127,6 @@ pub live_of :
     (x : ℕ) (requests ordered : List feature_range_t) → ordered ≡ by_start requests
     → live_among x ordered ≡ live x requests
 live_of x requests ordered same = ap (live_among x) same
-
-first_same : {a b c d : ℕ} → ◌≡◌ {A = Option (ℕ × ℕ)} (Some (a, b)) (Some (c, d)) → a ≡ c
-first_same e = ap {A = Option (ℕ × ℕ)} (λ o. (unwrap_or o (0, 0)).0) e
-
-second_same : {a b c d : ℕ} → ◌≡◌ {A = Option (ℕ × ℕ)} (Some (a, b)) (Some (c, d)) → b ≡ d
-second_same e = ap {A = Option (ℕ × ℕ)} (λ o. (unwrap_or o (0, 0)).1) e
-
--- a range that was read as the last span
-pub last_span :
-    (ss : List ℕ) (b : Builder) (i : ℕ) → suc i ≡ length ss
-    → slice_get (spans ss) i ≡ Some (b.range_first, b.range_last) → IsLastSpan ss b
-last_span ss b i e read =
-    let same = sym (span_last ss i e) ∙ read in
-    let here : length ss - 1 ≡ i = omega (arith, e) in
-    let below : i < length ss = omega (arith, e) in
-    record {
-      first = rw (here, ← first_same same) (slice_get-get_or ss i 0 below);
-      last = sym (second_same same);
-    }
 
 -- where one can be read there is one
 pub some_start : (ss : List ℕ) → slice_get ss 0 ≡ Some 0 → 0 < length ss

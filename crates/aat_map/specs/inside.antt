@@ -4,4 +4,5 @@ pub mod Collected
 pub mod CompiledSpans
 pub mod Firsts
 pub mod MapLists
+pub mod Placed
 pub mod Walked

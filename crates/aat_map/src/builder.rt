@@ -12,7 +12,6 @@ use aat_font::{Feature, hb_font_t};
 use aat_run::AatError;
 use std::alloc::{Allocator, Global};
 use std::marker::Model;
-use std::mem;
 
 /// Gathers requests for features, and compiles them into the flags of each chain.
 ///
@@ -126,18 +125,17 @@ impl<A: Allocator + Copy> hb_aat_map_builder_t<A> {
         &self.current_features
     }
 
-    /// Sets the range, and takes the settings that are kept in it, which have to rise by their group. Those that were
-    /// kept are handed out for them, so that their list can be filled anew.
-    pub(crate) fn set_range(&mut self, range: (u32, u32), settings: &mut Vec<feature_info_t, A>)
+    /// Sets the range and the settings that are kept in it, which have to rise by their group.
+    pub(crate) fn set_range(&mut self, range: (u32, u32), settings: Vec<feature_info_t, A>)
         requires ordered { range.0 ≤ range.1 }
-        requires rising { IsRisingByGroup settings.old.items }
+        requires rising { IsRisingByGroup settings.items }
         ensures { self.new ≡ record self.old {
-          current_features = settings.old.items;
+          current_features = settings.items;
           range_first = range.0;
           range_last = range.1;
         } }
     {
-        mem::swap(&mut self.current_features, settings);
+        self.current_features = settings;
         self.range_first = range.0;
         self.range_last = range.1;
     }

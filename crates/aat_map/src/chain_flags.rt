@@ -1,5 +1,6 @@
 //! The flags of each chain in the range of a builder.
 ghost use Rattle.std.specs.Prelude.{◌≡◌, ◌<◌, ◌≤◌, length, IfOk, IfErr, OnOk, OnErr, is_none, [], All};
+ghost use Rattle.std.specs.Prelude.{if◌then◌else◌, bit_and, bit_or};
 ghost use Rattle.std.specs.List.{AllWithin};
 ghost use Rattle.aat_map.specs.ChainFlags.{is_asked, after_feature};
 ghost use Rattle.aat_map.specs.Live.{IsRisingByGroup, has_setting};
@@ -16,13 +17,13 @@ use aat_run::{AatError, range_flags_t};
 use std::alloc::Allocator;
 
 /// The feature type and the selector of the older small capitals.
-const OLDER_SMALL_CAPS: (u16, u16) = (
+pub(crate) const OLDER_SMALL_CAPS: (u16, u16) = (
     constants::HB_AAT_LAYOUT_FEATURE_TYPE_LETTER_CASE as u16,
     constants::HB_AAT_LAYOUT_FEATURE_SELECTOR_SMALL_CAPS as u16,
 );
 
 /// The feature type and the selector of small capitals for lower case letters.
-const SMALL_CAPS: (u16, u16) = (
+pub(crate) const SMALL_CAPS: (u16, u16) = (
     constants::HB_AAT_LAYOUT_FEATURE_TYPE_LOWER_CASE as u16,
     constants::HB_AAT_LAYOUT_FEATURE_SELECTOR_LOWER_CASE_SMALL_CAPS as u16,
 );
@@ -105,7 +106,7 @@ fn compiled_range<A: Allocator + Copy>(
 
 /// The flags that settings, which rise by group, give a chain: the default ones, changed by its features in their
 /// order.
-pub(crate) fn flags_of(settings: &[feature_info_t], chain: &Chain) -> hb_mask_t
+fn flags_of(settings: &[feature_info_t], chain: &Chain) -> hb_mask_t
     requires { IsRisingByGroup settings.now }
     ensures { result ≡ flags_for settings.now chain.now }
 {
@@ -121,7 +122,14 @@ fn after_feature(settings: &[feature_info_t], flags: hb_mask_t, feature: &ChainF
     requires { IsRisingByGroup settings.now }
     ensures { result ≡ after_feature (has_setting settings.now) flags feature.now }
 {
-    if is_asked(settings, feature) {
+    changed_by(is_asked(settings, feature), flags, feature)
+}
+
+/// Flags that a chain feature changes where it is asked for.
+pub(crate) fn changed_by(is_asked: bool, flags: hb_mask_t, feature: &ChainFeature) -> hb_mask_t
+    ensures { result ≡ (if is_asked then bit_or (bit_and flags feature.now.disable_flags) feature.now.enable_flags else flags) }
+{
+    if is_asked {
         (flags & feature.disable_flags) | feature.enable_flags
     } else {
         flags
@@ -152,7 +160,7 @@ fn has_setting(settings: &[feature_info_t], wanted: (u16, u16)) -> bool
 }
 
 /// How many settings are of a lower kind, by a bisection, since they rise by group.
-fn count_below(settings: &[feature_info_t], kind: u16) -> usize
+pub(crate) fn count_below(settings: &[feature_info_t], kind: u16) -> usize
     requires { IsRisingByGroup settings.now }
     ensures within { result ≤ length settings.now }
     ensures lower { AllWithin (λ i. i.kind < kind) settings.now 0 result }

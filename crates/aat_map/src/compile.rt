@@ -1,29 +1,28 @@
 //! Compiling requests into the flags of each chain, range by range.
-ghost use Rattle.std.specs.Prelude.{◌≡◌, ◌<◌, ◌≤◌, ℕ, [], length, slice_get, slice_index_or, All, IsTrue, IsPermutation, Some};
-ghost use Rattle.std.specs.Prelude.{IfErr, OnOk, OnErr};
+ghost use Rattle.std.specs.Prelude.{◌≡◌, ◌<◌, ◌≤◌, [], length, slice_get, slice_index_or, All, IsTrue, IsPermutation, Some};
+ghost use Rattle.std.specs.Prelude.{IfOk, IfErr, OnOk, OnErr};
 ghost use Rattle.std.specs.List.{list_all};
 ghost use Rattle.aat_font.specs.Face.{tables_of, chains_in};
-ghost use Rattle.aat_run.specs.Ranges.{last_cluster, is_whole_list, next_start};
+ghost use Rattle.aat_run.specs.Ranges.{last_cluster, is_whole_list};
 ghost use Rattle.aat_map.specs.Builder.{AreKeptAt};
 ghost use Rattle.aat_map.specs.Compiled.{HaveFlags, IsLastStart};
 ghost use Rattle.aat_map.specs.Live.{by_start, kept_at};
-ghost use Rattle.aat_map.specs.Map.{AreStarts, range_starts, with_ranges, list_at};
+ghost use Rattle.aat_map.specs.Map.{AreStarts, range_starts};
 ghost use Rattle.aat_map.specs.Spans.{spans};
 ghost use Rattle.aat_map.specs.SwitchedChains.{switched_by, by_requests};
-ghost use Rattle.aat_map.specs.inside.CompiledSpans.{all_flags_for, ranges_over, compiled_lists};
-ghost use Rattle.aat_map.specs.inside.CompiledSpans.{RiseFromZero, IsLastSpan, IsCompiled};
+ghost use Rattle.aat_map.specs.inside.CompiledSpans.{compiled_lists, last_of, RiseFromZero, IsLastSpan, IsCompiled};
 ghost use Rattle.aat_map.specs.inside.Firsts.{present};
 ghost use Rattle.aat_map.specs.inside.Walked.{AreWalked};
 
 use crate::builder::hb_aat_map_builder_t;
 use crate::feature::{feature_info_t, feature_range_t};
-use crate::gather::{by_start, count_up_to, keep};
-use crate::live::live_at_start;
+use crate::gather::{by_start, count_up_to, kept_of};
+use crate::live::{Live, live_at_start};
 use crate::map::hb_aat_map_t;
-use crate::remembered::{flags_of_chains, push_flags, renew};
+use crate::placed::placed_in;
+use crate::remembered::{push_flags, renew};
 use crate::starts::starts_of;
 use crate::walk::{by_end, count_ending, go_on};
-use aat_buffer::hb_mask_t;
 use aat_font::{Chain, hb_font_t};
 use aat_run::AatError;
 use std::alloc::Allocator;
@@ -75,12 +74,14 @@ fn compile_ranges<A: Allocator + Copy>(
     let alloc = builder.allocator();
     let ordered = by_start(alloc, builder.features())?;
     let ending = by_end(alloc, &ordered)?;
-    let starts = starts_of(alloc, builder.features())?;
+    let starts = starts_of(alloc, &ordered, &ending)?;
     map.resize(chains.len())?;
-    compile_spans(builder, chains, map, &ordered, &ending, &starts)
+    let live = compile_spans(builder, chains, map, &ordered, &ending, &starts)?;
+    tell_last(builder, &starts, &live.firsts)
 }
 
-/// Compiles the range of each start in turn, in one walk over what starts and what ends.
+/// Compiles the range of each start in turn, in one walk over what starts and what ends. Answers what is live in the
+/// last one.
 ///
 /// Neighbours with equal flags are not joined. A chain of one range switches a subtable once, for the
 /// whole text, and leaves one that is off out of the run; with more ranges each cluster is asked, but
@@ -88,42 +89,34 @@ fn compile_ranges<A: Allocator + Copy>(
 /// alone always makes more ranges than one, whatever its flags are, and the ranges of all chains begin
 /// at the same clusters.
 fn compile_spans<A: Allocator + Copy>(
-    builder: &mut hb_aat_map_builder_t<A>,
+    builder: &hb_aat_map_builder_t<A>,
     chains: &[Chain],
     map: &mut hb_aat_map_t<A>,
     ordered: &[feature_range_t],
     ending: &[feature_range_t],
     starts: &[u32],
-) -> Result<(), AatError>
-    requires ordered { ordered.now ≡ by_start builder.old.features }
+) -> Result<Live<A>, AatError>
+    requires ordered { ordered.now ≡ by_start builder.now.features }
     requires walked { AreWalked ordered.now ending.now }
     requires starts { RiseFromZero starts.now }
-    requires lists { map.old ≡ compiled_lists builder.old.features chains.now [] }
-    ensures lists { OnOk result (map.new ≡ compiled_lists builder.old.features chains.now (spans starts.now)) }
-    ensures range { OnOk result (IsLastSpan starts.now builder.new) }
-    ensures current { OnOk result (AreKeptAt builder.new.range_first builder.old.features
-        builder.new.current_features) }
-    ensures requests { builder.new.features ≡ builder.old.features }
+    requires lists { map.old ≡ compiled_lists builder.now.features chains.now [] }
+    ensures lists { OnOk result (map.new ≡ compiled_lists builder.now.features chains.now (spans starts.now)) }
+    ensures kept { IfOk result (λ live. IsPermutation (kept_at (last_of starts.now) builder.now.features)
+        (present live.firsts.items)) }
     ensures err { IfErr result (λ e. e ≡ AatError.OutOfMemory) }
 {
     let mut live = live_at_start(builder.allocator(), ordered)?;
-    let mut flags = flags_of_chains(builder.allocator(), chains, builder.current_features())?;
+    let placed = placed_in(builder.allocator(), &live.groups, chains)?;
+    let mut flags = vec![in builder.allocator(); 0; chains.len()]?;
     let mut passed = (count_up_to(ordered, 0), count_ending(ending, 0));
-    let mut kept = Vec::new(builder.allocator());
     for i in 0..starts.len() {
         let span = span_at(starts, i);
         passed = go_on(&mut live, passed, ordered, ending, span.0)?;
-        compile_span(
-            builder,
-            chains,
-            map,
-            &live.firsts,
-            &mut flags,
-            &mut kept,
-            span,
-        )?;
+        renew(&mut flags, chains, &placed, &live);
+        live.is_changed = false;
+        push_flags(&flags, span, map)?;
     }
-    Ok(())
+    Ok(live)
 }
 
 /// The first and the last cluster of a range, from where they begin.
@@ -141,31 +134,21 @@ fn span_at(starts: &[u32], i: usize) -> (u32, u32)
     }
 }
 
-/// Compiles one range, which follows the others, from the first of each group that is live there. What is kept there
-/// goes by way of a list, which is handed on from range to range.
-fn compile_span<A: Allocator + Copy>(
+/// Has a builder tell of the last range, with what is kept there: of each group the first that is live.
+fn tell_last<A: Allocator + Copy>(
     builder: &mut hb_aat_map_builder_t<A>,
-    chains: &[Chain],
-    map: &mut hb_aat_map_t<A>,
+    starts: &[u32],
     firsts: &[Option<feature_info_t>],
-    flags: &mut [hb_mask_t],
-    kept: &mut Vec<feature_info_t, A>,
-    span: (u32, u32),
 ) -> Result<(), AatError>
-    requires kept { IsPermutation (kept_at span.0 builder.old.features) (present firsts.now) }
-    requires span { span.0 ≤ span.1 }
-    requires follows { (k : ℕ) → k < length chains.now → next_start (list_at map.old k) ≡ span.0 }
-    requires lists { length map.old ≡ length chains.now }
-    requires flags { flags.old ≡ all_flags_for builder.old.current_features chains.now }
-    ensures flags { OnOk result (flags.new ≡ all_flags_for builder.new.current_features chains.now) }
-    ensures ok { OnOk result (map.new ≡ with_ranges (ranges_over builder.old.features chains.now span) map.old) }
-    ensures current { OnOk result (AreKeptAt span.0 builder.old.features builder.new.current_features) }
-    ensures range { OnOk result ((builder.new.range_first ≡ span.0) × (builder.new.range_last ≡ span.1)) }
+    requires starts { RiseFromZero starts.now }
+    requires kept { IsPermutation (kept_at (last_of starts.now) builder.old.features) (present firsts.now) }
+    ensures range { OnOk result (IsLastSpan starts.now builder.new) }
+    ensures current { OnOk result (AreKeptAt builder.new.range_first builder.old.features
+        builder.new.current_features) }
     ensures requests { builder.new.features ≡ builder.old.features }
     ensures err { IfErr result (λ e. e ≡ AatError.OutOfMemory) }
 {
-    keep(kept, firsts)?;
-    renew(flags, chains, builder.current_features(), kept);
-    builder.set_range(span, kept);
-    push_flags(flags, span, map)
+    let kept = kept_of(builder.allocator(), firsts)?;
+    builder.set_range((starts[starts.len() - 1], u32::MAX), kept);
+    Ok(())
 }

@@ -30,7 +30,7 @@ pub struct feature_range_t {
 /// Apple's TrueType Reference Manual, "The 'feat' table": of exclusive settings one alone is chosen, as
 /// with radio buttons; others are chosen each for itself, as with check boxes, and there the even number
 /// turns on what the odd one behind it turns off.
-fn group_setting(info: &feature_info_t) -> u16
+pub(crate) fn group_setting(info: &feature_info_t) -> u16
     ensures { result ≡ group_setting info.now }
 {
     if info.is_exclusive {

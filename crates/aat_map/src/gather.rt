@@ -1,17 +1,17 @@
 //! Gathering the requests that count at a cluster: in order, by their groups, and what is kept of each.
 ghost use Rattle.std.specs.Prelude.{◌≡◌, ◌≤◌, [], ◌∷◌, ◌++◌, if◌then◌else◌, length, take_while, nat_le, not};
-ghost use Rattle.std.specs.Prelude.{IfOk, IfErr, OnOk, IsPermutation};
+ghost use Rattle.std.specs.Prelude.{All, IfOk, IfErr, OnOk, IsPermutation};
 ghost use Rattle.std.specs.Prelude.{List};
 ghost use Rattle.aat_map.specs.declared.feature.feature_info_t.{feature_info_t};
-ghost use Rattle.aat_map.specs.Live.{by_start, admitted, infos, without_earliest};
+ghost use Rattle.aat_map.specs.Live.{by_start, admitted, is_admitted, infos, without_earliest};
+ghost use Rattle.aat_map.specs.inside.CompiledSpans.{EndsWithinText};
 ghost use Rattle.aat_map.specs.Live.{is_equal, kept, in_group, IsRisingByGroup};
 ghost use Rattle.aat_map.specs.inside.Firsts.{AreGroupsOf, present};
 ghost use Rattle.std.specs.List.{list_any};
 
-use crate::feature::{feature_info_t, feature_order, feature_range_t};
+use crate::feature::{feature_info_t, feature_order, feature_range_t, group_setting};
 use aat_run::AatError;
 use std::alloc::Allocator;
-use std::cmp::Ordering;
 use std::collections::VecDeque;
 
 /// The admitted requests by start, and where starts are equal in the order of adding.
@@ -23,6 +23,7 @@ pub(crate) fn by_start<A: Allocator + Copy>(
     requests: &[feature_range_t],
 ) -> Result<Vec<feature_range_t, A>, AatError>
     ensures ok { IfOk result (λ ordered. ordered.items ≡ by_start requests.now) }
+    ensures bounded { OnOk result (All EndsWithinText requests.now) }
     ensures err { IfErr result (λ e. e ≡ AatError.OutOfMemory) }
 {
     let mut ordered = admitted(alloc, requests)?;
@@ -36,15 +37,30 @@ fn admitted<A: Allocator + Copy>(
     requests: &[feature_range_t],
 ) -> Result<Vec<feature_range_t, A>, AatError>
     ensures ok { IfOk result (λ list. list.items ≡ admitted requests.now) }
+    ensures bounded { OnOk result (All EndsWithinText requests.now) }
     ensures err { IfErr result (λ e. e ≡ AatError.OutOfMemory) }
 {
     let mut list = Vec::with_capacity(alloc, requests.len())?;
     for request in requests {
-        if request.start < request.end {
-            list.push(*request)?;
-        }
+        push_admitted(&mut list, request)?;
     }
     Ok(list)
+}
+
+/// Puts a request last whose start is below its end.
+fn push_admitted<A: Allocator>(
+    list: &mut Vec<feature_range_t, A>,
+    request: &feature_range_t,
+) -> Result<(), AatError>
+    ensures ok { OnOk result (list.new.items
+        ≡ list.old.items ++ (if is_admitted request.now then request.now ∷ [] else [])) }
+    ensures bounded { EndsWithinText request.now }
+    ensures err { IfErr result (λ e. e ≡ AatError.OutOfMemory) }
+{
+    if request.start < request.end {
+        list.push(*request)?;
+    }
+    Ok(())
 }
 
 /// How many requests in front start no later than a cluster.
@@ -82,34 +98,34 @@ pub(crate) fn is_equal(a: &feature_info_t, b: &feature_info_t) -> bool
     a == b
 }
 
-/// Leaves in a list what is there of the first of each group, in the order of groups.
-pub(crate) fn keep<A: Allocator>(
-    list: &mut Vec<feature_info_t, A>,
+/// What is there of the first of each group, in the order of groups.
+pub(crate) fn kept_of<A: Allocator>(
+    alloc: A,
     firsts: &[Option<feature_info_t>],
-) -> Result<(), AatError>
-    ensures kept { OnOk result (IsPermutation (present firsts.now) list.new.items) }
-    ensures rising { OnOk result ((xs : List feature_info_t) → IsPermutation (kept xs) (present firsts.now)
-        → IsRisingByGroup list.new.items) }
+) -> Result<Vec<feature_info_t, A>, AatError>
+    ensures kept { IfOk result (λ list. IsPermutation (present firsts.now) list.items) }
+    ensures rising { IfOk result (λ list. (xs : List feature_info_t) → IsPermutation (kept xs) (present firsts.now)
+        → IsRisingByGroup list.items) }
     ensures err { IfErr result (λ e. e ≡ AatError.OutOfMemory) }
 {
-    fill(list, firsts)?;
+    let mut list = present_of(alloc, firsts)?;
     list.sort_unstable_by(|a, b| feature_order(a, b));
-    Ok(())
+    Ok(list)
 }
 
-/// Leaves in a list what is there of the first of each group.
-fn fill<A: Allocator>(
-    list: &mut Vec<feature_info_t, A>,
+/// What is there of the first of each group.
+fn present_of<A: Allocator>(
+    alloc: A,
     firsts: &[Option<feature_info_t>],
-) -> Result<(), AatError>
-    ensures ok { OnOk result (list.new.items ≡ present firsts.now) }
+) -> Result<Vec<feature_info_t, A>, AatError>
+    ensures ok { IfOk result (λ list. list.items ≡ present firsts.now) }
     ensures err { IfErr result (λ e. e ≡ AatError.OutOfMemory) }
 {
-    list.clear();
+    let mut list = Vec::new(alloc);
     for first in firsts {
-        push_present(list, first)?;
+        push_present(&mut list, first)?;
     }
-    Ok(())
+    Ok(list)
 }
 
 /// Puts a setting last, if there is one.
@@ -126,13 +142,13 @@ fn push_present<A: Allocator>(
     Ok(())
 }
 
-/// Of each group of requests one, in the order of groups, so that what is there of the first of each needs hardly any
-/// sorting.
+/// Of each group of requests one, in the order of groups, so that a bisection finds where those of a kind begin.
 pub(crate) fn groups_of<A: Allocator + Copy>(
     alloc: A,
     requests: &[feature_range_t],
 ) -> Result<Vec<feature_info_t, A>, AatError>
     ensures ok { IfOk result (λ groups. AreGroupsOf (infos requests.now) groups.items) }
+    ensures rising { IfOk result (λ groups. IsRisingByGroup groups.items) }
     ensures err { IfErr result (λ e. e ≡ AatError.OutOfMemory) }
 {
     let mut groups = first_of_each(alloc, requests)?;
@@ -182,5 +198,5 @@ fn has_group(list: &[feature_info_t], info: &feature_info_t) -> bool
 pub(crate) fn is_one_group(a: &feature_info_t, b: &feature_info_t) -> bool
     ensures { result ≡ in_group a.now b.now }
 {
-    feature_order(a, b) == Ordering::Equal
+    a.kind == b.kind && a.is_exclusive == b.is_exclusive && group_setting(a) == group_setting(b)
 }

@@ -10,6 +10,7 @@ mod gather;
 mod live;
 mod map;
 mod mapping;
+mod placed;
 mod remembered;
 mod starts;
 mod walk;

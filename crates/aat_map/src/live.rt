@@ -1,11 +1,11 @@
 //! What is live, and of each group the first.
-ghost use Rattle.std.specs.Prelude.{◌≡◌, ◌≤◌, [], ◌∷◌, ◌++◌, length, filter, not, take_while};
+ghost use Rattle.std.specs.Prelude.{◌≡◌, ◌≢◌, false, ◌<◌, ◌≤◌, true, [], ◌∷◌, ◌++◌, length, filter, not, take_while, slice_set};
 ghost use Rattle.std.specs.Prelude.{IfOk, IfErr, OnOk};
-ghost use Rattle.aat_map.specs.Live.{has_begun, in_group, infos, without_earliest};
-ghost use Rattle.aat_map.specs.inside.Firsts.{first_of, firsts_of, AreApart, AreGroupsOf};
+ghost use Rattle.aat_map.specs.Live.{has_begun, in_group, infos, without_earliest, IsRisingByGroup};
+ghost use Rattle.aat_map.specs.inside.Firsts.{first_of, firsts_of, AreApart, AreGroupsOf, IsNoted};
 
 use crate::feature::{feature_info_t, feature_range_t};
-use crate::gather::{groups_of, is_one_group, take_out};
+use crate::gather::{groups_of, is_equal, is_one_group, take_out};
 use aat_run::AatError;
 use std::alloc::Allocator;
 use std::collections::VecDeque;
@@ -19,6 +19,8 @@ pub(crate) struct Live<A: Allocator> {
     pub(crate) groups: Vec<feature_info_t, A>,
     /// Of each of these groups the first that is live.
     pub(crate) firsts: Vec<Option<feature_info_t>, A>,
+    /// Whether one of these has changed since this was set to `false`; at the start it is `true`.
+    pub(crate) is_changed: bool,
 }
 
 /// What is live at cluster 0, of requests by start: what starts there.
@@ -28,7 +30,9 @@ pub(crate) fn live_at_start<A: Allocator + Copy>(
 ) -> Result<Live<A>, AatError>
     ensures active { IfOk result (λ live. live.active.items ≡ infos (filter (has_begun 0) ordered.now)) }
     ensures groups { IfOk result (λ live. AreGroupsOf (infos ordered.now) live.groups.items) }
+    ensures rising { IfOk result (λ live. IsRisingByGroup live.groups.items) }
     ensures firsts { IfOk result (λ live. live.firsts.items ≡ firsts_of live.groups.items live.active.items) }
+    ensures changed { IfOk result (λ live. live.is_changed ≡ true) }
     ensures err { IfErr result (λ e. e ≡ AatError.OutOfMemory) }
 {
     let active = begun_at_start(alloc, ordered)?;
@@ -38,6 +42,7 @@ pub(crate) fn live_at_start<A: Allocator + Copy>(
         active,
         groups,
         firsts,
+        is_changed: true,
     })
 }
 
@@ -81,12 +86,14 @@ pub(crate) fn begin<A: Allocator>(live: &mut Live<A>, info: &feature_info_t) -> 
     ensures active { OnOk result (live.new.active.items ≡ live.old.active.items ++ info.now ∷ []) }
     ensures groups { live.new.groups.items ≡ live.old.groups.items }
     ensures firsts { OnOk result (live.new.firsts.items ≡ firsts_of live.new.groups.items live.new.active.items) }
+    ensures changed { OnOk result (IsNoted live.old.is_changed live.new.is_changed live.old.firsts.items live.new.firsts.items) }
     ensures err { IfErr result (λ e. e ≡ AatError.OutOfMemory) }
 {
     live.active.push_back(*info)?;
     let place = place_of(&live.groups, info);
     if place < live.groups.len() {
-        live.firsts[place] = live.firsts[place].or(Some(*info));
+        let first = live.firsts[place].or(Some(*info));
+        set_first(live, place, first);
     }
     Ok(())
 }
@@ -98,16 +105,44 @@ pub(crate) fn end<A: Allocator>(live: &mut Live<A>, info: &feature_info_t)
     ensures active { live.new.active.items ≡ without_earliest live.old.active.items info.now }
     ensures groups { live.new.groups.items ≡ live.old.groups.items }
     ensures firsts { live.new.firsts.items ≡ firsts_of live.new.groups.items live.new.active.items }
+    ensures changed { IsNoted live.old.is_changed live.new.is_changed live.old.firsts.items live.new.firsts.items }
 {
     take_out(&mut live.active, info);
     let place = place_of(&live.groups, info);
     if place < live.groups.len() {
-        live.firsts[place] = first_of(&live.active, &live.groups[place]);
+        let first = first_of(&live.active, &live.groups[place]);
+        set_first(live, place, first);
+    }
+}
+
+/// Sets the first of a group, and notes where it is another one.
+fn set_first<A: Allocator>(live: &mut Live<A>, place: usize, first: Option<feature_info_t>)
+    requires { place < length live.old.firsts.items }
+    ensures active { live.new.active.items ≡ live.old.active.items }
+    ensures groups { live.new.groups.items ≡ live.old.groups.items }
+    ensures firsts { live.new.firsts.items ≡ slice_set live.old.firsts.items place first }
+    ensures changed { IsNoted live.old.is_changed live.new.is_changed live.old.firsts.items live.new.firsts.items }
+{
+    if !is_same(&live.firsts[place], &first) {
+        live.firsts[place] = first;
+        live.is_changed = true;
+    }
+}
+
+/// Whether two are the same setting, or there is neither.
+fn is_same(a: &Option<feature_info_t>, b: &Option<feature_info_t>) -> bool
+    ensures same { result ≡ true → a.now ≡ b.now }
+    ensures other { result ≡ false → a.now ≢ b.now }
+{
+    match (a, b) {
+        (Some(x), Some(y)) => is_equal(x, y),
+        (None, None) => true,
+        _ => false,
     }
 }
 
 /// How many groups stand before that of a setting.
-fn place_of(groups: &[feature_info_t], info: &feature_info_t) -> usize
+pub(crate) fn place_of(groups: &[feature_info_t], info: &feature_info_t) -> usize
     ensures count { result ≡ length (take_while (λ g. not (in_group info.now g)) groups.now) }
     ensures within { result ≤ length groups.now }
 {

@@ -1,57 +1,66 @@
 //! The clusters at which ranges begin.
-ghost use Rattle.std.specs.Prelude.{◌≡◌, All, [], ◌∷◌, ◌++◌, fold, IfOk, IfErr, OnOk, if◌then◌else◌, map};
-ghost use Rattle.aat_map.specs.Live.{is_edge, is_admitted};
-ghost use Rattle.aat_map.specs.Map.{AreStarts};
-ghost use Rattle.aat_map.specs.inside.CompiledSpans.{EndsWithinText};
-ghost use Rattle.aat_map.specs.inside.Collected.{with_cut, with_cuts};
+ghost use Rattle.std.specs.Prelude.{◌≡◌, [], ◌∷◌, IfOk, IfErr, OnOk};
+ghost use Rattle.aat_map.specs.inside.Collected.{AreCollected, with_cut, with_starts, with_ends};
 
 use crate::feature::feature_range_t;
 use aat_run::AatError;
 use std::alloc::Allocator;
 
-/// Where ranges begin: at 0, and where an admitted request starts or ends within the text.
+/// Where ranges begin: at 0, and where, within the text, one of the requests by start starts or one of those by end
+/// ends. So two lists that rise come one behind the other, which the library's stable sort merges where they are long.
 pub(crate) fn starts_of<A: Allocator + Copy>(
     alloc: A,
-    requests: &[feature_range_t],
+    ordered: &[feature_range_t],
+    ending: &[feature_range_t],
 ) -> Result<Vec<u32, A>, AatError>
-    ensures ok { IfOk result (λ starts. AreStarts requests.now starts.items) }
-    ensures bounded { OnOk result (All EndsWithinText requests.now) }
+    ensures ok { IfOk result (λ starts. AreCollected ordered.now ending.now starts.items) }
     ensures err { IfErr result (λ e. e ≡ AatError.OutOfMemory) }
 {
-    let mut starts = collected(alloc, requests)?;
-    starts.sort_unstable();
+    let mut starts = collected(alloc, ordered, ending)?;
+    starts.sort()?;
     starts.dedup();
     Ok(starts)
 }
 
-/// 0 and the cuts of each request in turn.
-fn collected<A: Allocator + Copy>(
+/// 0, where requests start, and where others end.
+fn collected<A: Allocator>(
     alloc: A,
-    requests: &[feature_range_t],
+    ordered: &[feature_range_t],
+    ending: &[feature_range_t],
 ) -> Result<Vec<u32, A>, AatError>
-    ensures ok { IfOk result (λ starts. starts.items ≡ fold with_cuts (0 ∷ []) requests.now) }
-    ensures bounded { OnOk result (All EndsWithinText requests.now) }
+    ensures ok { IfOk result (λ starts. starts.items ≡ with_ends (with_starts (0 ∷ []) ordered.now) ending.now) }
     ensures err { IfErr result (λ e. e ≡ AatError.OutOfMemory) }
 {
     let mut starts = Vec::new(alloc);
     starts.push(0)?;
-    for request in requests {
-        push_cuts(&mut starts, request)?;
-    }
+    push_starts(&mut starts, ordered)?;
+    push_ends(&mut starts, ending)?;
     Ok(starts)
 }
 
-/// Puts the cuts of an admitted request last.
-fn push_cuts<A: Allocator>(
+/// Puts the starts of requests last.
+fn push_starts<A: Allocator>(
     starts: &mut Vec<u32, A>,
-    request: &feature_range_t,
+    ordered: &[feature_range_t],
 ) -> Result<(), AatError>
-    ensures ok { OnOk result (starts.new.items ≡ with_cuts starts.old.items request.now) }
-    ensures bounded { EndsWithinText request.now }
+    ensures ok { OnOk result (starts.new.items ≡ with_starts starts.old.items ordered.now) }
     ensures err { IfErr result (λ e. e ≡ AatError.OutOfMemory) }
 {
-    if request.start < request.end {
+    for request in ordered {
         push_cut(starts, request.start)?;
+    }
+    Ok(())
+}
+
+/// Puts the ends of requests last.
+fn push_ends<A: Allocator>(
+    starts: &mut Vec<u32, A>,
+    ending: &[feature_range_t],
+) -> Result<(), AatError>
+    ensures ok { OnOk result (starts.new.items ≡ with_ends starts.old.items ending.now) }
+    ensures err { IfErr result (λ e. e ≡ AatError.OutOfMemory) }
+{
+    for request in ending {
         push_cut(starts, request.end)?;
     }
     Ok(())

@@ -4,7 +4,7 @@ ghost use Rattle.std.specs.Prelude.{IfOk, IfErr, OnOk, IsPermutation, take_while
 ghost use Rattle.std.specs.List.{prefix_len};
 ghost use Rattle.std.specs.List.Sorted.{IsNonDecreasingBy};
 ghost use Rattle.aat_map.specs.Live.{infos, has_begun, live_among, without_earliest};
-ghost use Rattle.aat_map.specs.inside.Firsts.{firsts_of, AreApart};
+ghost use Rattle.aat_map.specs.inside.Firsts.{firsts_of, AreApart, IsNoted};
 ghost use Rattle.aat_map.specs.inside.Walked.{ends_within, ends_by, AreWalked, IsWalkedUpTo};
 
 use crate::feature::feature_range_t;
@@ -68,6 +68,7 @@ pub(crate) fn go_on<A: Allocator>(
     ensures begun { IfOk result (λ now. now.0 ≤ length ordered.now) }
     ensures ended { IfOk result (λ now. now.1 ≤ length ending.now) }
     ensures up_to { IfOk result (λ now. IsWalkedUpTo cluster ordered.now ending.now live.new.active.items now.0 now.1) }
+    ensures changed { OnOk result (IsNoted live.old.is_changed live.new.is_changed live.old.firsts.items live.new.firsts.items) }
     ensures err { IfErr result (λ e. e ≡ AatError.OutOfMemory) }
 {
     let begun = start_up_to(live, ordered, passed.0, cluster)?;
@@ -91,6 +92,7 @@ fn start_up_to<A: Allocator>(
     ensures firsts { OnOk result (live.new.firsts.items ≡ firsts_of live.new.groups.items live.new.active.items) }
     ensures count { IfOk result (λ n. n ≡ begun + prefix_len (has_begun cluster) (drop begun ordered.now)) }
     ensures within { IfOk result (λ n. n ≤ length ordered.now) }
+    ensures changed { OnOk result (IsNoted live.old.is_changed live.new.is_changed live.old.firsts.items live.new.firsts.items) }
     ensures err { IfErr result (λ e. e ≡ AatError.OutOfMemory) }
 {
     let coming = &ordered[begun..];
@@ -106,6 +108,7 @@ fn push_all<A: Allocator>(live: &mut Live<A>, requests: &[feature_range_t]) -> R
     ensures ok { OnOk result (live.new.active.items ≡ live.old.active.items ++ infos requests.now) }
     ensures groups { OnOk result (live.new.groups.items ≡ live.old.groups.items) }
     ensures firsts { OnOk result (live.new.firsts.items ≡ firsts_of live.new.groups.items live.new.active.items) }
+    ensures changed { OnOk result (IsNoted live.old.is_changed live.new.is_changed live.old.firsts.items live.new.firsts.items) }
     ensures err { IfErr result (λ e. e ≡ AatError.OutOfMemory) }
 {
     for request in requests {
@@ -130,6 +133,7 @@ fn end_up_to<A: Allocator>(
     ensures firsts { live.new.firsts.items ≡ firsts_of live.new.groups.items live.new.active.items }
     ensures count { result ≡ ended + prefix_len (ends_by cluster) (drop ended ending.now) }
     ensures within { result ≤ length ending.now }
+    ensures changed { IsNoted live.old.is_changed live.new.is_changed live.old.firsts.items live.new.firsts.items }
 {
     let leaving = &ending[ended..];
     let more = count_ending(leaving, cluster);
@@ -152,6 +156,7 @@ fn take_out_all<A: Allocator>(live: &mut Live<A>, requests: &[feature_range_t])
     ensures live { live.new.active.items ≡ fold without_earliest live.old.active.items (infos requests.now) }
     ensures groups { live.new.groups.items ≡ live.old.groups.items }
     ensures firsts { live.new.firsts.items ≡ firsts_of live.new.groups.items live.new.active.items }
+    ensures changed { IsNoted live.old.is_changed live.new.is_changed live.old.firsts.items live.new.firsts.items }
 {
     for request in requests {
         end(live, &request.info);

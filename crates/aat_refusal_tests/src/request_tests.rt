@@ -223,12 +223,12 @@ fn blocks_to_compile(
 }
 
 /// Row 5. A block more is left each time, until nothing is refused. `compile` takes a list of the requests in their
-/// order, one by their ends, one of the starts, those of what is live, of groups and of their firsts, two of what is
-/// kept, one of flags, the map's two, and what sorting takes.
+/// order, one by their ends, one of the starts, those of what is live, of groups and of their firsts, one of the places
+/// for each chain and the list of these, one of flags, one of what is kept, and the map's two.
 #[test]
 fn each_growth_of_compiling_refused(rt: HostRuntime) -> Result<(), Fail> {
     let face = face_of_row_5(rt.alloc())?;
-    assert!(&rt; blocks_to_compile(&rt, rt.alloc(), Call::Compile, &face)? >= 7);
+    assert!(&rt; blocks_to_compile(&rt, rt.alloc(), Call::Compile, &face)? >= 12);
     assert!(&rt; blocks_to_compile(&rt, rt.alloc(), Call::CompileFlags, &face)? >= 2);
     Ok(())
 }

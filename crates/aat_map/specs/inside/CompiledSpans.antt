@@ -1,5 +1,5 @@
 -- Ranges as they are compiled, one span after another.
-use Rattle.std.specs.Prelude.{◌≡◌, ℕ, ◌-◌, ◌≤◌, List, map, length, slice_get, Some, All}
+use Rattle.std.specs.Prelude.{◌≡◌, ℕ, ◌-◌, ◌≤◌, List, map, length, slice_get, slice_index_or, Some, All}
 use Rattle.std.specs.List.Sorted.{IsStrictlyIncreasing}
 use Rattle.aat_map.specs.Builder.{Builder, AreKeptAt}
 use Rattle.aat_run.specs.Ranges.{last_cluster, range}
@@ -24,10 +24,6 @@ all_flags_for settings chains = map (flags_for settings) chains
 abbrev pub ranges_with : ℕ × ℕ → List ℕ → List range_flags_t
 ranges_with s flags = map (range s.0 s.1) flags
 
--- each chain's range over a span
-abbrev pub ranges_over : List feature_range_t → List Chain → ℕ × ℕ → List range_flags_t
-ranges_over requests chains s = map (λ c. span_range requests c s) chains
-
 -- a list for each chain over spans
 abbrev pub compiled_lists : List feature_range_t → List Chain → List (ℕ × ℕ) → List (List range_flags_t)
 compiled_lists requests chains ss = map (λ c. map (span_range requests c) ss) chains
@@ -36,6 +32,10 @@ compiled_lists requests chains ss = map (λ c. map (span_range requests c) ss) c
 pub record RiseFromZero (starts : List ℕ) : Type 0 where
   pub zero : slice_get starts 0 ≡ Some 0
   pub rising : IsStrictlyIncreasing starts
+
+-- the last of these, and 0 where there is none
+abbrev pub last_of : List ℕ → ℕ
+last_of starts = slice_index_or starts (length starts - 1) 0
 
 -- the range of a builder is the last one
 pub record IsLastSpan (starts : List ℕ) (b : Builder) : Type 0 where

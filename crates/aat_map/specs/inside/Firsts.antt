@@ -1,5 +1,5 @@
 -- Of each group the first that is live.
-use Rattle.std.specs.Prelude.{◌≡◌, true, false, List, [], ◌∷◌, map, Option, Some, None, if◌then◌else◌}
+use Rattle.std.specs.Prelude.{◌≡◌, Bool, true, false, List, [], ◌∷◌, map, Option, Some, None, if◌then◌else◌}
 use Rattle.std.specs.List.{AllByRecursion, list_any}
 use Rattle.aat_map.specs.declared.feature.feature_info_t.{feature_info_t}
 use Rattle.aat_map.specs.Live.{in_group}
@@ -32,3 +32,7 @@ AreGrouped groups list = AllByRecursion (λ i. list_any (λ g. in_group g i) gro
 pub record AreGroupsOf (list groups : List feature_info_t) : Type 0 where
   pub apart : AreApart groups
   pub each : AreGrouped groups list
+
+-- a change is noted: where none is now, none was before, and these are the same
+abbrev pub IsNoted : Bool → Bool → List (Option feature_info_t) → List (Option feature_info_t) → Type 0
+IsNoted was now olds news = now ≡ false → (was ≡ false) × (news ≡ olds)

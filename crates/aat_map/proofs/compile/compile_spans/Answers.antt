@@ -1,55 +1,30 @@
-use Rattle.std.proofs.Common.{◌≡◌, ◌∙◌, ◌<◌, ◌≤◌, ◌-◌, ◌+◌, ap, sym, refl, arith, length, take, suc, slice_index_or}
-use Rattle.std.proofs.lemmas.List.{take_all, with_items_is}
-use Rattle.std.proofs.lemmas.List.{length-map}
+use Rattle.std.proofs.Common.{◌≡◌, ◌∙◌, ◌<◌, ◌≤◌, ◌-◌, ◌+◌, ap, sym, arith, length, take, slice_index_or, IsPermutation}
+use Rattle.std.proofs.lemmas.List.{take_all, with_items_is, length-map}
+use Rattle.std.proofs.lemmas.List.Folds.{length-prefix_len}
 use Rattle.aat_run.specs.Ranges.{next_start}
+use Rattle.aat_map.specs.Live.{has_begun, infos, kept_at, live as live_at}
 use Rattle.aat_map.specs.Map.{list_at, with_ranges}
 use Rattle.aat_map.specs.Spans.{spans}
-use Rattle.aat_map.specs.inside.CompiledSpans.{compiled_lists, ranges_over}
-use Rattle.aat_map.proofs.SpanLemmas.{length-spans, take_read, next_of_spans, next_of_lists, compiled_more, last_span, some_start, live_of}
-use Rattle.std.proofs.lemmas.List.Folds.{length-prefix_len}
-use Rattle.aat_map.specs.Live.{has_begun, infos, by_start, live as live_at}
+use Rattle.aat_map.specs.inside.CompiledSpans.{compiled_lists, ranges_with}
+use Rattle.aat_map.specs.inside.Firsts.{AreGroupsOf, present}
 use Rattle.aat_map.specs.inside.Walked.{ends_by}
-use Rattle.aat_map.proofs.WalkLemmas.{walked_later, nothing_ended}
-use Rattle.aat_map.specs.inside.Firsts.{AreGroupsOf}
 use Rattle.aat_map.proofs.KeptFirsts.{live_present}
+use Rattle.aat_map.proofs.SpanLemmas.{length-spans, take_read, next_of_spans, next_of_lists, compiled_more, some_start, live_of, ranges_over, ranges_of_settings}
+use Rattle.aat_map.proofs.Truth.{true_not_false}
+use Rattle.aat_map.proofs.WalkLemmas.{walked_later, nothing_ended}
 use Rattle.aat_map.proofs.compile.compile_spans.Goals as goal
-
-pub compile_span-requires-clause-follows : goal.compile_span-requires-clause-follows
-compile_span-requires-clause-follows g c k lt =
-    let chains = c.args.chains.now in
-    let done = take c.loop-i.i (spans c.args.starts.now) in
-    ap (λ m. next_start (list_at m k)) c.loop-i.invariant.lists
-    ∙ next_of_lists c.args.builder.now.features chains done k lt
-    ∙ next_of_spans c.args.starts.now c.loop-i.i c.requires.starts c.loop-i-test.true
-    ∙ sym c.span_at-span.ensures.first
-
-pub compile_span-requires-clause-kept : goal.compile_span-requires-clause-kept
-compile_span-requires-clause-kept g c =
-    let ordered = c.args.ordered.now in
-    let live = c.go_on.new.live in
-    let groups : AreGroupsOf (infos ordered) live.groups.items = rw c.in_ok-passed.ensures.groups c.loop-i.invariant.groups in
-    let kept_now = live_present c.span_at-span.result.0 ordered live.groups.items live.active.items groups c.in_ok-passed.ensures.live in
-    let is : live.active.items ≡ live_at c.span_at-span.result.0 c.loop-i.builder.features =
-    c.in_ok-passed.ensures.live ∙ live_of c.span_at-span.result.0 c.loop-i.builder.features ordered (c.requires.ordered ∙ ap by_start (sym c.loop-i.invariant.requests)) in
-    rw (c.deref.ensures.value, c.in_ok-passed.ensures.firsts, ← is) kept_now
-
-pub go_on-requires-clause-apart : goal.go_on-requires-clause-apart
-go_on-requires-clause-apart g c = c.loop-i.invariant.groups.apart
-
-pub go_on-requires-clause-up_to : goal.go_on-requires-clause-up_to
-go_on-requires-clause-up_to g c = rw c.span_at-span.ensures.first (c.loop-i.invariant.walked c.loop-i-test.true)
 
 pub loop-i-init : goal.loop-i-init
 loop-i-init g c = record {
   lists = c.requires.lists;
-  requests = refl;
-  range = λ h. absurd (omega (arith, h));
-  current = λ h. absurd (omega (arith, h));
+  kept = λ h. absurd (omega (arith, h));
   begun = c.count_up_to.ensures.within;
   ended = c.count_ending.ensures.within;
-  flags = rw c.current_features.ensures.value at c.in_ok-flags.ensures.ok;
+  each = sym c.in_ok-flags.flags.ok.0 ∙ c.in_ok-flags.ensures.len;
+  valid = λ off. absurd (true_not_false (sym c.in_ok-live.ensures.changed ∙ off));
   groups = c.in_ok-live.ensures.groups;
   firsts = c.in_ok-live.ensures.firsts;
+  placed = rw c.deref.ensures.value at c.in_ok-placed.ensures.ok;
   walked = λ some. record {
     at = 0;
     up_to = omega arith;
@@ -59,34 +34,64 @@ loop-i-init g c = record {
   };
 }
 
+pub go_on-requires-clause-apart : goal.go_on-requires-clause-apart
+go_on-requires-clause-apart g c = c.loop-i.invariant.groups.apart
+
+pub go_on-requires-clause-up_to : goal.go_on-requires-clause-up_to
+go_on-requires-clause-up_to g c = rw c.span_at-span.ensures.first (c.loop-i.invariant.walked c.loop-i-test.true)
+
+pub push_flags-requires-clause-follows : goal.push_flags-requires-clause-follows
+push_flags-requires-clause-follows g c k lt =
+    let chains = c.args.chains.now in
+    let requests = c.args.builder.now.features in
+    let done = take c.loop-i.i (spans c.args.starts.now) in
+    let written =
+    with_items_is c.loop-i.flags c.renew.new.flags
+    (ap length c.renew.ensures ∙ length-map chains _ ∙ sym c.loop-i.invariant.each ∙ sym c.loop-i.flags.ok.0) in
+    let many : length c.deref-in-loop-i.result.now ≡ length chains =
+    ap length (c.deref-in-loop-i.ensures.value ∙ written ∙ c.renew.ensures) ∙ length-map chains _ in
+    let below : k < length chains = omega (arith, many, lt) in
+    ap (λ m. next_start (list_at m k)) c.loop-i.invariant.lists
+    ∙ next_of_lists requests chains done k below
+    ∙ next_of_spans c.args.starts.now c.loop-i.i c.requires.starts c.loop-i-test.true
+    ∙ sym c.span_at-span.ensures.first
+
 pub loop-i-preserved : goal.loop-i-preserved
 loop-i-preserved g c =
     let requests = c.args.builder.now.features in
     let chains = c.args.chains.now in
+    let ordered = c.args.ordered.now in
     let ss = spans c.args.starts.now in
     let i = c.loop-i.i in
+    let span = c.span_at-span.result in
+    let live = c.go_on.new.live in
     let n : length ss ≡ length c.args.starts.now = length-spans c.args.starts.now in
     let below : i < length ss = omega (arith, n, c.loop-i-test.true) in
-    let same : c.loop-i.builder.features ≡ requests = c.loop-i.invariant.requests in
-    let done = c.in_ok-compile_span.ensures in
     let back : i + 1 - 1 ≡ i = omega arith in
+    let groups : AreGroupsOf (infos ordered) live.groups.items = rw c.in_ok-passed.ensures.groups c.loop-i.invariant.groups in
+    let is : live.active.items ≡ live_at span.0 requests =
+    c.in_ok-passed.ensures.live ∙ live_of span.0 requests ordered c.requires.ordered in
+    let kept_now : IsPermutation (kept_at span.0 requests) (present live.firsts.items) =
+    rw (c.in_ok-passed.ensures.firsts, ← is) (live_present span.0 ordered live.groups.items live.active.items groups c.in_ok-passed.ensures.live) in
+    let written =
+    with_items_is c.loop-i.flags c.renew.new.flags
+    (ap length c.renew.ensures ∙ length-map chains _ ∙ sym c.loop-i.invariant.each ∙ sym c.loop-i.flags.ok.0) in
+    let ranges = ap (ranges_with span) (c.deref-in-loop-i.ensures.value ∙ written ∙ c.renew.ensures) ∙ ranges_of_settings requests chains (present live.firsts.items) span kept_now in
     record {
       lists =
-          rw same at done.ok
-          ∙ ap (λ m. with_ranges (ranges_over requests chains c.span_at-span.result) m) c.loop-i.invariant.lists
-          ∙ compiled_more requests chains (take i ss) c.span_at-span.result
-          ∙ ap (λ xs. compiled_lists requests chains xs) (sym (take_read ss i c.span_at-span.result below c.span_at-span.ensures.span));
-      requests = done.requests ∙ same;
-      range = λ _. rw (back, done.range.0, done.range.1) c.span_at-span.ensures.span;
-      current = λ _. rw (done.range.0, ← same) done.current;
+          c.in_ok-push_flags.ensures.ok
+          ∙ ap (λ rs. with_ranges rs c.loop-i.map) ranges
+          ∙ ap (λ m. with_ranges (ranges_over requests chains span) m) c.loop-i.invariant.lists
+          ∙ compiled_more requests chains (take i ss) span
+          ∙ ap (λ xs. compiled_lists requests chains xs) (sym (take_read ss i span below c.span_at-span.ensures.span));
+      kept = λ _. rw (back, ← c.span_at-span.ensures.first) kept_now;
       begun = c.in_ok-passed.ensures.begun;
       ended = c.in_ok-passed.ensures.ended;
-      flags =
-          with_items_is c.loop-i.flags c.compile_span.new.flags
-          (ap length done.flags ∙ length-map chains _ ∙ sym (length-map chains _) ∙ sym (ap length c.loop-i.invariant.flags) ∙ sym c.loop-i.flags.ok.0)
-          ∙ done.flags;
-      groups = rw c.in_ok-passed.ensures.groups c.loop-i.invariant.groups;
+      each = ap length (written ∙ c.renew.ensures) ∙ length-map chains _;
+      valid = λ _. written ∙ c.renew.ensures;
+      groups = groups;
       firsts = c.in_ok-passed.ensures.firsts;
+      placed = rw c.in_ok-passed.ensures.groups c.loop-i.invariant.placed;
       walked = λ more.
           let up = c.requires.starts.rising i (omega arith) in
           walked_later c.span_at-span.result.0 (slice_index_or c.args.starts.now (i + 1) 0) c.args.ordered.now c.args.ending.now c.go_on.new.live.active.items c.in_ok-passed.passed.0 c.in_ok-passed.passed.1
@@ -100,10 +105,9 @@ returns-clause-lists g c =
     let all : length ss ≤ c.loop-i.i = omega (arith, n, c.loop-i-test.false) in
     c.loop-i.invariant.lists ∙ ap (λ xs. compiled_lists c.args.builder.now.features c.args.chains.now xs) (take_all c.loop-i.i ss all)
 
-pub returns-clause-range : goal.returns-clause-range
-returns-clause-range g c =
+pub returns-clause-kept : goal.returns-clause-kept
+returns-clause-kept g c =
     let starts = c.args.starts.now in
     let some : 0 < length starts = some_start starts c.requires.starts.zero in
-    let e : suc (c.loop-i.i - 1) ≡ length starts = omega (arith, some, c.loop-i-test.false, c.loop-i.auto.i-end) in
-    let begun : 0 < c.loop-i.i = omega (arith, some, c.loop-i-test.false) in
-    last_span starts c.loop-i.builder (c.loop-i.i - 1) e (c.loop-i.invariant.range begun)
+    let here : c.loop-i.i ≡ length starts = omega (arith, c.loop-i-test.false, c.loop-i.auto.i-end) in
+    rw here at (c.loop-i.invariant.kept (omega (arith, some, here)))

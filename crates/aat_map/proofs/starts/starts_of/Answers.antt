@@ -5,5 +5,5 @@ use Rattle.aat_map.proofs.starts.starts_of.Goals as goal
 
 pub returns-clause-ok : goal.returns-clause-ok
 returns-clause-ok g c =
-    let moved = rw c.in_ok-starts.ensures.ok at c.sort_unstable.ensures.permutation in
-    rw (dedup_is eqb c.sort_unstable.new.self.items c.dedup.new.self.items c.dedup.ensures.filtered) (starts_made c.args.requests.now c.sort_unstable.new.self.items moved c.sort_unstable.ensures.sorted)
+    let moved = rw c.in_ok-starts.ensures.ok at c.in_ok-sort.ensures.permutation in
+    rw (dedup_is eqb c.sort.new.self.items c.dedup.new.self.items c.dedup.ensures.filtered) (starts_made c.args.ordered.now c.args.ending.now c.sort.new.self.items moved c.in_ok-sort.ensures.sorted)

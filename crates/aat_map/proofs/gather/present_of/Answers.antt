@@ -1,7 +1,7 @@
 use Rattle.std.proofs.Common.{slice_index_or, None}
 use Rattle.std.proofs.lemmas.List.{get_or_default}
 use Rattle.aat_map.proofs.KeptFirsts.{present_more}
-use Rattle.aat_map.proofs.gather.fill.Goals as goal
+use Rattle.aat_map.proofs.gather.present_of.Goals as goal
 
 pub loop-first-preserved : goal.loop-first-preserved
 loop-first-preserved g c =

@@ -4,10 +4,10 @@ use Rattle.std.proofs.lemmas.List.Sorted.{answers_always, ranks_by, IsPermutatio
 use Rattle.aat_map.specs.declared.feature.feature_info_t.{feature_info_t}
 use Rattle.aat_map.specs.Live.{group_order}
 use Rattle.aat_map.proofs.GatherLemmas.{kept_rising, group_total}
-use Rattle.aat_map.proofs.gather.keep.Goals as goal
+use Rattle.aat_map.proofs.gather.kept_of.Goals as goal
 
 pub returns-clause-rising : goal.returns-clause-rising
 returns-clause-rising g c xs whole =
-    let moved = rw c.in_ok-fill.ensures.ok at c.sort_unstable_by.ensures.permutation in
+    let moved = rw c.in_ok-list.ensures.ok at c.sort_unstable_by.ensures.permutation in
     let sorted = c.sort_unstable_by.ensures.sorted (λ a b. is_lt (group_order a b)) (ranks_by group_total (λ (i : feature_info_t). i)) (answers_always _ _ _ (λ f a r h called. search rules)) in
     kept_rising xs c.sort_unstable_by.new.self.items (IsPermutation-trans _ _ _ whole moved) sorted
