@@ -6,6 +6,7 @@ mod cells;
 pub mod constants;
 mod dense;
 mod entries;
+pub mod entry_bits;
 mod error;
 mod face;
 mod feat;
