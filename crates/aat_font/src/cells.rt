@@ -1,6 +1,7 @@
 //! Cells that are filled with the values of glyphs.
 ghost use Rattle.std.specs.Prelude.{◌≡◌, ◌+◌, ◌<◌, ◌≤◌, ℕ, None, IfOk, length, slice_index_or};
 ghost use Rattle.aat_font.specs.Keys.{first, value_in, IsRising};
+ghost use Rattle.aat_font.specs.inside.Dense.{KeepsCells};
 ghost use Rattle.aat_font.specs.inside.Walks.{AreBelow, AreNotBelow};
 
 use crate::keys::Keyed;
@@ -31,8 +32,9 @@ pub(crate) fn append_values<A: Allocator>(
     requires passed { AreBelow first pairs.now from lowest }
     requires small { lowest + count ≤ 65536 }
     ensures long { IfOk result (λ _. length cells.new.items ≡ length cells.old.items + count) }
-    ensures kept { IfOk result (λ _. (k : ℕ) → k < length cells.old.items → slice_index_or cells.new.items k None ≡ slice_index_or cells.old.items k None) }
-    ensures values { IfOk result (λ _. (k : ℕ) → k < count → slice_index_or cells.new.items (length cells.old.items + k) None ≡ value_in pairs.now (lowest + k)) }
+    ensures kept { IfOk result (λ _. KeepsCells cells.old.items cells.new.items) }
+    ensures values { IfOk result (λ _. (k : ℕ) → k < count
+        → slice_index_or cells.new.items (length cells.old.items + k) None ≡ value_in pairs.now (lowest + k)) }
 {
     let mut at = from;
     for place in 0..count {

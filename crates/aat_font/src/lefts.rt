@@ -1,8 +1,8 @@
 //! Where the pairs of each left glyph begin, beside the pairs that a contract sees.
 ghost use Rattle.std.specs.Prelude.{◌≡◌, ◌+◌, ◌*◌, ◌<◌, ◌≤◌, ℕ, IfOk, length, slice_range};
 ghost use Rattle.aat_font.specs.Keys.{IsRising};
-ghost use Rattle.aat_font.specs.Pairs.{key_of_pair, kerning_of};
-ghost use Rattle.aat_font.specs.inside.Lefts.{left_count, AreLeftStarts, BeginAt, LeftsWithin};
+ghost use Rattle.aat_font.specs.Pairs.{key_of_pair};
+ghost use Rattle.aat_font.specs.inside.Lefts.{left_count, AreLeftStarts, BeginAt, KernsAlike, LeftsWithin};
 
 use crate::keys::Keyed;
 use crate::walk::walk_to;
@@ -46,7 +46,7 @@ impl<A: Allocator> Lefts<A> {
         requires rising { IsRising key_of_pair pairs.now }
         requires starts { AreLeftStarts self.now.lowest self.now.starts.items pairs.now }
         ensures rising { IsRising key_of_pair result.now }
-        ensures same { (right : ℕ) → right < 65536 → kerning_of result.now left right ≡ kerning_of pairs.now left right }
+        ensures same { KernsAlike left result.now pairs.now }
     {
         pairs_from(&self.starts, self.lowest, pairs, left)
     }
@@ -63,7 +63,7 @@ fn pairs_from<'a>(
     requires rising { IsRising key_of_pair pairs.now }
     requires starts { AreLeftStarts lowest starts.now pairs.now }
     ensures rising { IsRising key_of_pair result.now }
-    ensures same { (right : ℕ) → right < 65536 → kerning_of result.now left right ≡ kerning_of pairs.now left right }
+    ensures same { KernsAlike left result.now pairs.now }
 {
     if starts.is_empty() {
         return pairs;

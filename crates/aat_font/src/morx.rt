@@ -154,7 +154,12 @@ impl ChainFeature {
         enable_flags: hb_mask_t,
         disable_flags: hb_mask_t,
     ) -> ChainFeature
-        ensures { result ≡ record { kind = kind; setting = setting; enable_flags = enable_flags; disable_flags = disable_flags } }
+        ensures { result ≡ record {
+          kind = kind;
+          setting = setting;
+          enable_flags = enable_flags;
+          disable_flags = disable_flags;
+        } }
     {
         ChainFeature {
             kind,

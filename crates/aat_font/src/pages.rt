@@ -1,7 +1,7 @@
 //! Values of glyphs on pages of 256 glyphs, of which only those are kept that hold a glyph with a value.
 ghost use Rattle.std.specs.Prelude.{◌≡◌, ◌+◌, ◌<◌, ◌≤◌, ℕ, None, Some, IfOk, length, slice_index_or};
 ghost use Rattle.aat_font.specs.Keys.{first, value_in, IsRising};
-ghost use Rattle.aat_font.specs.inside.Dense.{on_page, page_holds, value_on_pages, AnswersOnPages};
+ghost use Rattle.aat_font.specs.inside.Dense.{on_page, page_holds, value_on_pages, AnswersOnPages, KeepsCells};
 ghost use Rattle.aat_font.specs.inside.Walks.{AreBelow, AreNotBelow};
 
 use crate::cells::{append_values, cell_at};
@@ -103,9 +103,11 @@ fn append_page<A: Allocator>(
     requires room { length cells.now.items ≤ lowest }
     ensures long { IfOk result (λ _. length cells.new.items ≤ length cells.old.items + 256) }
     ensures longer { IfOk result (λ _. length cells.old.items ≤ length cells.new.items) }
-    ensures kept { IfOk result (λ _. (k : ℕ) → k < length cells.old.items → slice_index_or cells.new.items k None ≡ slice_index_or cells.old.items k None) }
-    ensures within { IfOk result (λ page. (start : ℕ) → page ≡ Some start → start + 256 ≤ length cells.new.items) }
-    ensures values { IfOk result (λ page. (k : ℕ) → k < 256 → on_page cells.new.items page k ≡ value_in pairs.now (lowest + k)) }
+    ensures kept { IfOk result (λ _. KeepsCells cells.old.items cells.new.items) }
+    ensures within { IfOk result (λ page. (start : ℕ) → page ≡ Some start
+        → start + 256 ≤ length cells.new.items) }
+    ensures values { IfOk result (λ page. (k : ℕ) → k < 256
+        → on_page cells.new.items page k ≡ value_in pairs.now (lowest + k)) }
 {
     if !holds_glyph(pairs, place, lowest) {
         return Ok(None);

@@ -31,7 +31,8 @@ impl<A: Allocator> Model for Pairs<A> {
 
     ghost view = { λ m. m.pairs.items };
 
-    ghost invariant = { λ m. IsRising key_of_pair m.pairs.items × AreLeftStarts m.lefts.lowest m.lefts.starts.items m.pairs.items };
+    ghost invariant = { λ m. IsRising key_of_pair m.pairs.items
+        × AreLeftStarts m.lefts.lowest m.lefts.starts.items m.pairs.items };
 }
 
 impl<A: Allocator + Copy> Pairs<A> {

@@ -9,6 +9,7 @@ ghost use Rattle.aat_font.specs.inside.Dense.{ruled_entry, state_count, AnswersA
 ghost use Rattle.aat_font.specs.inside.Walks.{AreBelow, AreNotBelow};
 
 use crate::cells::cell_at;
+use crate::entry_bits::{DONT_ADVANCE, anchor, class, stack};
 use crate::error::TableError;
 use crate::keys::{Keyed, first_fall, row_at};
 use crate::lookup::Lookup;
@@ -21,16 +22,9 @@ use std::marker::Model;
 /// the text, 1 out of bounds, 2 the deleted glyph, 3 the end of a line.
 const MIN_CLASSES: u16 = 4;
 
-/// Out of bounds: the class of a glyph that has no other, and as which a class is taken that the
-/// table does not have.
-const OUT_OF_BOUNDS: u16 = 1;
-
 /// The deleted glyph: a machine deletes a glyph by putting this one in its place. The buffer's constant is not known
 /// here.
 const DELETED_GLYPH: u16 = 0xFFFF;
-
-/// The class of the deleted glyph, which the manual keeps for it: a table lists no glyph under it.
-const DELETED_CLASS: u16 = 2;
 
 /// The largest number of cells of a grid of states by classes. A table with more of them searches its rules.
 const MAX_CELLS: usize = 65536;
@@ -49,32 +43,32 @@ pub struct GenericStateEntry<T: Copy> {
 }
 
 impl<T: Copy> GenericStateEntry<T> {
-    /// Whether the glyph is put on the stack. Bit 0x8000.
+    /// Whether the glyph is put on the stack: the bit `PUSH` of a stack, `SET_COMPONENT` of ligatures.
     pub fn has_push(&self) -> bool
         ensures { result ≡ has_flag self.now 0x8000 }
     {
-        self.flags & 0x8000 != 0
+        self.flags & stack::PUSH != 0
     }
 
-    /// Whether the glyph is marked. Bit 0x8000.
+    /// Whether the glyph is marked: the bit `MARK` of anchors, `SET_MARK` of the other machines.
     pub fn has_mark(&self) -> bool
         ensures { result ≡ has_flag self.now 0x8000 }
     {
-        self.flags & 0x8000 != 0
+        self.flags & anchor::MARK != 0
     }
 
-    /// Whether the machine goes on to the next glyph. Bit 0x4000 is clear.
+    /// Whether the machine goes on to the next glyph: the bit `DONT_ADVANCE` is clear.
     pub fn has_advance(&self) -> bool
         ensures { result ≡ goes_on self.now }
     {
-        self.flags & 0x4000 == 0
+        self.flags & DONT_ADVANCE == 0
     }
 
-    /// Whether the stack is emptied. Bit 0x2000.
+    /// Whether the stack is emptied: the bit `RESET`.
     pub fn has_reset(&self) -> bool
         ensures { result ≡ has_flag self.now 0x2000 }
     {
-        self.flags & 0x2000 != 0
+        self.flags & stack::RESET != 0
     }
 }
 
@@ -101,7 +95,8 @@ impl<T: Copy, A: Allocator> Model for ExtendedStateTable<T, A> {
 
     ghost view = { λ m. record { class_count = m.class_count; classes = m.classes; rules = m.rules.items } };
 
-    ghost invariant = { λ m. (1 < m.class_count) × IsRising rule_key m.rules.items × AnswersAsRules m.class_count m.grid.items m.rules.items };
+    ghost invariant = { λ m. (1 < m.class_count) × IsRising rule_key m.rules.items
+        × AnswersAsRules m.class_count m.grid.items m.rules.items };
 }
 
 impl<T: Copy, A: Allocator + Copy> ExtendedStateTable<T, A> {
@@ -149,7 +144,7 @@ impl<T: Copy, A: Allocator> ExtendedStateTable<T, A> {
         ensures { result ≡ class_of self.now glyph.0 }
     {
         if glyph.0 == DELETED_GLYPH {
-            return Some(DELETED_CLASS);
+            return Some(class::DELETED_GLYPH);
         }
         self.classes.value(glyph)
     }
@@ -177,7 +172,7 @@ fn known_class(class_count: u16, class: u16) -> u16
     if class < class_count {
         class
     } else {
-        OUT_OF_BOUNDS
+        class::OUT_OF_BOUNDS
     }
 }
 
@@ -240,7 +235,9 @@ fn cells_of<T: Copy, A: Allocator>(
     requires classes { 0 < class_count }
     requires small { states * class_count ≤ 65536 }
     ensures long { IfOk result (λ cells. length cells.items ≡ states * class_count) }
-    ensures entries { IfOk result (λ cells. (place : ℕ) → place < states * class_count → slice_index_or cells.items place None ≡ ruled_entry rules.now (place / class_count) (place % class_count)) }
+    ensures entries { IfOk result (λ cells. (place : ℕ) → place < states * class_count
+        → slice_index_or cells.items place None
+        ≡ ruled_entry rules.now (place / class_count) (place % class_count)) }
 {
     let width = class_count as usize;
     let count = states * width;

@@ -28,6 +28,10 @@ value_on_pages starts cells glyph = on_page cells (slice_index_or starts (glyph 
 abbrev pub page_holds : List (ℕ × ℕ) → ℕ → Bool
 page_holds pairs lowest = list_any (λ p. nat_le lowest p.0 && nat_lt p.0 (lowest + 256)) pairs
 
+-- the cells that there were stand where they stood
+abbrev pub KeepsCells : List (Option ℕ) → List (Option ℕ) → Type 0
+KeepsCells old new = (k : ℕ) → k < length old → slice_index_or new k None ≡ slice_index_or old k None
+
 -- each page that is kept has its 256 cells
 abbrev pub AreKept : List (Option ℕ) → List (Option ℕ) → Type 0
 AreKept starts cells =

@@ -1,6 +1,6 @@
 -- Where the pairs of each left glyph begin. No contract but those of the pairs and their starts cites this.
-use Rattle.std.specs.Prelude.{◌+◌, ◌*◌, ◌/◌, ◌<◌, ◌≤◌, ℕ, ℤ, pos, List, length, slice_index_or}
-use Rattle.aat_font.specs.Pairs.{key_of_pair}
+use Rattle.std.specs.Prelude.{◌≡◌, ◌+◌, ◌*◌, ◌/◌, ◌<◌, ◌≤◌, ℕ, ℤ, pos, List, length, slice_index_or}
+use Rattle.aat_font.specs.Pairs.{key_of_pair, kerning_of}
 use Rattle.aat_font.specs.inside.GlyphSpans.{cell_count}
 use Rattle.aat_font.specs.inside.Walks.{Parts}
 
@@ -15,6 +15,10 @@ LeftsWithin lowest count pairs =
 abbrev pub BeginAt : ℕ → List ℕ → ℕ → List (ℕ × ℕ × ℤ) → Type 0
 BeginAt lowest starts count pairs =
     (k : ℕ) → k < count → Parts key_of_pair pairs (slice_index_or starts k 0) ((lowest + k) * 65536)
+
+-- two lists of pairs have the same values behind a left glyph
+abbrev pub KernsAlike : ℕ → List (ℕ × ℕ × ℤ) → List (ℕ × ℕ × ℤ) → Type 0
+KernsAlike left xs ys = (right : ℕ) → right < 65536 → kerning_of xs left right ≡ kerning_of ys left right
 
 -- starts of all left glyphs, unless there are none
 abbrev pub AreLeftStarts : ℕ → List ℕ → List (ℕ × ℕ × ℤ) → Type 0
