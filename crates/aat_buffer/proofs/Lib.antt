@@ -6,6 +6,7 @@ pub mod Lowering
 pub mod Pairs
 pub mod Pending
 pub mod Reaching
+pub mod RemovedOrder
 pub mod Removing
 pub mod Runs
 pub mod Spans

@@ -9,8 +9,10 @@ use Rattle.std.specs.declared.vec.Vec.{Vec}
 use Rattle.aat_glyph.specs.declared.glyph.hb_glyph_info_t.{hb_glyph_info_t}
 use Rattle.aat_glyph.specs.declared.glyph.GlyphPosition.{GlyphPosition}
 use Rattle.aat_buffer.specs.Buffer.{Buffer, glyph_at, without_positions, with_cursor, with_positions}
+use Rattle.aat_buffer.specs.Clusters.{KeepsOrder}
 use Rattle.aat_buffer.specs.inside.Carried.{carried, items_of}
 use Rattle.aat_buffer.specs.inside.Pending.{IsPending, shown}
+use Rattle.aat_buffer.proofs.RemovedOrder.{order_none}
 use Rattle.aat_buffer.proofs.Steps.{shown_none, pending_none}
 use Rattle.aat_buffer.specs.Removal.{removal, removal_step, without_glyph_at_cursor, with_cluster_kept}
 
@@ -35,6 +37,7 @@ pub record IsRemoving {Z : Type 0} (Met : (hb_glyph_info_t → Bool) → Type 0)
   pub placed : IfSome ps (λ qs. vec_len qs ≡ n)
   pub bare : now.positions ≡ None
   pub standing : is_some ps ≡ is_some start.positions
+  pub order : KeepsOrder start.line (shown k l now).line
 
 removal_more : (test : hb_glyph_info_t → Bool) (b : Buffer) (i n : ℕ) → i < n → removal (n - i) test b ≡ removal (n - (i + 1)) test (removal_step test b)
 unfolding removal
@@ -97,6 +100,7 @@ removing_none Met start now ps n is at count small held placed =
       placed = placed;
       bare = ap (λ (b : Buffer). b.positions) is;
       standing = some_items ps ∙ ap is_some held;
+      order = order_none start (shown 0 0 now) (shown_none now 0 0 refl ∙ is);
     }
   where
     carried_none : (o : Option (List GlyphPosition)) → option_map (carried 0 0) o ≡ o

@@ -26,6 +26,13 @@ IsSmall b = All Is16Bit b.line
 abbrev pub ComesFrom : List hb_glyph_info_t → List hb_glyph_info_t → Type 0
 ComesFrom old new = (k : ℕ) → k < length new → (j : ℕ) × (j < length old) × (cluster_at new k ≡ cluster_at old j)
 
+-- a line that keeps the order of the clusters of another one: where those never fall along the line, its own never
+-- fall, where they never rise, its own never rise, and each of its own stood there
+pub record KeepsOrder (old new : List hb_glyph_info_t) : Type 0 where
+  pub rising : IsRisingLine old → IsRisingLine new
+  pub falling : IsFallingLine old → IsFallingLine new
+  pub clusters : ComesFrom old new
+
 -- clusters merge at a cluster level
 abbrev pub ClustersMerge : ℕ → Type 0
 ClustersMerge level = clusters_stay_apart level ≢ true

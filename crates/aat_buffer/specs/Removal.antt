@@ -1,9 +1,10 @@
 -- What the removal of the glyphs that a filter names leaves.
-use Rattle.std.specs.Prelude.{option_map, ℕ, zero, suc, ◌+◌, ◌-◌, ◌≡◌, ◌≢◌, ◌==◌, ◌&&◌, All, Bool, List, length, map, bit_and, bit_or, nat_lt, remove, if◌then◌else◌}
+use Rattle.std.specs.Prelude.{option_map, ℕ, zero, suc, ◌+◌, ◌-◌, ◌≡◌, ◌≢◌, ◌==◌, ◌&&◌, All, Bool, false, List, length, map, bit_and, bit_or, nat_lt, remove, if◌then◌else◌, filter, not}
 use Rattle.std.specs.Fn.{FnReturnsAt, Shared}
 use Rattle.std.specs.Borrow.{Bor}
 pub use Rattle.aat_buffer.specs.Buffer.{glyph_at}
 use Rattle.aat_buffer.specs.Buffer.{Buffer, with_cursor, with_line}
+use Rattle.aat_buffer.specs.Clusters.{ids}
 use Rattle.aat_buffer.specs.Marks.{on_span, cluster_at, run_before, merged_line}
 use Rattle.aat_glyph.specs.declared.glyph.hb_glyph_info_t.{hb_glyph_info_t}
 
@@ -11,6 +12,18 @@ use Rattle.aat_glyph.specs.declared.glyph.hb_glyph_info_t.{hb_glyph_info_t}
 abbrev pub AnswersBy :
     {F : Type 0} → Shared F (Bor hb_glyph_info_t × Unit {0}) Bool → F → (hb_glyph_info_t → Bool) → Type 0
 AnswersBy fn f test = (g : hb_glyph_info_t) (r : Bool) → FnReturnsAt fn f g r → test g ≡ r
+
+-- the filter answers by this test of the glyph id
+abbrev pub AnswersByIds : {F : Type 0} → Shared F (Bor hb_glyph_info_t × Unit {0}) Bool → F → (ℕ → Bool) → Type 0
+AnswersByIds fn f test = AnswersBy fn f (λ g. test g.glyph_id)
+
+-- no glyph id of a line is one that a test names
+abbrev pub HasNoneOf : (ℕ → Bool) → List hb_glyph_info_t → Type 0
+HasNoneOf test gs = All (λ g. test g.glyph_id ≡ false) gs
+
+-- the glyph ids of a line that a test does not name, in their order
+abbrev pub other_ids : (ℕ → Bool) → List hb_glyph_info_t → List ℕ
+other_ids test gs = filter (λ x. not (test x)) (ids gs)
 
 -- a glyph with the cluster of h, and the DEFINED flags (7) of h
 abbrev pub with_cluster_and_flags : hb_glyph_info_t → hb_glyph_info_t → hb_glyph_info_t

@@ -268,7 +268,8 @@ impl<A: Allocator + Copy> hb_buffer_t<A> {
         requires ordered { start ≤ end }
         requires in_line { end ≤ length self.old.line }
         requires callable { F.IsAlwaysCallable change }
-        ensures after { (f : hb_glyph_info_t → hb_glyph_info_t) → ChangesBy F.Fn change f → self.new ≡ on_line_span (map f) start end self.old }
+        ensures after { (f : hb_glyph_info_t → hb_glyph_info_t) → ChangesBy F.Fn change f
+            → self.new ≡ on_line_span (map f) start end self.old }
         ensures count { length self.new.line ≡ length self.old.line }
     {
         self.line.change(start, end, &change);
@@ -380,7 +381,8 @@ impl<A: Allocator + Copy> hb_buffer_t<A> {
     /// is as before, the positions too.
     pub fn output_glyph(&mut self, glyph_id: u32) -> Result<(), BufferError>
         ensures ok { OnOk result (self.new ≡ output self.old glyph_id) }
-        ensures too_long { IsErrOf result BufferError.TooLong ↔ ((0 < length self.old.line) × (self.old.max_len ≤ length self.old.line)) }
+        ensures too_long { IsErrOf result BufferError.TooLong
+            ↔ ((0 < length self.old.line) × (self.old.max_len ≤ length self.old.line)) }
         ensures empty_line { length self.old.line ≡ 0 → IsOk result }
         ensures err { OnErr result (self.new ≡ failed self.old) }
     {
@@ -408,7 +410,8 @@ impl<A: Allocator + Copy> hb_buffer_t<A> {
     /// is as before: all of them go in, or none.
     pub fn insert_glyphs(&mut self, glyphs: &[hb_glyph_info_t]) -> Result<(), BufferError>
         ensures ok { OnOk result (self.new ≡ with_glyphs_in self.old glyphs.now) }
-        ensures too_long { IsErrOf result BufferError.TooLong ↔ (self.old.max_len < length self.old.line + length glyphs.now) }
+        ensures too_long { IsErrOf result BufferError.TooLong
+            ↔ (self.old.max_len < length self.old.line + length glyphs.now) }
         ensures none { length glyphs.now ≡ 0 → IsOk result }
         ensures err { OnErr result (self.new ≡ failed self.old) }
     {

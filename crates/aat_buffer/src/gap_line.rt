@@ -125,7 +125,8 @@ impl<A: Allocator + Copy> GapLine<A> {
         requires ordered { start ≤ end }
         requires in_line { end ≤ length self.old.glyphs }
         requires callable { F.IsAlwaysCallable change.now }
-        ensures after { (f : hb_glyph_info_t → hb_glyph_info_t) → ChangesBy F.Fn change.now f → self.new ≡ with_changed self.old f start end }
+        ensures after { (f : hb_glyph_info_t → hb_glyph_info_t) → ChangesBy F.Fn change.now f
+            → self.new ≡ with_changed self.old f start end }
         ensures len { length self.new.glyphs ≡ length self.old.glyphs }
         ensures cursor { self.new.cursor ≡ self.old.cursor }
     {
@@ -262,7 +263,9 @@ fn change_cells<F: Fn(&hb_glyph_info_t) -> hb_glyph_info_t>(
     requires ordered { start ≤ end }
     requires in_line { end ≤ gap_start + (length cells.old - gap_end) }
     requires callable { F.IsAlwaysCallable change.now }
-    ensures after { (f : hb_glyph_info_t → hb_glyph_info_t) → ChangesBy F.Fn change.now f → around_gap cells.new gap_start gap_end ≡ on_span (map f) start end (around_gap cells.old gap_start gap_end) }
+    ensures after { (f : hb_glyph_info_t → hb_glyph_info_t) → ChangesBy F.Fn change.now f
+        → around_gap cells.new gap_start gap_end
+        ≡ on_span (map f) start end (around_gap cells.old gap_start gap_end) }
     ensures len { length cells.new ≡ length cells.old }
 {
     let gap = gap_end - gap_start;
@@ -279,7 +282,8 @@ fn change_all<F: Fn(&hb_glyph_info_t) -> hb_glyph_info_t>(
     change: &F,
 )
     requires { F.IsAlwaysCallable change.now }
-    ensures after { (f : hb_glyph_info_t → hb_glyph_info_t) → ChangesBy F.Fn change.now f → glyphs.new ≡ map f glyphs.old }
+    ensures after { (f : hb_glyph_info_t → hb_glyph_info_t) → ChangesBy F.Fn change.now f
+        → glyphs.new ≡ map f glyphs.old }
     ensures len { length glyphs.new ≡ length glyphs.old }
 {
     for glyph in glyphs.iter_mut() {
@@ -335,7 +339,9 @@ fn grow_gap<A: Allocator>(
 fn fill_gap(cells: &mut [hb_glyph_info_t], start: usize, end: usize, glyphs: &[hb_glyph_info_t])
     requires room { start + length glyphs.now ≤ end }
     requires in_cells { end ≤ length cells.old }
-    ensures line { around_gap cells.new (start + length glyphs.now) end ≡ take start (around_gap cells.old start end) ++ (glyphs.now ++ drop start (around_gap cells.old start end)) }
+    ensures line { around_gap cells.new (start + length glyphs.now) end
+        ≡ take start (around_gap cells.old start end)
+        ++ (glyphs.now ++ drop start (around_gap cells.old start end)) }
     ensures len { length cells.new ≡ length cells.old }
 {
     cells[start..start + glyphs.len()].copy_from_slice(glyphs);

@@ -2,10 +2,11 @@
 ghost use Rattle.std.specs.Prelude.{Bool, ℕ, None, ◌≡◌, ◌+◌, ◌-◌, ◌<◌, ◌≤◌, length, map, is_some, option_map, vec_len, IfSome, remove};
 ghost use Rattle.std.specs.Bool.{OnTrue, OnFalse};
 ghost use Rattle.aat_buffer.specs.Buffer.{with_line, without_positions};
+ghost use Rattle.aat_buffer.specs.Clusters.{ids, KeepsOrder};
 ghost use Rattle.aat_buffer.specs.inside.Carried.{carried, items_of};
 ghost use Rattle.aat_buffer.specs.Marks.{cluster_at, run_before};
 ghost use Rattle.aat_buffer.specs.inside.Pending.{IsPending, IsReached, lowers, run_written, shown, shown_line, with_place};
-ghost use Rattle.aat_buffer.specs.Removal.{AnswersBy, lowered_run, with_cluster_kept, removal_step, removed, without_glyph_at_cursor};
+ghost use Rattle.aat_buffer.specs.Removal.{AnswersBy, AnswersByIds, HasNoneOf, other_ids, lowered_run, with_cluster_kept, removal_step, removed, without_glyph_at_cursor};
 
 use crate::buffer::hb_buffer_t;
 use crate::pending_runs::{PendingRuns, with_cluster_and_flags};
@@ -22,12 +23,21 @@ impl<A: Allocator + Copy> hb_buffer_t<A> {
     ///   have a higher one: they get that of the glyph that goes, with its DEFINED flags;
     /// - else by the next glyph: the two merge as by `merge_clusters`.
     ///
+    /// Clusters that never fall along the line never fall afterwards, and those that never rise never rise, at every
+    /// cluster level and for every filter. Each cluster stood on the line before. For a filter that asks glyph ids
+    /// alone, no glyph is left that it names, and the ids of the others stay in their order.
+    ///
     /// In as many steps as the line is long.
     pub fn delete_glyphs_inplace<F: Fn(&hb_glyph_info_t) -> bool>(&mut self, filter: F)
     where
         F: Drop,
         requires { F.IsAlwaysCallable filter }
-        ensures after { (test : hb_glyph_info_t → Bool) → AnswersBy F.Fn filter test → self.new ≡ removed test self.old }
+        ensures after { (test : hb_glyph_info_t → Bool) → AnswersBy F.Fn filter test
+            → self.new ≡ removed test self.old }
+        ensures none { (test : ℕ → Bool) → AnswersByIds F.Fn filter test → HasNoneOf test self.new.line }
+        ensures others { (test : ℕ → Bool) → AnswersByIds F.Fn filter test
+            → ids self.new.line ≡ other_ids test self.old.line }
+        ensures order { KeepsOrder self.old.line self.new.line }
         ensures count { length self.new.line ≤ length self.old.line }
         ensures at_start { self.new.cursor ≡ 0 }
         ensures standing { is_some self.new.positions ≡ is_some self.old.positions }
@@ -55,7 +65,8 @@ impl<A: Allocator + Copy> hb_buffer_t<A> {
     fn remove_or_keep(&mut self, goes: bool, runs: PendingRuns) -> PendingRuns
         requires some { self.old.cursor < length self.old.line }
         requires pending { IsPending self.old runs.count runs.last }
-        ensures after { without_positions (shown result.count result.last self.new) ≡ without_positions (removal_step (λ _. goes) (shown runs.count runs.last self.old)) }
+        ensures after { without_positions (shown result.count result.last self.new)
+            ≡ without_positions (removal_step (λ _. goes) (shown runs.count runs.last self.old)) }
         ensures pending { IsPending self.new result.count result.last }
         ensures bare { self.old.positions ≡ None → self.new.positions ≡ None }
         ensures rest { length self.new.line + self.old.cursor + 1 ≡ length self.old.line + self.new.cursor }
@@ -91,7 +102,8 @@ impl<A: Allocator + Copy> hb_buffer_t<A> {
         requires kept { 0 < self.old.cursor }
         requires some { self.old.cursor < length self.old.line }
         requires pending { IsPending self.old runs.count runs.last }
-        ensures after { shown result.count result.last self.new ≡ without_positions (without_glyph_at_cursor (with_cluster_kept (shown runs.count runs.last self.old))) }
+        ensures after { shown result.count result.last self.new
+            ≡ without_positions (without_glyph_at_cursor (with_cluster_kept (shown runs.count runs.last self.old))) }
         ensures pending { IsPending self.new result.count result.last }
         ensures count { length self.new.line + 1 ≡ length self.old.line }
     {
@@ -123,7 +135,9 @@ impl<A: Allocator + Copy> hb_buffer_t<A> {
     fn lower(&mut self, runs: PendingRuns, glyph: hb_glyph_info_t) -> PendingRuns
         requires kept { 0 < self.old.cursor }
         requires pending { IsPending self.old runs.count runs.last }
-        ensures after { shown result.count result.last self.new ≡ with_line self.old (lowered_run (shown_line runs.count runs.last self.old.line) self.old.cursor (cluster_at self.old.line (self.old.cursor - 1)) glyph) }
+        ensures after { shown result.count result.last self.new
+            ≡ with_line self.old (lowered_run (shown_line runs.count runs.last self.old.line) self.old.cursor
+            (cluster_at self.old.line (self.old.cursor - 1)) glyph) }
         ensures pending { IsPending self.new result.count result.last }
         ensures count { length self.new.line ≡ length self.old.line }
     {
@@ -162,8 +176,11 @@ impl<A: Allocator + Copy> hb_buffer_t<A> {
     fn reached(&self, runs: PendingRuns) -> (usize, PendingRuns)
         requires kept { 0 < self.now.cursor }
         requires pending { IsPending self.now runs.count runs.last }
-        ensures reached { IsReached self.now.line runs.count runs.last (cluster_at self.now.line (self.now.cursor - 1)) self.now.cursor result.0 result.1.count result.1.last }
-        ensures ends { run_before (shown_line runs.count runs.last self.now.line) 0 result.0 (cluster_at self.now.line (self.now.cursor - 1)) ≡ 0 }
+        ensures reached { IsReached self.now.line runs.count runs.last
+            (cluster_at self.now.line (self.now.cursor - 1)) self.now.cursor
+            result.0 result.1.count result.1.last }
+        ensures ends { run_before (shown_line runs.count runs.last self.now.line) 0 result.0
+            (cluster_at self.now.line (self.now.cursor - 1)) ≡ 0 }
         ensures some { result.0 < self.now.cursor }
         ensures few { result.1.count ≤ result.0 }
     {
@@ -222,9 +239,12 @@ fn carry_down<A: Allocator>(
 )
     requires below { kept ≤ i }
     requires in_line { IfSome positions.old (λ qs. i < vec_len qs) }
-    ensures gone { OnTrue goes (option_map (carried kept (i + 1)) (items_of positions.new) ≡ option_map (λ qs. remove qs kept) (option_map (carried kept i) (items_of positions.old))) }
-    ensures stays { OnFalse goes (option_map (carried (kept + 1) (i + 1)) (items_of positions.new) ≡ option_map (carried kept i) (items_of positions.old)) }
-    ensures count { (n : ℕ) → IfSome positions.old (λ qs. vec_len qs ≡ n) → IfSome positions.new (λ qs. vec_len qs ≡ n) }
+    ensures gone { OnTrue goes (option_map (carried kept (i + 1)) (items_of positions.new)
+        ≡ option_map (λ qs. remove qs kept) (option_map (carried kept i) (items_of positions.old))) }
+    ensures stays { OnFalse goes (option_map (carried (kept + 1) (i + 1)) (items_of positions.new)
+        ≡ option_map (carried kept i) (items_of positions.old)) }
+    ensures count { (n : ℕ) → IfSome positions.old (λ qs. vec_len qs ≡ n)
+        → IfSome positions.new (λ qs. vec_len qs ≡ n) }
     ensures standing { is_some positions.new ≡ is_some positions.old }
 {
     match positions {

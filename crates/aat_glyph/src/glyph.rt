@@ -101,7 +101,13 @@ pub struct hb_glyph_info_t {
 impl hb_glyph_info_t {
     /// A glyph that came from the character `cluster`. All else of it is zero.
     pub fn new(glyph_id: u32, cluster: u32) -> hb_glyph_info_t
-        ensures { result ≡ record { glyph_id = glyph_id; mask = 0; cluster = cluster; glyph_props = 0; unicode_props = 0 } }
+        ensures { result ≡ record {
+          glyph_id = glyph_id;
+          mask = 0;
+          cluster = cluster;
+          glyph_props = 0;
+          unicode_props = 0;
+        } }
     {
         hb_glyph_info_t {
             glyph_id,
@@ -122,6 +128,9 @@ pub struct GlyphPosition {
     /// How the glyph is attached to another; 0 where it is not.
     pub attach_type: u8,
 
-    /// How many places away that other glyph stands.
+    /// How many places away that other glyph stands: 1 is the next glyph of the line, -1 the one before. The chain of
+    /// an anchor is counted in the order in which the line is kerned. Backward text is kerned on the line put the
+    /// other way round, which is then put back, so there the chain of an anchor points the other way. A glyph that is
+    /// taken out changes no chain: behind a removal one may point at another glyph, or past the line.
     pub attach_chain: i16,
 }

@@ -1,8 +1,12 @@
-use Rattle.std.proofs.Common.{arith, refl, sym, ap, ◌∙◌, ◌≡◌, ℕ, length, take}
+use Rattle.std.proofs.Common.{arith, refl, sym, ap, subst, ◌∙◌, ◌≡◌, ℕ, length, take}
 use Rattle.std.proofs.iter.Next.{says_at}
 use Rattle.aat_buffer.specs.Buffer.{Buffer, with_cursor, with_positions, without_positions}
+use Rattle.aat_buffer.specs.Clusters.{KeepsOrder}
+use Rattle.aat_buffer.specs.facts.Removed.{ids_of_removed, none_passes}
 use Rattle.aat_buffer.specs.inside.Pending.{shown}
 use Rattle.aat_buffer.specs.Removal.{AnswersBy, removal}
+use Rattle.aat_buffer.proofs.Reaching.{shown_length}
+use Rattle.aat_buffer.proofs.RemovedOrder.{order_more}
 use Rattle.aat_buffer.proofs.Removing.{removing_none, removing_more, finished_some, finished_none}
 use Rattle.aat_buffer.proofs.Steps.{shown_here}
 use Rattle.aat_buffer.proofs.buffer.hb_buffer_t.delete_glyphs_inplace.Goals as goal
@@ -31,6 +35,11 @@ loop-i-preserved g c =
       placed = c.carry_down.ensures.count _ at.placed;
       bare = more.ensures.bare at.bare;
       standing = c.carry_down.ensures.standing ∙ at.standing;
+      order =
+          let kept : length now.line ≡ length c.loop-i.self.line =
+          shown_length c.loop-i.self.line c.loop-i.runs.count c.loop-i.runs.last c.loop-i.self.cursor at.pending.apart at.pending.in_line in
+          order_more (with_cursor c.args.self.now 0) now (shown more.result.count more.result.last more.new.self) c.filter-goes.result
+          (omega (arith, at.rest, kept)) more.ensures.after at.order;
     }
 
 pub returns-in-Some-clause-after : goal.returns-in-Some-clause-after
@@ -51,3 +60,32 @@ returns-clause-after g c = λ test by.
     let after : c.sync-2.new.self ≡ with_cursor done 0 = c.sync-2.ensures ∙ ap (λ (b : Buffer). with_cursor b 0) c.write_runs.ensures.after in
     finished_none (AnswersBy g.F.Fn c.args.filter) start c.loop-i.self c.sync-2.new.self c.loop-i.positions c.loop-i.i c.len-len.result c.loop-i.runs.count c.loop-i.runs.last (omega arith) c.in_default.is c.loop-i.invariant after test by
     ∙ ap (λ k. with_cursor (removal k test start) 0) c.len-len.ensures.count
+
+pub returns-in-Some-clause-others : goal.returns-in-Some-clause-others
+returns-in-Some-clause-others g c = λ test by.
+    rw (returns-in-Some-clause-after g c (λ h. test h.glyph_id) by) (ids_of_removed test c.args.self.now)
+
+pub returns-clause-others : goal.returns-clause-others
+returns-clause-others g c = λ test by.
+    rw (returns-clause-after g c (λ h. test h.glyph_id) by) (ids_of_removed test c.args.self.now)
+
+pub returns-in-Some-clause-none : goal.returns-in-Some-clause-none
+returns-in-Some-clause-none g c = λ test by.
+    rw (returns-in-Some-clause-after g c (λ h. test h.glyph_id) by) (none_passes test c.args.self.now)
+
+pub returns-clause-none : goal.returns-clause-none
+returns-clause-none g c = λ test by.
+    rw (returns-clause-after g c (λ h. test h.glyph_id) by) (none_passes test c.args.self.now)
+
+pub returns-in-Some-clause-order : goal.returns-in-Some-clause-order
+returns-in-Some-clause-order g c =
+    let line : c.put_positions.new.self.line ≡ (shown c.loop-i.runs.count c.loop-i.runs.last c.loop-i.self).line =
+    ap (λ (b : Buffer). b.line) c.put_positions.ensures
+    ∙ ap (λ (b : Buffer). b.line) (c.sync-2.ensures ∙ ap (λ (b : Buffer). with_cursor b 0) c.write_runs.ensures.after) in
+    subst (KeepsOrder c.args.self.now.line) (sym line) c.loop-i.invariant.order
+
+pub returns-clause-order : goal.returns-clause-order
+returns-clause-order g c =
+    let line : c.sync-2.new.self.line ≡ (shown c.loop-i.runs.count c.loop-i.runs.last c.loop-i.self).line =
+    ap (λ (b : Buffer). b.line) (c.sync-2.ensures ∙ ap (λ (b : Buffer). with_cursor b 0) c.write_runs.ensures.after) in
+    subst (KeepsOrder c.args.self.now.line) (sym line) c.loop-i.invariant.order
