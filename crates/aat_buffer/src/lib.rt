@@ -1,5 +1,7 @@
 //! The shaping buffer: a line of glyphs with a cursor, their positions, and the rules by which a text shaper
 //! edits them.
+//!
+//! In how many steps a call is done is told in comments and not proved.
 #![tactic(auto)]
 
 mod buffer;

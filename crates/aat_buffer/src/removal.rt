@@ -16,7 +16,7 @@ use std::alloc::Allocator;
 impl<A: Allocator + Copy> hb_buffer_t<A> {
     /// Takes the glyphs that the filter names out, from the first to the last, and puts the cursor at the
     /// start. The others keep their order and their positions, which stand where they stood. The filter is
-    /// asked once a glyph, of its record as it stands then; what it names goes, and its cluster is kept:
+    /// asked of the record of each glyph as it stands then; what it names goes, and its cluster is kept:
     ///
     /// - by the next glyph, where that one has it;
     /// - else, where glyphs were kept, by the last of them and all before it that share its cluster, if they

@@ -1,4 +1,6 @@
 //! The typed tables of an Apple font, the numbers of its features, the font and the shaping plan.
+//!
+//! By which way a value is found, and in how many steps, is told in comments and not proved.
 #![tactic(auto)]
 
 mod ankr;

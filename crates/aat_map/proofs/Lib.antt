@@ -7,6 +7,7 @@ pub mod GatherLemmas
 pub mod KeptFirsts
 pub mod KeptSearch
 pub mod MapLemmas
+pub mod MappingsRise
 pub mod OneRange
 pub mod PlacedLemmas
 pub mod RequestLemmas

@@ -82,7 +82,7 @@ impl<A: Allocator + Copy> hb_aat_map_builder_t<A> {
     ///
     /// Refused as 1, `AaltValue`, where the font has character alternatives and the value of `aalt`
     /// is above 65535, and else as 3, `OutOfMemory`, where the request gets no memory. After a
-    /// refusal the builder is as it was. Where nothing is appended no memory is taken.
+    /// refusal the builder is as it was. Where nothing is appended it is never refused as 3.
     ///
     /// Apple's TrueType Reference Manual, "The 'feat' table" and its font feature registry.
     pub fn add_feature(

@@ -35,7 +35,8 @@ pub(crate) const SMALL_CAPS: (u16, u16) = (
 /// to follow each chain's last one, or begin at 0 where there is none. Answers `None` for a font
 /// without the table, and the map then stays.
 ///
-/// Refused as 3, `OutOfMemory`, where a list gets no memory. The map is then empty.
+/// Refused as 3, `OutOfMemory`, where a list gets no memory, so never for a font without a chain. The map is then
+/// empty.
 ///
 /// Apple's TrueType Reference Manual, "The 'morx' table", feature subtables.
 pub fn compile_flags<A: Allocator + Copy>(
@@ -46,7 +47,8 @@ pub fn compile_flags<A: Allocator + Copy>(
     requires { Follows (chains_in (tables_of face.now).morx) builder.now map.old }
     ensures known { IfOk result (λ answer. is_none answer ≡ is_none (tables_of face.now).morx) }
     ensures ok { OnOk result (map.new ≡ compiled_for (tables_of face.now).morx builder.now map.old) }
-    ensures err { IfErr result (λ e. (e ≡ AatError.OutOfMemory) × (0 < length (chains_in (tables_of face.now).morx))) }
+    ensures err { IfErr result (λ e. (e ≡ AatError.OutOfMemory)
+        × (0 < length (chains_in (tables_of face.now).morx))) }
     ensures empty { OnErr result (map.new ≡ []) }
 {
     let Some(morx) = &face.tables().morx else {
@@ -127,7 +129,9 @@ fn after_feature(settings: &[feature_info_t], flags: hb_mask_t, feature: &ChainF
 
 /// Flags that a chain feature changes where it is asked for.
 pub(crate) fn changed_by(is_asked: bool, flags: hb_mask_t, feature: &ChainFeature) -> hb_mask_t
-    ensures { result ≡ (if is_asked then bit_or (bit_and flags feature.now.disable_flags) feature.now.enable_flags else flags) }
+    ensures { result ≡ (if is_asked
+        then bit_or (bit_and flags feature.now.disable_flags) feature.now.enable_flags
+        else flags) }
 {
     if is_asked {
         (flags & feature.disable_flags) | feature.enable_flags

@@ -35,9 +35,10 @@ impl<A: Allocator + Copy> hb_aat_map_builder_t<A> {
     /// joined. Requests whose start is not below their end are dropped. Afterwards the builder tells of
     /// the last range.
     ///
-    /// Refused as 3, `OutOfMemory`. The map is then empty, the requests are as they were, and of the
-    /// builder's range and settings nothing more is known than of those of every builder: the settings rise by
-    /// [`feature_order`](crate::feature_order), and the first cluster is at most the last.
+    /// Refused as 3, `OutOfMemory`, and never else. No clause says when memory suffices: the places where ranges begin
+    /// take some also without a request and for a font without a chain. The map is then empty, the requests are as
+    /// they were, and of the builder's range and settings nothing more is known than of those of every builder: the
+    /// settings rise by [`feature_order`](crate::feature_order), and the first cluster is at most the last.
     ///
     /// Apple's TrueType Reference Manual, "The 'morx' table", feature subtables.
     pub fn compile(&mut self, face: &hb_font_t, map: &mut hb_aat_map_t<A>) -> Result<(), AatError>
@@ -83,11 +84,9 @@ fn compile_ranges<A: Allocator + Copy>(
 /// Compiles the range of each start in turn, in one walk over what starts and what ends. Answers what is live in the
 /// last one.
 ///
-/// Neighbours with equal flags are not joined. A chain of one range switches a subtable once, for the
-/// whole text, and leaves one that is off out of the run; with more ranges each cluster is asked, but
-/// where each or none of them switches the subtable on. So what is requested over a part of the text
-/// alone always makes more ranges than one, whatever its flags are, and the ranges of all chains begin
-/// at the same clusters.
+/// Neighbours with equal flags are not joined. So what is requested over a part of the text alone always
+/// makes more ranges than one, whatever its flags are, and the ranges of all chains begin at the same
+/// clusters.
 fn compile_spans<A: Allocator + Copy>(
     builder: &hb_aat_map_builder_t<A>,
     chains: &[Chain],

@@ -1,4 +1,6 @@
 //! From feature requests over ranges of clusters to the flags of each chain at each cluster.
+//!
+//! By which way something is found, and in how many steps, is told in comments and not proved.
 #![tactic(auto)]
 
 mod addition;

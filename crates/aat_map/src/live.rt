@@ -86,7 +86,8 @@ pub(crate) fn begin<A: Allocator>(live: &mut Live<A>, info: &feature_info_t) -> 
     ensures active { OnOk result (live.new.active.items ≡ live.old.active.items ++ info.now ∷ []) }
     ensures groups { live.new.groups.items ≡ live.old.groups.items }
     ensures firsts { OnOk result (live.new.firsts.items ≡ firsts_of live.new.groups.items live.new.active.items) }
-    ensures changed { OnOk result (IsNoted live.old.is_changed live.new.is_changed live.old.firsts.items live.new.firsts.items) }
+    ensures changed { OnOk result (IsNoted live.old.is_changed live.new.is_changed
+        live.old.firsts.items live.new.firsts.items) }
     ensures err { IfErr result (λ e. e ≡ AatError.OutOfMemory) }
 {
     live.active.push_back(*info)?;

@@ -17,9 +17,8 @@ use aat_font::{Chain, ChainFeature};
 use aat_run::AatError;
 use std::alloc::Allocator;
 
-/// Where among groups the settings stand that chain features ask for, which are looked for once: a setting can be of
-/// two groups, since the settings of its kind exclude one another or do not. The place of a group that there is not is
-/// the number of groups.
+/// Where among groups the settings stand that chain features ask for. A setting can be of two groups, since the
+/// settings of its kind exclude one another or do not. The place of a group that there is not is the number of groups.
 #[derive(Drop)]
 pub(crate) struct Placed<A: Allocator> {
     /// Of each chain the places for each of its features.
@@ -121,7 +120,8 @@ pub(crate) fn write_flags<A: Allocator>(
     requires each { length flags.old ≡ length chains.now }
     requires apart { AreApart live.now.groups.items }
     requires firsts { live.now.firsts.items ≡ firsts_of live.now.groups.items live.now.active.items }
-    requires placed { ArePlaced live.now.groups.items chains.now (place_lists placed.now.of_chains.items) placed.now.small_caps }
+    requires placed { ArePlaced live.now.groups.items chains.now
+        (place_lists placed.now.of_chains.items) placed.now.small_caps }
     ensures { flags.new ≡ all_flags_for (present live.now.firsts.items) chains.now }
 {
     for (i, chain) in chains.iter().enumerate() {

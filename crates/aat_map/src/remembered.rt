@@ -23,10 +23,12 @@ pub(crate) fn renew<A: Allocator>(
     live: &Live<A>,
 )
     requires each { length flags.old ≡ length chains.now }
-    requires valid { live.now.is_changed ≡ false → flags.old ≡ all_flags_for (present live.now.firsts.items) chains.now }
+    requires valid { live.now.is_changed ≡ false
+        → flags.old ≡ all_flags_for (present live.now.firsts.items) chains.now }
     requires apart { AreApart live.now.groups.items }
     requires firsts { live.now.firsts.items ≡ firsts_of live.now.groups.items live.now.active.items }
-    requires placed { ArePlaced live.now.groups.items chains.now (place_lists placed.now.of_chains.items) placed.now.small_caps }
+    requires placed { ArePlaced live.now.groups.items chains.now
+        (place_lists placed.now.of_chains.items) placed.now.small_caps }
     ensures { flags.new ≡ all_flags_for (present live.now.firsts.items) chains.now }
 {
     if live.is_changed {

@@ -67,8 +67,10 @@ pub(crate) fn go_on<A: Allocator>(
     ensures firsts { OnOk result (live.new.firsts.items ≡ firsts_of live.new.groups.items live.new.active.items) }
     ensures begun { IfOk result (λ now. now.0 ≤ length ordered.now) }
     ensures ended { IfOk result (λ now. now.1 ≤ length ending.now) }
-    ensures up_to { IfOk result (λ now. IsWalkedUpTo cluster ordered.now ending.now live.new.active.items now.0 now.1) }
-    ensures changed { OnOk result (IsNoted live.old.is_changed live.new.is_changed live.old.firsts.items live.new.firsts.items) }
+    ensures up_to { IfOk result (λ now. IsWalkedUpTo cluster ordered.now ending.now
+        live.new.active.items now.0 now.1) }
+    ensures changed { OnOk result (IsNoted live.old.is_changed live.new.is_changed
+        live.old.firsts.items live.new.firsts.items) }
     ensures err { IfErr result (λ e. e ≡ AatError.OutOfMemory) }
 {
     let begun = start_up_to(live, ordered, passed.0, cluster)?;
@@ -92,7 +94,8 @@ fn start_up_to<A: Allocator>(
     ensures firsts { OnOk result (live.new.firsts.items ≡ firsts_of live.new.groups.items live.new.active.items) }
     ensures count { IfOk result (λ n. n ≡ begun + prefix_len (has_begun cluster) (drop begun ordered.now)) }
     ensures within { IfOk result (λ n. n ≤ length ordered.now) }
-    ensures changed { OnOk result (IsNoted live.old.is_changed live.new.is_changed live.old.firsts.items live.new.firsts.items) }
+    ensures changed { OnOk result (IsNoted live.old.is_changed live.new.is_changed
+        live.old.firsts.items live.new.firsts.items) }
     ensures err { IfErr result (λ e. e ≡ AatError.OutOfMemory) }
 {
     let coming = &ordered[begun..];
@@ -108,7 +111,8 @@ fn push_all<A: Allocator>(live: &mut Live<A>, requests: &[feature_range_t]) -> R
     ensures ok { OnOk result (live.new.active.items ≡ live.old.active.items ++ infos requests.now) }
     ensures groups { OnOk result (live.new.groups.items ≡ live.old.groups.items) }
     ensures firsts { OnOk result (live.new.firsts.items ≡ firsts_of live.new.groups.items live.new.active.items) }
-    ensures changed { OnOk result (IsNoted live.old.is_changed live.new.is_changed live.old.firsts.items live.new.firsts.items) }
+    ensures changed { OnOk result (IsNoted live.old.is_changed live.new.is_changed
+        live.old.firsts.items live.new.firsts.items) }
     ensures err { IfErr result (λ e. e ≡ AatError.OutOfMemory) }
 {
     for request in requests {
