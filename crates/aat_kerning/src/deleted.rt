@@ -1,6 +1,6 @@
 //! Deleted glyphs: they take no room, or they go.
 ghost use Rattle.std.specs.Prelude.{◌≡◌, ◌==◌, filter, length, not};
-ghost use Rattle.aat_buffer.specs.Clusters.{ids};
+ghost use Rattle.aat_buffer.specs.Clusters.{ids, KeepsOrder};
 ghost use Rattle.aat_buffer.specs.Removal.{HasNoneDeleted, deleted_glyph, is_deleted, removed};
 ghost use Rattle.aat_kerning.specs.Zeroing.{zeroed, zeroed_position, zeroed_positions};
 
@@ -54,11 +54,15 @@ pub fn hb_aat_layout_zero_width_deleted_glyphs<A: Allocator + Copy>(buffer: &mut
 /// Takes the deleted glyphs out, with their positions, and puts the cursor at the start. The others keep their
 /// order, and the cluster of each glyph that goes is kept as `delete_glyphs_inplace` tells.
 ///
+/// Clusters that never fall along the line never fall afterwards, and those that never rise never rise, at every
+/// cluster level. Each cluster stood on the line before.
+///
 /// It takes no memory and cannot be refused. In as many steps as the line is long.
 pub fn hb_aat_layout_remove_deleted_glyphs<A: Allocator + Copy>(buffer: &mut hb_buffer_t<A>)
     ensures removed { buffer.new ≡ removed is_deleted buffer.old }
     ensures none { HasNoneDeleted buffer.new.line }
-    ensures order { ids buffer.new.line ≡ filter (λ g. not (g == deleted_glyph)) (ids buffer.old.line) }
+    ensures others { ids buffer.new.line ≡ filter (λ g. not (g == deleted_glyph)) (ids buffer.old.line) }
+    ensures order { KeepsOrder buffer.old.line buffer.new.line }
 {
     buffer.delete_glyphs_inplace(|glyph| glyph.glyph_id == DELETED_GLYPH);
 }

@@ -1,14 +1,15 @@
 -- What zeroing, kerning and removal leave of a line besides positions.
-use Rattle.std.proofs.Common.{◌≡◌, ◌∙◌, ap, refl, ℕ, zero, suc, ◌+◌, ◌<◌, ◌≤◌, Bool, true, List, length, get_or, Option, Some, None, arith}
+use Rattle.std.proofs.Common.{◌≡◌, ◌∙◌, ap, refl, ℕ, zero, suc, ◌+◌, ◌<◌, ◌≤◌, Bool, true, not, List, length, get_or, Option, Some, None, arith}
 use Rattle.std.proofs.lemmas.List.{length-map, get_or-map}
 use Rattle.std.proofs.lemmas.List.Elements.{All-filter, AllZip-get_or}
+use Rattle.std.proofs.lemmas.List.Filters.{length-filter_both}
 use Rattle.std.proofs.lemmas.Slice.Zip.{AllZip-long}
 use Rattle.std.specs.Prelude.{All, filter, is_some, option_map, remove}
 use Rattle.std.specs.List.{AllZip}
 use Rattle.aat_glyph.specs.declared.glyph.hb_glyph_info_t.{hb_glyph_info_t}
 use Rattle.aat_glyph.specs.declared.glyph.GlyphPosition.{GlyphPosition}
 use Rattle.aat_buffer.specs.Buffer.{Buffer, no_glyph, glyph_at, with_cursor}
-use Rattle.aat_buffer.specs.Clusters.{IsSmall, ids}
+use Rattle.aat_buffer.specs.Clusters.{IsSmall, KeepsOrder, ids}
 use Rattle.aat_buffer.specs.Marks.{cluster_at}
 use Rattle.aat_buffer.specs.Removal.{removal, removal_step, removed, with_cluster_kept, without_glyph_at_cursor}
 use Rattle.aat_buffer.specs.facts.Cases.{either}
@@ -16,8 +17,7 @@ use Rattle.aat_buffer.specs.facts.Clusters.{order_of_clusters}
 use Rattle.aat_buffer.specs.facts.Order.{comes_trans}
 use Rattle.aat_kerning_machines.specs.KerningLaws.{IsKernedFrom, IsMarkedFrom}
 use Rattle.aat_run.specs.Laws.{HasOrderOf}
-use Rattle.aat_shaping.proofs.RemovedOrder.{order_of_removed, removal_is_short}
-use Rattle.aat_shaping.specs.ShapedOrder.{HasShapedOrderOf, KeepsOrder}
+use Rattle.aat_shaping.specs.ShapedOrder.{HasShapedOrderOf}
 
 -- removal keeps what asks neither line nor cursor nor positions
 module _ {A : Type 0} (f : Buffer → A)
@@ -89,28 +89,28 @@ rises x y e = omega (arith, e)
 falls : (x y : ℕ) → x ≡ y → y ≤ x
 falls x y e = omega (arith, e)
 
-order_of_marked : (b d : Buffer) → AllZip IsMarkedFrom b.line d.line → KeepsOrder b d
+order_of_marked : (b d : Buffer) → AllZip IsMarkedFrom b.line d.line → KeepsOrder b.line d.line
 order_of_marked b d marked =
     let long : length d.line ≡ length b.line = AllZip-long IsMarkedFrom b.line d.line marked in
     let equal = marked_cluster b d marked in
     record {
-      rising = λ _. order_of_clusters (λ x y. x ≤ y) rises b.line d.line long equal;
-      falling = λ _. order_of_clusters (λ x y. y ≤ x) falls b.line d.line long equal;
+      rising = order_of_clusters (λ x y. x ≤ y) rises b.line d.line long equal;
+      falling = order_of_clusters (λ x y. y ≤ x) falls b.line d.line long equal;
       clusters = λ k low. let inside : k < length b.line = omega (arith, low, long) in (k, inside, equal k inside);
     }
 
 -- one step behind another
-order_behind : (applied : Bool) (b c d : Buffer) → HasShapedOrderOf applied b c → KeepsOrder c d → HasShapedOrderOf applied b d
+order_behind : (applied : Bool) (b c d : Buffer) → HasShapedOrderOf applied b c → KeepsOrder c.line d.line → HasShapedOrderOf applied b d
 order_behind applied b c d first second = record {
-  rising = λ merges up. second.rising tt (first.rising merges up);
-  falling = λ merges down. second.falling tt (first.falling merges down);
+  rising = λ merges up. second.rising (first.rising merges up);
+  falling = λ merges down. second.falling (first.falling merges down);
   clusters = comes_trans b.line c.line d.line first.clusters second.clusters;
 }
 
-same_order : (b d : Buffer) → d.line ≡ b.line → KeepsOrder b d
+same_order : (b d : Buffer) → d.line ≡ b.line → KeepsOrder b.line d.line
 same_order b d e = record {
-  rising = λ _ up. rw e up;
-  falling = λ _ down. rw e down;
+  rising = λ up. rw e up;
+  falling = λ down. rw e down;
   clusters = λ k low. (k, omega (arith, low, ap length e), ap (λ line. cluster_at line k) e);
 }
 
@@ -131,16 +131,22 @@ order_of_substituted applied b d is kept = record {
 }
 
 -- advances, kerning, zeroing and removal, one after another
-pub order_of_shaped : (applied : Bool) (test : hb_glyph_info_t → Bool) (b c d e f g : Buffer) → HasShapedOrderOf applied b c
-    → d.line ≡ c.line → IsKernedFrom d e → f.line ≡ e.line → g ≡ removed test f → HasShapedOrderOf applied b g
-order_of_shaped applied test b c d e f g first advanced kerned zeroed is =
+pub order_of_shaped : (applied : Bool) (b c d e f g : Buffer) → HasShapedOrderOf applied b c
+    → d.line ≡ c.line → IsKernedFrom d e → f.line ≡ e.line → KeepsOrder f.line g.line → HasShapedOrderOf applied b g
+order_of_shaped applied b c d e f g first advanced kerned zeroed removed =
     let by_d = order_behind applied b c d first (same_order c d advanced) in
     let by_e = order_behind applied b d e by_d (order_of_marked d e kerned.line) in
     let by_f = order_behind applied b e f by_e (same_order e f zeroed) in
-    rw is (order_behind applied b f (removed test f) by_f (order_of_removed test f))
+    order_behind applied b f g by_f removed
+
+-- the ids that a filter leaves are no more
+length_of_others : (t : ℕ → Bool) (gs hs : List hb_glyph_info_t) → ids hs ≡ filter t (ids gs) → length hs ≤ length gs
+length_of_others t gs hs others =
+    let id : hb_glyph_info_t → ℕ = λ g. g.glyph_id in
+    omega (arith, length-map hs id, length-map gs id, ap length others, length-filter_both t (λ x. not (t x)) (λ _. refl) (ids gs))
 
 -- and the line gets no longer
-pub length_of_shaped : (test : hb_glyph_info_t → Bool) (c d e f g : Buffer) → d.line ≡ c.line → IsKernedFrom d e → f.line ≡ e.line → g ≡ removed test f
-    → length g.line ≤ length c.line
-length_of_shaped test c d e f g advanced kerned zeroed is =
-    omega (arith, ap (λ (x : Buffer). length x.line) is, removal_is_short test f, ap length zeroed, AllZip-long IsMarkedFrom d.line e.line kerned.line, ap length advanced)
+pub length_of_shaped : (t : ℕ → Bool) (c d e f g : Buffer) → d.line ≡ c.line → IsKernedFrom d e → f.line ≡ e.line
+    → ids g.line ≡ filter t (ids f.line) → length g.line ≤ length c.line
+length_of_shaped t c d e f g advanced kerned zeroed others =
+    omega (arith, length_of_others t f.line g.line others, ap length zeroed, AllZip-long IsMarkedFrom d.line e.line kerned.line, ap length advanced)

@@ -1,8 +1,6 @@
 //! Shaping: substitution, advances, kerning and the removal of deleted glyphs, in one call.
 #![tactic(auto)]
 
-#[doc(hidden)]
-pub mod laws;
 mod shaping;
 #[doc(hidden)]
 pub mod worked;

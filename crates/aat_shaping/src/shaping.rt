@@ -60,11 +60,13 @@ pub fn shape<H: Allocator + Copy, A: Allocator + Copy>(
     ensures failed { IsErrOf result AatError.BufferFailed ↔ (buffer.old.successful ≡ false) }
     ensures refused { IfErr result (RefusesShaping plan.now face.now buffer.old buffer.new) }
     ensures fits { IsTrue plan.now.apply_morx → OnOk result (first_too_large plan.now face.now ≡ None) }
-    ensures shaped { IfOk result (λ turns. record { buffer = buffer.new; turns = turns } ≡ shaping plan.now face.now buffer.old) }
+    ensures shaped { IfOk result (λ turns. record { buffer = buffer.new; turns = turns }
+        ≡ shaping plan.now face.now buffer.old) }
     ensures undeleted { OnOk result (HasNoneDeleted buffer.new.line) }
     ensures ids { OnOk result (IsSmall buffer.new) }
     ensures bounded { OnOk result (length buffer.new.line ≤ extent buffer.old) }
-    ensures unlengthened { plan.now.apply_morx ≡ false → OnOk result (length buffer.new.line ≤ length buffer.old.line) }
+    ensures unlengthened { plan.now.apply_morx ≡ false
+        → OnOk result (length buffer.new.line ≤ length buffer.old.line) }
     ensures standing { OnOk result (IsSome buffer.new.positions) }
     ensures placed { OnOk result (IsPlaced buffer.new) }
     ensures successful { OnOk result (buffer.new.successful ≡ true) }
@@ -79,7 +81,6 @@ pub fn shape<H: Allocator + Copy, A: Allocator + Copy>(
     let kerning = kern_by_font(plan, face, buffer);
     hb_aat_layout_zero_width_deleted_glyphs(buffer);
     hb_aat_layout_remove_deleted_glyphs(buffer);
-    // there are as many positions as glyphs
     let _placed = buffer.has_positions();
     Ok(substituting + kerning)
 }
@@ -96,7 +97,8 @@ fn substitute_by_plan<H: Allocator + Copy, A: Allocator + Copy>(
     ensures unfailed { IfErr result (λ error. error ≢ AatError.BufferFailed) }
     ensures refused { IfErr result (IsSubstitutionRefused plan.now face.now buffer.old buffer.new) }
     ensures fits { IsTrue plan.now.apply_morx → OnOk result (first_too_large plan.now face.now ≡ None) }
-    ensures substituted { IfOk result (λ turns. record { buffer = buffer.new; turns = turns } ≡ substituted_by_plan plan.now face.now buffer.old) }
+    ensures substituted { IfOk result (λ turns. record { buffer = buffer.new; turns = turns }
+        ≡ substituted_by_plan plan.now face.now buffer.old) }
     ensures ids { OnOk result (IsSmall buffer.new) }
     ensures bounded { OnOk result (extent buffer.new ≤ extent buffer.old) }
     ensures number { plan.now.apply_morx ≡ false → OnOk result (buffer.new ≡ buffer.old) }
@@ -107,7 +109,6 @@ fn substitute_by_plan<H: Allocator + Copy, A: Allocator + Copy>(
     if !plan.apply_morx {
         return Ok(0);
     }
-    // how many subtables there are, how long the line is and how large the budget, so that the count of turns fits
     let _chains = face.chains();
     let _length = buffer.len();
     let _budget = buffer.max_ops();
@@ -168,7 +169,6 @@ fn kern_by_font<A: Allocator + Copy>(
     ensures kept { IsKernedFrom buffer.old buffer.new }
     ensures few { result ≤ 2 ^ 62 }
 {
-    // how many subtables there are, how long the line is and how large the budget, so that the count of turns fits
     let _kerx = face.kerx_subtables();
     let _kern = face.kern_subtables();
     let _length = buffer.len();

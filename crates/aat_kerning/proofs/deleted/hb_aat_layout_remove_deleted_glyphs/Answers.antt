@@ -8,7 +8,7 @@ returns-clause-none g c =
     let is : c.delete_glyphs_inplace.new.self ≡ removed is_deleted c.args.buffer.now = search rules in
     rw is (none_deleted c.args.buffer.now)
 
-pub returns-clause-order : goal.returns-clause-order
-returns-clause-order g c =
+pub returns-clause-others : goal.returns-clause-others
+returns-clause-others g c =
     let is : c.delete_glyphs_inplace.new.self ≡ removed is_deleted c.args.buffer.now = search rules in
     rw is (ids_of_undeleted c.args.buffer.now)

@@ -1,7 +1,6 @@
 use Rattle.std.proofs.Common.{◌≡◌, ◌≤◌, ◌∙◌, ap, ◌==◌, not, true, length, rules, arith}
 use Rattle.aat_font.specs.Face.{advance_of}
 use Rattle.aat_buffer.specs.Buffer.{Buffer}
-use Rattle.aat_buffer.specs.Removal.{is_deleted}
 use Rattle.aat_shaping.proofs.Shaped.{placed_by_test, settings_of_shaped, shaped_so, standing_of_shaped}
 use Rattle.aat_shaping.proofs.ShapedLines.{length_of_shaped, order_of_shaped, small_filtered, small_marked}
 use Rattle.aat_shaping.specs.Shaping.{kerned_by_font, substituted_by_plan}
@@ -25,7 +24,7 @@ returns-clause-ids g c =
     let f = c.hb_aat_layout_zero_width_deleted_glyphs.new.buffer in
     let line_d : d.line ≡ c.substitute_by_plan.new.buffer.line = ap (λ (x : Buffer). x.line) c.in_ok-advance.ensures.ok in
     let line_f : f.line ≡ e.line = ap (λ (x : Buffer). x.line) c.hb_aat_layout_zero_width_deleted_glyphs.ensures in
-    small_filtered (λ x. not (x == 0xFFFF)) f c.hb_aat_layout_remove_deleted_glyphs.new.buffer c.hb_aat_layout_remove_deleted_glyphs.ensures.order
+    small_filtered (λ x. not (x == 0xFFFF)) f c.hb_aat_layout_remove_deleted_glyphs.new.buffer c.hb_aat_layout_remove_deleted_glyphs.ensures.others
     (rw line_f (small_marked d e c.kern_by_font-kerning.ensures.kept.line (rw line_d c.in_ok-substituting.ensures.ids)))
 
 pub returns-clause-bounded : goal.returns-clause-bounded
@@ -33,10 +32,10 @@ returns-clause-bounded g c =
     let b = c.args.buffer.now in
     let s = c.substitute_by_plan.new.buffer in
     let short : length c.hb_aat_layout_remove_deleted_glyphs.new.buffer.line ≤ length s.line =
-    length_of_shaped is_deleted s c.advance.new.buffer c.kern_by_font-kerning.new.buffer
+    length_of_shaped (λ x. not (x == 0xFFFF)) s c.advance.new.buffer c.kern_by_font-kerning.new.buffer
     c.hb_aat_layout_zero_width_deleted_glyphs.new.buffer c.hb_aat_layout_remove_deleted_glyphs.new.buffer
     (ap (λ (x : Buffer). x.line) c.in_ok-advance.ensures.ok) c.kern_by_font-kerning.ensures.kept
-    (ap (λ (x : Buffer). x.line) c.hb_aat_layout_zero_width_deleted_glyphs.ensures) c.hb_aat_layout_remove_deleted_glyphs.ensures.removed in
+    (ap (λ (x : Buffer). x.line) c.hb_aat_layout_zero_width_deleted_glyphs.ensures) c.hb_aat_layout_remove_deleted_glyphs.ensures.others in
     omega (arith, short, c.in_ok-substituting.ensures.bounded)
 
 pub returns-clause-unlengthened : goal.returns-clause-unlengthened
@@ -44,10 +43,10 @@ returns-clause-unlengthened g c unapplied =
     let b = c.args.buffer.now in
     let s = c.substitute_by_plan.new.buffer in
     let short : length c.hb_aat_layout_remove_deleted_glyphs.new.buffer.line ≤ length s.line =
-    length_of_shaped is_deleted s c.advance.new.buffer c.kern_by_font-kerning.new.buffer
+    length_of_shaped (λ x. not (x == 0xFFFF)) s c.advance.new.buffer c.kern_by_font-kerning.new.buffer
     c.hb_aat_layout_zero_width_deleted_glyphs.new.buffer c.hb_aat_layout_remove_deleted_glyphs.new.buffer
     (ap (λ (x : Buffer). x.line) c.in_ok-advance.ensures.ok) c.kern_by_font-kerning.ensures.kept
-    (ap (λ (x : Buffer). x.line) c.hb_aat_layout_zero_width_deleted_glyphs.ensures) c.hb_aat_layout_remove_deleted_glyphs.ensures.removed in
+    (ap (λ (x : Buffer). x.line) c.hb_aat_layout_zero_width_deleted_glyphs.ensures) c.hb_aat_layout_remove_deleted_glyphs.ensures.others in
     omega (arith, short, ap (λ (x : Buffer). length x.line) (c.in_ok-substituting.ensures.number unapplied))
 
 pub returns-clause-standing : goal.returns-clause-standing
@@ -74,7 +73,7 @@ returns-clause-successful g c =
 
 pub returns-clause-order : goal.returns-clause-order
 returns-clause-order g c =
-    order_of_shaped c.args.plan.now.apply_morx is_deleted c.args.buffer.now c.substitute_by_plan.new.buffer c.advance.new.buffer c.kern_by_font-kerning.new.buffer
+    order_of_shaped c.args.plan.now.apply_morx c.args.buffer.now c.substitute_by_plan.new.buffer c.advance.new.buffer c.kern_by_font-kerning.new.buffer
     c.hb_aat_layout_zero_width_deleted_glyphs.new.buffer c.hb_aat_layout_remove_deleted_glyphs.new.buffer c.in_ok-substituting.ensures.order
     (ap (λ (x : Buffer). x.line) c.in_ok-advance.ensures.ok) c.kern_by_font-kerning.ensures.kept
-    (ap (λ (x : Buffer). x.line) c.hb_aat_layout_zero_width_deleted_glyphs.ensures) c.hb_aat_layout_remove_deleted_glyphs.ensures.removed
+    (ap (λ (x : Buffer). x.line) c.hb_aat_layout_zero_width_deleted_glyphs.ensures) c.hb_aat_layout_remove_deleted_glyphs.ensures.order
