@@ -149,6 +149,9 @@ pub fn has_kern_pairs_alone(face: &hb_font_t) -> bool
 /// but the line is marked against joining by each subtable of pairs that kerns, of the glyphs with properties marks
 /// alone are skipped (`KERN_SKIPS`), and machines run as `drive_kern` does, with `StateMachineDriver`.
 ///
+/// HarfBuzz marks the whole line against joining for each subtable of the `kern` table, for machines too and where
+/// kerning is not requested. Here a machine does not, nor do pairs where kerning is not requested.
+///
 /// K subtables over n glyphs with a budget of M operations, 0 where it is negative, take at most K(n + 1) + M turns,
 /// and each one beyond K(n + 1) is paid for with an operation. A turn that goes on and leaves the cursor where it was
 /// took one and left some, so a machine cannot stay for ever.

@@ -209,7 +209,11 @@ pub fn has_kerx_pairs_alone(face: &hb_font_t) -> bool
 /// Where the plan requests kerning, the pairs of each change positions, in units of the font, and are marked unsafe to
 /// break. Machines run in any case, as `drive_kerx` does, with `Driver1` or, over the font's `ankr` table, `Driver4`:
 /// they change positions, mark unsafe to break, and may set the scratch flag `HAS_GPOS_ATTACHMENT`. Glyphs, clusters
-/// and their order stay.
+/// and their order stay. The bit 0x10000000 of a subtable's coverage, to process from the last glyph to the first, has
+/// no field here: such a subtable is run as any other, as the crate runs it.
+///
+/// The attach chain that `Driver4` writes is counted in processing order, so in a backward line, which is turned back
+/// in the end, it points the other way. Where glyphs are removed later, a chain may lead past the line.
 ///
 /// Where each subtable that is for the text is of pairs, as `has_kerx_pairs_alone` tells of all, and the kern mask has
 /// none of the bits of `glyph_flag`, a line can be cut before a glyph, in processing order, that is not skipped, as

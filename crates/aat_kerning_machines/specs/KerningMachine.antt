@@ -116,3 +116,9 @@ unfoldable pub driver_run :
     {T R : Type 0} → Bool → TableValue (GenericStateEntry T) → Driver R (GenericStateEntry T) → Buffer → Outcome
 driver_run pays_first table driver b =
     outcome_of (kerning_whole (kerning_machine_of pays_first table driver) (start true b driver.fresh))
+
+-- the registers that this run leaves
+unfoldable pub registers_left :
+    {T R : Type 0} → Bool → TableValue (GenericStateEntry T) → Driver R (GenericStateEntry T) → Buffer → R
+registers_left pays_first table driver b =
+    (kerning_whole (kerning_machine_of pays_first table driver) (start true b driver.fresh)).registers

@@ -1,7 +1,10 @@
 //! The run of a kerning machine over a line, by any driver.
+//!
+//! The driver is here what is plugged into the run, as `StateTableDriver` is in `rustybuzz`. In `aat_run` the driver is
+//! the loop, and what is plugged in is a context.
 ghost use Rattle.std.specs.Prelude.{◌≡◌, ◌+◌, ◌<◌, ◌≤◌, ◌^◌, false, true, length};
 ghost use Rattle.aat_buffer.specs.Clusters.{IsSmall};
-ghost use Rattle.aat_kerning_machines.specs.KerningMachine.{driver_from, driver_run, kerning_machine_with, kerning_whole};
+ghost use Rattle.aat_kerning_machines.specs.KerningMachine.{driver_from, driver_run, kerning_machine_with, kerning_whole, registers_left};
 ghost use Rattle.aat_kerning_machines.specs.Positions.{IsPlaced};
 ghost use Rattle.aat_run.specs.Budget.{operations_left, potential};
 ghost use Rattle.aat_run.specs.Context.{first_config};
@@ -38,7 +41,7 @@ fn run_turns<Table, E: Copy, D: StateTableDriver<Table, E>, A: Allocator + Copy>
 }
 
 /// Runs a machine over a line from the front, and answers the number of turns. `drive_kerx` has the rules.
-#[tactic(auto, unfolding(crate::specs::KerningMachine::driver_run))]
+#[tactic(auto, unfolding(crate::specs::KerningMachine::driver_run, crate::specs::KerningMachine::registers_left))]
 fn run_machine<Table, E: Copy, D: StateTableDriver<Table, E>, A: Allocator + Copy>(
     run: &KerningRun<Table, E>,
     pays_first: bool,
@@ -49,6 +52,7 @@ fn run_machine<Table, E: Copy, D: StateTableDriver<Table, E>, A: Allocator + Cop
     requires ids { IsSmall buffer.old }
     requires placed { IsPlaced buffer.old }
     ensures run { record { buffer = buffer.new; turns = result } ≡ driver_run pays_first run.now.state_table.now (driver_from D.actionable (D.act run.now.table.now run.now.has_cross_stream run.now.plan.now.kern_mask run.now.tuple_count) driver.old) buffer.old }
+    ensures registers { driver.new ≡ registers_left pays_first run.now.state_table.now (driver_from D.actionable (D.act run.now.table.now run.now.has_cross_stream run.now.plan.now.kern_mask run.now.tuple_count) driver.old) buffer.old }
     ensures paid { result + operations_left buffer.new.max_ops ≤ length buffer.old.line + 1 + operations_left buffer.old.max_ops }
     ensures few { result < 2 ^ 62 }
     ensures ids { IsSmall buffer.new }
@@ -73,7 +77,8 @@ fn run_machine<Table, E: Copy, D: StateTableDriver<Table, E>, A: Allocator + Cop
 /// state and class 0 is looked at: a missing one ends the run, and one that is actionable marks the glyph at the
 /// cursor and the one behind it. Then the driver does the act of the turn's entry, whose state is the new one. At the
 /// end of the line the run ends then; else the cursor moves on where the entry advances or the budget is 0 or less,
-/// and then one operation is paid for. The cursor is at the front afterwards.
+/// and then one operation is paid for. The cursor is at the front afterwards, and the driver is left with the registers
+/// of the last turn.
 ///
 /// The driver has to fit at the front, each glyph id has to be at most 0xFFFF, which `all_glyphs_16` tells, and each
 /// glyph has to have its position, as `has_positions` tells. It is never refused, and a buffer that had failed before
@@ -94,6 +99,7 @@ pub fn drive_kerx<Table, E: Copy, D: StateTableDriver<Table, E>, A: Allocator + 
     requires ids { IsSmall buffer.old }
     requires placed { IsPlaced buffer.old }
     ensures run { record { buffer = buffer.new; turns = result } ≡ driver_run false run.now.state_table.now (driver_from D.actionable (D.act run.now.table.now run.now.has_cross_stream run.now.plan.now.kern_mask run.now.tuple_count) driver.old) buffer.old }
+    ensures registers { driver.new ≡ registers_left false run.now.state_table.now (driver_from D.actionable (D.act run.now.table.now run.now.has_cross_stream run.now.plan.now.kern_mask run.now.tuple_count) driver.old) buffer.old }
     ensures paid { result + operations_left buffer.new.max_ops ≤ length buffer.old.line + 1 + operations_left buffer.old.max_ops }
     ensures few { result < 2 ^ 62 }
     ensures ids { IsSmall buffer.new }
@@ -117,6 +123,7 @@ pub fn drive_kern<Table, E: Copy, D: StateTableDriver<Table, E>, A: Allocator + 
     requires ids { IsSmall buffer.old }
     requires placed { IsPlaced buffer.old }
     ensures run { record { buffer = buffer.new; turns = result } ≡ driver_run true run.now.state_table.now (driver_from D.actionable (D.act run.now.table.now run.now.has_cross_stream run.now.plan.now.kern_mask run.now.tuple_count) driver.old) buffer.old }
+    ensures registers { driver.new ≡ registers_left true run.now.state_table.now (driver_from D.actionable (D.act run.now.table.now run.now.has_cross_stream run.now.plan.now.kern_mask run.now.tuple_count) driver.old) buffer.old }
     ensures paid { result + operations_left buffer.new.max_ops ≤ length buffer.old.line + 1 + operations_left buffer.old.max_ops }
     ensures few { result < 2 ^ 62 }
     ensures ids { IsSmall buffer.new }

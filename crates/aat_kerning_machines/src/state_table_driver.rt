@@ -1,4 +1,7 @@
 //! What a kerning machine runs: the registers of a state table, and what its entries do to positions.
+//!
+//! The driver is here what is plugged into the run, as `StateTableDriver` is in `rustybuzz`. In `aat_run` the driver is
+//! the loop, and what is plugged in is a context.
 ghost use Rattle.std.specs.Prelude.{◌≡◌, length};
 
 use aat_buffer::hb_buffer_t;
