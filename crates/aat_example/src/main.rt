@@ -3,24 +3,17 @@
 
 mod font;
 
-use aat_layout::AatError;
 use aat_layout::buffer::Direction;
 use aat_layout::font::{Feature, hb_tag_t};
 use aat_shaper::{TextGlyph, shape_text};
-use anyhow::{Result, bail};
+use anyhow::Result;
 
 fn main(rt: HostRuntime) -> Result<()> {
     let alloc = rt.alloc();
     let font = font::font_of(alloc)?;
     let text = [(5, 0), (5, 1), (6, 2), (5, 3)].map(|(id, cluster)| TextGlyph::new(id, cluster));
     let features = vec![in alloc; Feature::new(hb_tag_t::from_bytes(b"smcp"), 1, 1..3)]?;
-    let glyphs = match shape_text(alloc, &font, Direction::LeftToRight, &text, features) {
-        Ok(glyphs) => glyphs,
-        Err(AatError::AaltValue(value)) => bail!("no alternate {value}"),
-        Err(AatError::TooLong) => bail!("the text is too long"),
-        Err(AatError::OutOfMemory) => bail!("no memory for shaping"),
-        Err(AatError::BufferFailed) => unreachable!(),
-    };
+    let glyphs = shape_text(alloc, &font, Direction::LeftToRight, &text, features)?;
     for glyph in &glyphs {
         let bar = if glyph.may_break_before { '|' } else { ' ' };
         let (id, cluster) = (glyph.glyph_id, glyph.cluster);
