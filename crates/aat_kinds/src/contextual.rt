@@ -5,6 +5,7 @@ ghost use Rattle.aat_buffer.specs.Buffer.{with_line};
 ghost use Rattle.aat_buffer.specs.Clusters.{IsSmall};
 ghost use Rattle.aat_font.specs.Face.{glyph_classes_of};
 ghost use Rattle.aat_run.specs.Driven.{IsRefusal, IsRefused};
+ghost use Rattle.aat_run.specs.Laws.{FitsFresh};
 ghost use Rattle.aat_kinds.specs.Values.{with_value_at};
 ghost use Rattle.aat_kinds.specs.Contextual.{answer_of, at_cursor, at_mark, held_act, held_fit, held_fresh};
 
@@ -48,9 +49,10 @@ impl<'a> Model for ContextualCtx<'a> {
 }
 
 impl<'a> ContextualCtx<'a> {
-    /// No marked place, over the classes of a font and the lookups of a subtable.
+    /// No marked place, over the classes of a font and the lookups of a subtable. It fits at the front of each line.
     pub fn new(face: &'a hb_font_t, subtable: &'a ContextualSubtable) -> Self
-        ensures { result ≡ held_fresh (glyph_classes_of face.now) subtable.now.lookups }
+        ensures value { result ≡ held_fresh (glyph_classes_of face.now) subtable.now.lookups }
+        ensures fits { FitsFresh held_fit result }
     {
         ContextualCtx {
             face,

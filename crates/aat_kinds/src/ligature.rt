@@ -12,6 +12,7 @@ ghost use Rattle.aat_kinds.specs.Ligature.{held_act, later_deleted, offset_of, s
 ghost use Rattle.aat_kinds.specs.inside.Taken.{all_taken, step_of};
 
 use aat_buffer::{DELETED_GLYPH, UnicodeProps, hb_buffer_t, hb_glyph_info_t};
+use aat_font::entry_bits::ligature::{LIG_ACTION_LAST, LIG_ACTION_STORE, PERFORM_ACTION};
 use aat_font::{GenericStateEntry, GlyphId, LigatureSubtable};
 use aat_run::{AatError, driver_context_t};
 use bitflags::Flags;
@@ -20,15 +21,6 @@ use std::marker::Model;
 
 /// Of how many of the newest components the places are kept, in a context by `LigatureCtx::new`.
 pub const LIGATURE_SLOTS: usize = 64;
-
-/// The flag of an entry that takes the held components in.
-const PERFORM_ACTION: u16 = 0x2000;
-
-/// The bits of an action that store a ligature: the last one of a list, and one that says so.
-const STORE: u32 = 0xC000_0000;
-
-/// The bit of the last action of a list.
-const LAST: u32 = 0x8000_0000;
 
 /// The places of the components that are held: of as many of the newest as there are slots.
 #[derive(Drop)]
@@ -172,12 +164,12 @@ impl<const SLOTS: usize> Components<SLOTS> {
         let glyph = buffer.info(self.place(c)).glyph_id;
         let value = value_of(&subtable.components, glyph, action)?;
         let sum = sum + usize::from(value);
-        if action & STORE == 0 {
+        if action & (LIG_ACTION_STORE | LIG_ACTION_LAST) == 0 {
             return Some(sum);
         }
         let ligature = *subtable.ligatures.get(sum)?;
         self.store(c, ligature, buffer);
-        if action & LAST != 0 {
+        if action & LIG_ACTION_LAST != 0 {
             return None;
         }
         Some(sum)

@@ -22,7 +22,7 @@ returns-clause-run g c =
     ok_map c.run_machine.result _ _
     (λ turns h.
     h
-    ∙ ap (λ (x : Held). machine_run (is_driven_on run.ranges.now run.feature_flags) state (context_from true goes_on held_actionable held_act x) b) c.new-context.ensures
+    ∙ ap (λ (x : Held). machine_run (is_driven_on run.ranges.now run.feature_flags) state (context_from true goes_on held_actionable held_act x) b) c.new-context.ensures.value
     ∙ ap (λ (v : ContextualTables). machine_run (is_driven_on run.ranges.now run.feature_flags) state (context_from true goes_on held_actionable held_act (record { classes = classes; lookups = v.lookups; registers = fresh })) b)
     (sym c.subtable.view_is)
     ∙ ap (λ (on : ℕ → Bool). machine_run on state (context_from true goes_on held_actionable held_act (record { classes = classes; lookups = lookups; registers = fresh })) b) same
