@@ -72,8 +72,11 @@ impl<'a> ContextualCtx<'a> {
     ) -> bool
         requires in_line { self.now.registers.mark < length buffer.old.line }
         requires ids { IsSmall buffer.old }
-        ensures standing { OnTrue result (at_mark self.now.classes self.now.lookups entry.now self.now.registers buffer.old ≡ Some buffer.new) }
-        ensures missing { result ≡ false → (at_mark self.now.classes self.now.lookups entry.now self.now.registers buffer.old ≡ None) × (buffer.new ≡ buffer.old) }
+        ensures standing { OnTrue result (
+            at_mark self.now.classes self.now.lookups entry.now self.now.registers buffer.old ≡ Some buffer.new) }
+        ensures missing { result ≡ false
+            → (at_mark self.now.classes self.now.lookups entry.now self.now.registers buffer.old ≡ None)
+            × (buffer.new ≡ buffer.old) }
         ensures ids { IsSmall buffer.new }
         ensures count { length buffer.new.line ≡ length buffer.old.line }
     {
@@ -101,8 +104,10 @@ impl<'a> ContextualCtx<'a> {
     ) -> bool
         requires some { 0 < length buffer.old.line }
         requires ids { IsSmall buffer.old }
-        ensures standing { OnTrue result (at_cursor self.now.classes self.now.lookups entry.now buffer.old ≡ Some buffer.new) }
-        ensures missing { result ≡ false → (at_cursor self.now.classes self.now.lookups entry.now buffer.old ≡ None) × (buffer.new ≡ buffer.old) }
+        ensures standing { OnTrue result (
+            at_cursor self.now.classes self.now.lookups entry.now buffer.old ≡ Some buffer.new) }
+        ensures missing { result ≡ false
+            → (at_cursor self.now.classes self.now.lookups entry.now buffer.old ≡ None) × (buffer.new ≡ buffer.old) }
         ensures ids { IsSmall buffer.new }
         ensures count { length buffer.new.line ≡ length buffer.old.line }
     {
@@ -188,7 +193,8 @@ impl<'a> driver_context_t<ContextualEntryData> for ContextualCtx<'a> {
         requires fit { held_fit self.old buffer.old.cursor (length buffer.old.line) }
         requires ids { IsSmall buffer.old }
         ensures taken { IsOk result }
-        ensures act { OnOk result (record { registers = self.new; buffer = buffer.new } ≡ held_act entry.now self.old buffer.old) }
+        ensures act { OnOk result (
+            record { registers = self.new; buffer = buffer.new } ≡ held_act entry.now self.old buffer.old) }
         ensures ids { OnOk result (IsSmall buffer.new) }
         ensures successful { OnOk result (buffer.new.successful ≡ buffer.old.successful) }
         ensures reason { IfErr result (IsRefusal buffer.old (held_act entry.now self.old buffer.old).buffer) }
@@ -244,7 +250,8 @@ fn replace<A: Allocator + Copy>(
 )
     requires in_line { place < length buffer.old.line }
     requires ids { IsSmall buffer.old }
-    ensures replaced { buffer.new ≡ with_line buffer.old (with_value_at (glyph_classes_of face.now) place value buffer.old.line) }
+    ensures replaced { buffer.new ≡
+        with_line buffer.old (with_value_at (glyph_classes_of face.now) place value buffer.old.line) }
     ensures ids { IsSmall buffer.new }
     ensures count { length buffer.new.line ≡ length buffer.old.line }
 {

@@ -74,7 +74,8 @@ impl<'a> InsertionCtx<'a> {
         ensures settings { OnOk result (SameSettings buffer.old buffer.new) }
         ensures reason { IfErr result (IsRefusal buffer.old
             (at_mark self.now.glyphs entry.now self.now.registers buffer.old)) }
-        ensures too_long { buffer.old.max_len < length (at_mark self.now.glyphs entry.now self.now.registers buffer.old).line
+        ensures too_long { buffer.old.max_len
+            < length (at_mark self.now.glyphs entry.now self.now.registers buffer.old).line
             → IsErrOf result AatError.TooLong }
         ensures refused { OnErr result (IsRefusedRun buffer.old buffer.new) }
     {
@@ -172,10 +173,10 @@ impl<'a> driver_context_t<InsertionEntryData> for InsertionCtx<'a> {
     /// Refused as 2, `TooLong`, only where the act would leave a line longer than the buffer's `max_len`, and as 3,
     /// `OutOfMemory`, only where it would leave a longer line than it found. A run goes in whole or not at all, and the
     /// length is looked at before memory is asked for: where the line would be too long by the first run that goes in,
-    /// it is always 2, `TooLong`, and where it would be by the second one alone either may come. After a refusal the buffer has failed, its line is of 16-bit
-    /// glyphs, at most its greatest length long, and that from before the act or, where the current run is refused
-    /// behind a marked one that went in, the one with that marked run; all but line, cursor, positions and budget is as
-    /// before, and the registers are any.
+    /// it is always 2, `TooLong`, and where it would be by the second one alone either may come. After a refusal the
+    /// buffer has failed, its line is of 16-bit glyphs, at most its greatest length long, and that from before the act
+    /// or, where the current run is refused behind a marked one that went in, the one with that marked run; all but
+    /// line, cursor, positions and budget is as before, and the registers are any.
     ///
     /// The registers have to fit, and each glyph id has to be at most 0xFFFF, and is so again.
     #[tactic(auto, using(crate::proofs::Refusals::refused_for_run), unfolding(crate::specs::Insertion::act))]

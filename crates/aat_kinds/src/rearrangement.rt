@@ -88,7 +88,10 @@ impl<const LONGEST: usize> RearrangementCtx<LONGEST> {
     fn merge_marked<A: Allocator + Copy>(&self, buffer: &mut hb_buffer_t<A>)
         requires some { self.now.start < self.now.end }
         requires in_line { self.now.end ≤ length buffer.old.line }
-        ensures after { buffer.new ≡ merge_clusters (merge_clusters buffer.old self.now.start (min (buffer.old.cursor + 1) (length buffer.old.line))) self.now.start self.now.end }
+        ensures after { buffer.new ≡
+            merge_clusters
+            (merge_clusters buffer.old self.now.start (min (buffer.old.cursor + 1) (length buffer.old.line)))
+            self.now.start self.now.end }
         ensures count { length buffer.new.line ≡ length buffer.old.line }
     {
         let len = buffer.len();
@@ -175,7 +178,8 @@ impl<const LONGEST: usize> driver_context_t<()> for RearrangementCtx<LONGEST> {
         requires fit { IsFit self.old buffer.old.cursor (length buffer.old.line) }
         requires ids { IsSmall buffer.old }
         ensures taken { IsOk result }
-        ensures act { OnOk result (record { registers = self.new; buffer = buffer.new } ≡ act LONGEST entry.now self.old buffer.old) }
+        ensures act { OnOk result (
+            record { registers = self.new; buffer = buffer.new } ≡ act LONGEST entry.now self.old buffer.old) }
         ensures ids { OnOk result (IsSmall buffer.new) }
         ensures successful { OnOk result (buffer.new.successful ≡ buffer.old.successful) }
         ensures reason { IfErr result (IsRefusal buffer.old (act LONGEST entry.now self.old buffer.old).buffer) }

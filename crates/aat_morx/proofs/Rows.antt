@@ -67,6 +67,7 @@ ligature_rows = record {
   kept_props = refl;
   held_once = refl;
   missing = refl;
+  a_register_outlives_the_first_state = (refl, refl, refl);
 }
 
 pub insertion_rows : InsertionRows
