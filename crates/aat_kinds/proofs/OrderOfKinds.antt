@@ -17,7 +17,7 @@ use Rattle.aat_run.specs.Driven.{machine_run}
 use Rattle.aat_buffer.specs.Clusters.{ids}
 use Rattle.aat_run.specs.Laws.{IsLawful}
 use Rattle.aat_kinds.specs.Lawful.{ActsKeepOrder, GlyphsAreKept}
-use Rattle.aat_run.specs.Machine.{whole}
+use Rattle.aat_run.specs.Machine.{run_to_end}
 use Rattle.aat_kinds.specs.Values.{with_answer}
 use Rattle.aat_buffer.specs.facts.Clusters.{length_on_span_of}
 use Rattle.aat_kinds.proofs.LawsHold.{contexts_are_lawful}
@@ -95,7 +95,7 @@ module _ (R : ℕ → ℕ → Type 0) (same : (x y : ℕ) → x ≡ y → R x y)
       (λ e s d fit k. kept_trans b d (x.act e s d).buffer k (each e s d fit))
       (λ d k. kept_same R same b d _ refl refl (λ n low. refl) k)
       (λ d k. kept_same R same b d _ refl refl (λ n low. refl) k) c (law.fresh (length c.buffer.line)) begun in
-      kept_same R same b (whole m c).buffer _ refl refl (λ n low. refl) done
+      kept_same R same b (run_to_end m c).buffer _ refl refl (λ n low. refl) done
 
   pub kept_kind : (z : Sizes) (on : ℕ → Bool) (k : SubtableKind) (b : Buffer) → 0 < z.slots → Kept R same b (kind_run z on k b).buffer
   unfolding rearrangement_run contextual_run ligature_run insertion_run noncontextual_run

@@ -118,6 +118,13 @@ held_fit h p n = IsFit h.registers p n
 abbrev pub puts_marked : Entry → Buffer → Bool
 puts_marked e b = is_present e.extra.marked_insert_index && has_operations (paid (marked_count e) b)
 
+-- the line behind the first run that an act puts in: the one with the marked run, where that has glyphs and goes in,
+-- and else the one that the act leaves
+abbrev pub line_of_first_run : Entry → Held → Buffer → List hb_glyph_info_t
+line_of_first_run e h b =
+    let d = at_mark h.glyphs e h.registers (paid (marked_count e) b) in
+    if puts_marked e b && nat_lt (length b.line) (length d.line) then d.line else (held_act e h b).buffer.line
+
 -- the line that a refused act leaves has no part of a run: it is the one from before the act or, where the act puts the
 -- marked run in and it is the current run that is refused, the one with the marked run
 abbrev pub IsLineOfWholeRuns : Entry → Held → Buffer → List hb_glyph_info_t → Type 0

@@ -10,6 +10,7 @@ pub mod Kinds
 pub mod Lawful
 pub mod Ligature
 pub mod Rearrangement
+pub mod Runs
 pub mod Values
 pub mod facts
 pub mod inside

@@ -5,6 +5,7 @@ ghost use Rattle.aat_buffer.specs.Buffer.{with_line};
 ghost use Rattle.aat_buffer.specs.Clusters.{IsSmall};
 ghost use Rattle.aat_font.specs.Face.{glyph_classes_of};
 ghost use Rattle.aat_run.specs.Driven.{IsRefusal, IsRefused};
+ghost use Rattle.aat_run.specs.Laws.{FitsFresh};
 ghost use Rattle.aat_kinds.specs.Values.{with_value_at};
 ghost use Rattle.aat_kinds.specs.Contextual.{answer_of, at_cursor, at_mark, held_act, held_fit, held_fresh};
 
@@ -48,9 +49,10 @@ impl<'a> Model for ContextualCtx<'a> {
 }
 
 impl<'a> ContextualCtx<'a> {
-    /// No marked place, over the classes of a font and the lookups of a subtable.
+    /// No marked place, over the classes of a font and the lookups of a subtable. It fits at the front of each line.
     pub fn new(face: &'a hb_font_t, subtable: &'a ContextualSubtable) -> Self
-        ensures { result ≡ held_fresh (glyph_classes_of face.now) subtable.now.lookups }
+        ensures value { result ≡ held_fresh (glyph_classes_of face.now) subtable.now.lookups }
+        ensures fits { FitsFresh held_fit result }
     {
         ContextualCtx {
             face,
@@ -70,8 +72,11 @@ impl<'a> ContextualCtx<'a> {
     ) -> bool
         requires in_line { self.now.registers.mark < length buffer.old.line }
         requires ids { IsSmall buffer.old }
-        ensures standing { OnTrue result (at_mark self.now.classes self.now.lookups entry.now self.now.registers buffer.old ≡ Some buffer.new) }
-        ensures missing { result ≡ false → (at_mark self.now.classes self.now.lookups entry.now self.now.registers buffer.old ≡ None) × (buffer.new ≡ buffer.old) }
+        ensures standing { OnTrue result (
+            at_mark self.now.classes self.now.lookups entry.now self.now.registers buffer.old ≡ Some buffer.new) }
+        ensures missing { result ≡ false
+            → (at_mark self.now.classes self.now.lookups entry.now self.now.registers buffer.old ≡ None)
+            × (buffer.new ≡ buffer.old) }
         ensures ids { IsSmall buffer.new }
         ensures count { length buffer.new.line ≡ length buffer.old.line }
     {
@@ -99,8 +104,10 @@ impl<'a> ContextualCtx<'a> {
     ) -> bool
         requires some { 0 < length buffer.old.line }
         requires ids { IsSmall buffer.old }
-        ensures standing { OnTrue result (at_cursor self.now.classes self.now.lookups entry.now buffer.old ≡ Some buffer.new) }
-        ensures missing { result ≡ false → (at_cursor self.now.classes self.now.lookups entry.now buffer.old ≡ None) × (buffer.new ≡ buffer.old) }
+        ensures standing { OnTrue result (
+            at_cursor self.now.classes self.now.lookups entry.now buffer.old ≡ Some buffer.new) }
+        ensures missing { result ≡ false
+            → (at_cursor self.now.classes self.now.lookups entry.now buffer.old ≡ None) × (buffer.new ≡ buffer.old) }
         ensures ids { IsSmall buffer.new }
         ensures count { length buffer.new.line ≡ length buffer.old.line }
     {
@@ -186,7 +193,8 @@ impl<'a> driver_context_t<ContextualEntryData> for ContextualCtx<'a> {
         requires fit { held_fit self.old buffer.old.cursor (length buffer.old.line) }
         requires ids { IsSmall buffer.old }
         ensures taken { IsOk result }
-        ensures act { OnOk result (record { registers = self.new; buffer = buffer.new } ≡ held_act entry.now self.old buffer.old) }
+        ensures act { OnOk result (
+            record { registers = self.new; buffer = buffer.new } ≡ held_act entry.now self.old buffer.old) }
         ensures ids { OnOk result (IsSmall buffer.new) }
         ensures successful { OnOk result (buffer.new.successful ≡ buffer.old.successful) }
         ensures reason { IfErr result (IsRefusal buffer.old (held_act entry.now self.old buffer.old).buffer) }
@@ -242,7 +250,8 @@ fn replace<A: Allocator + Copy>(
 )
     requires in_line { place < length buffer.old.line }
     requires ids { IsSmall buffer.old }
-    ensures replaced { buffer.new ≡ with_line buffer.old (with_value_at (glyph_classes_of face.now) place value buffer.old.line) }
+    ensures replaced { buffer.new ≡
+        with_line buffer.old (with_value_at (glyph_classes_of face.now) place value buffer.old.line) }
     ensures ids { IsSmall buffer.new }
     ensures count { length buffer.new.line ≡ length buffer.old.line }
 {

@@ -1,31 +1,22 @@
 //! Insertion subtables: runs of glyphs go in at the marked place and at the cursor.
-ghost use Rattle.std.specs.Prelude.{◌≡◌, ℕ, ◌+◌, ◌-◌, ◌<◌, ◌≤◌, ◌&&◌, if◌then◌else◌, nat_lt, length, map, not, All, Bool, take, false, true, IfErr, IsTrue, OnErr, OnOk};
+ghost use Rattle.std.specs.Prelude.{◌≡◌, ℕ, ◌+◌, ◌-◌, ◌<◌, ◌≤◌, ◌&&◌, if◌then◌else◌, nat_lt, length, map, not, All, Bool, take, false, true, IfErr, IsErrOf, IsTrue, OnErr, OnOk};
 ghost use Rattle.aat_buffer.specs.Buffer.{Buffer, Is16Bit, model_at};
 ghost use Rattle.aat_buffer.specs.Clusters.{IsSmall};
 ghost use Rattle.aat_font.specs.Entries.{is_present};
 ghost use Rattle.aat_run.specs.Budget.{paid};
 ghost use Rattle.aat_run.specs.Driven.{IsRefusal, IsRefused};
 ghost use Rattle.aat_run.specs.Laws.{FitsFresh, SameSettings};
-ghost use Rattle.aat_kinds.specs.Insertion.{IsLineOfWholeRuns, at_cursor, at_mark, copies, current_part, fresh, held_act, held_fit, inserted, put_in, run_for, with_mark};
+ghost use Rattle.aat_kinds.specs.Insertion.{IsLineOfWholeRuns, at_cursor, at_mark, copies, current_part, fresh, held_act, held_fit, inserted, line_of_first_run, put_in, run_for, with_mark};
 ghost use Rattle.aat_kinds.specs.inside.Run.{IsRefusedRun};
 
 use aat_buffer::{hb_buffer_t, hb_glyph_info_t};
+use aat_font::entry_bits::insertion::{
+    CURRENT_INSERT_BEFORE, CURRENT_INSERT_COUNT, MARKED_INSERT_BEFORE, MARKED_INSERT_COUNT,
+};
 use aat_font::{GenericStateEntry, GlyphId, InsertionEntryData};
 use aat_run::{AatError, driver_context_t};
 use std::alloc::Allocator;
 use std::marker::Model;
-
-/// The bits of an entry that count the glyphs that go in at the cursor, from bit 5 on.
-const CURRENT_COUNT: u16 = 0x03E0;
-
-/// The bits of an entry that count the glyphs that go in at the mark.
-const MARKED_COUNT: u16 = 0x001F;
-
-/// The flag of an entry whose glyphs at the cursor go in before the glyph there.
-const CURRENT_BEFORE: u16 = 0x0800;
-
-/// The flag of an entry whose glyphs at the mark go in before the glyph there.
-const MARKED_BEFORE: u16 = 0x0400;
 
 /// How many glyphs a run has at most.
 const LONGEST_RUN: usize = 31;
@@ -79,17 +70,20 @@ impl<'a> InsertionCtx<'a> {
         requires ids { IsSmall buffer.old }
         ensures ok { OnOk result (buffer.new ≡ at_mark self.now.glyphs entry.now self.now.registers buffer.old) }
         ensures ids { OnOk result (IsSmall buffer.new) }
-        ensures successful { OnOk result (buffer.new.successful ≡ buffer.old.successful) }
         ensures longer { OnOk result (length buffer.old.line ≤ length buffer.new.line) }
         ensures settings { OnOk result (SameSettings buffer.old buffer.new) }
-        ensures reason { IfErr result (IsRefusal buffer.old (at_mark self.now.glyphs entry.now self.now.registers buffer.old)) }
+        ensures reason { IfErr result (IsRefusal buffer.old
+            (at_mark self.now.glyphs entry.now self.now.registers buffer.old)) }
+        ensures too_long { buffer.old.max_len
+            < length (at_mark self.now.glyphs entry.now self.now.registers buffer.old).line
+            → IsErrOf result AatError.TooLong }
         ensures refused { OnErr result (IsRefusedRun buffer.old buffer.new) }
     {
         let run = run_for(
             self.glyphs,
             buffer,
             entry.extra.marked_insert_index,
-            entry.flags & MARKED_COUNT,
+            entry.flags & MARKED_INSERT_COUNT,
         );
         let _length = buffer.len();
         let cursor = buffer.backtrack_len() + run.len();
@@ -97,7 +91,7 @@ impl<'a> InsertionCtx<'a> {
             buffer,
             run,
             self.mark,
-            entry.flags & MARKED_BEFORE == 0,
+            entry.flags & MARKED_INSERT_BEFORE == 0,
             cursor,
         )?;
         let end = (cursor + 1).min(buffer.len());
@@ -115,13 +109,19 @@ impl<'a> InsertionCtx<'a> {
         requires ids { IsSmall buffer.old }
         ensures glyphs { self.new.glyphs ≡ self.old.glyphs }
         ensures mark { self.new.registers ≡ with_mark entry.now self.old.registers place }
-        ensures ok { OnOk result (buffer.new ≡ (current_part self.old.glyphs entry.now self.new.registers buffer.old).buffer) }
+        ensures ok { OnOk result (buffer.new ≡
+            (current_part self.old.glyphs entry.now self.new.registers buffer.old).buffer) }
         ensures ids { OnOk result (IsSmall buffer.new) }
         ensures successful { OnOk result (buffer.new.successful ≡ buffer.old.successful) }
-        ensures reason { IfErr result (IsRefusal buffer.old (current_part self.old.glyphs entry.now self.new.registers buffer.old).buffer) }
+        ensures reason { IfErr result (IsRefusal buffer.old
+            (current_part self.old.glyphs entry.now self.new.registers buffer.old).buffer) }
+        ensures too_long { buffer.old.max_len
+            < length (current_part self.old.glyphs entry.now self.new.registers buffer.old).buffer.line
+            → IsErrOf result AatError.TooLong }
         ensures refused { OnErr result (IsRefusedRun buffer.old buffer.new) }
         ensures current { OnErr result (IsTrue (is_present entry.now.extra.current_insert_index)) }
     {
+        let _length = buffer.len();
         if entry.has_mark() {
             self.mark = place;
         }
@@ -163,19 +163,20 @@ impl<'a> driver_context_t<InsertionEntryData> for InsertionCtx<'a> {
         entry: &GenericStateEntry<InsertionEntryData>,
         _buffer: &hb_buffer_t<A>,
     ) -> bool {
-        entry.flags & (CURRENT_COUNT | MARKED_COUNT) != 0
+        entry.flags & (CURRENT_INSERT_COUNT | MARKED_INSERT_COUNT) != 0
             && (entry.extra.current_insert_index != NO_GLYPHS
                 || entry.extra.marked_insert_index != NO_GLYPHS)
     }
 
     /// Does what the entry says. A run of r glyphs is O(r and the distance that the cursor moves), amortised.
     ///
-    /// Refused as 2, `TooLong`, only where the act would leave a line longer than the buffer's `max_len`, and else as
-    /// 3, `OutOfMemory`, only where it would leave a longer line than it found. A run goes in whole or not at all, and
-    /// the length is looked at before memory is asked for. After a refusal the buffer has failed, its line is of 16-bit
-    /// glyphs, at most its greatest length long, and that from before the act or, where the current run is refused
-    /// behind a marked one that went in, the one with that marked run; all but line, cursor, positions and budget is as
-    /// before, and the registers are any.
+    /// Refused as 2, `TooLong`, only where the act would leave a line longer than the buffer's `max_len`, and as 3,
+    /// `OutOfMemory`, only where it would leave a longer line than it found. A run goes in whole or not at all, and the
+    /// length is looked at before memory is asked for: where the line would be too long by the first run that goes in,
+    /// it is always 2, `TooLong`, and where it would be by the second one alone either may come. After a refusal the
+    /// buffer has failed, its line is of 16-bit glyphs, at most its greatest length long, and that from before the act
+    /// or, where the current run is refused behind a marked one that went in, the one with that marked run; all but
+    /// line, cursor, positions and budget is as before, and the registers are any.
     ///
     /// The registers have to fit, and each glyph id has to be at most 0xFFFF, and is so again.
     #[tactic(auto, using(crate::proofs::Refusals::refused_for_run), unfolding(crate::specs::Insertion::act))]
@@ -186,18 +187,22 @@ impl<'a> driver_context_t<InsertionEntryData> for InsertionCtx<'a> {
     ) -> Result<(), AatError>
         requires fit { held_fit self.old buffer.old.cursor (length buffer.old.line) }
         requires ids { IsSmall buffer.old }
-        ensures act { OnOk result (record { registers = self.new; buffer = buffer.new } ≡ held_act entry.now self.old buffer.old) }
+        ensures act { OnOk result (
+            record { registers = self.new; buffer = buffer.new } ≡ held_act entry.now self.old buffer.old) }
         ensures ids { OnOk result (IsSmall buffer.new) }
         ensures successful { OnOk result (buffer.new.successful ≡ buffer.old.successful) }
         ensures reason { IfErr result (IsRefusal buffer.old (held_act entry.now self.old buffer.old).buffer) }
+        ensures too_long { buffer.old.max_len < length (line_of_first_run entry.now self.old buffer.old)
+            → IsErrOf result AatError.TooLong }
         ensures refused { OnErr result (IsRefused buffer.old buffer.new) }
         ensures whole { OnErr result (IsLineOfWholeRuns entry.now self.old buffer.old buffer.new.line) }
     {
+        let _length = buffer.len();
         let place = buffer.backtrack_len();
         if entry.extra.marked_insert_index == NO_GLYPHS {
             return self.mark_and_insert(entry, place, buffer);
         }
-        pay(buffer, entry.flags & MARKED_COUNT);
+        pay(buffer, entry.flags & MARKED_INSERT_COUNT);
         if buffer.max_ops() <= 0 {
             return Ok(());
         }
@@ -239,17 +244,19 @@ fn insert_current<A: Allocator + Copy>(
     ensures ids { OnOk result (IsSmall buffer.new) }
     ensures successful { OnOk result (buffer.new.successful ≡ buffer.old.successful) }
     ensures reason { IfErr result (IsRefusal buffer.old (at_cursor glyphs.now entry.now buffer.old)) }
+    ensures too_long { buffer.old.max_len < length (at_cursor glyphs.now entry.now buffer.old).line
+        → IsErrOf result AatError.TooLong }
     ensures refused { OnErr result (IsRefusedRun buffer.old buffer.new) }
 {
-    let count = (entry.flags & CURRENT_COUNT) / 32;
+    let _length = buffer.len();
+    let count = (entry.flags & CURRENT_INSERT_COUNT) / 32;
     pay(buffer, count);
     if buffer.max_ops() < 0 {
         return Ok(());
     }
     let run = run_for(glyphs, buffer, entry.extra.current_insert_index, count);
-    let _length = buffer.len();
     let place = buffer.backtrack_len();
-    let behind = entry.flags & CURRENT_BEFORE == 0;
+    let behind = entry.flags & CURRENT_INSERT_BEFORE == 0;
     if entry.has_advance() {
         return put_in(buffer, run, place, behind, place + run.len());
     }
@@ -344,15 +351,18 @@ fn put_in<A: Allocator + Copy>(
     ensures ids { OnOk result (IsSmall buffer.new) }
     ensures count { OnOk result (length buffer.new.line ≡ length buffer.old.line + length run.now) }
     ensures reason { IfErr result (IsRefusal buffer.old (put_in run.now place behind cursor buffer.old)) }
+    ensures too_long { buffer.old.max_len < length (put_in run.now place behind cursor buffer.old).line
+        → IsErrOf result AatError.TooLong }
     ensures refused { OnErr result (IsRefusedRun buffer.old buffer.new) }
 {
+    let len = buffer.len();
     if run.len() == 0 {
         buffer.drop_positions();
         buffer.move_to(cursor);
         return Ok(());
     }
     let records = records_of(model_of(buffer, place), run);
-    buffer.move_to(start_of(place, behind, buffer.len()));
+    buffer.move_to(start_of(place, behind, len));
     buffer.insert_glyphs(&records[..run.len()])?;
     buffer.move_to(cursor);
     Ok(())

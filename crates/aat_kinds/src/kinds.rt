@@ -2,9 +2,10 @@
 ghost use Rattle.std.specs.Prelude.{◌≡◌, ◌^◌, ◌<◌, ◌≤◌, IfOk, IfErr, IsOk, OnErr, IsTrue, false, length, true};
 ghost use Rattle.aat_buffer.specs.Clusters.{IsSmall};
 ghost use Rattle.aat_kinds.specs.Kinds.{is_insertion, kind_run, sizes_of, noncontextual_run};
+ghost use Rattle.aat_kinds.specs.Runs.{is_on_in};
 ghost use Rattle.aat_run.specs.Driven.{IsRefusal, IsRefused, StaysWithin};
-ghost use Rattle.aat_run.specs.Outcome.{Outcome};
-ghost use Rattle.aat_run.specs.Ranges.{IsGapless, is_whole_list, switch_for};
+ghost use Rattle.aat_run.specs.Outcome.{IsOutcome};
+ghost use Rattle.aat_run.specs.Ranges.{IsGapless, is_whole_list};
 
 use crate::machines::{run_contextual, run_insertion, run_ligature, run_rearrangement};
 use crate::noncontextual::replace_all;
@@ -22,9 +23,9 @@ use std::alloc::Allocator;
 /// and where there is one alone the subtable is on there.
 ///
 /// Only an insertion subtable is refused: as 2, `TooLong`, only where the run would leave a line longer than the
-/// buffer's `max_len`, and else as 3, `OutOfMemory`, only where it would leave a longer line than it found. After a
-/// refusal the buffer has failed, its line is some line of 16-bit glyphs that has at most its greatest length, and all
-/// but line, cursor, positions and budget is as before.
+/// buffer's `max_len`, and as 3, `OutOfMemory`, only where it would leave a longer line than it found; where both hold
+/// either may come. After a refusal the buffer has failed, its line is some line of 16-bit glyphs that has at most its
+/// greatest length, and all but line, cursor, positions and budget is as before.
 ///
 /// Apple's TrueType Reference Manual, "The 'morx' table", metamorphosis subtables.
 #[tactic(auto, unfolding(crate::specs::Kinds::noncontextual_run))]
@@ -37,11 +38,13 @@ pub fn run_kind<const SLOTS: usize, const LONGEST: usize, A: Allocator + Copy>(
     requires memory { SLOTS ≤ 2 ^ 59 }
     requires gapless { IsGapless run.now.ranges.now }
     requires whole { IsTrue (is_whole_list run.now.ranges.now) }
-    requires on { length run.now.ranges.now ≡ 1 → (switch_for run.now.ranges.now).is_on run.now.feature_flags 0 ≡ true }
+    requires on { length run.now.ranges.now ≡ 1 → is_on_in run.now 0 ≡ true }
     requires ids { IsSmall buffer.old }
-    ensures run { IfOk result (λ turns. record { buffer = buffer.new; turns = turns } ≡ kind_run (sizes_of SLOTS LONGEST run.now.face.now) ((switch_for run.now.ranges.now).is_on run.now.feature_flags) kind.now buffer.old) }
+    ensures run { IfOk result (IsOutcome (kind_run (sizes_of SLOTS LONGEST run.now.face.now) (is_on_in run.now) kind.now
+        buffer.old) buffer.new) }
     ensures within { IfOk result (StaysWithin 1 buffer.old buffer.new) }
-    ensures reason { IfErr result (IsRefusal buffer.old (kind_run (sizes_of SLOTS LONGEST run.now.face.now) ((switch_for run.now.ranges.now).is_on run.now.feature_flags) kind.now buffer.old).buffer) }
+    ensures reason { IfErr result (IsRefusal buffer.old
+        (kind_run (sizes_of SLOTS LONGEST run.now.face.now) (is_on_in run.now) kind.now buffer.old).buffer) }
     ensures refused { OnErr result (IsRefused buffer.old buffer.new) }
     ensures kept { is_insertion kind.now ≡ false → IsOk result }
 {

@@ -12,6 +12,7 @@ ghost use Rattle.aat_kinds.specs.Ligature.{held_act, later_deleted, offset_of, s
 ghost use Rattle.aat_kinds.specs.inside.Taken.{all_taken, step_of};
 
 use aat_buffer::{DELETED_GLYPH, UnicodeProps, hb_buffer_t, hb_glyph_info_t};
+use aat_font::entry_bits::ligature::{LIG_ACTION_LAST, LIG_ACTION_STORE, PERFORM_ACTION};
 use aat_font::{GenericStateEntry, GlyphId, LigatureSubtable};
 use aat_run::{AatError, driver_context_t};
 use bitflags::Flags;
@@ -20,15 +21,6 @@ use std::marker::Model;
 
 /// Of how many of the newest components the places are kept, in a context by `LigatureCtx::new`.
 pub const LIGATURE_SLOTS: usize = 64;
-
-/// The flag of an entry that takes the held components in.
-const PERFORM_ACTION: u16 = 0x2000;
-
-/// The bits of an action that store a ligature: the last one of a list, and one that says so.
-const STORE: u32 = 0xC000_0000;
-
-/// The bit of the last action of a list.
-const LAST: u32 = 0x8000_0000;
 
 /// The places of the components that are held: of as many of the newest as there are slots.
 #[derive(Drop)]
@@ -102,7 +94,8 @@ impl<const SLOTS: usize> Components<SLOTS> {
         requires below { c < self.now.count }
         requires fit { IsFit self.now buffer.old.cursor (length buffer.old.line) }
         requires ids { IsSmall buffer.old }
-        ensures line { buffer.new ≡ with_line buffer.old (later_deleted self.now c (self.now.count - 1 - c) buffer.old.line) }
+        ensures line { buffer.new ≡
+            with_line buffer.old (later_deleted self.now c (self.now.count - 1 - c) buffer.old.line) }
         ensures ids { IsSmall buffer.new }
         ensures count { length buffer.new.line ≡ length buffer.old.line }
     {
@@ -129,7 +122,8 @@ impl<const SLOTS: usize> Components<SLOTS> {
         requires ids { IsSmall buffer.old }
         ensures held { self.new ≡ record self.old { count = c + 1 } }
         ensures stored { buffer.new ≡ (stored c ligature.0 self.old buffer.old).buffer }
-        ensures deleted { (j : ℕ) → c < j → j < self.old.count → IsTrue (is_deleted (glyph_at buffer.new.line (component self.old j))) }
+        ensures deleted { (j : ℕ) → c < j → j < self.old.count
+            → IsTrue (is_deleted (glyph_at buffer.new.line (component self.old j))) }
         ensures successful { buffer.new.successful ≡ buffer.old.successful }
         ensures ids { IsSmall buffer.new }
         ensures count { length buffer.new.line ≡ length buffer.old.line }
@@ -158,8 +152,10 @@ impl<const SLOTS: usize> Components<SLOTS> {
         requires fit { IsFit self.old buffer.old.cursor (length buffer.old.line) }
         requires ids { IsSmall buffer.old }
         requires small { sum < 2 ^ 62 }
-        ensures goes_on { IfSome result (λ more. step_of subtable.now place c sum self.old buffer.old ≡ GoesOn more (left_with self.new buffer.new)) }
-        ensures stops { result ≡ None → step_of subtable.now place c sum self.old buffer.old ≡ Stops (left_with self.new buffer.new) }
+        ensures goes_on { IfSome result (λ more.
+            step_of subtable.now place c sum self.old buffer.old ≡ GoesOn more (left_with self.new buffer.new)) }
+        ensures stops { result ≡ None
+            → step_of subtable.now place c sum self.old buffer.old ≡ Stops (left_with self.new buffer.new) }
         ensures more { IfSome result (λ more. more ≤ sum + 65535) }
         ensures slots { self.new.slots ≡ self.old.slots }
         ensures held { c < self.new.count }
@@ -172,12 +168,12 @@ impl<const SLOTS: usize> Components<SLOTS> {
         let glyph = buffer.info(self.place(c)).glyph_id;
         let value = value_of(&subtable.components, glyph, action)?;
         let sum = sum + usize::from(value);
-        if action & STORE == 0 {
+        if action & (LIG_ACTION_STORE | LIG_ACTION_LAST) == 0 {
             return Some(sum);
         }
         let ligature = *subtable.ligatures.get(sum)?;
         self.store(c, ligature, buffer);
-        if action & LAST != 0 {
+        if action & LIG_ACTION_LAST != 0 {
             return None;
         }
         Some(sum)
@@ -354,7 +350,8 @@ impl<'a, const SLOTS: usize> driver_context_t<u16> for LigatureCtx<'a, SLOTS> {
         requires fit { IsHeldFit self.old buffer.old.cursor (length buffer.old.line) }
         requires ids { IsSmall buffer.old }
         ensures taken { IsOk result }
-        ensures act { OnOk result (record { registers = self.new; buffer = buffer.new } ≡ held_act entry.now self.old buffer.old) }
+        ensures act { OnOk result (
+            record { registers = self.new; buffer = buffer.new } ≡ held_act entry.now self.old buffer.old) }
         ensures ids { OnOk result (IsSmall buffer.new) }
         ensures successful { OnOk result (buffer.new.successful ≡ buffer.old.successful) }
         ensures reason { IfErr result (IsRefusal buffer.old (held_act entry.now self.old buffer.old).buffer) }
@@ -391,7 +388,8 @@ impl<'a, const SLOTS: usize> driver_context_t<u16> for LigatureCtx<'a, SLOTS> {
 #[tactic(auto, using(crate::specs::facts::LigatureLaws::small_of_merge_out))]
 fn merge_span<A: Allocator + Copy>(buffer: &mut hb_buffer_t<A>, start: usize, end: usize)
     requires ids { IsSmall buffer.old }
-    ensures merged { buffer.new ≡ (if nat_lt start end then merge_out_clusters buffer.old start end else buffer.old) }
+    ensures merged { buffer.new ≡
+        (if nat_lt start end then merge_out_clusters buffer.old start end else buffer.old) }
     ensures ids { IsSmall buffer.new }
     ensures count { length buffer.new.line ≡ length buffer.old.line }
 {

@@ -1,11 +1,11 @@
 //! The runs of the kinds that are state machines, each from fresh registers.
-ghost use Rattle.std.specs.Prelude.{◌≡◌, ◌^◌, ◌<◌, ◌≤◌, IfOk, IfErr, IsOk, IsTrue, OnErr, length, true};
+ghost use Rattle.std.specs.Prelude.{◌^◌, ◌<◌, ◌≤◌, IfOk, IfErr, IsOk, OnErr};
 ghost use Rattle.aat_buffer.specs.Clusters.{IsSmall};
 ghost use Rattle.aat_font.specs.Face.{glyph_classes_of};
 ghost use Rattle.aat_kinds.specs.Kinds.{contextual_run, insertion_run, ligature_run, rearrangement_run};
+ghost use Rattle.aat_kinds.specs.Runs.{HasFitRanges, is_on_in};
 ghost use Rattle.aat_run.specs.Driven.{IsRefusal, IsRefused, StaysWithin};
-ghost use Rattle.aat_run.specs.Outcome.{Outcome};
-ghost use Rattle.aat_run.specs.Ranges.{IsGapless, is_whole_list, switch_for};
+ghost use Rattle.aat_run.specs.Outcome.{IsOutcome};
 
 use crate::contextual::ContextualCtx;
 use crate::insertion::InsertionCtx;
@@ -24,11 +24,10 @@ pub(crate) fn run_rearrangement<const LONGEST: usize, A: Allocator + Copy>(
     table: &ExtendedStateTable<()>,
     buffer: &mut hb_buffer_t<A>,
 ) -> Result<u64, AatError>
-    requires gapless { IsGapless run.now.ranges.now }
-    requires whole { IsTrue (is_whole_list run.now.ranges.now) }
-    requires on { length run.now.ranges.now ≡ 1 → (switch_for run.now.ranges.now).is_on run.now.feature_flags 0 ≡ true }
+    requires ranges { HasFitRanges run.now }
     requires ids { IsSmall buffer.old }
-    ensures run { IfOk result (λ turns. record { buffer = buffer.new; turns = turns } ≡ rearrangement_run LONGEST ((switch_for run.now.ranges.now).is_on run.now.feature_flags) table.now buffer.old) }
+    ensures run { IfOk result (IsOutcome
+        (rearrangement_run LONGEST (is_on_in run.now) table.now buffer.old) buffer.new) }
     ensures within { IfOk result (StaysWithin 1 buffer.old buffer.new) }
     ensures served { IsOk result }
 {
@@ -42,11 +41,10 @@ pub(crate) fn run_contextual<A: Allocator + Copy>(
     subtable: &ContextualSubtable,
     buffer: &mut hb_buffer_t<A>,
 ) -> Result<u64, AatError>
-    requires gapless { IsGapless run.now.ranges.now }
-    requires whole { IsTrue (is_whole_list run.now.ranges.now) }
-    requires on { length run.now.ranges.now ≡ 1 → (switch_for run.now.ranges.now).is_on run.now.feature_flags 0 ≡ true }
+    requires ranges { HasFitRanges run.now }
     requires ids { IsSmall buffer.old }
-    ensures run { IfOk result (λ turns. record { buffer = buffer.new; turns = turns } ≡ contextual_run ((switch_for run.now.ranges.now).is_on run.now.feature_flags) (glyph_classes_of run.now.face.now) subtable.now.state subtable.now.lookups buffer.old) }
+    ensures run { IfOk result (IsOutcome (contextual_run (is_on_in run.now) (glyph_classes_of run.now.face.now)
+        subtable.now.state subtable.now.lookups buffer.old) buffer.new) }
     ensures within { IfOk result (StaysWithin 1 buffer.old buffer.new) }
     ensures served { IsOk result }
 {
@@ -70,11 +68,10 @@ pub(crate) fn run_ligature<const SLOTS: usize, A: Allocator + Copy>(
 ) -> Result<u64, AatError>
     requires slots { 0 < SLOTS }
     requires memory { SLOTS ≤ 2 ^ 59 }
-    requires gapless { IsGapless run.now.ranges.now }
-    requires whole { IsTrue (is_whole_list run.now.ranges.now) }
-    requires on { length run.now.ranges.now ≡ 1 → (switch_for run.now.ranges.now).is_on run.now.feature_flags 0 ≡ true }
+    requires ranges { HasFitRanges run.now }
     requires ids { IsSmall buffer.old }
-    ensures run { IfOk result (λ turns. record { buffer = buffer.new; turns = turns } ≡ ligature_run SLOTS ((switch_for run.now.ranges.now).is_on run.now.feature_flags) subtable.now.state subtable.now.actions subtable.now.components subtable.now.ligatures buffer.old) }
+    ensures run { IfOk result (IsOutcome (ligature_run SLOTS (is_on_in run.now) subtable.now.state subtable.now.actions
+        subtable.now.components subtable.now.ligatures buffer.old) buffer.new) }
     ensures within { IfOk result (StaysWithin 1 buffer.old buffer.new) }
     ensures served { IsOk result }
 {
@@ -90,20 +87,20 @@ pub(crate) fn run_ligature<const SLOTS: usize, A: Allocator + Copy>(
 
 /// Runs an insertion subtable, and answers the turns.
 ///
-/// Refused as 2, `TooLong`, only where the run would leave a line longer than the buffer's `max_len`, and else as 3,
-/// `OutOfMemory`, only where it would leave a longer line than it found.
+/// Refused as 2, `TooLong`, only where the run would leave a line longer than the buffer's `max_len`, and as 3,
+/// `OutOfMemory`, only where it would leave a longer line than it found; where both hold either may come.
 pub(crate) fn run_insertion<A: Allocator + Copy>(
     run: &SubtableRun,
     subtable: &InsertionSubtable,
     buffer: &mut hb_buffer_t<A>,
 ) -> Result<u64, AatError>
-    requires gapless { IsGapless run.now.ranges.now }
-    requires whole { IsTrue (is_whole_list run.now.ranges.now) }
-    requires on { length run.now.ranges.now ≡ 1 → (switch_for run.now.ranges.now).is_on run.now.feature_flags 0 ≡ true }
+    requires ranges { HasFitRanges run.now }
     requires ids { IsSmall buffer.old }
-    ensures run { IfOk result (λ turns. record { buffer = buffer.new; turns = turns } ≡ insertion_run ((switch_for run.now.ranges.now).is_on run.now.feature_flags) subtable.now.state subtable.now.glyphs buffer.old) }
+    ensures run { IfOk result (IsOutcome
+        (insertion_run (is_on_in run.now) subtable.now.state subtable.now.glyphs buffer.old) buffer.new) }
     ensures within { IfOk result (StaysWithin 1 buffer.old buffer.new) }
-    ensures reason { IfErr result (IsRefusal buffer.old (insertion_run ((switch_for run.now.ranges.now).is_on run.now.feature_flags) subtable.now.state subtable.now.glyphs buffer.old).buffer) }
+    ensures reason { IfErr result (IsRefusal buffer.old
+        (insertion_run (is_on_in run.now) subtable.now.state subtable.now.glyphs buffer.old).buffer) }
     ensures refused { OnErr result (IsRefused buffer.old buffer.new) }
 {
     let mut context = InsertionCtx::new(&subtable.glyphs);

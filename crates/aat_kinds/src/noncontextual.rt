@@ -5,6 +5,7 @@ ghost use Rattle.aat_buffer.specs.Clusters.{IsSmall};
 ghost use Rattle.aat_font.specs.Face.{glyph_classes_of};
 ghost use Rattle.aat_run.specs.Ranges.{IsGapless, switch_for};
 ghost use Rattle.aat_run.specs.Stretches.{IsSwitchedAlike};
+ghost use Rattle.aat_kinds.specs.Runs.{is_on_in};
 ghost use Rattle.aat_kinds.specs.Values.{with_looked_up_value, noncontextual};
 
 use crate::run::SubtableRun;
@@ -22,7 +23,8 @@ fn replacement(
     glyph: hb_glyph_info_t,
 ) -> hb_glyph_info_t
     requires { Is16Bit glyph }
-    ensures replaced { (on : ℕ → Bool) → on glyph.cluster ≡ is_on → result ≡ with_looked_up_value on (glyph_classes_of face.now) lookup.now glyph }
+    ensures replaced { (on : ℕ → Bool) → on glyph.cluster ≡ is_on
+        → result ≡ with_looked_up_value on (glyph_classes_of face.now) lookup.now glyph }
     ensures small { Is16Bit result }
 {
     if !is_on {
@@ -58,8 +60,7 @@ fn is_on_along(
     stretch.is_on
 }
 
-/// Gives each of some glyphs at whose own cluster the subtable is on, by some ranges, its value. A range is looked for
-/// only where a cluster has left the one that was found last, and searched for only where it is not beside it.
+/// Gives each of some glyphs at whose own cluster the subtable is on, by some ranges, its value.
 fn replace_glyphs(
     run: &SubtableRun,
     ranges: &[range_flags_t],
@@ -68,7 +69,9 @@ fn replace_glyphs(
 )
     requires ids { All Is16Bit glyphs.old }
     requires gapless { IsGapless ranges.now }
-    ensures replaced { glyphs.new ≡ noncontextual ((switch_for ranges.now).is_on run.now.feature_flags) (glyph_classes_of run.now.face.now) lookup.now glyphs.old }
+    ensures replaced { glyphs.new ≡
+        noncontextual ((switch_for ranges.now).is_on run.now.feature_flags) (glyph_classes_of run.now.face.now)
+        lookup.now glyphs.old }
     ensures ids { All Is16Bit glyphs.new }
     ensures len { length glyphs.new ≡ length glyphs.old }
 {
@@ -80,7 +83,7 @@ fn replace_glyphs(
 }
 
 /// Gives each glyph of a line at whose own cluster the subtable is on its value. The line is one slice while the cursor
-/// is at the start, and no cluster is asked where each range switches the subtable on and they end at the last cluster.
+/// is at the start.
 pub(crate) fn replace_all<A: Allocator + Copy>(
     run: &SubtableRun,
     lookup: &Lookup,
@@ -88,7 +91,8 @@ pub(crate) fn replace_all<A: Allocator + Copy>(
 )
     requires ids { IsSmall buffer.old }
     requires gapless { IsGapless run.now.ranges.now }
-    ensures replaced { buffer.new ≡ with_line buffer.old (noncontextual ((switch_for run.now.ranges.now).is_on run.now.feature_flags) (glyph_classes_of run.now.face.now) lookup.now buffer.old.line) }
+    ensures replaced { buffer.new ≡ with_line buffer.old
+        (noncontextual (is_on_in run.now) (glyph_classes_of run.now.face.now) lookup.now buffer.old.line) }
     ensures ids { IsSmall buffer.new }
 {
     let asked = ranges_to_ask(run.ranges, run.feature_flags);

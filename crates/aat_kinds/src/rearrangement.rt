@@ -3,12 +3,14 @@ ghost use Rattle.std.specs.Prelude.{◌≡◌, ◌+◌, ◌-◌, ◌<◌, ◌≤
 ghost use Rattle.aat_buffer.specs.Clusters.{IsSmall, ids};
 ghost use Rattle.aat_buffer.specs.Marks.{merge_clusters};
 ghost use Rattle.aat_run.specs.Driven.{IsRefusal, IsRefused};
+ghost use Rattle.aat_run.specs.Laws.{FitsFresh};
 ghost use Rattle.aat_kinds.specs.Rearrangement.{IsFit, act, fresh, is_within, moved, size_of, with_marks};
 
 use crate::rearrangement_span::move_span;
 use crate::verb::{Verb, verb_of};
 use aat_buffer::{HB_BUFFER_CLUSTER_LEVEL_CHARACTERS, hb_buffer_t};
 use aat_font::GenericStateEntry;
+use aat_font::entry_bits::rearrangement::{MARK_FIRST, MARK_LAST, VERB};
 use aat_run::{AatError, driver_context_t};
 use std::alloc::Allocator;
 use std::marker::Model;
@@ -37,18 +39,23 @@ impl<const LONGEST: usize> Model for RearrangementCtx<LONGEST> {
 }
 
 impl RearrangementCtx<MAX_CONTEXT_LENGTH> {
-    /// An empty span at the front of the line, of which at most `MAX_CONTEXT_LENGTH` glyphs are moved.
+    /// An empty span at the front of the line, of which at most `MAX_CONTEXT_LENGTH` glyphs are moved. It fits at the
+    /// front of each line.
     pub fn new() -> Self
-        ensures { result ≡ fresh }
+        ensures value { result ≡ fresh }
+        ensures fits { FitsFresh IsFit result }
     {
         RearrangementCtx::with_longest()
     }
 }
 
 impl<const LONGEST: usize> RearrangementCtx<LONGEST> {
-    /// An empty span at the front of the line, of which at most `LONGEST` glyphs are moved.
+    /// An empty span at the front of the line, of which at most `LONGEST` glyphs are moved. It fits at the front of
+    /// each line.
+    #[tactic(auto, using(crate::specs::facts::RearrangementLaws::fits_fresh))]
     pub fn with_longest() -> Self
-        ensures { result ≡ fresh }
+        ensures value { result ≡ fresh }
+        ensures fits { FitsFresh IsFit result }
     {
         RearrangementCtx { start: 0, end: 0 }
     }
@@ -58,10 +65,10 @@ impl<const LONGEST: usize> RearrangementCtx<LONGEST> {
         requires { len ≤ 0x3FFFFFFF }
         ensures { self.new ≡ with_marks entry.now self.old cursor len }
     {
-        if entry.flags & 0x8000 != 0 {
+        if entry.flags & MARK_FIRST != 0 {
             self.start = cursor;
         }
-        if entry.flags & 0x2000 != 0 {
+        if entry.flags & MARK_LAST != 0 {
             self.end = if cursor < len { cursor + 1 } else { len };
         }
     }
@@ -81,7 +88,10 @@ impl<const LONGEST: usize> RearrangementCtx<LONGEST> {
     fn merge_marked<A: Allocator + Copy>(&self, buffer: &mut hb_buffer_t<A>)
         requires some { self.now.start < self.now.end }
         requires in_line { self.now.end ≤ length buffer.old.line }
-        ensures after { buffer.new ≡ merge_clusters (merge_clusters buffer.old self.now.start (min (buffer.old.cursor + 1) (length buffer.old.line))) self.now.start self.now.end }
+        ensures after { buffer.new ≡
+            merge_clusters
+            (merge_clusters buffer.old self.now.start (min (buffer.old.cursor + 1) (length buffer.old.line)))
+            self.now.start self.now.end }
         ensures count { length buffer.new.line ≡ length buffer.old.line }
     {
         let len = buffer.len();
@@ -155,7 +165,7 @@ impl<const LONGEST: usize> driver_context_t<()> for RearrangementCtx<LONGEST> {
         entry: &GenericStateEntry<()>,
         _buffer: &hb_buffer_t<A>,
     ) -> bool {
-        entry.flags & 0x000F != 0 && self.start < self.end
+        entry.flags & VERB != 0 && self.start < self.end
     }
 
     /// Does what the entry says. The glyph ids are permuted. Never refused. The registers have to fit, and each glyph
@@ -168,7 +178,8 @@ impl<const LONGEST: usize> driver_context_t<()> for RearrangementCtx<LONGEST> {
         requires fit { IsFit self.old buffer.old.cursor (length buffer.old.line) }
         requires ids { IsSmall buffer.old }
         ensures taken { IsOk result }
-        ensures act { OnOk result (record { registers = self.new; buffer = buffer.new } ≡ act LONGEST entry.now self.old buffer.old) }
+        ensures act { OnOk result (
+            record { registers = self.new; buffer = buffer.new } ≡ act LONGEST entry.now self.old buffer.old) }
         ensures ids { OnOk result (IsSmall buffer.new) }
         ensures successful { OnOk result (buffer.new.successful ≡ buffer.old.successful) }
         ensures reason { IfErr result (IsRefusal buffer.old (act LONGEST entry.now self.old buffer.old).buffer) }

@@ -36,7 +36,9 @@ fn put_part<A: Allocator + Copy>(
 )
     requires fit { start + size_of part ≡ end }
     requires in_line { end ≤ length buffer.old.line }
-    ensures after { buffer.new ≡ on_line_span (λ _. in_its_order {X = hb_glyph_info_t} part (take (size_of part) (glyphs.0 ∷ glyphs.1 ∷ []))) start end buffer.old }
+    ensures after { buffer.new ≡
+        on_line_span (λ _. in_its_order {X = hb_glyph_info_t} part (take (size_of part) (glyphs.0 ∷ glyphs.1 ∷ [])))
+        start end buffer.old }
     ensures count { length buffer.new.line ≡ length buffer.old.line }
 {
     match part {
@@ -58,7 +60,8 @@ fn move_left<A: Allocator + Copy>(buffer: &mut hb_buffer_t<A>, start: usize, end
     requires room { by ≤ start }
     requires ordered { start ≤ end }
     requires in_line { end ≤ length buffer.old.line }
-    ensures after { buffer.new ≡ on_line_span (λ _. slice_range buffer.old.line start end) (start - by) (end - by) buffer.old }
+    ensures after { buffer.new ≡
+        on_line_span (λ _. slice_range buffer.old.line start end) (start - by) (end - by) buffer.old }
     ensures count { length buffer.new.line ≡ length buffer.old.line }
 {
     for i in start..end {
@@ -72,7 +75,8 @@ fn move_right<A: Allocator + Copy>(buffer: &mut hb_buffer_t<A>, start: usize, en
     requires room { by ≤ start }
     requires ordered { start ≤ end }
     requires in_line { end ≤ length buffer.old.line }
-    ensures after { buffer.new ≡ on_line_span (λ _. slice_range buffer.old.line (start - by) (end - by)) start end buffer.old }
+    ensures after { buffer.new ≡
+        on_line_span (λ _. slice_range buffer.old.line (start - by) (end - by)) start end buffer.old }
     ensures count { length buffer.new.line ≡ length buffer.old.line }
 {
     for moved in 0..end - start {
@@ -93,7 +97,9 @@ fn move_middle<A: Allocator + Copy>(
     requires room { left + right ≤ end - start }
     requires ordered { start ≤ end }
     requires in_line { end ≤ length buffer.old.line }
-    ensures after { buffer.new ≡ on_line_span (λ _. slice_range buffer.old.line (start + left) (end - right)) (start + right) (end - left) buffer.old }
+    ensures after { buffer.new ≡
+        on_line_span (λ _. slice_range buffer.old.line (start + left) (end - right)) (start + right) (end - left)
+        buffer.old }
     ensures count { length buffer.new.line ≡ length buffer.old.line }
 {
     if right < left {

@@ -3,6 +3,7 @@ ghost use Rattle.std.specs.Prelude.{◌≡◌, ◌≤◌};
 ghost use Rattle.aat_kinds.specs.Rearrangement.{size_of, verb_of};
 
 use aat_font::GenericStateEntry;
+use aat_font::entry_bits::rearrangement::VERB;
 
 /// What a verb takes from one end of its span, to put it down at the other.
 #[derive(Clone, Copy)]
@@ -59,6 +60,6 @@ const VERBS: [(Part, Part); 16] = [
 pub(crate) fn verb_of(entry: &GenericStateEntry<()>) -> Verb
     ensures { result ≡ verb_of entry.now }
 {
-    let (front, back) = VERBS[(entry.flags & 0x000F) as usize];
+    let (front, back) = VERBS[(entry.flags & VERB) as usize];
     Verb { front, back }
 }

@@ -12,7 +12,7 @@ ghost use Rattle.aat_morx.specs.Kept.{has_insertion};
 ghost use Rattle.aat_run.specs.Budget.{extent};
 ghost use Rattle.aat_run.specs.Driven.{StaysWithin};
 ghost use Rattle.aat_run.specs.Laws.{HasOrderOf};
-ghost use Rattle.aat_run.specs.Outcome.{Outcome};
+ghost use Rattle.aat_run.specs.Outcome.{IsOutcome};
 ghost use Rattle.aat_run.specs.Ranges.{is_whole_list};
 
 use aat_buffer::hb_buffer_t;
@@ -41,12 +41,13 @@ pub type Turns = u64;
 ///
 /// Refused, in this order: as 4, `BufferFailed`, where a call of the buffer was refused before; then for each feature
 /// in turn as 1, `AaltValue`, for a value of alternates that is no setting, and as 3, `OutOfMemory`, where its request
-/// gets no memory; then as 3, `OutOfMemory`, where compiling gets no memory. After each of these the buffer is
-/// unchanged (of 3, `OutOfMemory`, the contract says so where substitution leaves no longer line, or a feature asks for
-/// alternates by such a value). At last, in the middle of a run, as 2, `TooLong`, only where substitution leaves a line
-/// longer than the buffer's `max_len`, and as 3, `OutOfMemory`, only where it leaves a longer line than it found; then
-/// the buffer has failed, its line is some line of 16-bit glyphs that has at most its greatest length, and all but
-/// line, cursor, positions and budget is as before.
+/// gets no memory, so that 3, `OutOfMemory`, may come in place of 1, `AaltValue`, where a feature before has a request;
+/// then as 3, `OutOfMemory`, where compiling gets no memory. After each of these the buffer is unchanged (of 3,
+/// `OutOfMemory`, the contract says so where substitution leaves no longer line, or a feature asks for alternates by
+/// such a value). At last, in the middle of a run, as 2, `TooLong`, only where substitution leaves a line longer than
+/// the buffer's `max_len`, and as 3, `OutOfMemory`, only where it leaves a longer line than it found; where both hold
+/// either may come. Then the buffer has failed, its line is some line of 16-bit glyphs that has at most its greatest
+/// length, and all but line, cursor, positions and budget is as before.
 ///
 /// With S subtables in all chains, n glyphs and a budget M (0 where it is negative) it takes at most S(n + M + 1) turns
 /// and leaves at most n + M glyphs. So it is never refused as 2, `TooLong`, where n + M is at most `max_len`; and where
@@ -70,15 +71,19 @@ pub fn hb_aat_layout_substitute<H: Allocator + Copy, A: Allocator + Copy>(
     ensures reason { IfErr result (RefusesSubstitution plan.now face.now buffer.old) }
     ensures left { IfErr result (LeavesBehind plan.now face.now buffer.old buffer.new) }
     ensures fits { OnOk result (first_too_large plan.now face.now ≡ None) }
-    ensures substituted { IfOk result (λ turns. record { buffer = buffer.new; turns = turns } ≡ substitution plan.now face.now buffer.old) }
-    ensures within { IfOk result (StaysWithin (subtable_count (chains_in (tables_of face.now).morx)) buffer.old buffer.new) }
+    ensures substituted { IfOk result (IsOutcome (substitution plan.now face.now buffer.old) buffer.new) }
+    ensures within { IfOk result
+        (StaysWithin (subtable_count (chains_in (tables_of face.now).morx)) buffer.old buffer.new) }
     ensures successful { OnOk result (buffer.new.successful ≡ true) }
     ensures order { OnOk result (HasOrderOf buffer.old buffer.new) }
     ensures isolation { OnOk result (IsIsolated plan.now face.now buffer.old buffer.new) }
     ensures room { IsErrOf result AatError.TooLong → buffer.old.max_len < extent buffer.old }
-    ensures without_insertion { has_insertion (chains_in (tables_of face.now).morx) ≡ false → IfErr result (RefusesBeforeRuns plan.now face.now buffer.old) }
-    ensures unchanged { has_insertion (chains_in (tables_of face.now).morx) ≡ false → OnErr result (buffer.new ≡ buffer.old) }
-    ensures number { has_insertion (chains_in (tables_of face.now).morx) ≡ false → OnOk result (length buffer.new.line ≡ length buffer.old.line) }
+    ensures without_insertion { has_insertion (chains_in (tables_of face.now).morx) ≡ false
+        → IfErr result (RefusesBeforeRuns plan.now face.now buffer.old) }
+    ensures unchanged { has_insertion (chains_in (tables_of face.now).morx) ≡ false
+        → OnErr result (buffer.new ≡ buffer.old) }
+    ensures number { has_insertion (chains_in (tables_of face.now).morx) ≡ false
+        → OnOk result (length buffer.new.line ≡ length buffer.old.line) }
 {
     hb_aat_layout_substitute_with::<LIGATURE_SLOTS, MAX_CONTEXT_LENGTH>(alloc, plan, face, buffer)
 }
@@ -101,18 +106,26 @@ pub fn hb_aat_layout_substitute_with<const SLOTS: usize, const LONGEST: usize>(
     requires span { 0 < LONGEST }
     requires ids { IsSmall buffer.old }
     ensures failed { IsErrOf result AatError.BufferFailed ↔ (buffer.old.successful ≡ false) }
-    ensures reason { IfErr result (RefusesSubstitutionWith (sizes_of SLOTS LONGEST face.now) plan.now face.now buffer.old) }
-    ensures left { IfErr result (LeavesBehindWith (sizes_of SLOTS LONGEST face.now) plan.now face.now buffer.old buffer.new) }
+    ensures reason { IfErr result
+        (RefusesSubstitutionWith (sizes_of SLOTS LONGEST face.now) plan.now face.now buffer.old) }
+    ensures left { IfErr result
+        (LeavesBehindWith (sizes_of SLOTS LONGEST face.now) plan.now face.now buffer.old buffer.new) }
     ensures fits { OnOk result (first_too_large plan.now face.now ≡ None) }
-    ensures substituted { IfOk result (λ turns. record { buffer = buffer.new; turns = turns } ≡ substitution_with (sizes_of SLOTS LONGEST face.now) plan.now face.now buffer.old) }
-    ensures within { IfOk result (StaysWithin (subtable_count (chains_in (tables_of face.now).morx)) buffer.old buffer.new) }
+    ensures substituted { IfOk result (IsOutcome
+        (substitution_with (sizes_of SLOTS LONGEST face.now) plan.now face.now buffer.old) buffer.new) }
+    ensures within { IfOk result
+        (StaysWithin (subtable_count (chains_in (tables_of face.now).morx)) buffer.old buffer.new) }
     ensures successful { OnOk result (buffer.new.successful ≡ true) }
     ensures order { OnOk result (HasOrderOf buffer.old buffer.new) }
-    ensures isolation { OnOk result (IsIsolatedWith (sizes_of SLOTS LONGEST face.now) plan.now face.now buffer.old buffer.new) }
+    ensures isolation { OnOk result
+        (IsIsolatedWith (sizes_of SLOTS LONGEST face.now) plan.now face.now buffer.old buffer.new) }
     ensures room { IsErrOf result AatError.TooLong → buffer.old.max_len < extent buffer.old }
-    ensures without_insertion { has_insertion (chains_in (tables_of face.now).morx) ≡ false → IfErr result (RefusesBeforeRuns plan.now face.now buffer.old) }
-    ensures unchanged { has_insertion (chains_in (tables_of face.now).morx) ≡ false → OnErr result (buffer.new ≡ buffer.old) }
-    ensures number { has_insertion (chains_in (tables_of face.now).morx) ≡ false → OnOk result (length buffer.new.line ≡ length buffer.old.line) }
+    ensures without_insertion { has_insertion (chains_in (tables_of face.now).morx) ≡ false
+        → IfErr result (RefusesBeforeRuns plan.now face.now buffer.old) }
+    ensures unchanged { has_insertion (chains_in (tables_of face.now).morx) ≡ false
+        → OnErr result (buffer.new ≡ buffer.old) }
+    ensures number { has_insertion (chains_in (tables_of face.now).morx) ≡ false
+        → OnOk result (length buffer.new.line ≡ length buffer.old.line) }
 {
     if !buffer.is_successful() {
         return Err(AatError::BufferFailed);
@@ -128,7 +141,8 @@ fn compiled_map<H: Allocator + Copy>(
     plan: &hb_ot_shape_plan_t,
     face: &hb_font_t,
 ) -> Result<hb_aat_map_t<H>, AatError>
-    ensures ok { IfOk result (λ map. switched_by (chains_in (tables_of face.now).morx) map ≡ switched plan.now.apply_morx (plan_requests plan.now face.now) (chains_in (tables_of face.now).morx)) }
+    ensures ok { IfOk result (λ map. switched_by (chains_in (tables_of face.now).morx) map
+        ≡ switched plan.now.apply_morx (plan_requests plan.now face.now) (chains_in (tables_of face.now).morx)) }
     ensures whole { IfOk result (λ map. IsTrue (list_all is_whole_list map)) }
     ensures reason { IfErr result (RefusesPlan plan.now face.now) }
     ensures fits { OnOk result (first_too_large plan.now face.now ≡ None) }

@@ -46,7 +46,7 @@ pub mod laws {
     pub use aat_morx::laws::{
         bounds_are_met, clusters_keep_their_order, requests_are_isolated, runs_are_bounded,
     };
-    pub use aat_run::laws::{floor_is_unseen, runs_end, runs_keep_order};
+    pub use aat_run::laws::{contexts_meet_laws, floor_is_unseen, runs_end, runs_keep_order};
 }
 
 /// The worked rows as theorems.

@@ -25,7 +25,7 @@ use Rattle.aat_kinds.specs.facts.OrderHolds.{rearrangement_kept, contextual_kept
 use Rattle.aat_run.specs.Context.{Context, Config, Machine, machine_of, start, is_at_end, class_at, cluster_seen}
 use Rattle.aat_run.specs.Driven.{machine_run, outcome_of}
 use Rattle.aat_run.specs.Laws.{IsLawful}
-use Rattle.aat_run.specs.Machine.{Turn, Ends, Goes, left_by, run, settled_by, marked, stepped, acted, by_entry, off, passed, counted, turn, whole}
+use Rattle.aat_run.specs.Machine.{Turn, Ends, Goes, left_by, run, settled_by, marked, stepped, acted, by_entry, off, passed, counted, turn, run_to_end}
 use Rattle.aat_run.specs.Outcome.{Outcome}
 use Rattle.aat_run.specs.Safe.{is_safe}
 use Rattle.aat_run.specs.Budget.{potential}
@@ -121,8 +121,8 @@ module _ {T Q : Type 0} (table : TableValue (GenericStateEntry T)) (x : Context 
           ∙ (followed_same (run (turn m) k) (run (turn n) k) Good (turn m d) (good_turn d good) (λ e h. same_run k e h)
           ∙ (ap (followed (run (turn n) k)) (same_turn d good) ∙ sym (run_step (turn n) k d)))
 
-      same_whole : (d : Config Q) → Good d → whole m d ≡ whole n d
-      unfolding whole
+      same_whole : (d : Config Q) → Good d → run_to_end m d ≡ run_to_end n d
+      unfolding run_to_end
       same_whole d good = same_run (potential d.buffer + 1) d good
 
       -- the runs under both are one
@@ -136,7 +136,7 @@ module _ {T Q : Type 0} (table : TableValue (GenericStateEntry T)) (x : Context 
           ended : (p : ℕ) → not (nat_lt 0 p) ≡ true → p ≡ 0
           ended p end = grind (arith, nat_tests, end)
 
-          by_place : (p : Bool) → outcome_of (whole (machine_of on table x) (start p b x.fresh)) ≡ outcome_of (whole (machine_of other table x) (start p b x.fresh))
+          by_place : (p : Bool) → outcome_of (run_to_end (machine_of on table x) (start p b x.fresh)) ≡ outcome_of (run_to_end (machine_of other table x) (start p b x.fresh))
           by_place true = ap outcome_of (same_whole (start true b x.fresh) (record { stands = law.fresh (length b.line); from = comes_refl b.line; last = λ end. at_front (ended (length b.line) end) }))
           by_place false = ap outcome_of (same_whole (start false b x.fresh) (record { stands = law.fresh (length b.line); from = comes_refl b.line; last = λ end. at_front (ended (length b.line) end) }))
 
@@ -151,11 +151,11 @@ module _ {T Q : Type 0} (table : TableValue (GenericStateEntry T)) (x : Context 
   unfolding machine_run
   machine_off b none = by_place x.in_place
     where
-      from_here : (d : Config Q) → fits d.registers d.buffer.cursor (length d.buffer.line) → with_cursor d.buffer 0 ≡ with_cursor b 0 → (outcome_of (whole (machine_of (λ _. false) table x) d)).buffer ≡ with_cursor b 0
+      from_here : (d : Config Q) → fits d.registers d.buffer.cursor (length d.buffer.line) → with_cursor d.buffer 0 ≡ with_cursor b 0 → (outcome_of (run_to_end (machine_of (λ _. false) table x) d)).buffer ≡ with_cursor b 0
       from_here d stands same =
           whole_keeps (machine_of (λ _. false) table x) fits law.keeps_fit law.passes_fit law.pays (λ (e : Config Q). with_cursor e.buffer 0 ≡ with_cursor b 0) (λ e h p. off_everywhere e ∙ p) d stands same
 
-      by_place : (p : Bool) → (outcome_of (whole (machine_of (λ _. false) table x) (start p b x.fresh))).buffer ≡ with_cursor b 0
+      by_place : (p : Bool) → (outcome_of (run_to_end (machine_of (λ _. false) table x) (start p b x.fresh))).buffer ≡ with_cursor b 0
       by_place true = from_here (start true b x.fresh) (law.fresh (length b.line)) refl
       by_place false = from_here (start false b x.fresh) (law.fresh (length b.line)) (ap (λ (q : Option (List GlyphPosition)). record b { cursor = 0; positions = q }) (sym none))
 
@@ -164,7 +164,7 @@ module _ {T Q : Type 0} (table : TableValue (GenericStateEntry T)) (x : Context 
   unfolding machine_run
   machine_at_front on b = by_place x.in_place
     where
-      by_place : (p : Bool) → outcome_of (whole (machine_of on table x) (start p (with_cursor b 0) x.fresh)) ≡ outcome_of (whole (machine_of on table x) (start p b x.fresh))
+      by_place : (p : Bool) → outcome_of (run_to_end (machine_of on table x) (start p (with_cursor b 0) x.fresh)) ≡ outcome_of (run_to_end (machine_of on table x) (start p b x.fresh))
       by_place true = refl
       by_place false = refl
 
@@ -173,7 +173,7 @@ module _ {T Q : Type 0} (table : TableValue (GenericStateEntry T)) (x : Context 
   unfolding machine_run
   machine_makes_none on b none = by_place x.in_place
     where
-      by_place : (p : Bool) → (outcome_of (whole (machine_of on table x) (start p b x.fresh))).buffer.positions ≡ None
+      by_place : (p : Bool) → (outcome_of (run_to_end (machine_of on table x) (start p b x.fresh))).buffer.positions ≡ None
       by_place true = whole_makes_none (machine_of on table x) fits law.keeps_fit law.passes_fit law.pays law.makes_no_positions (start true b x.fresh) (law.fresh (length b.line)) none
       by_place false = whole_makes_none (machine_of on table x) fits law.keeps_fit law.passes_fit law.pays law.makes_no_positions (start false b x.fresh) (law.fresh (length b.line)) refl
 

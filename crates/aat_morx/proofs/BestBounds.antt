@@ -11,7 +11,7 @@ use Rattle.aat_morx.specs.BestBounds.{two_before_and_stay, one_six, MayGrow, Mee
 use Rattle.aat_morx.specs.Rows.{subtable, chain}
 use Rattle.aat_morx.specs.Substitution.{subtable_run, chain_run, prepared, substituted}
 use Rattle.aat_run.specs.Driven.{machine_run}
-use Rattle.aat_run.specs.Machine.{run, whole, turn, off, by_entry, acted, marked}
+use Rattle.aat_run.specs.Machine.{run, run_to_end, turn, off, by_entry, acted, marked}
 use Rattle.aat_run.specs.Outcome.{Outcome, untouched, then_run}
 use Rattle.aat_run.specs.Rows.{buffer_with, all_at, printed}
 use Rattle.aat_run.specs.Safe.{is_safe}
@@ -33,11 +33,11 @@ module _ (z : Sizes) where
   one_run b = subtable_run z (chain []).switch one b
 
   first : one_run (prepared one_six) ≡ record { buffer = grown; turns = 4 }
-  unfolding subtable_run machine_run run whole turn off by_entry acted marked is_safe insertion_run insertion.act insertion.at_mark insertion.at_cursor insertion.inserted
+  unfolding subtable_run machine_run run run_to_end turn off by_entry acted marked is_safe insertion_run insertion.act insertion.at_mark insertion.at_cursor insertion.inserted
   first = refl
 
   again : one_run grown ≡ record { buffer = grown; turns = 4 }
-  unfolding subtable_run machine_run run whole turn off by_entry acted marked is_safe insertion_run insertion.act insertion.at_mark insertion.at_cursor insertion.inserted
+  unfolding subtable_run machine_run run run_to_end turn off by_entry acted marked is_safe insertion_run insertion.act insertion.at_mark insertion.at_cursor insertion.inserted
   again = refl
 
   -- each copy behind the first passes the line

@@ -5,7 +5,7 @@ use Rattle.aat_buffer.specs.Removal.{removal, cluster_kept_line, lowered_run}
 use Rattle.aat_morx.specs.Substitution.{subtable_run}
 use Rattle.aat_run.specs.Driven.{machine_run}
 use Rattle.aat_kinds.specs.Kinds.{rearrangement_run, contextual_run, ligature_run, insertion_run, noncontextual_run}
-use Rattle.aat_run.specs.Machine.{run, whole, turn, off, by_entry, acted, marked}
+use Rattle.aat_run.specs.Machine.{run, run_to_end, turn, off, by_entry, acted, marked}
 use Rattle.aat_run.specs.Safe.{is_safe}
 use Rattle.aat_morx.specs.RearrangementRows.{RearrangementRows}
 use Rattle.aat_morx.specs.ContextualRows.{ContextualRows}
@@ -17,7 +17,7 @@ use Rattle.aat_kinds.specs.Ligature as ligature
 use Rattle.aat_kinds.specs.Insertion as insertion
 
 pub rearrangement_rows : RearrangementRows
-unfolding subtable_run machine_run run whole turn off by_entry acted marked is_safe merged rearrangement_run rearrangement.act rearrangement.moved rearrangement.rearranged
+unfolding subtable_run machine_run run run_to_end turn off by_entry acted marked is_safe merged rearrangement_run rearrangement.act rearrangement.moved rearrangement.rearranged
 rearrangement_rows = record {
   row_8a = refl;
   row_8b = refl;
@@ -41,7 +41,7 @@ rearrangement_rows = record {
 }
 
 pub contextual_rows : ContextualRows
-unfolding subtable_run machine_run run whole turn off by_entry acted marked is_safe noncontextual_run contextual_run contextual.act contextual.answer_of contextual.at_mark contextual.at_cursor
+unfolding subtable_run machine_run run run_to_end turn off by_entry acted marked is_safe noncontextual_run contextual_run contextual.act contextual.answer_of contextual.at_mark contextual.at_cursor
 contextual_rows = record {
   row_1 = refl;
   by_own_cluster = refl;
@@ -54,7 +54,7 @@ contextual_rows = record {
 }
 
 pub ligature_rows : LigatureRows
-unfolding subtable_run machine_run run whole turn off by_entry acted marked is_safe merged_out removal cluster_kept_line lowered_run ligature_run ligature.act ligature.ligated ligature.component_step ligature.stored ligature.later_deleted
+unfolding subtable_run machine_run run run_to_end turn off by_entry acted marked is_safe merged_out removal cluster_kept_line lowered_run ligature_run ligature.act ligature.ligated ligature.component_step ligature.stored ligature.later_deleted
 ligature_rows = record {
   row_11a = refl;
   row_11b = refl;
@@ -67,10 +67,11 @@ ligature_rows = record {
   kept_props = refl;
   held_once = refl;
   missing = refl;
+  a_register_outlives_the_first_state = (refl, refl, refl);
 }
 
 pub insertion_rows : InsertionRows
-unfolding subtable_run machine_run run whole turn off by_entry acted marked is_safe insertion_run insertion.act insertion.at_mark insertion.at_cursor insertion.inserted
+unfolding subtable_run machine_run run run_to_end turn off by_entry acted marked is_safe insertion_run insertion.act insertion.at_mark insertion.at_cursor insertion.inserted
 insertion_rows = record {
   row_13a = refl;
   row_13b = refl;

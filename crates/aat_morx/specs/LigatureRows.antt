@@ -54,6 +54,17 @@ without_ligature =
       ligatures = record { 0 = 20 } ∷ [];
     })
 
+-- a 4 is held, and a 1 behind it takes all in: a 4 becomes the ligature 3. Each entry goes to state 0
+abbrev pub four_then_one : SubtableKind
+four_then_one =
+    SubtableKind.Ligature (record {
+      state = table 0 5 ((1, 3) ∷ (4, 4) ∷ []) ((0, 3, entry 0 0x2000 0) ∷ (0, 4, entry 0 0x8000 0) ∷ []);
+      actions = 0xFFFFFFFF ∷ [];
+      components = 0 ∷ 0 ∷ 1 ∷ 0 ∷ [];
+      ligatures = record { 0 = 3 } ∷ [];
+    })
+
+-- the rows, and what else is shown of ligatures
 pub record LigatureRows : Type 0 where
   pub row_11a : row (joining pair two) (rising_from 0 (10 ∷ 11 ∷ [])) ≡ shows (glyph 20 0 0 ∷ deleted_in 0 ∷ []) 3
   pub row_11b :
@@ -96,3 +107,10 @@ pub record LigatureRows : Type 0 where
   pub missing :
       row without_ligature (rising_from 0 (10 ∷ 11 ∷ []))
       ≡ shows (glyph 10 0 0 ∷ glyph 11 1 3 ∷ []) 3
+  -- what is held outlives state 0. In the whole text the first glyph becomes a ligature, and the second one has no mark
+  -- that says that it is unsafe to break before it; and yet, shaped in two parts, the first glyph stays
+  pub a_register_outlives_the_first_state :
+      (row four_then_one (glyph 4 5 0 ∷ glyph 3 6 0 ∷ glyph 1 7 0 ∷ [])
+      ≡ shows (glyph 3 5 0 ∷ glyph 3 6 0 ∷ glyph 1 7 3 ∷ []) 4)
+      × (row four_then_one (glyph 4 5 0 ∷ []) ≡ shows (glyph 4 5 0 ∷ []) 2)
+      × (row four_then_one (glyph 3 6 0 ∷ glyph 1 7 0 ∷ []) ≡ shows (glyph 3 6 0 ∷ glyph 1 7 3 ∷ []) 3)

@@ -5,14 +5,13 @@ ghost use Rattle.aat_buffer.specs.Clusters.{IsSmall};
 ghost use Rattle.aat_font.specs.Chains.{subtable_count};
 ghost use Rattle.aat_font.specs.Face.{chains_in, tables_of};
 ghost use Rattle.aat_kinds.specs.Kinds.{sizes_for, sizes_of};
-ghost use Rattle.aat_map.specs.SwitchedChains.{switched_by};
-ghost use Rattle.aat_morx.specs.Applying.{RefusesRun};
+ghost use Rattle.aat_morx.specs.Applying.{RefusesRun, applied};
 ghost use Rattle.aat_morx.specs.Kept.{has_insertion};
-ghost use Rattle.aat_morx.specs.Substitution.{prepared, substituted};
+ghost use Rattle.aat_morx.specs.Substitution.{prepared};
 ghost use Rattle.aat_run.specs.Budget.{extent};
 ghost use Rattle.aat_run.specs.Driven.{IsRefusal, IsRefused, StaysWithin};
 ghost use Rattle.aat_run.specs.Laws.{HasOrderOf};
-ghost use Rattle.aat_run.specs.Outcome.{Outcome};
+ghost use Rattle.aat_run.specs.Outcome.{IsOutcome};
 ghost use Rattle.aat_run.specs.Ranges.{is_whole_list};
 
 use crate::chains::run_chains;
@@ -36,11 +35,11 @@ use std::alloc::Allocator;
 ///
 /// Refused as 4, `BufferFailed`, where a call of the buffer was refused before, and nothing changes then. Else as 2,
 /// `TooLong`, only where substitution leaves a line longer than the buffer's `max_len`, and as 3, `OutOfMemory`, only
-/// where it leaves a longer line than it found; then the buffer has failed, its line is some line of 16-bit glyphs that
-/// has at most its greatest length, all but line, cursor, positions and budget is as before, the run has no ranges and
-/// no feature flags, and no turns are added. So it is never refused as 2, `TooLong`, where the number of glyphs and the
-/// budget (0 where it is negative) together are at most `max_len`; and where no subtable is one of insertion the number
-/// of glyphs stays, and neither comes.
+/// where it leaves a longer line than it found; where both hold either may come. Then the buffer has failed, its line
+/// is some line of 16-bit glyphs that has at most its greatest length, all but line, cursor, positions and budget is as
+/// before, the run has no ranges and no feature flags, and no turns are added. So it is never refused as 2, `TooLong`,
+/// where the number of glyphs and the budget (0 where it is negative) together are at most `max_len`; and where no
+/// subtable is one of insertion the number of glyphs stays, and neither comes.
 ///
 /// At each cluster level but `HB_BUFFER_CLUSTER_LEVEL_CHARACTERS`, clusters that never fall along the line never fall
 /// afterwards, and those that never rise never rise. At every level each cluster stood on the line before.
@@ -53,21 +52,34 @@ pub fn apply<A: Allocator + Copy, M: Allocator + Copy>(
     requires ids { IsSmall c.old.buffer.now }
     requires whole { IsTrue (list_all is_whole_list map.now) }
     requires turns { c.old.turns ≤ 2 ^ 61 }
-    ensures reason { IfErr result (RefusesRun c.old.buffer.now (substituted (sizes_for c.old.face.now) (switched_by (chains_in (tables_of c.old.face.now).morx) map.now) c.old.buffer.now).buffer) }
+    ensures reason { IfErr result (RefusesRun c.old.buffer.now
+        (applied (sizes_for c.old.face.now) c.old.face.now map.now c.old.buffer.now).buffer) }
     ensures failed { IsErrOf result AatError.BufferFailed ↔ (c.old.buffer.now.successful ≡ false) }
-    ensures unchanged { IsErrOf result AatError.BufferFailed → (c.new.buffer.now ≡ c.old.buffer.now) × (c.new.turns ≡ c.old.turns) × (c.new.range_flags ≡ c.old.range_flags) × (c.new.subtable_flags ≡ c.old.subtable_flags) }
+    ensures unchanged { IsErrOf result AatError.BufferFailed
+        → (c.new.buffer.now ≡ c.old.buffer.now) × (c.new.turns ≡ c.old.turns)
+        × (c.new.range_flags ≡ c.old.range_flags) × (c.new.subtable_flags ≡ c.old.subtable_flags) }
     ensures refused { c.old.buffer.now.successful ≡ true → OnErr result (IsRefused c.old.buffer.now c.new.buffer.now) }
     ensures known { IfOk result (λ answer. is_none answer ≡ is_none (tables_of c.old.face.now).morx) }
-    ensures without_table { IfOk result (λ answer. answer ≡ None → (c.new.buffer.now ≡ prepared c.old.buffer.now) × (c.new.turns ≡ c.old.turns) × (c.new.range_flags ≡ c.old.range_flags) × (c.new.subtable_flags ≡ c.old.subtable_flags)) }
-    ensures substituted { OnOk result (record { buffer = c.new.buffer.now; turns = c.new.turns - c.old.turns } ≡ substituted (sizes_for c.old.face.now) (switched_by (chains_in (tables_of c.old.face.now).morx) map.now) c.old.buffer.now) }
+    ensures without_table { IfOk result (λ answer. answer ≡ None
+        → (c.new.buffer.now ≡ prepared c.old.buffer.now) × (c.new.turns ≡ c.old.turns)
+        × (c.new.range_flags ≡ c.old.range_flags) × (c.new.subtable_flags ≡ c.old.subtable_flags)) }
+    ensures substituted { OnOk result (IsOutcome
+        (applied (sizes_for c.old.face.now) c.old.face.now map.now c.old.buffer.now)
+        c.new.buffer.now (c.new.turns - c.old.turns)) }
     ensures counted { OnOk result (c.old.turns ≤ c.new.turns) }
     ensures uncounted { OnErr result (c.new.turns ≡ c.old.turns) }
-    ensures within { OnOk result (StaysWithin (subtable_count (chains_in (tables_of c.old.face.now).morx)) c.old.buffer.now c.new.buffer.now (c.new.turns - c.old.turns)) }
+    ensures within { OnOk result (StaysWithin (subtable_count (chains_in (tables_of c.old.face.now).morx))
+        c.old.buffer.now c.new.buffer.now (c.new.turns - c.old.turns)) }
     ensures order { OnOk result (HasOrderOf c.old.buffer.now c.new.buffer.now) }
     ensures room { IsErrOf result AatError.TooLong → c.old.buffer.now.max_len < extent c.old.buffer.now }
-    ensures without_insertion { has_insertion (chains_in (tables_of c.old.face.now).morx) ≡ false → IfErr result (λ error. error ≡ AatError.BufferFailed) }
-    ensures number { has_insertion (chains_in (tables_of c.old.face.now).morx) ≡ false → OnOk result (length c.new.buffer.now.line ≡ length c.old.buffer.now.line) }
-    ensures after { (IfOk result (λ answer. IfSome answer (λ _. (c.new.range_flags ≡ None) × (c.new.subtable_flags ≡ 0)))) × (c.old.buffer.now.successful ≡ true → OnErr result ((c.new.range_flags ≡ None) × (c.new.subtable_flags ≡ 0))) }
+    ensures without_insertion { has_insertion (chains_in (tables_of c.old.face.now).morx) ≡ false
+        → IfErr result (λ error. error ≡ AatError.BufferFailed) }
+    ensures number { has_insertion (chains_in (tables_of c.old.face.now).morx) ≡ false
+        → OnOk result (length c.new.buffer.now.line ≡ length c.old.buffer.now.line) }
+    ensures after { (IfOk result (λ answer. IfSome answer (λ _.
+        (c.new.range_flags ≡ None) × (c.new.subtable_flags ≡ 0))))
+        × (c.old.buffer.now.successful ≡ true
+        → OnErr result ((c.new.range_flags ≡ None) × (c.new.subtable_flags ≡ 0))) }
     ensures face { c.new.face ≡ c.old.face }
     ensures same { c.new.buffer.ghost_name ≡ c.old.buffer.ghost_name }
 {
@@ -90,21 +102,34 @@ pub fn apply_with<const SLOTS: usize, const LONGEST: usize>(
     requires ids { IsSmall c.old.buffer.now }
     requires whole { IsTrue (list_all is_whole_list map.now) }
     requires turns { c.old.turns ≤ 2 ^ 61 }
-    ensures reason { IfErr result (RefusesRun c.old.buffer.now (substituted (sizes_of SLOTS LONGEST c.old.face.now) (switched_by (chains_in (tables_of c.old.face.now).morx) map.now) c.old.buffer.now).buffer) }
+    ensures reason { IfErr result (RefusesRun c.old.buffer.now
+        (applied (sizes_of SLOTS LONGEST c.old.face.now) c.old.face.now map.now c.old.buffer.now).buffer) }
     ensures failed { IsErrOf result AatError.BufferFailed ↔ (c.old.buffer.now.successful ≡ false) }
-    ensures unchanged { IsErrOf result AatError.BufferFailed → (c.new.buffer.now ≡ c.old.buffer.now) × (c.new.turns ≡ c.old.turns) × (c.new.range_flags ≡ c.old.range_flags) × (c.new.subtable_flags ≡ c.old.subtable_flags) }
+    ensures unchanged { IsErrOf result AatError.BufferFailed
+        → (c.new.buffer.now ≡ c.old.buffer.now) × (c.new.turns ≡ c.old.turns)
+        × (c.new.range_flags ≡ c.old.range_flags) × (c.new.subtable_flags ≡ c.old.subtable_flags) }
     ensures refused { c.old.buffer.now.successful ≡ true → OnErr result (IsRefused c.old.buffer.now c.new.buffer.now) }
     ensures known { IfOk result (λ answer. is_none answer ≡ is_none (tables_of c.old.face.now).morx) }
-    ensures without_table { IfOk result (λ answer. answer ≡ None → (c.new.buffer.now ≡ prepared c.old.buffer.now) × (c.new.turns ≡ c.old.turns) × (c.new.range_flags ≡ c.old.range_flags) × (c.new.subtable_flags ≡ c.old.subtable_flags)) }
-    ensures substituted { OnOk result (record { buffer = c.new.buffer.now; turns = c.new.turns - c.old.turns } ≡ substituted (sizes_of SLOTS LONGEST c.old.face.now) (switched_by (chains_in (tables_of c.old.face.now).morx) map.now) c.old.buffer.now) }
+    ensures without_table { IfOk result (λ answer. answer ≡ None
+        → (c.new.buffer.now ≡ prepared c.old.buffer.now) × (c.new.turns ≡ c.old.turns)
+        × (c.new.range_flags ≡ c.old.range_flags) × (c.new.subtable_flags ≡ c.old.subtable_flags)) }
+    ensures substituted { OnOk result (IsOutcome
+        (applied (sizes_of SLOTS LONGEST c.old.face.now) c.old.face.now map.now c.old.buffer.now)
+        c.new.buffer.now (c.new.turns - c.old.turns)) }
     ensures counted { OnOk result (c.old.turns ≤ c.new.turns) }
     ensures uncounted { OnErr result (c.new.turns ≡ c.old.turns) }
-    ensures within { OnOk result (StaysWithin (subtable_count (chains_in (tables_of c.old.face.now).morx)) c.old.buffer.now c.new.buffer.now (c.new.turns - c.old.turns)) }
+    ensures within { OnOk result (StaysWithin (subtable_count (chains_in (tables_of c.old.face.now).morx))
+        c.old.buffer.now c.new.buffer.now (c.new.turns - c.old.turns)) }
     ensures order { OnOk result (HasOrderOf c.old.buffer.now c.new.buffer.now) }
     ensures room { IsErrOf result AatError.TooLong → c.old.buffer.now.max_len < extent c.old.buffer.now }
-    ensures without_insertion { has_insertion (chains_in (tables_of c.old.face.now).morx) ≡ false → IfErr result (λ error. error ≡ AatError.BufferFailed) }
-    ensures number { has_insertion (chains_in (tables_of c.old.face.now).morx) ≡ false → OnOk result (length c.new.buffer.now.line ≡ length c.old.buffer.now.line) }
-    ensures after { (IfOk result (λ answer. IfSome answer (λ _. (c.new.range_flags ≡ None) × (c.new.subtable_flags ≡ 0)))) × (c.old.buffer.now.successful ≡ true → OnErr result ((c.new.range_flags ≡ None) × (c.new.subtable_flags ≡ 0))) }
+    ensures without_insertion { has_insertion (chains_in (tables_of c.old.face.now).morx) ≡ false
+        → IfErr result (λ error. error ≡ AatError.BufferFailed) }
+    ensures number { has_insertion (chains_in (tables_of c.old.face.now).morx) ≡ false
+        → OnOk result (length c.new.buffer.now.line ≡ length c.old.buffer.now.line) }
+    ensures after { (IfOk result (λ answer. IfSome answer (λ _.
+        (c.new.range_flags ≡ None) × (c.new.subtable_flags ≡ 0))))
+        × (c.old.buffer.now.successful ≡ true
+        → OnErr result ((c.new.range_flags ≡ None) × (c.new.subtable_flags ≡ 0))) }
     ensures face { c.new.face ≡ c.old.face }
     ensures same { c.new.buffer.ghost_name ≡ c.old.buffer.ghost_name }
 {
@@ -157,17 +182,20 @@ pub fn run_table<
     requires whole { IsTrue (list_all is_whole_list map.now) }
     requires ids { IsSmall buffer.old }
     ensures known { IfOk result (λ answer. is_none answer ≡ is_none (tables_of face.now).morx) }
-    ensures run { IfOk result (λ answer. MatchOption answer (buffer.new ≡ prepared buffer.old) (λ turns. record { buffer = buffer.new; turns = turns } ≡ substituted (sizes_of SLOTS LONGEST face.now) (switched_by (chains_in (tables_of face.now).morx) map.now) buffer.old)) }
-    ensures within { IfOk result (λ answer. MatchOption answer (StaysWithin 0 buffer.old buffer.new 0) (λ turns. StaysWithin (subtable_count (chains_in (tables_of face.now).morx)) buffer.old buffer.new turns)) }
+    ensures run { IfOk result (λ answer. MatchOption answer (buffer.new ≡ prepared buffer.old)
+        (IsOutcome (applied (sizes_of SLOTS LONGEST face.now) face.now map.now buffer.old) buffer.new)) }
+    ensures within { IfOk result (λ answer. MatchOption answer (StaysWithin 0 buffer.old buffer.new 0)
+        (StaysWithin (subtable_count (chains_in (tables_of face.now).morx)) buffer.old buffer.new)) }
     ensures few { IfOk result (λ answer. IfSome answer (λ turns. turns ≤ 2 ^ 62)) }
-    ensures reason { IfErr result (IsRefusal buffer.old (substituted (sizes_of SLOTS LONGEST face.now) (switched_by (chains_in (tables_of face.now).morx) map.now) buffer.old).buffer) }
+    ensures reason { IfErr result (IsRefusal buffer.old
+        (applied (sizes_of SLOTS LONGEST face.now) face.now map.now buffer.old).buffer) }
     ensures refused { OnErr result (IsRefused buffer.old buffer.new) }
     ensures order { OnOk result (HasOrderOf buffer.old buffer.new) }
     ensures room { IsErrOf result AatError.TooLong → buffer.old.max_len < extent buffer.old }
     ensures without_insertion { has_insertion (chains_in (tables_of face.now).morx) ≡ false → IsOk result }
-    ensures number { has_insertion (chains_in (tables_of face.now).morx) ≡ false → OnOk result (length buffer.new.line ≡ length buffer.old.line) }
+    ensures number { has_insertion (chains_in (tables_of face.now).morx) ≡ false
+        → OnOk result (length buffer.new.line ≡ length buffer.old.line) }
 {
-    // how long the line is and how large the budget, so that the count of turns fits
     let _length = buffer.len();
     let _budget = buffer.max_ops();
     prepare(buffer);

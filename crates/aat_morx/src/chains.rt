@@ -7,7 +7,7 @@ ghost use Rattle.aat_kinds.specs.Kinds.{sizes_of};
 ghost use Rattle.aat_map.specs.SwitchedChains.{SwitchedChain, switched_by};
 ghost use Rattle.aat_morx.specs.Substitution.{chain_run};
 ghost use Rattle.aat_run.specs.Driven.{IsRefusal, IsRefused, StaysWithin};
-ghost use Rattle.aat_run.specs.Outcome.{Outcome, in_order};
+ghost use Rattle.aat_run.specs.Outcome.{IsOutcome, in_order};
 ghost use Rattle.aat_run.specs.Ranges.{IsGapless, is_whole_list, switch_for};
 
 use crate::subtable::run_subtable;
@@ -32,12 +32,13 @@ fn run_chain<const SLOTS: usize, const LONGEST: usize, A: Allocator + Copy>(
     requires gapless { IsGapless ranges.now }
     requires whole { IsTrue (is_whole_list ranges.now) }
     requires ids { IsSmall buffer.old }
-    ensures run { IfOk result (λ turns. record { buffer = buffer.new; turns = turns } ≡ chain_run (sizes_of SLOTS LONGEST face.now) (record { switch = switch_for ranges.now; subtables = subtables.now }) buffer.old) }
+    ensures run { IfOk result (IsOutcome (chain_run (sizes_of SLOTS LONGEST face.now)
+        (record { switch = switch_for ranges.now; subtables = subtables.now }) buffer.old) buffer.new) }
     ensures within { IfOk result (StaysWithin (length subtables.now) buffer.old buffer.new) }
-    ensures reason { IfErr result (IsRefusal buffer.old (chain_run (sizes_of SLOTS LONGEST face.now) (record { switch = switch_for ranges.now; subtables = subtables.now }) buffer.old).buffer) }
+    ensures reason { IfErr result (IsRefusal buffer.old (chain_run (sizes_of SLOTS LONGEST face.now)
+        (record { switch = switch_for ranges.now; subtables = subtables.now }) buffer.old).buffer) }
     ensures refused { OnErr result (IsRefused buffer.old buffer.new) }
 {
-    // how long the line is and how large the budget, so that the count of turns fits
     let _length = buffer.len();
     let _budget = buffer.max_ops();
     let mut turns = 0;
@@ -70,12 +71,13 @@ pub(crate) fn run_chains<
     requires few { subtable_count chains.now ≤ 65535 }
     requires whole { IsTrue (list_all is_whole_list map.now) }
     requires ids { IsSmall buffer.old }
-    ensures run { IfOk result (λ turns. record { buffer = buffer.new; turns = turns } ≡ in_order (chain_run (sizes_of SLOTS LONGEST face.now)) (switched_by chains.now map.now) buffer.old) }
+    ensures run { IfOk result (IsOutcome (in_order (chain_run (sizes_of SLOTS LONGEST face.now))
+        (switched_by chains.now map.now) buffer.old) buffer.new) }
     ensures within { IfOk result (StaysWithin (subtable_count chains.now) buffer.old buffer.new) }
-    ensures reason { IfErr result (IsRefusal buffer.old (in_order (chain_run (sizes_of SLOTS LONGEST face.now)) (switched_by chains.now map.now) buffer.old).buffer) }
+    ensures reason { IfErr result (IsRefusal buffer.old
+        (in_order (chain_run (sizes_of SLOTS LONGEST face.now)) (switched_by chains.now map.now) buffer.old).buffer) }
     ensures refused { OnErr result (IsRefused buffer.old buffer.new) }
 {
-    // how long the line is and how large the budget, so that the count of turns fits
     let _length = buffer.len();
     let _budget = buffer.max_ops();
     let mut turns = 0;

@@ -2,9 +2,10 @@
 ghost use Rattle.std.specs.Prelude.{◌≡◌, ◌^◌, ◌<◌, ◌≤◌, IfOk, IfErr, OnErr, IsTrue, false, length, true};
 ghost use Rattle.aat_buffer.specs.Clusters.{IsSmall};
 ghost use Rattle.aat_kinds.specs.Kinds.{is_for, is_reversed, kind_run, reversed_run, sizes_of};
+ghost use Rattle.aat_kinds.specs.Runs.{is_on_in};
 ghost use Rattle.aat_morx.specs.Substitution.{is_skipped, subtable_run};
 ghost use Rattle.aat_run.specs.Driven.{IsRefusal, IsRefused, StaysWithin};
-ghost use Rattle.aat_run.specs.Outcome.{Outcome};
+ghost use Rattle.aat_run.specs.Outcome.{IsOutcome};
 ghost use Rattle.aat_run.specs.Ranges.{IsGapless, is_whole_list, switch_for};
 
 use aat_buffer::{Direction, hb_buffer_t};
@@ -25,7 +26,7 @@ fn is_for(direction: Direction, coverage: Coverage) -> bool
 fn is_skipped(run: &SubtableRun, subtable: &Subtable, direction: Direction) -> bool
     requires { run.now.feature_flags ≡ subtable.now.feature_flags }
     ensures skipped { result ≡ is_skipped (switch_for run.now.ranges.now) subtable.now direction }
-    ensures on { result ≡ false → length run.now.ranges.now ≡ 1 → (switch_for run.now.ranges.now).is_on run.now.feature_flags 0 ≡ true }
+    ensures on { result ≡ false → length run.now.ranges.now ≡ 1 → is_on_in run.now 0 ≡ true }
 {
     if run.ranges.len() == 1 && !run.is_on(0) {
         return true;
@@ -56,11 +57,14 @@ fn run_reversed<const SLOTS: usize, const LONGEST: usize, A: Allocator + Copy>(
     requires memory { SLOTS ≤ 2 ^ 59 }
     requires gapless { IsGapless run.now.ranges.now }
     requires whole { IsTrue (is_whole_list run.now.ranges.now) }
-    requires on { length run.now.ranges.now ≡ 1 → (switch_for run.now.ranges.now).is_on run.now.feature_flags 0 ≡ true }
+    requires on { length run.now.ranges.now ≡ 1 → is_on_in run.now 0 ≡ true }
     requires ids { IsSmall buffer.old }
-    ensures run { IfOk result (λ turns. record { buffer = buffer.new; turns = turns } ≡ reversed_run (kind_run (sizes_of SLOTS LONGEST run.now.face.now) ((switch_for run.now.ranges.now).is_on run.now.feature_flags) subtable.now.kind) buffer.old) }
+    ensures run { IfOk result (IsOutcome (reversed_run
+        (kind_run (sizes_of SLOTS LONGEST run.now.face.now) (is_on_in run.now) subtable.now.kind) buffer.old)
+        buffer.new) }
     ensures within { IfOk result (StaysWithin 1 buffer.old buffer.new) }
-    ensures reason { IfErr result (IsRefusal buffer.old (reversed_run (kind_run (sizes_of SLOTS LONGEST run.now.face.now) ((switch_for run.now.ranges.now).is_on run.now.feature_flags) subtable.now.kind) buffer.old).buffer) }
+    ensures reason { IfErr result (IsRefusal buffer.old (reversed_run
+        (kind_run (sizes_of SLOTS LONGEST run.now.face.now) (is_on_in run.now) subtable.now.kind) buffer.old).buffer) }
     ensures refused { OnErr result (IsRefused buffer.old buffer.new) }
 {
     buffer.reverse();
@@ -83,9 +87,12 @@ pub(crate) fn run_subtable<const SLOTS: usize, const LONGEST: usize, A: Allocato
     requires gapless { IsGapless run.now.ranges.now }
     requires whole { IsTrue (is_whole_list run.now.ranges.now) }
     requires ids { IsSmall buffer.old }
-    ensures run { IfOk result (λ turns. record { buffer = buffer.new; turns = turns } ≡ subtable_run (sizes_of SLOTS LONGEST run.now.face.now) (switch_for run.now.ranges.now) subtable.now buffer.old) }
+    ensures run { IfOk result (IsOutcome (subtable_run (sizes_of SLOTS LONGEST run.now.face.now)
+        (switch_for run.now.ranges.now) subtable.now buffer.old) buffer.new) }
     ensures within { IfOk result (StaysWithin 1 buffer.old buffer.new) }
-    ensures reason { IfErr result (IsRefusal buffer.old (subtable_run (sizes_of SLOTS LONGEST run.now.face.now) (switch_for run.now.ranges.now) subtable.now buffer.old).buffer) }
+    ensures reason { IfErr result (IsRefusal buffer.old
+        (subtable_run (sizes_of SLOTS LONGEST run.now.face.now) (switch_for run.now.ranges.now) subtable.now
+        buffer.old).buffer) }
     ensures refused { OnErr result (IsRefused buffer.old buffer.new) }
 {
     if is_skipped(run, subtable, buffer.direction()) {

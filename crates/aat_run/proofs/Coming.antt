@@ -4,7 +4,7 @@ use Rattle.aat_run.specs.Budget.{potential}
 use Rattle.aat_run.specs.Context.{Machine, Config}
 use Rattle.aat_run.specs.Driven.{IsRefusal}
 use Rattle.aat_run.specs.Laws.{KeepsFit, PassesFit, Pays, Lengthens, KeepsSettings, SameSettings}
-use Rattle.aat_run.specs.Machine.{Goes, Ends, left_by, turn, whole}
+use Rattle.aat_run.specs.Machine.{Goes, Ends, left_by, turn, run_to_end}
 use Rattle.aat_run.specs.facts.MachineRuns.{turn_falls, turn_counts, turn_settings, turn_longer, longer_after}
 use Rattle.aat_run.specs.facts.Turns.{comes_on, comes_to_end}
 use Rattle.aat_run.specs.inside.Standing.{HasCome}
@@ -15,8 +15,8 @@ module _ {R E : Type 0} (m : Machine R E) (fits : R → ℕ → ℕ → Type 0)
     (keeps : KeepsFit m.act fits) (passes : PassesFit fits) (pays : Pays m.act fits) (from to : Config R) (come : HasCome (turn m) fits from to)
   where
     -- behind the turn that ends
-    pub ends : (d : Config R) → turn m to ≡ Ends d → (d ≡ whole m from) × (d.turns ≤ from.turns + potential from.buffer + 1)
-    unfolding whole
+    pub ends : (d : Config R) → turn m to ≡ Ends d → (d ≡ run_to_end m from) × (d.turns ≤ from.turns + potential from.buffer + 1)
+    unfolding run_to_end
     ends d last = comes_to_end (turn m) fits (turn_falls m fits keeps passes pays) (turn_counts m) from to come d last
 
     module _ (lengthens : Lengthens m.act fits) (longer : length from.buffer.line ≤ length to.buffer.line)
@@ -32,8 +32,8 @@ module _ {R E : Type 0} (m : Machine R E) (fits : R → ℕ → ℕ → Type 0)
             (on.0, on.1, stay, more)
 
         -- what a turn is refused for, the run is refused for
-        pub refuses : (e : AatError) → IsRefusal to.buffer (left_by (turn m to)).buffer e → IsRefusal from.buffer (whole m from).buffer e
-        unfolding whole
+        pub refuses : (e : AatError) → IsRefusal to.buffer (left_by (turn m to)).buffer e → IsRefusal from.buffer (run_to_end m from).buffer e
+        unfolding run_to_end
         refuses (AaltValue value) none = none
         refuses TooLong long =
             let more = longer_after m fits keeps passes pays lengthens (length (left_by (turn m to)).buffer.line) to come.fit (omega arith) in

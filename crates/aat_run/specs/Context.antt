@@ -58,7 +58,7 @@ pub record Config (R : Type 0) : Type 0 where
   pub last : ℕ
   pub turns : ℕ
 
--- a run begins in state 0, with no glyph looked at and no turn taken
+-- a run begins in state 0, that for the start of the text, with no glyph looked at and no turn taken
 abbrev pub first_config : {R : Type 0} → Buffer → R → Config R
 first_config b r = record { buffer = b; registers = r; state = 0; last = 0; turns = 0 }
 
@@ -73,9 +73,13 @@ is_at_end b = not (nat_lt b.cursor (length b.line))
 abbrev pub is_inside : Buffer → Bool
 is_inside b = nat_lt 0 b.cursor && nat_lt b.cursor (length b.line)
 
--- the class at the cursor: 0 at the end, and 1 of a glyph without a class
+-- the class at the cursor: 0, that of the end of the text, at the end, and 1, out of bounds, of a glyph without a class
 abbrev pub class_at : (ℕ → Option ℕ) → Buffer → ℕ
 class_at class_of b = if is_at_end b then 0 else unwrap_or (class_of (glyph_at b.line b.cursor).glyph_id) 1
+
+-- the entry that a table has for a state and the class at the cursor
+abbrev pub entry_at : {E : Type 0} → TableValue E → ℕ → Buffer → Option E
+entry_at table state b = entry_of table state (class_at (class_of table) b)
 
 -- the cluster at the cursor, or the last one looked at
 abbrev pub cluster_seen : Buffer → ℕ → ℕ

@@ -7,12 +7,14 @@ use Rattle.aat_glyph.specs.declared.glyph.GlyphPosition.{GlyphPosition}
 use Rattle.aat_font.specs.Table.{TableValue}
 use Rattle.aat_font.specs.declared.state_table.GenericStateEntry.{GenericStateEntry}
 use Rattle.aat_run.specs.Budget.{extent}
-use Rattle.aat_run.specs.Context.{Context, Config, Moved, machine_of, start}
+use Rattle.aat_run.specs.Context.{Context, Config, Moved, first_config, machine_of, machine_with, start}
 use Rattle.aat_run.specs.Laws.{SameSettings}
-use Rattle.aat_run.specs.Machine.{whole}
+use Rattle.aat_run.specs.Machine.{run_to_end}
 use Rattle.aat_run.specs.Outcome.{Outcome}
+use Rattle.aat_run.specs.Ranges.{is_driven_on}
 use Rattle.aat_run.specs.declared.error.AatError.{AatError}
 use Rattle.aat_run.specs.declared.error.AatError.TheVariants.{AaltValue, TooLong, OutOfMemory, BufferFailed}
+use Rattle.aat_run.specs.declared.ranges.range_flags_t.{range_flags_t}
 
 -- what a run leaves, with the cursor back at the front
 abbrev pub outcome_of : {R : Type 0} → Config R → Outcome
@@ -33,13 +35,34 @@ context_from in_place advances actionable act fresh = record {
 unfoldable pub machine_run : {T R : Type 0} → (ℕ → Bool) → TableValue (GenericStateEntry T)
     → Context R (GenericStateEntry T) → Buffer → Outcome
 machine_run on table context b =
-    outcome_of (whole (machine_of on table context) (start context.in_place b context.fresh))
+    outcome_of (run_to_end (machine_of on table context) (start context.in_place b context.fresh))
 
 -- the registers that the same run leaves
 unfoldable pub registers_behind : {T R : Type 0} → (ℕ → Bool) → TableValue (GenericStateEntry T)
     → Context R (GenericStateEntry T) → Buffer → R
 registers_behind on table context b =
-    (whole (machine_of on table context) (start context.in_place b context.fresh)).registers
+    (run_to_end (machine_of on table context) (start context.in_place b context.fresh)).registers
+
+-- Over a state table that ranges and the feature flags of a subtable switch, and what a context says of its entries:
+module _ {T R : Type 0} (ranges : List range_flags_t) (feature_flags : ℕ) (table : TableValue (GenericStateEntry T))
+  where
+    -- where a run ends that begins at the cursor, with a buffer and registers
+    abbrev pub driven_to_end : (GenericStateEntry T → Bool) → (GenericStateEntry T → R → ℕ → ℕ → Bool)
+        → (GenericStateEntry T → R → Buffer → Moved R) → Buffer → R → Config R
+    driven_to_end advances actionable act b r =
+        run_to_end (machine_with (is_driven_on ranges feature_flags) table advances actionable act) (first_config b r)
+
+    -- the run from the front, with fresh registers
+    abbrev pub driven_run : Bool → (GenericStateEntry T → Bool) → (GenericStateEntry T → R → ℕ → ℕ → Bool)
+        → (GenericStateEntry T → R → Buffer → Moved R) → R → Buffer → Outcome
+    driven_run in_place advances actionable act fresh b =
+        machine_run (is_driven_on ranges feature_flags) table (context_from in_place advances actionable act fresh) b
+
+    -- the registers that it leaves
+    abbrev pub driven_registers : Bool → (GenericStateEntry T → Bool) → (GenericStateEntry T → R → ℕ → ℕ → Bool)
+        → (GenericStateEntry T → R → Buffer → Moved R) → R → Buffer → R
+    driven_registers in_place advances actionable act fresh b =
+        registers_behind (is_driven_on ranges feature_flags) table (context_from in_place advances actionable act fresh) b
 
 -- the positions that a run leaves: those that stood before it, and none where the context is not in place
 abbrev pub positions_behind : Bool → Buffer → Option (List GlyphPosition)
@@ -48,10 +71,10 @@ positions_behind in_place b = if in_place then b.positions else None
 -- why an act or a run is refused over a buffer, given the buffer that it would leave: as too long only where the
 -- line would pass the longest one, and for want of memory only where the line would get longer
 abbrev pub IsRefusal : Buffer → Buffer → AatError → Type 0
-IsRefusal old whole (AaltValue value) = ⊥
-IsRefusal old whole TooLong = old.max_len < length whole.line
-IsRefusal old whole OutOfMemory = length old.line < length whole.line
-IsRefusal old whole BufferFailed = ⊥
+IsRefusal old left (AaltValue value) = ⊥
+IsRefusal old left TooLong = old.max_len < length left.line
+IsRefusal old left OutOfMemory = length old.line < length left.line
+IsRefusal old left BufferFailed = ⊥
 
 -- a buffer that has failed, and but for line, cursor, positions and budget is as before
 abbrev pub SameButFailed : Buffer → Buffer → Type 0

@@ -151,3 +151,18 @@ pub record KeepsOrderWhere (holds : Type 0) (old new : Buffer) : Type 0 where
 -- line
 abbrev pub HasOrderOf : Buffer → Buffer → Type 0
 HasOrderOf old new = KeepsOrderWhere (ClustersMerge old.cluster_level) old new
+
+-- the ten laws of a context: what its act keeps, whatever the entry, where the registers fit
+pub record MeetsLaws {R E : Type 0} (act : E → R → Buffer → Moved R) (fits : R → ℕ → ℕ → Type 0)
+    (in_place keeps_length : Bool) : Type 0
+  where
+    pub keeps_fit : KeepsFit act fits
+    pub passes_fit : PassesFit fits
+    pub pays : Pays act fits
+    pub bounded : Bounded act fits
+    pub lengthens : Lengthens act fits
+    pub makes_no_positions : MakesNoPositions act fits
+    pub keeps_settings : KeepsSettings act fits
+    pub keeps_place : KeepsPlaceWhere act fits in_place
+    pub keeps_count : KeepsLengthWhere act fits keeps_length
+    pub keeps_order : KeepsClusterOrder act fits

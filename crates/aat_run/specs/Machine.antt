@@ -80,7 +80,8 @@ module _ {R E : Type 0} (m : Machine R E) where
   by_entry None c = Ends c
   by_entry (Some e) c = acted e c
 
-  -- a glyph that is off is passed in state 0, the end that is off ends the run; registers and budget stay
+  -- a glyph that is off is passed in state 0, that for the start of the text; the end that is off ends the run;
+  -- registers and budget stay
   unfoldable pub off : Config R → Turn (Config R)
   off c = if is_at_end c.buffer then Ends c else Goes (record c { buffer = passed c.buffer; state = 0 })
 
@@ -94,6 +95,6 @@ module _ {R E : Type 0} (m : Machine R E) where
       let d = counted c in
       if m.on d.last then by_entry (m.entry d.state (class_at m.class_of d.buffer)) d else off d
 
-  -- the whole run
-  unfoldable pub whole : Config R → Config R
-  whole c = whole_run turn c
+  -- the run to its end
+  unfoldable pub run_to_end : Config R → Config R
+  run_to_end c = whole_run turn c

@@ -1,11 +1,15 @@
 -- What a run leaves, and runs one after another.
-use Rattle.std.specs.Prelude.{ℕ, ◌+◌, List, fold}
+use Rattle.std.specs.Prelude.{◌≡◌, ℕ, ◌+◌, List, fold}
 use Rattle.aat_buffer.specs.Buffer.{Buffer}
 
 -- a buffer, and the number of turns that were taken
 pub record Outcome : Type 0 where
   pub buffer : Buffer
   pub turns : ℕ
+
+-- it is what a run left: this buffer, in so many turns
+abbrev pub IsOutcome : Outcome → Buffer → ℕ → Type 0
+IsOutcome o b turns = ◌≡◌ {A = Outcome} (record { buffer = b; turns = turns }) o
 
 -- nothing was run
 abbrev pub untouched : Buffer → Outcome

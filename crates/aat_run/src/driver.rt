@@ -1,23 +1,26 @@
 //! The driver: runs a state table over a line, in any context.
+//!
+//! Here and in the crates of substitution the driver is the loop that takes the turns, and a context is what is plugged
+//! in. In `aat_kerning_machines` a driver is what is plugged in, as in the crate `rustybuzz`.
 ghost use Rattle.std.specs.Prelude.{◌≡◌, ◌+◌, ◌-◌, ◌<◌, ◌≤◌, ◌^◌, if◌then◌else◌, true, length, IsOk, OnOk, OnErr, IfOk, IfErr};
 ghost use Rattle.aat_buffer.specs.Buffer.{with_cursor, without_positions};
 ghost use Rattle.aat_buffer.specs.Clusters.{IsSmall};
 ghost use Rattle.aat_run.specs.Budget.{potential};
-ghost use Rattle.aat_run.specs.Context.{first_config, machine_with};
-ghost use Rattle.aat_run.specs.Driven.{IsRefusal, IsRefused, context_from, machine_run, outcome_of, registers_behind, positions_behind};
+ghost use Rattle.aat_run.specs.Driven.{IsRefusal, IsRefused, driven_registers, driven_run, driven_to_end, outcome_of, positions_behind};
 ghost use Rattle.aat_run.specs.Laws.{IsBounded, SameSettings};
-ghost use Rattle.aat_run.specs.Machine.{whole};
-ghost use Rattle.aat_run.specs.Ranges.{IsGapless, is_driven_on, ranges_of};
+ghost use Rattle.aat_run.specs.Outcome.{IsOutcome};
+ghost use Rattle.aat_run.specs.Ranges.{IsGapless, ranges_of};
 ghost use Rattle.aat_run.specs.inside.Places.{IsRun};
 
 use crate::aat_layout_common::hb_aat_apply_context_t;
 use crate::driver_context::driver_context_t;
 use crate::error::AatError;
-use crate::place::Place;
 use crate::ranges::{is_nowhere_on, range_flags_t, ranges_to_ask};
+use crate::run_state::RunState;
 use crate::turns::turn_once;
 use aat_buffer::{hb_buffer_t, hb_mask_t};
 use aat_font::ExtendedStateTable;
+use aat_font::entry_bits::state::START_OF_TEXT;
 use std::alloc::Allocator;
 
 /// Takes turns until one ends, and answers their number.
@@ -32,19 +35,20 @@ fn run_turns<T: Copy, C: driver_context_t<T>, A: Allocator + Copy>(
     requires fit { C.fits context.old buffer.old.cursor (length buffer.old.line) }
     requires ids { IsSmall buffer.old }
     requires gapless { IsGapless ranges.now }
-    ensures run { IfOk result (IsRun (whole (machine_with (is_driven_on ranges.now feature_flags) machine.now C.advances C.actionable C.act) (first_config buffer.old context.old)) buffer.new context.new) }
+    ensures run { IfOk result (IsRun (driven_to_end ranges.now feature_flags machine.now
+        C.advances C.actionable C.act buffer.old context.old) buffer.new context.new) }
     ensures few { IfOk result (λ turns. turns ≤ potential buffer.old + 1) }
     ensures ids { OnOk result (IsSmall buffer.new) }
-    ensures reason { IfErr result (IsRefusal buffer.old (whole (machine_with (is_driven_on ranges.now feature_flags) machine.now C.advances C.actionable C.act) (first_config buffer.old context.old)).buffer) }
+    ensures reason { IfErr result (IsRefusal buffer.old (driven_to_end ranges.now feature_flags machine.now
+        C.advances C.actionable C.act buffer.old context.old).buffer) }
     ensures refused { OnErr result (IsRefused buffer.old buffer.new) }
 {
-    // how long the line is and how large the budget, so that the count of turns fits
     let _length = buffer.len();
     let _budget = buffer.max_ops();
     let mut last_range = 0;
-    let mut place = Place {
-        state: 0,
-        last: 0,
+    let mut run_state = RunState {
+        state: START_OF_TEXT,
+        last_cluster: 0,
         turns: 0,
     };
     while turn_once(
@@ -54,9 +58,9 @@ fn run_turns<T: Copy, C: driver_context_t<T>, A: Allocator + Copy>(
         ranges,
         feature_flags,
         &mut last_range,
-        &mut place,
+        &mut run_state,
     )? {}
-    Ok(place.turns)
+    Ok(run_state.turns)
 }
 
 /// Puts the cursor at the front. A context that is not in place drops the positions.
@@ -83,11 +87,14 @@ fn take_turns<T: Copy, C: driver_context_t<T>, A: Allocator + Copy>(
     requires fit { C.fits context.old 0 (length buffer.old.line) }
     requires ids { IsSmall buffer.old }
     requires gapless { IsGapless ranges.now }
-    ensures run { IfOk result (λ turns. record { buffer = with_cursor buffer.new 0; turns = turns } ≡ outcome_of (whole (machine_with (is_driven_on ranges.now feature_flags) machine.now C.advances C.actionable C.act) (first_config buffer.old context.old))) }
-    ensures registers { OnOk result (context.new ≡ (whole (machine_with (is_driven_on ranges.now feature_flags) machine.now C.advances C.actionable C.act) (first_config buffer.old context.old)).registers) }
+    ensures run { IfOk result (IsOutcome (outcome_of (driven_to_end ranges.now feature_flags machine.now
+        C.advances C.actionable C.act buffer.old context.old)) (with_cursor buffer.new 0)) }
+    ensures registers { OnOk result (context.new ≡ (driven_to_end ranges.now feature_flags machine.now
+        C.advances C.actionable C.act buffer.old context.old).registers) }
     ensures few { IfOk result (λ turns. turns ≤ potential buffer.old + 1) }
     ensures ids { OnOk result (IsSmall buffer.new) }
-    ensures reason { IfErr result (IsRefusal buffer.old (whole (machine_with (is_driven_on ranges.now feature_flags) machine.now C.advances C.actionable C.act) (first_config buffer.old context.old)).buffer) }
+    ensures reason { IfErr result (IsRefusal buffer.old (driven_to_end ranges.now feature_flags machine.now
+        C.advances C.actionable C.act buffer.old context.old).buffer) }
     ensures refused { OnErr result (IsRefused buffer.old buffer.new) }
 {
     if ranges.len() > 1 && is_nowhere_on(ranges, feature_flags) {
@@ -113,21 +120,26 @@ pub fn run_machine<T: Copy, C: driver_context_t<T>, A: Allocator + Copy>(
     requires fit { C.fits context.old 0 (length buffer.old.line) }
     requires ids { IsSmall buffer.old }
     requires gapless { IsGapless ranges.now }
-    ensures run { IfOk result (λ turns. record { buffer = buffer.new; turns = turns } ≡ machine_run (is_driven_on ranges.now feature_flags) machine.now (context_from C.stays_in_place C.advances C.actionable C.act context.old) buffer.old) }
-    ensures registers { OnOk result (context.new ≡ registers_behind (is_driven_on ranges.now feature_flags) machine.now (context_from C.stays_in_place C.advances C.actionable C.act context.old) buffer.old) }
+    ensures run { IfOk result (IsOutcome (driven_run ranges.now feature_flags machine.now C.stays_in_place
+        C.advances C.actionable C.act context.old buffer.old) buffer.new) }
+    ensures registers { OnOk result (context.new ≡
+        driven_registers ranges.now feature_flags machine.now C.stays_in_place
+        C.advances C.actionable C.act context.old buffer.old) }
     ensures bounded { IfOk result (λ turns. IsBounded buffer.old (record { buffer = buffer.new; turns = turns })) }
     ensures few { IfOk result (λ turns. turns < 2 ^ 62) }
     ensures ids { OnOk result (IsSmall buffer.new) }
-    ensures successful { OnOk result (buffer.new.successful ≡ buffer.old.successful) }
     ensures settings { OnOk result (SameSettings buffer.old buffer.new) }
     ensures positions { OnOk result (buffer.new.positions ≡ positions_behind C.stays_in_place buffer.old) }
-    ensures longer { OnErr result (length buffer.old.line < length (machine_run (is_driven_on ranges.now feature_flags) machine.now (context_from C.stays_in_place C.advances C.actionable C.act context.old) buffer.old).buffer.line) }
-    ensures reason { IfErr result (IsRefusal buffer.old (machine_run (is_driven_on ranges.now feature_flags) machine.now (context_from C.stays_in_place C.advances C.actionable C.act context.old) buffer.old).buffer) }
+    ensures longer { OnErr result (length buffer.old.line < length
+        (driven_run ranges.now feature_flags machine.now C.stays_in_place
+        C.advances C.actionable C.act context.old buffer.old).buffer.line) }
+    ensures reason { IfErr result (IsRefusal buffer.old
+        (driven_run ranges.now feature_flags machine.now C.stays_in_place
+        C.advances C.actionable C.act context.old buffer.old).buffer) }
     ensures refused { OnErr result (IsRefused buffer.old buffer.new) }
     ensures in_place { C.stays_in_place ≡ true → IsOk result }
     ensures kept { C.keeps_length ≡ true → IsOk result }
 {
-    // how long the line may be and how large the budget is, so that the count of turns fits
     let _most = buffer.max_len();
     let _budget = buffer.max_ops();
     begin(buffer, context.in_place());
@@ -156,17 +168,17 @@ pub fn run_machine<T: Copy, C: driver_context_t<T>, A: Allocator + Copy>(
 ///
 /// A context in place keeps the positions; another drops them. A context that is in place, or that keeps the number of
 /// glyphs, is never refused. Another is refused as 2, `TooLong`, only where the run would leave a line longer than the
-/// buffer's `max_len`, and else as 3, `OutOfMemory`, only where it would leave a longer line than it found. After a
-/// refusal the buffer has failed, its line is some line of 16-bit glyphs that has at most its greatest length, all but
-/// line, cursor, positions and budget is as before, the registers are any, and no turns are added. A buffer that had
-/// failed before is run as any other.
+/// buffer's `max_len`, and as 3, `OutOfMemory`, only where it would leave a longer line than it found. Where the line
+/// would be too long either may come, since memory can be wanting before. After a refusal the buffer has failed, its
+/// line is some line of 16-bit glyphs that has at most its greatest length, all but line, cursor, positions and budget
+/// is as before, the registers are any, and no turns are added. A buffer that had failed before is run as any other.
 ///
-/// A turn takes a bounded number of steps but for its act, the look-ups in the table, which search by bisection where
-/// it has no array, pages or grid, and the search for the range of a cluster that lies neither in the range that was
-/// found last nor in one beside it, which bisects ranges that end at the last cluster there can be and walks through
-/// others. A run looks at each range at most twice before its turns: where there are two or more and none switches the
-/// machine on it passes the line over, and where each does and they end at the last cluster there can be, no turn asks
-/// for a range. No memory is taken but by the act.
+/// What follows of its steps is not proved. A turn takes a bounded number of them but for its act, the look-ups in the
+/// table, which search by bisection where it has no array, pages or grid, and the search for the range of a cluster
+/// that lies neither in the range that was found last nor in one beside it, which bisects ranges that end at the last
+/// cluster there can be and walks through others. Where there are two ranges or more and none switches the machine on
+/// the line is passed over at once, and where each does and they end at the last cluster there can be no turn asks for
+/// a range. No memory is taken but by the act.
 ///
 /// Apple's TrueType Reference Manual, "The 'morx' table", and the section on state tables in "Font Tables".
 pub fn drive<T: Copy, C: driver_context_t<T>, A: Allocator + Copy>(
@@ -178,16 +190,24 @@ pub fn drive<T: Copy, C: driver_context_t<T>, A: Allocator + Copy>(
     requires ids { IsSmall c.old.buffer.now }
     requires gapless { IsGapless (ranges_of c.old.range_flags) }
     requires turns { c.old.turns ≤ 2 ^ 62 }
-    ensures run { OnOk result (record { buffer = c.new.buffer.now; turns = c.new.turns - c.old.turns } ≡ machine_run (is_driven_on (ranges_of c.old.range_flags) c.old.subtable_flags) machine.now (context_from C.stays_in_place C.advances C.actionable C.act context.old) c.old.buffer.now) }
-    ensures registers { OnOk result (context.new ≡ registers_behind (is_driven_on (ranges_of c.old.range_flags) c.old.subtable_flags) machine.now (context_from C.stays_in_place C.advances C.actionable C.act context.old) c.old.buffer.now) }
-    ensures bounded { OnOk result (IsBounded c.old.buffer.now (record { buffer = c.new.buffer.now; turns = c.new.turns - c.old.turns })) }
+    ensures run { OnOk result (IsOutcome (driven_run (ranges_of c.old.range_flags) c.old.subtable_flags machine.now
+        C.stays_in_place C.advances C.actionable C.act context.old c.old.buffer.now)
+        c.new.buffer.now (c.new.turns - c.old.turns)) }
+    ensures registers { OnOk result (context.new ≡
+        driven_registers (ranges_of c.old.range_flags) c.old.subtable_flags machine.now
+        C.stays_in_place C.advances C.actionable C.act context.old c.old.buffer.now) }
+    ensures bounded { OnOk result (IsBounded c.old.buffer.now
+        (record { buffer = c.new.buffer.now; turns = c.new.turns - c.old.turns })) }
     ensures counted { c.old.turns ≤ c.new.turns }
     ensures ids { OnOk result (IsSmall c.new.buffer.now) }
-    ensures successful { OnOk result (c.new.buffer.now.successful ≡ c.old.buffer.now.successful) }
     ensures settings { OnOk result (SameSettings c.old.buffer.now c.new.buffer.now) }
     ensures positions { OnOk result (c.new.buffer.now.positions ≡ positions_behind C.stays_in_place c.old.buffer.now) }
-    ensures longer { OnErr result (length c.old.buffer.now.line < length (machine_run (is_driven_on (ranges_of c.old.range_flags) c.old.subtable_flags) machine.now (context_from C.stays_in_place C.advances C.actionable C.act context.old) c.old.buffer.now).buffer.line) }
-    ensures reason { IfErr result (IsRefusal c.old.buffer.now (machine_run (is_driven_on (ranges_of c.old.range_flags) c.old.subtable_flags) machine.now (context_from C.stays_in_place C.advances C.actionable C.act context.old) c.old.buffer.now).buffer) }
+    ensures longer { OnErr result (length c.old.buffer.now.line < length
+        (driven_run (ranges_of c.old.range_flags) c.old.subtable_flags machine.now
+        C.stays_in_place C.advances C.actionable C.act context.old c.old.buffer.now).buffer.line) }
+    ensures reason { IfErr result (IsRefusal c.old.buffer.now
+        (driven_run (ranges_of c.old.range_flags) c.old.subtable_flags machine.now
+        C.stays_in_place C.advances C.actionable C.act context.old c.old.buffer.now).buffer) }
     ensures refused { OnErr result (IsRefused c.old.buffer.now c.new.buffer.now) }
     ensures uncounted { OnErr result (c.new.turns ≡ c.old.turns) }
     ensures in_place { C.stays_in_place ≡ true → IsOk result }

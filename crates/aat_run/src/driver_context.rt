@@ -1,4 +1,7 @@
 //! What a driver runs: the registers of a state machine, and what the entries of its table do.
+//!
+//! The driver is the loop, and a context is what is plugged in. In `aat_kerning_machines` a driver is what is plugged in,
+//! as in the crate `rustybuzz`.
 ghost use Rattle.std.specs.Prelude.{◌≡◌, OnOk, IfErr, OnErr, length};
 
 use crate::error::AatError;
@@ -15,8 +18,8 @@ use std::alloc::Allocator;
 /// glyph at the cursor; at the end, class 0. Its `extra` is the context's own.
 ///
 /// Whoever writes a context gives the ghost members and proves the clauses of its four calls, and then the laws, of
-/// which `specs/Laws.antt` has each as a word. They hold for every entry, whatever its numbers, and for all
-/// registers that fit:
+/// which `specs/Laws.antt` has each as a word, and all ten as `MeetsLaws`. They hold for every entry, whatever its
+/// numbers, and for all registers that fit:
 ///
 /// - `keeps_fit`, `passes_fit`: an act that leaves the cursor before the end leaves registers that fit, and so does
 ///   a cursor that moves over a glyph;
@@ -41,7 +44,8 @@ pub trait driver_context_t<T: Copy> {
     ghost use Rattle.aat_run.specs.Laws.{KeepsFit, PassesFit, Pays, Bounded, Lengthens, MakesNoPositions, KeepsSettings, KeepsPlaceWhere, KeepsLengthWhere, KeepsClusterOrder};
 
     /// The registers fit a cursor and a length: the places that they name lie on the line, and their numbers in their
-    /// types. Choose it so that the registers that a run starts with fit at cursor 0.
+    /// types. The registers that a run starts with have to fit at cursor 0, whatever the length: `drive` requires it,
+    /// and no law says it, so that what makes fresh registers should have it as a clause (`FitsFresh`).
     ghost fits: { Self → ℕ → ℕ → Type 0 };
 
     /// What `in_place` answers.
@@ -81,10 +85,10 @@ pub trait driver_context_t<T: Copy> {
     /// Does what the entry says. The state, and the cursor's step over the glyph, are the driver's. The registers have
     /// to fit, and each glyph id has to be at most 0xFFFF, and is so again.
     ///
-    /// Refused as 2, `TooLong`, only where the act would leave a line longer than the buffer's `max_len`, and else as
-    /// 3, `OutOfMemory`, only where it would leave a longer line than it found. After a refusal the buffer has failed,
-    /// its line is some line of 16-bit glyphs that has at most its greatest length, all but line, cursor, positions and
-    /// budget is as before, and the registers are any.
+    /// Refused as 2, `TooLong`, only where the act would leave a line longer than the buffer's `max_len`, and as 3,
+    /// `OutOfMemory`, only where it would leave a longer line than it found; where both hold either may come. After a
+    /// refusal the buffer has failed, its line is some line of 16-bit glyphs that has at most its greatest length, all
+    /// but line, cursor, positions and budget is as before, and the registers are any.
     fn transition<A: Allocator + Copy>(
         &mut self,
         entry: &GenericStateEntry<T>,
@@ -92,7 +96,8 @@ pub trait driver_context_t<T: Copy> {
     ) -> Result<(), AatError>
         requires fit { fits self.old buffer.old.cursor (length buffer.old.line) }
         requires ids { IsSmall buffer.old }
-        ensures act { OnOk result (record { registers = self.new; buffer = buffer.new } ≡ act entry.now self.old buffer.old) }
+        ensures act { OnOk result (
+            record { registers = self.new; buffer = buffer.new } ≡ act entry.now self.old buffer.old) }
         ensures ids { OnOk result (IsSmall buffer.new) }
         ensures successful { OnOk result (buffer.new.successful ≡ buffer.old.successful) }
         ensures reason { IfErr result (IsRefusal buffer.old (act entry.now self.old buffer.old).buffer) }

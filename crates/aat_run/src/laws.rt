@@ -7,7 +7,7 @@ ghost use Rattle.aat_font.specs.declared.state_table.GenericStateEntry.{GenericS
 ghost use Rattle.aat_run.specs.Budget.{FloorIsUnseen};
 ghost use Rattle.aat_run.specs.Context.{machine_with};
 ghost use Rattle.aat_run.specs.Driven.{context_from, machine_run};
-ghost use Rattle.aat_run.specs.Laws.{HasOrderOf, RunsEnd};
+ghost use Rattle.aat_run.specs.Laws.{HasOrderOf, MeetsLaws, RunsEnd};
 ghost use Rattle.aat_run.specs.Machine.{turn};
 
 use crate::driver_context::driver_context_t;
@@ -18,13 +18,22 @@ pub fn floor_is_unseen()
     ensures { FloorIsUnseen }
 {}
 
+/// Each context meets the ten laws of `driver_context_t`, as one word.
+pub fn contexts_meet_laws<T: Copy, C: driver_context_t<T>>()
+    ensures { MeetsLaws C.act C.fits C.stays_in_place C.keeps_length }
+{}
+
 /// Each run of a context ends by itself, within the turns that it is given, and more turns would change nothing.
 pub fn runs_end<T: Copy, C: driver_context_t<T>>()
-    ensures { (on : ℕ → Bool) (table : TableValue (GenericStateEntry T)) → RunsEnd (turn (machine_with on table C.advances C.actionable C.act)) C.fits }
+    ensures { (on : ℕ → Bool) (table : TableValue (GenericStateEntry T))
+        → RunsEnd (turn (machine_with on table C.advances C.actionable C.act)) C.fits }
 {}
 
 /// A run of a context keeps an order of the clusters along the line, unless clusters stay apart, and makes no new
 /// cluster.
 pub fn runs_keep_order<T: Copy, C: driver_context_t<T>>()
-    ensures { (on : ℕ → Bool) (table : TableValue (GenericStateEntry T)) (r : C) (b : Buffer) → C.fits r 0 (length b.line) → HasOrderOf b (machine_run on table (context_from C.stays_in_place C.advances C.actionable C.act r) b).buffer }
+    ensures { (on : ℕ → Bool) (table : TableValue (GenericStateEntry T)) (r : C) (b : Buffer)
+        → C.fits r 0 (length b.line)
+        → HasOrderOf b
+        (machine_run on table (context_from C.stays_in_place C.advances C.actionable C.act r) b).buffer }
 {}

@@ -8,8 +8,8 @@ mod driver_context;
 mod error;
 #[doc(hidden)]
 pub mod laws;
-mod place;
 mod ranges;
+mod run_state;
 mod turns;
 #[doc(hidden)]
 pub mod worked;

@@ -87,8 +87,7 @@ fn are_on(ranges: &[range_flags_t], feature_flags: hb_mask_t) -> bool
     ranges.iter().all(|r| r.flags & feature_flags != 0)
 }
 
-/// Whether there are ranges and none of them switches a subtable with some feature flags on. It looks at each range at
-/// most once.
+/// Whether there are ranges and none of them switches a subtable with some feature flags on.
 pub fn is_nowhere_on(ranges: &[range_flags_t], feature_flags: hb_mask_t) -> bool
     ensures { result ≡ is_nowhere_on ranges.now feature_flags }
 {
@@ -96,15 +95,15 @@ pub fn is_nowhere_on(ranges: &[range_flags_t], feature_flags: hb_mask_t) -> bool
 }
 
 /// Whether the ranges end at the last cluster there can be and each of them switches a subtable with some feature flags
-/// on. It looks at each range at most once, and at the last one twice.
+/// on.
 pub fn is_everywhere_on(ranges: &[range_flags_t], feature_flags: hb_mask_t) -> bool
     ensures { result ≡ is_everywhere_on ranges.now feature_flags }
 {
     ends_at_last(ranges) && are_on(ranges, feature_flags)
 }
 
-/// The ranges that have to be asked whether a subtable is on at a cluster: none where it is on everywhere. It looks at
-/// each range at most once, and at the last one twice. The ranges have to follow one another from 0 without a gap.
+/// The ranges that have to be asked whether a subtable is on at a cluster: none where it is on everywhere. The ranges
+/// have to follow one another from 0 without a gap.
 pub fn ranges_to_ask(ranges: &[range_flags_t], feature_flags: hb_mask_t) -> &[range_flags_t]
     requires { IsGapless ranges.now }
     ensures gapless { IsGapless result.now }
@@ -186,8 +185,8 @@ fn range_at(ranges: &[range_flags_t], place: &mut usize, cluster: u32) -> Option
     }
 }
 
-/// The range that holds a cluster, if there is one, whose place is kept then. It is searched for only where it is
-/// neither at the place that was kept nor beside it.
+/// The range that holds a cluster, if there is one, whose place is kept then. It is looked for at the place that was
+/// kept and beside it first, which is not proved.
 fn range_from(ranges: &[range_flags_t], place: &mut usize, cluster: u32) -> Option<range_flags_t>
     requires { IsGapless ranges.now }
     ensures { result ≡ find (holds cluster) ranges.now }
@@ -253,8 +252,7 @@ impl Stretch {
     ///
     /// The ranges have to follow one another from 0 without a gap, and at each cluster of this stretch they have to
     /// switch the subtable as it says: so they do on a stretch that was found by the same ranges and flags, and on one
-    /// without clusters. A search is made only where the range is neither at the place of the one that was found last
-    /// nor beside it.
+    /// without clusters.
     pub fn on_to(self, ranges: &[range_flags_t], feature_flags: hb_mask_t, cluster: u32) -> Stretch
         requires gapless { IsGapless ranges.now }
         requires alike { IsSwitchedAlike ((switch_for ranges.now).is_on feature_flags) self }

@@ -4,7 +4,7 @@ ghost use Rattle.std.specs.Prelude.{◌≡◌, ◌+◌, ◌<◌, ◌^◌, ◌==�
 ghost use Rattle.aat_buffer.specs.Clusters.{IsSmall};
 ghost use Rattle.aat_font.specs.Table.{TableValue, class_of, entry_of};
 ghost use Rattle.aat_font.specs.declared.state_table.GenericStateEntry.{GenericStateEntry};
-ghost use Rattle.aat_run.specs.Context.{Machine, machine_with, is_at_end, class_at, cluster_seen};
+ghost use Rattle.aat_run.specs.Context.{Machine, machine_with, is_at_end, class_at, cluster_seen, entry_at};
 ghost use Rattle.aat_run.specs.Driven.{IsRefusal, IsRefused};
 ghost use Rattle.aat_run.specs.Laws.{SameSettings};
 ghost use Rattle.aat_run.specs.Machine.{left_by, stepped, marked, acted, by_entry, off, turn};
@@ -15,14 +15,16 @@ ghost use Rattle.aat_run.specs.inside.Places.{config, turn_of};
 
 use crate::driver_context::driver_context_t;
 use crate::error::AatError;
-use crate::place::Place;
 use crate::ranges::{is_driven_on, range_flags_t};
+use crate::run_state::RunState;
 use aat_buffer::{hb_buffer_t, hb_mask_t};
+use aat_font::entry_bits::class::{END_OF_TEXT, OUT_OF_BOUNDS};
+use aat_font::entry_bits::state::START_OF_TEXT;
 use aat_font::{ExtendedStateTable, GenericStateEntry, GlyphId};
 use std::alloc::Allocator;
 
-/// The class at the cursor: 0 at the end, and 1 of a glyph without a class. Each glyph id has to be at most 0xFFFF.
-/// Besides the search of the class it takes a bounded number of steps.
+/// The class at the cursor: 0, `END_OF_TEXT`, at the end, and 1, `OUT_OF_BOUNDS`, of a glyph without a class. Each
+/// glyph id has to be at most 0xFFFF. Besides the search of the class it takes a bounded number of steps.
 pub fn class_at_cursor<T: Copy, A: Allocator + Copy>(
     machine: &ExtendedStateTable<T>,
     buffer: &hb_buffer_t<A>,
@@ -33,20 +35,24 @@ pub fn class_at_cursor<T: Copy, A: Allocator + Copy>(
     if buffer.backtrack_len() < buffer.len() {
         machine
             .class(GlyphId(buffer.cur().glyph_id as u16))
-            .unwrap_or(1)
+            .unwrap_or(OUT_OF_BOUNDS)
     } else {
-        0
+        END_OF_TEXT
     }
 }
 
 /// Counts a turn, and looks at the cluster at the cursor.
-fn count<A: Allocator + Copy>(buffer: &hb_buffer_t<A>, place: &mut Place)
-    requires { place.old.turns + 1 < 2 ^ 64 }
-    ensures { place.new ≡ record { state = place.old.state; last = cluster_seen buffer.now place.old.last; turns = place.old.turns + 1 } }
+fn count<A: Allocator + Copy>(buffer: &hb_buffer_t<A>, run_state: &mut RunState)
+    requires { run_state.old.turns + 1 < 2 ^ 64 }
+    ensures { run_state.new ≡ record {
+      state = run_state.old.state;
+      last_cluster = cluster_seen buffer.now run_state.old.last_cluster;
+      turns = run_state.old.turns + 1;
+    } }
 {
-    place.turns += 1;
+    run_state.turns += 1;
     if buffer.backtrack_len() < buffer.len() {
-        place.last = buffer.cur().cluster;
+        run_state.last_cluster = buffer.cur().cluster;
     }
 }
 
@@ -57,9 +63,11 @@ fn does_alike<T: Copy, C: driver_context_t<T>, A: Allocator + Copy>(
     buffer: &hb_buffer_t<A>,
     entry: &GenericStateEntry<T>,
     other: Option<GenericStateEntry<T>>,
-    place: Place,
+    run_state: RunState,
 ) -> bool
-    ensures { (on : ℕ → Bool) (table : TableValue (GenericStateEntry T)) → result ≡ does_alike (machine_with on table C.advances C.actionable C.act) (config buffer.now context.now place) entry.now other }
+    ensures { (on : ℕ → Bool) (table : TableValue (GenericStateEntry T))
+        → result ≡ does_alike (machine_with on table C.advances C.actionable C.act)
+        (config buffer.now context.now run_state) entry.now other }
 {
     match other {
         None => false,
@@ -75,38 +83,49 @@ fn does_alike<T: Copy, C: driver_context_t<T>, A: Allocator + Copy>(
     }
 }
 
-/// Whether an entry stays, and goes to the first state.
+/// Whether an entry stays, and goes to the state for the start of the text.
 fn stays_for_start<T: Copy, C: driver_context_t<T>>(
     context: &C,
     entry: &GenericStateEntry<T>,
 ) -> bool
     ensures { result ≡ not (C.advances entry.now) && (entry.now.new_state == 0) }
 {
-    !context.can_advance(entry) && entry.new_state == 0
+    !context.can_advance(entry) && entry.new_state == START_OF_TEXT
 }
 
-/// Whether an entry does as it would in the first state, where the machine is in that state, or is there again
-/// behind it.
+/// Whether starting over at the cursor, in the state for the start of the text, takes the entries that the run takes:
+/// HarfBuzz's condition 2, of which one part is enough. The registers are not looked at.
 fn restarts_alike<T: Copy, C: driver_context_t<T>, A: Allocator + Copy>(
     machine: &ExtendedStateTable<T>,
     context: &C,
     buffer: &hb_buffer_t<A>,
     entry: &GenericStateEntry<T>,
     class: u16,
-    place: Place,
+    run_state: RunState,
 ) -> bool
-    ensures { (on : ℕ → Bool) → result ≡ restarts_alike (machine_with on machine.now C.advances C.actionable C.act) (config buffer.now context.now place) entry.now (entry_of machine.now 0 class) }
+    ensures { (on : ℕ → Bool) → result ≡ restarts_alike (machine_with on machine.now C.advances C.actionable C.act)
+        (config buffer.now context.now run_state) entry.now (entry_of machine.now 0 class) }
 {
-    if place.state == 0 {
+    // 2a: the run is in that state already
+    if run_state.state == START_OF_TEXT {
         return true;
     }
+    // 2b: the entry stays and goes to that state, from which the glyph at the cursor is then looked at again
     if stays_for_start(context, entry) {
         return true;
     }
-    does_alike(context, buffer, entry, machine.entry(0, class), place)
+    // 2c: in that state the class has an entry without an act that goes to the same state and advances as this one does
+    does_alike(
+        context,
+        buffer,
+        entry,
+        machine.entry(START_OF_TEXT, class),
+        run_state,
+    )
 }
 
-/// Whether the line may be broken before the cursor.
+/// Whether the line counts as safe to break before the cursor, by the three conditions of HarfBuzz, which numbers them
+/// so. `specs/Safe.antt` says what the mark tells, and what it does not tell.
 #[tactic(auto, using(crate::specs::facts::SafeBranches::safe_by_branches))]
 fn is_safe<T: Copy, C: driver_context_t<T>, A: Allocator + Copy>(
     machine: &ExtendedStateTable<T>,
@@ -114,35 +133,42 @@ fn is_safe<T: Copy, C: driver_context_t<T>, A: Allocator + Copy>(
     buffer: &hb_buffer_t<A>,
     entry: &GenericStateEntry<T>,
     class: u16,
-    place: Place,
+    run_state: RunState,
 ) -> bool
-    ensures { (on : ℕ → Bool) → result ≡ is_safe (machine_with on machine.now C.advances C.actionable C.act) entry.now (entry_of machine.now 0 class) (entry_of machine.now place.state 0) (config buffer.now context.now place) }
+    ensures { (on : ℕ → Bool) → result ≡ is_safe (machine_with on machine.now C.advances C.actionable C.act) entry.now
+        (entry_of machine.now 0 class) (entry_of machine.now run_state.state 0)
+        (config buffer.now context.now run_state) }
 {
+    // 1: the entry has no act, since an act may use what was marked before the cursor
     if context.is_actionable(entry, buffer) {
         return false;
     }
-    if !restarts_alike(machine, context, buffer, entry, class, place) {
+    // 2: a part of the text that begins at the cursor takes the same entries
+    if !restarts_alike(machine, context, buffer, entry, class, run_state) {
         return false;
     }
-    match machine.entry(place.state, 0) {
+    // 3: a part of the text that ends before the cursor ends without an act
+    match machine.entry(run_state.state, END_OF_TEXT) {
         Some(end) => !context.is_actionable(&end, buffer),
         None => false,
     }
 }
 
-/// Marks the line before the cursor where it may not be broken there.
+/// Marks the line before the cursor as unsafe to break where it is not safe there.
 #[tactic(auto, unfolding(crate::specs::Machine::marked))]
-fn mark<T: Copy, C: driver_context_t<T>, A: Allocator + Copy>(
+fn mark_unsafe<T: Copy, C: driver_context_t<T>, A: Allocator + Copy>(
     machine: &ExtendedStateTable<T>,
     context: &C,
     buffer: &mut hb_buffer_t<A>,
     entry: &GenericStateEntry<T>,
     class: u16,
-    place: Place,
+    run_state: RunState,
 )
     requires ids { IsSmall buffer.old }
     requires class { class ≡ class_at (class_of machine.now) buffer.old }
-    ensures marked { (on : ℕ → Bool) → buffer.new ≡ marked (machine_with on machine.now C.advances C.actionable C.act) entry.now (config buffer.old context.now place) }
+    ensures marked { (on : ℕ → Bool)
+        → buffer.new ≡ marked (machine_with on machine.now C.advances C.actionable C.act) entry.now
+        (config buffer.old context.now run_state) }
     ensures ids { IsSmall buffer.new }
     ensures cursor { buffer.new.cursor ≡ buffer.old.cursor }
     ensures length { length buffer.new.line ≡ length buffer.old.line }
@@ -150,7 +176,7 @@ fn mark<T: Copy, C: driver_context_t<T>, A: Allocator + Copy>(
 {
     let p = buffer.backtrack_len();
     if 0 < p && p < buffer.len() {
-        if !is_safe(machine, context, buffer, entry, class, place) {
+        if !is_safe(machine, context, buffer, entry, class, run_state) {
             buffer.unsafe_to_break(Some(p - 1), Some(p + 1));
         }
     }
@@ -185,19 +211,24 @@ fn act<T: Copy, C: driver_context_t<T>, A: Allocator + Copy>(
     buffer: &mut hb_buffer_t<A>,
     entry: &GenericStateEntry<T>,
     class: u16,
-    place: &mut Place,
+    run_state: &mut RunState,
 ) -> Result<bool, AatError>
     requires fit { C.fits context.old buffer.old.cursor (length buffer.old.line) }
     requires ids { IsSmall buffer.old }
     requires class { class ≡ class_at (class_of machine.now) buffer.old }
-    ensures turn { (on : ℕ → Bool) → IfOk result (λ goes. acted (machine_with on machine.now C.advances C.actionable C.act) entry.now (config buffer.old context.old place.old) ≡ turn_of goes (config buffer.new context.new place.new)) }
+    ensures turn { (on : ℕ → Bool) → IfOk result (λ goes.
+        acted (machine_with on machine.now C.advances C.actionable C.act) entry.now
+        (config buffer.old context.old run_state.old)
+        ≡ turn_of goes (config buffer.new context.new run_state.new)) }
     ensures ids { OnOk result (IsSmall buffer.new) }
-    ensures reason { (on : ℕ → Bool) → IfErr result (IsRefusal buffer.old (left_by (acted (machine_with on machine.now C.advances C.actionable C.act) entry.now (config buffer.old context.old place.old))).buffer) }
+    ensures reason { (on : ℕ → Bool) → IfErr result (IsRefusal buffer.old (left_by
+        (acted (machine_with on machine.now C.advances C.actionable C.act) entry.now
+        (config buffer.old context.old run_state.old))).buffer) }
     ensures refused { OnErr result (IsRefused buffer.old buffer.new) }
 {
-    mark(machine, &*context, buffer, entry, class, *place);
+    mark_unsafe(machine, &*context, buffer, entry, class, *run_state);
     context.transition(entry, buffer)?;
-    place.state = entry.new_state;
+    run_state.state = entry.new_state;
     Ok(settle(buffer, context.can_advance(entry)))
 }
 
@@ -207,18 +238,25 @@ fn act_by_entry<T: Copy, C: driver_context_t<T>, A: Allocator + Copy>(
     machine: &ExtendedStateTable<T>,
     context: &mut C,
     buffer: &mut hb_buffer_t<A>,
-    place: &mut Place,
+    run_state: &mut RunState,
 ) -> Result<bool, AatError>
     requires fit { C.fits context.old buffer.old.cursor (length buffer.old.line) }
     requires ids { IsSmall buffer.old }
-    ensures turn { (on : ℕ → Bool) → IfOk result (λ goes. by_entry (machine_with on machine.now C.advances C.actionable C.act) (entry_of machine.now place.old.state (class_at (class_of machine.now) buffer.old)) (config buffer.old context.old place.old) ≡ turn_of goes (config buffer.new context.new place.new)) }
+    ensures turn { (on : ℕ → Bool) → IfOk result (λ goes.
+        by_entry (machine_with on machine.now C.advances C.actionable C.act)
+        (entry_at machine.now run_state.old.state buffer.old)
+        (config buffer.old context.old run_state.old)
+        ≡ turn_of goes (config buffer.new context.new run_state.new)) }
     ensures ids { OnOk result (IsSmall buffer.new) }
-    ensures reason { (on : ℕ → Bool) → IfErr result (IsRefusal buffer.old (left_by (by_entry (machine_with on machine.now C.advances C.actionable C.act) (entry_of machine.now place.old.state (class_at (class_of machine.now) buffer.old)) (config buffer.old context.old place.old))).buffer) }
+    ensures reason { (on : ℕ → Bool) → IfErr result (IsRefusal buffer.old (left_by
+        (by_entry (machine_with on machine.now C.advances C.actionable C.act)
+        (entry_at machine.now run_state.old.state buffer.old)
+        (config buffer.old context.old run_state.old))).buffer) }
     ensures refused { OnErr result (IsRefused buffer.old buffer.new) }
 {
     let class = class_at_cursor(machine, buffer);
-    match machine.entry(place.state, class) {
-        Some(entry) => act(machine, context, buffer, &entry, class, place),
+    match machine.entry(run_state.state, class) {
+        Some(entry) => act(machine, context, buffer, &entry, class, run_state),
         None => Ok(false),
     }
 }
@@ -232,22 +270,27 @@ pub(crate) fn turn_once<T: Copy, C: driver_context_t<T>, A: Allocator + Copy>(
     ranges: &[range_flags_t],
     feature_flags: hb_mask_t,
     last_range: &mut usize,
-    place: &mut Place,
+    run_state: &mut RunState,
 ) -> Result<bool, AatError>
     requires fit { C.fits context.old buffer.old.cursor (length buffer.old.line) }
     requires ids { IsSmall buffer.old }
     requires gapless { IsGapless ranges.now }
-    requires turns { place.old.turns + 1 < 2 ^ 64 }
-    ensures turn { IfOk result (λ goes. turn (machine_with (is_driven_on ranges.now feature_flags) machine.now C.advances C.actionable C.act) (config buffer.old context.old place.old) ≡ turn_of goes (config buffer.new context.new place.new)) }
+    requires turns { run_state.old.turns + 1 < 2 ^ 64 }
+    ensures turn { IfOk result (λ goes.
+        turn (machine_with (is_driven_on ranges.now feature_flags) machine.now C.advances C.actionable C.act)
+        (config buffer.old context.old run_state.old)
+        ≡ turn_of goes (config buffer.new context.new run_state.new)) }
     ensures ids { OnOk result (IsSmall buffer.new) }
-    ensures reason { IfErr result (IsRefusal buffer.old (left_by (turn (machine_with (is_driven_on ranges.now feature_flags) machine.now C.advances C.actionable C.act) (config buffer.old context.old place.old))).buffer) }
+    ensures reason { IfErr result (IsRefusal buffer.old (left_by
+        (turn (machine_with (is_driven_on ranges.now feature_flags) machine.now C.advances C.actionable C.act)
+        (config buffer.old context.old run_state.old))).buffer) }
     ensures refused { OnErr result (IsRefused buffer.old buffer.new) }
 {
-    count(buffer, place);
-    if is_driven_on(ranges, feature_flags, last_range, place.last) {
-        act_by_entry(machine, context, buffer, place)
+    count(buffer, run_state);
+    if is_driven_on(ranges, feature_flags, last_range, run_state.last_cluster) {
+        act_by_entry(machine, context, buffer, run_state)
     } else if buffer.backtrack_len() < buffer.len() {
-        place.state = 0;
+        run_state.state = START_OF_TEXT;
         buffer.next_glyph();
         Ok(true)
     } else {

@@ -4,7 +4,7 @@ use Rattle.std.specs.Int.{int_wrap}
 use Rattle.aat_buffer.specs.Marks.{merged_out}
 use Rattle.aat_buffer.specs.Removal.{removal, cluster_kept_line, lowered_run}
 use Rattle.aat_run.specs.Driven.{machine_run}
-use Rattle.aat_run.specs.Machine.{run, whole, turn, off, by_entry, acted, marked}
+use Rattle.aat_run.specs.Machine.{run, run_to_end, turn, off, by_entry, acted, marked}
 use Rattle.aat_run.specs.Safe.{is_safe}
 use Rattle.aat_kinds.specs.Kinds.{ligature_run}
 use Rattle.aat_kinds.specs.Ligature as ligature
@@ -16,7 +16,7 @@ use Rattle.aat_shaping.specs.Shaping.{shaped_by}
 use Rattle.aat_shaping.specs.ShapingRows.{ShapingRows}
 
 pub shaping_rows : ShapingRows
-unfolding shaped_by subtable_run machine_run run whole turn off by_entry acted marked is_safe merged_out removal cluster_kept_line lowered_run ligature_run ligature.act ligature.ligated ligature.component_step ligature.stored ligature.later_deleted int_wrap kerned pair_kerning pairs_of positioned positioning kern_positioning
+unfolding shaped_by subtable_run machine_run run run_to_end turn off by_entry acted marked is_safe merged_out removal cluster_kept_line lowered_run ligature_run ligature.act ligature.ligated ligature.component_step ligature.stored ligature.later_deleted int_wrap kerned pair_kerning pairs_of positioned positioning kern_positioning
 shaping_rows = record {
   row_38a = refl;
   row_38b = refl;

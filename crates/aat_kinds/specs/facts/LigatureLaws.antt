@@ -1,15 +1,13 @@
 -- The laws of the ligature act.
-use Rattle.std.proofs.Common.{◌≡◌, ◌≢◌, ◌⊎◌, inl, inr, zero, suc, ℕ, ◌+◌, ◌-◌, ◌%◌, ◌<◌, ◌≤◌, ◌&&◌, ◌==◌, not, min, pos, ◌+ℤ◌, List, length, nat_le, IsTrue, Option, Some, None, refl, sym, ap, ◌∙◌, arith, nat_lt, length-set, get_or, set, get_or-set_same, get_or-set_other}
+use Rattle.std.proofs.Common.{◌≡◌, ◌≢◌, ◌⊎◌, inl, inr, zero, suc, ℕ, ◌+◌, ◌-◌, ◌%◌, ◌<◌, ◌≤◌, ◌&&◌, ◌==◌, pos, ◌+ℤ◌, List, length, IsTrue, Option, Some, None, refl, sym, ap, ◌∙◌, arith, nat_lt, length-set, get_or, set, get_or-set_same, get_or-set_other}
 use Rattle.std.proofs.lemmas.Bool.{cases_eq}
-use Rattle.std.specs.Prelude.{slice_get, slice_set, slice_range, All}
-use Rattle.std.proofs.lemmas.Bool.Decides.{nat_tests}
+use Rattle.std.specs.Prelude.{slice_get, slice_set, All}
 use Rattle.std.proofs.lemmas.List.Elements.{All-set}
 use Rattle.std.proofs.lemmas.Option.{get_or_from_slice_get, slice_get_within}
 use Rattle.std.proofs.lemmas.List.{length-map, length-replicate, get_or-map}
 use Rattle.aat_buffer.specs.Buffer.{Buffer, Is16Bit, glyph_at, no_glyph}
 use Rattle.aat_buffer.specs.Marks.{merge_out_clusters, with_line, cluster_at}
 use Rattle.aat_buffer.specs.Clusters.{IsSmall, ids}
-use Rattle.aat_buffer.specs.facts.Clusters.{map_span}
 use Rattle.aat_glyph.specs.declared.glyph.hb_glyph_info_t.{hb_glyph_info_t}
 use Rattle.aat_font.specs.declared.plan.GlyphId.{GlyphId}
 use Rattle.aat_font.specs.declared.state_table.GenericStateEntry.{GenericStateEntry}

@@ -6,7 +6,7 @@ use Rattle.aat_font.specs.declared.state_table.GenericStateEntry.{GenericStateEn
 use Rattle.aat_run.specs.Context.{Context, Config, Machine, machine_of, start}
 use Rattle.aat_run.specs.Driven.{machine_run, outcome_of, positions_behind}
 use Rattle.aat_run.specs.Laws.{KeepsFit, PassesFit, Pays, Bounded, Lengthens, MakesNoPositions, KeepsSettings, KeepsPlaceWhere, SameSettings, IsBounded}
-use Rattle.aat_run.specs.Machine.{whole}
+use Rattle.aat_run.specs.Machine.{run_to_end}
 use Rattle.aat_run.specs.facts.MachineRuns.{whole_bounded, whole_counts, whole_longer, whole_in_place, whole_settings, whole_keeps_positions, whole_makes_none}
 
 module _ {T R : Type 0} (on : ℕ → Bool) (table : TableValue (GenericStateEntry T)) (x : Context R (GenericStateEntry T)) (fits : R → ℕ → ℕ → Type 0)
@@ -23,7 +23,7 @@ module _ {T R : Type 0} (on : ℕ → Bool) (table : TableValue (GenericStateEnt
     unfolding machine_run m from_place
     run_is_bounded bounded lengthens = by_place x.in_place
       where
-        by_place : (p : Bool) → IsBounded b (outcome_of (whole m (from_place p)))
+        by_place : (p : Bool) → IsBounded b (outcome_of (run_to_end m (from_place p)))
         by_place true = record {
           turns = omega (arith, whole_counts m fits keeps passes pays (from_place true) fit);
           extent = whole_bounded m fits keeps passes pays bounded (from_place true) fit;
@@ -40,7 +40,7 @@ module _ {T R : Type 0} (on : ℕ → Bool) (table : TableValue (GenericStateEnt
     unfolding machine_run m from_place
     run_keeps_settings settings = by_place x.in_place
       where
-        by_place : (p : Bool) → SameSettings b (outcome_of (whole m (from_place p))).buffer
+        by_place : (p : Bool) → SameSettings b (outcome_of (run_to_end m (from_place p))).buffer
         by_place true =
             let k = whole_settings m fits keeps passes pays settings (from_place true) fit in
             record { direction = k.direction; cluster_level = k.cluster_level; flags = k.flags; scratch_flags = k.scratch_flags; max_len = k.max_len; successful = k.successful }
@@ -53,7 +53,7 @@ module _ {T R : Type 0} (on : ℕ → Bool) (table : TableValue (GenericStateEnt
     unfolding machine_run m from_place
     run_positions none place = by_place x.in_place place
       where
-        by_place : (p : Bool) → KeepsPlaceWhere x.act fits p → (outcome_of (whole m (from_place p))).buffer.positions ≡ positions_behind p b
+        by_place : (p : Bool) → KeepsPlaceWhere x.act fits p → (outcome_of (run_to_end m (from_place p))).buffer.positions ≡ positions_behind p b
         by_place true place = whole_keeps_positions m fits keeps passes pays (place refl).positions (from_place true) fit
         by_place false place = whole_makes_none m fits keeps passes pays none (from_place false) fit refl
 
@@ -62,6 +62,6 @@ module _ {T R : Type 0} (on : ℕ → Bool) (table : TableValue (GenericStateEnt
     unfolding machine_run m from_place
     run_in_place place is_so = by_place x.in_place place is_so
       where
-        by_place : (p : Bool) → KeepsPlaceWhere x.act fits p → p ≡ true → length (outcome_of (whole m (from_place p))).buffer.line ≡ length b.line
+        by_place : (p : Bool) → KeepsPlaceWhere x.act fits p → p ≡ true → length (outcome_of (run_to_end m (from_place p))).buffer.line ≡ length b.line
         by_place true place is_so = whole_in_place m fits keeps passes pays (place refl).length (from_place true) fit
         by_place false place is_so = absurd (grind (arith, is_so))

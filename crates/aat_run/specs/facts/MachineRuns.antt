@@ -9,7 +9,7 @@ use Rattle.aat_run.specs.Budget.{paid, has_operations, operations_left, potentia
 use Rattle.aat_run.specs.Context.{cluster_seen, Machine, Config, is_at_end, is_inside, class_at}
 use Rattle.aat_run.specs.facts.Settings.{settings_stay, settings_then}
 use Rattle.aat_run.specs.Laws.{KeepsFit, PassesFit, Pays, Bounded, Lengthens, KeepsLength, KeepsPositions, MakesNoPositions, KeepsSettings, SameSettings, Stands, RunsEnd}
-use Rattle.aat_run.specs.Machine.{Turn, Ends, Goes, left_by, behind_act, passed, stepped, break_marked_at, marked, acted, by_entry, off, counted, turn, whole}
+use Rattle.aat_run.specs.Machine.{Turn, Ends, Goes, left_by, behind_act, passed, stepped, break_marked_at, marked, acted, by_entry, off, counted, turn, run_to_end}
 use Rattle.aat_run.specs.Safe.{is_safe}
 use Rattle.aat_buffer.specs.facts.Cases.{chosen, either}
 use Rattle.aat_buffer.specs.facts.Lines.{length_unsafe}
@@ -119,8 +119,8 @@ module _ {R E : Type 0} (m : Machine R E) (Fits : R → ℕ → ℕ → Type 0)
         (λ _. by_entry_falls (m.entry d.state (class_at m.class_of d.buffer)) d stands) (λ _. off_falls d stands)
 
     -- a whole run is one turn, and the whole run of what it leaves
-    pub whole_step : (c : Config R) → Stands Fits c → whole m c ≡ followed (whole m) (turn m c)
-    unfolding whole
+    pub whole_step : (c : Config R) → Stands Fits c → run_to_end m c ≡ followed (run_to_end m) (turn m c)
+    unfolding run_to_end
     whole_step c stands = turns.whole_step (turn m) Fits turn_falls c stands
 
     -- it ends by itself
@@ -128,13 +128,13 @@ module _ {R E : Type 0} (m : Machine R E) (Fits : R → ℕ → ℕ → Type 0)
     runs_end c stands = turns.whole_ends (turn m) Fits turn_falls c stands
 
     -- its turns are at most the potential and one more
-    pub whole_counts : (c : Config R) → Stands Fits c → (whole m c).turns ≤ c.turns + (potential c.buffer + 1)
-    unfolding whole
+    pub whole_counts : (c : Config R) → Stands Fits c → (run_to_end m c).turns ≤ c.turns + (potential c.buffer + 1)
+    unfolding run_to_end
     whole_counts c stands = turns.whole_counts (turn m) Fits turn_falls (turn_counts m) c stands
 
     -- what each turn keeps, a whole run keeps
-    pub whole_keeps : (P : Config R → Type 0) → ((c : Config R) → Stands Fits c → P c → P (left_by (turn m c))) → (c : Config R) → Stands Fits c → P c → P (whole m c)
-    unfolding whole
+    pub whole_keeps : (P : Config R → Type 0) → ((c : Config R) → Stands Fits c → P c → P (left_by (turn m c))) → (c : Config R) → Stands Fits c → P c → P (run_to_end m c)
+    unfolding run_to_end
     whole_keeps P step c stands p = turns.whole_keeps (turn m) Fits turn_falls P step c stands p
 
     module _ (Q : Buffer → Type 0)
@@ -174,11 +174,11 @@ module _ {R E : Type 0} (m : Machine R E) (Fits : R → ℕ → ℕ → Type 0)
             (λ _. by_entry_keeps (m.entry d.state (class_at m.class_of d.buffer)) d stands q) (λ _. off_keeps d q)
 
         -- and so does a whole run
-        pub buffer_kept : (c : Config R) → Stands Fits c → Q c.buffer → Q (whole m c).buffer
+        pub buffer_kept : (c : Config R) → Stands Fits c → Q c.buffer → Q (run_to_end m c).buffer
         buffer_kept c stands q = whole_keeps (λ (d : Config R). Q d.buffer) turn_keeps c stands q
 
     -- where no act adds to length and budget, no run does
-    pub whole_bounded : Bounded m.act Fits → (c : Config R) → Stands Fits c → extent (whole m c).buffer ≤ extent c.buffer
+    pub whole_bounded : Bounded m.act Fits → (c : Config R) → Stands Fits c → extent (run_to_end m c).buffer ≤ extent c.buffer
     whole_bounded law c stands =
         buffer_kept (λ b. extent b ≤ extent c.buffer)
         (λ b q. omega (arith, q, length_unsafe b (Some (b.cursor - 1)) (Some (b.cursor + 1))))
@@ -186,7 +186,7 @@ module _ {R E : Type 0} (m : Machine R E) (Fits : R → ℕ → ℕ → Type 0)
         (λ b q. q) (λ b q. omega (arith, q, paid_less 1 b.max_ops)) c stands (omega arith)
 
     -- where no act shortens the line, no run does
-    pub whole_longer : Lengthens m.act Fits → (n : ℕ) (c : Config R) → Stands Fits c → n ≤ length c.buffer.line → n ≤ length (whole m c).buffer.line
+    pub whole_longer : Lengthens m.act Fits → (n : ℕ) (c : Config R) → Stands Fits c → n ≤ length c.buffer.line → n ≤ length (run_to_end m c).buffer.line
     whole_longer law n c stands more =
         buffer_kept (λ b. n ≤ length b.line)
         (λ b q. omega (arith, q, length_unsafe b (Some (b.cursor - 1)) (Some (b.cursor + 1))))
@@ -194,16 +194,16 @@ module _ {R E : Type 0} (m : Machine R E) (Fits : R → ℕ → ℕ → Type 0)
         (λ b q. q) (λ b q. q) c stands more
 
     -- a line that is long behind a turn is long behind the run
-    pub longer_after : Lengthens m.act Fits → (n : ℕ) (c : Config R) → Stands Fits c → n ≤ length (left_by (turn m c)).buffer.line → n ≤ length (whole m c).buffer.line
+    pub longer_after : Lengthens m.act Fits → (n : ℕ) (c : Config R) → Stands Fits c → n ≤ length (left_by (turn m c)).buffer.line → n ≤ length (run_to_end m c).buffer.line
     longer_after law n c stands more =
         rw (whole_step c stands) (by_turn (turn m c) (turn_falls c stands) more)
       where
-        by_turn : (t : Turn (Config R)) → OnGoes (Lower Fits (potential c.buffer)) t → n ≤ length (left_by t).buffer.line → n ≤ length (followed (whole m) t).buffer.line
+        by_turn : (t : Turn (Config R)) → OnGoes (Lower Fits (potential c.buffer)) t → n ≤ length (left_by t).buffer.line → n ≤ length (followed (run_to_end m) t).buffer.line
         by_turn (Ends d) h more = more
         by_turn (Goes d) h more = whole_longer law n d h.1 more
 
     -- where acts keep the length, a run does
-    pub whole_in_place : KeepsLength m.act Fits → (c : Config R) → Stands Fits c → length (whole m c).buffer.line ≡ length c.buffer.line
+    pub whole_in_place : KeepsLength m.act Fits → (c : Config R) → Stands Fits c → length (run_to_end m c).buffer.line ≡ length c.buffer.line
     whole_in_place law c stands =
         buffer_kept (λ b. length b.line ≡ length c.buffer.line)
         (λ b q. length_unsafe b (Some (b.cursor - 1)) (Some (b.cursor + 1)) ∙ q)
@@ -227,7 +227,7 @@ module _ {R E : Type 0} (m : Machine R E) (Fits : R → ℕ → ℕ → Type 0)
         (λ e r b fit q. omega (arith, q, law e r b fit))
         (λ b q. q) (λ b q. q) c stands more
 
-    pub whole_settings : KeepsSettings m.act Fits → (c : Config R) → Stands Fits c → SameSettings c.buffer (whole m c).buffer
+    pub whole_settings : KeepsSettings m.act Fits → (c : Config R) → Stands Fits c → SameSettings c.buffer (run_to_end m c).buffer
     whole_settings law c stands =
         buffer_kept (SameSettings c.buffer)
         (λ b q. settings_then c.buffer b _ q (record { direction = refl; cluster_level = refl; flags = refl; scratch_flags = refl; max_len = refl; successful = refl }))
@@ -237,10 +237,10 @@ module _ {R E : Type 0} (m : Machine R E) (Fits : R → ℕ → ℕ → Type 0)
         c stands (settings_stay c.buffer)
 
     -- where acts keep the positions, a run does, and where they make none, it makes none
-    pub whole_keeps_positions : KeepsPositions m.act Fits → (c : Config R) → Stands Fits c → (whole m c).buffer.positions ≡ c.buffer.positions
+    pub whole_keeps_positions : KeepsPositions m.act Fits → (c : Config R) → Stands Fits c → (run_to_end m c).buffer.positions ≡ c.buffer.positions
     whole_keeps_positions law c stands =
         buffer_kept (λ b. b.positions ≡ c.buffer.positions) (λ b q. q) (λ e r b fit q. law e r b fit ∙ q) (λ b q. q) (λ b q. q) c stands refl
 
-    pub whole_makes_none : MakesNoPositions m.act Fits → (c : Config R) → Stands Fits c → c.buffer.positions ≡ None → (whole m c).buffer.positions ≡ None
+    pub whole_makes_none : MakesNoPositions m.act Fits → (c : Config R) → Stands Fits c → c.buffer.positions ≡ None → (run_to_end m c).buffer.positions ≡ None
     whole_makes_none law c stands none =
         buffer_kept (λ b. b.positions ≡ None) (λ b q. q) (λ e r b fit q. law e r b fit q) (λ b q. q) (λ b q. q) c stands none

@@ -4,7 +4,7 @@ use Rattle.std.proofs.lemmas.Bool.Decides.{nat_tests}
 use Rattle.aat_buffer.specs.Buffer.{with_cursor}
 use Rattle.aat_run.specs.Budget.{potential}
 use Rattle.aat_run.specs.Context.{Machine, Config, is_at_end}
-use Rattle.aat_run.specs.Machine.{Ends, Goes, counted, off, passed, run, turn, whole}
+use Rattle.aat_run.specs.Machine.{Ends, Goes, counted, off, passed, run, turn, run_to_end}
 use Rattle.aat_run.specs.facts.MachineRuns.{turn_when_off}
 use Rattle.aat_run.specs.facts.Runs.{run_step}
 
@@ -41,6 +41,6 @@ module _ {R E : Type 0} (m : Machine R E) (nowhere : (x : ℕ) → m.on x ≡ fa
       (record { buffer = rest.buffer; registers = rest.registers; counted = omega (arith, rest.counted) })
 
   -- the whole run from the front
-  pub passed_over : (c : Config R) → c.buffer.cursor ≡ 0 → IsPassedOver c (whole m c) (length c.buffer.line + 1)
-  unfolding whole
+  pub passed_over : (c : Config R) → c.buffer.cursor ≡ 0 → IsPassedOver c (run_to_end m c) (length c.buffer.line + 1)
+  unfolding run_to_end
   passed_over c front = passed_by (potential c.buffer + 1) (length c.buffer.line) c (omega (arith, front)) (omega (arith, front))

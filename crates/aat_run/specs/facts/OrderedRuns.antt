@@ -8,7 +8,7 @@ use Rattle.aat_font.specs.declared.state_table.GenericStateEntry.{GenericStateEn
 use Rattle.aat_run.specs.Context.{Context, Config, Machine, machine_of, start}
 use Rattle.aat_run.specs.Driven.{machine_run, outcome_of}
 use Rattle.aat_run.specs.Laws.{KeepsFit, PassesFit, Pays, KeepsSettings, KeepsClusterOrder, HasOrderOf}
-use Rattle.aat_run.specs.Machine.{whole}
+use Rattle.aat_run.specs.Machine.{run_to_end}
 use Rattle.aat_run.specs.facts.MachineRuns.{buffer_kept}
 
 module _ {T Q : Type 0} (on : ℕ → Bool) (table : TableValue (GenericStateEntry T)) (x : Context Q (GenericStateEntry T)) (fits : Q → ℕ → ℕ → Type 0)
@@ -32,16 +32,16 @@ module _ {T Q : Type 0} (on : ℕ → Bool) (table : TableValue (GenericStateEnt
             m : Machine Q (GenericStateEntry T)
             m = machine_of on table x
 
-            from_here : (c : Config Q) → fits c.registers c.buffer.cursor (length c.buffer.line) → Kept R same b c.buffer → Kept R same b (outcome_of (whole m c)).buffer
+            from_here : (c : Config Q) → fits c.registers c.buffer.cursor (length c.buffer.line) → Kept R same b c.buffer → Kept R same b (outcome_of (run_to_end m c)).buffer
             from_here c stands begun =
-                kept_same R same b (whole m c).buffer _ refl refl (λ n low. refl)
+                kept_same R same b (run_to_end m c).buffer _ refl refl (λ n low. refl)
                 (buffer_kept m fits keeps passes pays (Kept R same b)
                 (λ d k. kept_unsafe R same b d (Some (d.cursor - 1)) (Some (d.cursor + 1)) k)
                 (λ e s d fit k. kept_trans b d (x.act e s d).buffer k (each e s d fit))
                 (λ d k. kept_same R same b d _ refl refl (λ n low. refl) k)
                 (λ d k. kept_same R same b d _ refl refl (λ n low. refl) k) c stands begun)
 
-            by_place : (p : Bool) → Kept R same b (outcome_of (whole m (start p b x.fresh))).buffer
+            by_place : (p : Bool) → Kept R same b (outcome_of (run_to_end m (start p b x.fresh))).buffer
             by_place true = from_here (start true b x.fresh) fit (kept_same R same b b _ refl refl (λ n low. refl) (kept_refl R same b))
             by_place false = from_here (start false b x.fresh) fit (kept_same R same b b _ refl refl (λ n low. refl) (kept_refl R same b))
 

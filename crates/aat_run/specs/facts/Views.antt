@@ -3,7 +3,7 @@ use Rattle.std.proofs.Common.{◌≡◌, ℕ, ◌+◌, ◌&&◌, ◌==◌, not, 
 use Rattle.aat_buffer.specs.Buffer.{Buffer}
 use Rattle.aat_run.specs.Context.{Machine, Moved, Config, is_at_end, is_inside, class_at}
 use Rattle.aat_run.specs.Truth.{is_alike}
-use Rattle.aat_run.specs.Machine.{Turn, Ends, Goes, behind_act, settled_by, stepped, break_marked_at, marked, acted, by_entry, off, passed, counted, turn, whole}
+use Rattle.aat_run.specs.Machine.{Turn, Ends, Goes, behind_act, settled_by, stepped, break_marked_at, marked, acted, by_entry, off, passed, counted, turn, run_to_end}
 use Rattle.aat_run.specs.Safe.{is_safe}
 use Rattle.aat_run.specs.Budget.{potential}
 use Rattle.aat_run.specs.inside.Branches.{safe_branches, acts, does_alike, is_idle_at_end}
@@ -116,6 +116,6 @@ module _ {R S E : Type 0} (on : ℕ → Bool) (class_of : ℕ → Option ℕ) (e
         (λ _. chosen (OnGoes (λ (x : Config S). Good x.registers)) (is_at_end d.buffer) (Ends d) (Goes _) (λ _. tt) (λ _. good))
 
     -- the run of the context, seen by the registers of the definition, is the run of the definition
-    pub whole_is_seen : (c : Config S) → Good c.registers → whole plain (seen c) ≡ seen (whole held c)
-    unfolding whole
+    pub whole_is_seen : (c : Config S) → Good c.registers → run_to_end plain (seen c) ≡ seen (run_to_end held c)
+    unfolding run_to_end
     whole_is_seen c good = run_maps seen (turn plain) (turn held) (λ (d : Config S). Good d.registers) same_turn good_turn (potential c.buffer + 1) c good

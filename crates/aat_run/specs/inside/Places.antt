@@ -3,15 +3,15 @@ use Rattle.std.specs.Prelude.{◌≡◌, ℕ, Bool, true, false}
 use Rattle.aat_buffer.specs.Buffer.{Buffer}
 use Rattle.aat_run.specs.Context.{Config, Moved, first_config}
 use Rattle.aat_run.specs.Machine.{Turn, Ends, Goes}
-use Rattle.aat_run.specs.declared.place.Place.{Place}
+use Rattle.aat_run.specs.declared.run_state.RunState.{RunState}
 
 -- registers and a buffer, as an act leaves them
 abbrev pub left_with : {R : Type 0} → R → Buffer → Moved R
 left_with r b = record { registers = r; buffer = b }
 
--- a buffer, registers and a place make up where a run stands
-abbrev pub config : {R : Type 0} → Buffer → R → Place → Config R
-config b r place = record (first_config b r) { state = place.state; last = place.last; turns = place.turns }
+-- a buffer, registers and the state of a run make up where it stands
+abbrev pub config : {R : Type 0} → Buffer → R → RunState → Config R
+config b r s = record (first_config b r) { state = s.state; last = s.last_cluster; turns = s.turns }
 
 -- a turn leaves this: the run goes on from there, or ends there
 abbrev pub turn_of : {C : Type 0} → Bool → C → Turn C

@@ -17,12 +17,12 @@ returns-clause-run g c =
     let lookups = c.subtable.inside.lookups.items in
     let b = c.args.buffer.now in
     let classes = glyph_classes_of run.face.now in
-    let same = driven_is_switched run.ranges.now run.feature_flags c.requires.gapless c.requires.whole c.requires.on in
+    let same = driven_is_switched run.ranges.now run.feature_flags c.requires.ranges.gapless c.requires.ranges.whole c.requires.ranges.on in
     rw (← c.subtable.view_is) (
     ok_map c.run_machine.result _ _
     (λ turns h.
     h
-    ∙ ap (λ (x : Held). machine_run (is_driven_on run.ranges.now run.feature_flags) state (context_from true goes_on held_actionable held_act x) b) c.new-context.ensures
+    ∙ ap (λ (x : Held). machine_run (is_driven_on run.ranges.now run.feature_flags) state (context_from true goes_on held_actionable held_act x) b) c.new-context.ensures.value
     ∙ ap (λ (v : ContextualTables). machine_run (is_driven_on run.ranges.now run.feature_flags) state (context_from true goes_on held_actionable held_act (record { classes = classes; lookups = v.lookups; registers = fresh })) b)
     (sym c.subtable.view_is)
     ∙ ap (λ (on : ℕ → Bool). machine_run on state (context_from true goes_on held_actionable held_act (record { classes = classes; lookups = lookups; registers = fresh })) b) same

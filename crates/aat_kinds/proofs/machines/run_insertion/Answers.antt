@@ -15,7 +15,7 @@ returns-clause-run g c =
     let run = c.args.run.now in
     let a = c.subtable.inside in
     let b = c.args.buffer.now in
-    let same = driven_is_switched run.ranges.now run.feature_flags c.requires.gapless c.requires.whole c.requires.on in
+    let same = driven_is_switched run.ranges.now run.feature_flags c.requires.ranges.gapless c.requires.ranges.whole c.requires.ranges.on in
     rw (← c.subtable.view_is) (ok_map c.run_machine.result _ _
     (λ turns h.
     h
@@ -34,7 +34,7 @@ returns-clause-reason g c =
     let run = c.args.run.now in
     let a = c.subtable.inside in
     let b = c.args.buffer.now in
-    let same = driven_is_switched run.ranges.now run.feature_flags c.requires.gapless c.requires.whole c.requires.on in
+    let same = driven_is_switched run.ranges.now run.feature_flags c.requires.ranges.gapless c.requires.ranges.whole c.requires.ranges.on in
     rw (← c.subtable.view_is) (err_map c.run_machine.result (λ (o : Outcome) e. IsRefusal b o.buffer e) _ _
     (ap (λ (x : Held). machine_run (is_driven_on run.ranges.now run.feature_flags) a.state (context_from false goes_on held_actionable held_act x) b) c.new-context.ensures.value
     ∙ ap (λ (glyphs : List GlyphId). machine_run (is_driven_on run.ranges.now run.feature_flags) a.state (context_from false goes_on held_actionable held_act (held glyphs fresh)) b) c.deref.ensures.value

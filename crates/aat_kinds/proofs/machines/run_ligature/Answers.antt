@@ -14,7 +14,7 @@ returns-clause-run g c =
     let run = c.args.run.now in
     let a = c.subtable.inside in
     let b = c.args.buffer.now in
-    let same = driven_is_switched run.ranges.now run.feature_flags c.requires.gapless c.requires.whole c.requires.on in
+    let same = driven_is_switched run.ranges.now run.feature_flags c.requires.ranges.gapless c.requires.ranges.whole c.requires.ranges.on in
     rw (← c.subtable.view_is) (ok_map c.run_machine.result _ _
     (λ turns h.
     h

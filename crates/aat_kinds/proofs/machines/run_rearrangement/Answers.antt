@@ -13,11 +13,11 @@ returns-clause-run g c =
     let run = c.args.run.now in
     let table = c.args.table.now in
     let b = c.args.buffer.now in
-    let same = driven_is_switched run.ranges.now run.feature_flags c.requires.gapless c.requires.whole c.requires.on in
+    let same = driven_is_switched run.ranges.now run.feature_flags c.requires.ranges.gapless c.requires.ranges.whole c.requires.ranges.on in
     ok_map c.run_machine.result _ _
     (λ turns h.
     h
-    ∙ ap (λ (x : Registers). machine_run (is_driven_on run.ranges.now run.feature_flags) table (context_from true goes_on actionable (act g.row.LONGEST) x) b) c.with_longest-context.ensures
+    ∙ ap (λ (x : Registers). machine_run (is_driven_on run.ranges.now run.feature_flags) table (context_from true goes_on actionable (act g.row.LONGEST) x) b) c.with_longest-context.ensures.value
     ∙ ap (λ (on : ℕ → Bool). machine_run on table (context_from true goes_on actionable (act g.row.LONGEST) fresh) b) same
     ∙ rearrangement_is_driven g.row.LONGEST ((switch_for run.ranges.now).is_on run.feature_flags) table b)
     c.run_machine.ensures.run

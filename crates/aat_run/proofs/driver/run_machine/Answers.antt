@@ -15,16 +15,6 @@ returns-clause-bounded g c =
     let done = ran on c.args.machine.now x c.args.buffer.now c.begin.new.buffer c.take_turns.new.buffer c.sync.new.self c.in_ok-turns.turns c.in_place.result c.in_place.ensures c.begin.ensures c.in_ok-turns.ensures.run c.sync.ensures in
     rw done (run_is_bounded on c.args.machine.now x context.fits laws.keeps_fit laws.passes_fit laws.pays c.args.buffer.now c.requires.fit laws.bounded laws.lengthens)
 
-pub returns-clause-successful : goal.returns-clause-successful
-returns-clause-successful g c =
-    let context = g.C.driver_context_t in
-    let laws = g.met.C.driver_context_t in
-    let on = is_driven_on c.args.ranges.now c.args.feature_flags in
-    let x = context_from context.stays_in_place context.advances context.actionable context.act c.args.context.now in
-    let done = ran on c.args.machine.now x c.args.buffer.now c.begin.new.buffer c.take_turns.new.buffer c.sync.new.self c.in_ok-turns.turns c.in_place.result c.in_place.ensures c.begin.ensures c.in_ok-turns.ensures.run c.sync.ensures in
-    ap (λ (o : Outcome). o.buffer.successful) done
-    ∙ (run_keeps_settings on c.args.machine.now x context.fits laws.keeps_fit laws.passes_fit laws.pays c.args.buffer.now c.requires.fit laws.keeps_settings).successful
-
 pub returns-clause-settings : goal.returns-clause-settings
 returns-clause-settings g c =
     let context = g.C.driver_context_t in

@@ -14,7 +14,7 @@ invariant-loop g l =
     let context = g.C.driver_context_t in
     let m = machine_with (is_driven_on l.fn.ranges l.fn.feature_flags) l.fn.machine context.advances context.actionable context.act in
     record {
-      come : HasCome (turn m) context.fits (first_config l.fn.buffer l.fn.context) (config l.buffer l.context l.place);
+      come : HasCome (turn m) context.fits (first_config l.fn.buffer l.fn.context) (config l.buffer l.context l.run_state);
       ids : IsSmall l.buffer;
       settings : SameSettings l.fn.buffer l.buffer;
       longer : length l.fn.buffer.line ≤ length l.buffer.line;

@@ -1,7 +1,7 @@
 use Rattle.std.specs.Prelude.{Some}
 use Rattle.std.proofs.Common.{◌-◌, ◌+◌}
 use Rattle.aat_buffer.specs.facts.Ids.{small_of_unsafe}
-use Rattle.aat_run.proofs.turns.mark.Goals as goal
+use Rattle.aat_run.proofs.turns.mark_unsafe.Goals as goal
 
 pub returns-then-not-is_safe-clause-ids : goal.returns-then-not-is_safe-clause-ids
 returns-then-not-is_safe-clause-ids g c =

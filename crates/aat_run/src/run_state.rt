@@ -2,8 +2,8 @@
 
 /// The state, the last cluster that was looked at, and the turns so far.
 #[derive(Clone, Copy)]
-pub(crate) struct Place {
+pub(crate) struct RunState {
     pub state: u16,
-    pub last: u32,
+    pub last_cluster: u32,
     pub turns: u64,
 }
