@@ -61,8 +61,11 @@ impl<'a> Driver4<'a> {
         requires inside { buffer.old.cursor < length buffer.old.line }
         requires ids { IsSmall buffer.old }
         requires placed { IsPlaced buffer.old }
-        ensures standing { OnTrue result (anchored self.now.points aat.now.anchor_points index mark buffer.old ≡ Some buffer.new) }
-        ensures missing { result ≡ false → (anchored self.now.points aat.now.anchor_points index mark buffer.old ≡ None) × (buffer.new ≡ buffer.old) }
+        ensures standing { OnTrue result
+            (anchored self.now.points aat.now.anchor_points index mark buffer.old ≡ Some buffer.new) }
+        ensures missing { result ≡ false
+            → (anchored self.now.points aat.now.anchor_points index mark buffer.old ≡ None)
+            × (buffer.new ≡ buffer.old) }
         ensures line { buffer.new.line ≡ buffer.old.line }
         ensures cursor { buffer.new.cursor ≡ buffer.old.cursor }
         ensures placed { IsPlaced buffer.new }
@@ -85,7 +88,8 @@ impl<'a> Driver4<'a> {
         requires fit { held_fit self.old buffer.old.cursor (length buffer.old.line) }
         requires ids { IsSmall buffer.old }
         requires placed { IsPlaced buffer.old }
-        ensures { record { registers = self.new; buffer = buffer.new } ≡ held_act aat.now.anchor_points entry.now self.old buffer.old }
+        ensures { record { registers = self.new; buffer = buffer.new }
+            ≡ held_act aat.now.anchor_points entry.now self.old buffer.old }
     {
         let place = buffer.backtrack_len();
         let index = entry.extra.action_index;
@@ -154,7 +158,8 @@ fn meet_points<A: Allocator + Copy>(
     requires ids { IsSmall buffer.old }
     requires placed { IsPlaced buffer.old }
     ensures standing { OnTrue result (anchored (Some ankr.now) pairs.now index mark buffer.old ≡ Some buffer.new) }
-    ensures missing { result ≡ false → (anchored (Some ankr.now) pairs.now index mark buffer.old ≡ None) × (buffer.new ≡ buffer.old) }
+    ensures missing { result ≡ false
+        → (anchored (Some ankr.now) pairs.now index mark buffer.old ≡ None) × (buffer.new ≡ buffer.old) }
     ensures line { buffer.new.line ≡ buffer.old.line }
     ensures cursor { buffer.new.cursor ≡ buffer.old.cursor }
     ensures placed { IsPlaced buffer.new }

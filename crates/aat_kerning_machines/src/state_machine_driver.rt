@@ -69,7 +69,8 @@ impl StateMachineDriver {
         buffer: &mut hb_buffer_t<A>,
     )
         requires { IsPlaced buffer.old }
-        ensures { left_with self.new buffer.new ≡ kern_act has_cross_stream plan.now.kern_mask aat.now.values entry.now self.old buffer.old }
+        ensures { left_with self.new buffer.new
+            ≡ kern_act has_cross_stream plan.now.kern_mask aat.now.values entry.now self.old buffer.old }
     {
         self.prepare(entry, buffer.backtrack_len());
         let first = entry.extra.value_index;
@@ -119,12 +120,14 @@ impl StateTableDriver<KernMachine, KernEntryData> for StateMachineDriver {
         requires fit { FitsAlways self.old buffer.old.cursor (length buffer.old.line) }
         requires ids { IsSmall buffer.old }
         requires placed { IsPlaced buffer.old }
-        ensures act { record { registers = self.new; buffer = buffer.new } ≡ kern_act has_cross_stream plan.now.kern_mask aat.now.values entry.now self.old buffer.old }
+        ensures act { record { registers = self.new; buffer = buffer.new }
+            ≡ kern_act has_cross_stream plan.now.kern_mask aat.now.values entry.now self.old buffer.old }
     {
         self.act(aat, entry, has_cross_stream, plan, buffer);
     }
 
-    ghost keeps_fit = { λ t is_cross kern_mask tuple_count. (laws.kern_is_lawful is_cross kern_mask t.values).keeps_fit };
+    ghost keeps_fit = { λ t is_cross kern_mask tuple_count.
+        (laws.kern_is_lawful is_cross kern_mask t.values).keeps_fit };
 
     ghost passes_fit = { λ r p n fit below. tt };
 
