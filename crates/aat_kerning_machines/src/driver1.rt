@@ -8,9 +8,10 @@ ghost use Rattle.aat_kerning_machines.specs.Stack.{kerx_act, pushed_by};
 ghost use Rattle.aat_run.specs.inside.Places.{left_with};
 
 use crate::stack::Stack;
-use crate::stack_values::{NO_INDEX, ValueList};
+use crate::stack_values::ValueList;
 use crate::state_table_driver::StateTableDriver;
 use aat_buffer::hb_buffer_t;
+use aat_font::entry_bits::NO_INDEX;
 use aat_font::{EntryData, GenericStateEntry, Subtable1, hb_ot_shape_plan_t};
 use std::alloc::Allocator;
 use std::marker::Model;

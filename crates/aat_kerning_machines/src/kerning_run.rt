@@ -16,6 +16,7 @@ use crate::run::KerningRun;
 use crate::run_state::RunState;
 use crate::state_table_driver::StateTableDriver;
 use aat_buffer::hb_buffer_t;
+use aat_font::entry_bits::state::START_OF_TEXT;
 use std::alloc::Allocator;
 
 /// Takes turns until one ends, and answers their number.
@@ -34,10 +35,12 @@ fn run_turns<Table, E: Copy, D: StateTableDriver<Table, E>, A: Allocator + Copy>
     ensures ids { IsSmall buffer.new }
     ensures placed { IsPlaced buffer.new }
 {
-    // how long the line is and how large the budget, so that the count of turns fits
     let _length = buffer.len();
     let _budget = buffer.max_ops();
-    let mut run_state = RunState { state: 0, turns: 0 };
+    let mut run_state = RunState {
+        state: START_OF_TEXT,
+        turns: 0,
+    };
     while turn_once(run, pays_first, driver, buffer, &mut run_state) {}
     run_state.turns
 }
@@ -65,7 +68,6 @@ fn run_machine<Table, E: Copy, D: StateTableDriver<Table, E>, A: Allocator + Cop
     ensures ids { IsSmall buffer.new }
     ensures placed { IsPlaced buffer.new }
 {
-    // how long the line is and how large the budget, so that the turns are few
     let _length = buffer.len();
     let _budget = buffer.max_ops();
     buffer.sync();

@@ -20,6 +20,8 @@ use crate::run_state::RunState;
 use crate::state_table_driver::StateTableDriver;
 use aat_buffer::hb_buffer_t;
 use aat_font::GenericStateEntry;
+use aat_font::entry_bits::class::END_OF_TEXT;
+use aat_font::entry_bits::state::START_OF_TEXT;
 use aat_run::class_at_cursor;
 use std::alloc::Allocator;
 
@@ -126,7 +128,6 @@ fn mark_behind<A: Allocator + Copy>(buffer: &mut hb_buffer_t<A>)
     ensures positions { buffer.new.positions ≡ buffer.old.positions }
     ensures ids { IsSmall buffer.new }
 {
-    // how long the line is, so that the end fits
     let _length = buffer.len();
     let p = buffer.backtrack_len();
     mark(buffer, p, p + 2);
@@ -141,7 +142,10 @@ fn depends_on_before<Table, E: Copy, D: StateTableDriver<Table, E>>(
     ensures { result ≡ (not (state == 0)
         && (D.actionable entry.now || (not (entry.now.new_state == 0) || goes_on entry.now))) }
 {
-    state != 0 && (driver.is_actionable(entry) || entry.new_state != 0 || entry.has_advance())
+    let has_effect = driver.is_actionable(entry)
+        || entry.new_state != START_OF_TEXT
+        || entry.has_advance();
+    state != START_OF_TEXT && has_effect
 }
 
 /// Marks the glyphs before and at the cursor where what stood before can matter.
@@ -189,12 +193,11 @@ fn look_ahead<Table, E: Copy, D: StateTableDriver<Table, E>, A: Allocator + Copy
     ensures positions { buffer.new.positions ≡ buffer.old.positions }
     ensures ids { IsSmall buffer.new }
 {
-    // how long the line is, so that the place behind the cursor fits
     let len = buffer.len();
     if buffer.backtrack_len() + 1 >= len {
         return true;
     }
-    let Some(at_end) = run.state_table.entry(run_state.state, 0) else {
+    let Some(at_end) = run.state_table.entry(run_state.state, END_OF_TEXT) else {
         return false;
     };
     if driver.is_actionable(&at_end) {

@@ -12,9 +12,6 @@ use crate::stack::Stack;
 use aat_buffer::{GlyphPosition, hb_buffer_t, hb_mask_t};
 use std::alloc::Allocator;
 
-/// The index of an entry that has none.
-pub(crate) const NO_INDEX: u16 = 0xFFFF;
-
 /// The value that takes a glyph back to the line.
 const BACK_TO_LINE: i32 = -0x8000;
 
@@ -213,7 +210,6 @@ impl<'a> ValueList<'a> {
             (value_at self.now.ends_at_missing self.now.values.now self.now.step)
             self.now.step stack.old first buffer.old }
     {
-        // how many places wait, so that the index behind the last one fits
         let _count = stack.len();
         let mut index = usize::from(first);
         while let Some(place) = stack.pop() {
