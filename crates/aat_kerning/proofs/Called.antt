@@ -1,5 +1,5 @@
 -- What the calls of kerning leave, from what their loops leave.
-use Rattle.std.proofs.Common.{◌≡◌, ◌∙◌, ap, sym, subst, refl, ℕ, ◌+◌, ◌*◌, ◌≤◌, Bool, true, false, true≢false, List, [], Option, Some, None, map, length, arith}
+use Rattle.std.proofs.Common.{◌≡◌, ◌∙◌, ap, sym, subst, refl, ℕ, ◌+◌, ◌*◌, Bool, true, false, true≢false, List, [], Option, Some, None, map, length}
 use Rattle.std.specs.Bool.{OnTrue}
 use Rattle.std.proofs.lemmas.Slice.Zip.{AllZip-long}
 use Rattle.std.specs.Prelude.{IsNone, IsSome, bit_and, is_some}
@@ -9,7 +9,6 @@ use Rattle.aat_font.specs.AnchorPoints.{Points}
 use Rattle.aat_font.specs.Face.{kern_in, kerx_in}
 use Rattle.aat_font.specs.declared.kern.KernSubtable.{KernSubtable}
 use Rattle.aat_font.specs.declared.kerx.KerxSubtable.{KerxSubtable}
-use Rattle.aat_run.specs.Budget.{operations_left}
 use Rattle.aat_run.specs.Outcome.{Outcome, untouched}
 use Rattle.aat_kerning.specs.Advances.{KernSumsAdvances, KerxSumsAdvances}
 use Rattle.aat_kerning.specs.Cut.{IsLeftOfAlikeParts, IsLeftOfParts}
@@ -41,10 +40,6 @@ placed_as_asked b false e placed some = absurd (true≢false (sym (e ∙ some)))
 -- and they still are where a line was kerned
 pub still_placed : (b d : Buffer) → IsKernedFrom b d → IsPlaced b → IsPlaced d
 still_placed b d kept placed = kept.text.positions ∙ (placed ∙ sym (AllZip-long IsMarkedFrom b.line d.line kept.line))
-
--- turns that are paid for, but for so many, are few
-pub bounded_by : (free : ℕ) (b d : Buffer) (n : ℕ) → IsPaidBeyond free b (record { buffer = d; turns = n }) → n ≤ free + operations_left b.max_ops
-bounded_by free b d n paid = omega (arith, paid)
 
 module _ (requested : Bool) (kern_mask : ℕ) (table : Option (List KernSubtable)) (b d : Buffer) (n : ℕ) where
   pub kern_called :

@@ -2,6 +2,7 @@ pub use Rattle.aat_buffer.specs.Clusters
 pub use Rattle.aat_buffer.specs.Removal
 pub mod Advances
 pub mod Cut
+pub mod FontKerning
 pub mod KerningExamples
 pub mod KerningLawful
 pub mod KerningRows

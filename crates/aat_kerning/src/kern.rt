@@ -1,14 +1,13 @@
 //! Kerning by the kerning table.
 ghost use Rattle.std.specs.Prelude.{◌≡◌, ℕ, ◌+◌, ◌*◌, ◌≤◌, ◌↔◌, All, bit_and, false, true, IfErr, IfOk, IsErrOf, IsNone, IsTrue, IsSome, length, map, OnErr, OnOk};
 ghost use Rattle.aat_buffer.specs.Clusters.{IsSmall};
-ghost use Rattle.aat_font.specs.Face.{kern_in, tables_of};
+ghost use Rattle.aat_font.specs.Face.{tables_of};
 ghost use Rattle.aat_kerning.specs.Advances.{KernSumsAdvances};
-ghost use Rattle.aat_kerning.specs.Cut.{IsLeftOfAlikeParts, IsLeftOfParts};
+ghost use Rattle.aat_kerning.specs.FontKerning.{KernCanBeCut, KernCanBeCutAlike, kern_subtables, kerned_by_kern};
 ghost use Rattle.aat_kerning.specs.KerningLawful.{KernPaysForStaying};
 ghost use Rattle.aat_kerning_machines.specs.KerningLaws.{IsKernedFrom};
 ghost use Rattle.aat_kerning_machines.specs.KerningMachine.{driver_run};
-ghost use Rattle.aat_kerning.specs.Pairs.{kern_skips};
-ghost use Rattle.aat_kerning.specs.Positioning.{AreKernPairs, Positioned, is_kern_pairs, kern_kerning, kern_positioning, kern_run, positioned, positioning};
+ghost use Rattle.aat_kerning.specs.Positioning.{AreKernPairs, Positioned, is_kern_pairs, kern_kerning, kern_run, positioned, positioning};
 ghost use Rattle.aat_kerning_machines.specs.Positions.{IsPlaced};
 ghost use Rattle.aat_kerning_machines.specs.Stack.{kern_driver};
 ghost use Rattle.aat_run.specs.Budget.{operations_left};
@@ -31,7 +30,9 @@ fn run_kern_machine<A: Allocator + Copy>(
 ) -> u64
     requires ids { IsSmall buffer.old }
     requires placed { IsPlaced buffer.old }
-    ensures run { record { buffer = buffer.new; turns = result } ≡ driver_run true machine.now.state_table (kern_driver has_cross_stream plan.now.kern_mask machine.now.values) buffer.old }
+    ensures run { record { buffer = buffer.new; turns = result }
+        ≡ driver_run true machine.now.state_table
+        (kern_driver has_cross_stream plan.now.kern_mask machine.now.values) buffer.old }
     ensures ids { IsSmall buffer.new }
     ensures placed { IsPlaced buffer.new }
 {
@@ -54,7 +55,8 @@ fn run_kern<A: Allocator + Copy>(
 ) -> u64
     requires ids { IsSmall buffer.old }
     requires placed { IsPlaced buffer.old }
-    ensures run { record { buffer = buffer.new; turns = result } ≡ kern_run plan.now.kern_mask subtable.now.has_cross_stream subtable.now.kind buffer.old }
+    ensures run { record { buffer = buffer.new; turns = result }
+        ≡ kern_run plan.now.kern_mask subtable.now.has_cross_stream subtable.now.kind buffer.old }
     ensures ids { IsSmall buffer.new }
     ensures placed { IsPlaced buffer.new }
 {
@@ -84,7 +86,10 @@ fn kern_by_kern<A: Allocator + Copy>(
 ) -> u64
     requires ids { IsSmall buffer.old }
     requires placed { IsPlaced buffer.old }
-    ensures positioned { (turns : ℕ) → record { buffer = buffer.new; turns = turns + result; is_attached = is_attached.new } ≡ positioned plan.now.requested_kerning (kern_kerning plan.now.kern_mask subtable.now) (record { buffer = buffer.old; turns = turns; is_attached = is_attached.old }) }
+    ensures positioned { (turns : ℕ) →
+        record { buffer = buffer.new; turns = turns + result; is_attached = is_attached.new }
+        ≡ positioned plan.now.requested_kerning (kern_kerning plan.now.kern_mask subtable.now)
+        (record { buffer = buffer.old; turns = turns; is_attached = is_attached.old }) }
     ensures ids { IsSmall buffer.new }
     ensures placed { IsPlaced buffer.new }
 {
@@ -107,9 +112,10 @@ fn position_by_kern<A: Allocator + Copy>(
     requires few { length subtables.now ≤ 65535 }
     requires ids { IsSmall buffer.old }
     requires placed { IsPlaced buffer.old }
-    ensures { record { buffer = buffer.new; turns = result } ≡ positioning plan.now.requested_kerning (map (kern_kerning plan.now.kern_mask) subtables.now) buffer.old }
+    ensures { record { buffer = buffer.new; turns = result }
+        ≡ positioning plan.now.requested_kerning
+        (map (kern_kerning plan.now.kern_mask) subtables.now) buffer.old }
 {
-    // how long the line is and how large the budget, so that the count of turns fits
     let _length = buffer.len();
     let _budget = buffer.max_ops();
     reorder(buffer);
@@ -135,7 +141,7 @@ fn is_of_kern_pairs(subtable: &KernSubtable) -> bool
 /// Whether all subtables of a font's kerning table are of pairs, as they are without the table. Then a line that
 /// `hb_ot_layout_kern` kerns can be cut as it says. In as many steps as there are subtables.
 pub fn has_kern_pairs_alone(face: &hb_font_t) -> bool
-    ensures { IsTrue result ↔ AreKernPairs (kern_in (tables_of face.now).kern) }
+    ensures { IsTrue result ↔ AreKernPairs (kern_subtables face.now) }
 {
     face.kern_subtables()
         .iter()
@@ -174,22 +180,25 @@ pub fn hb_ot_layout_kern<A: Allocator + Copy>(
     ensures failed { IsErrOf result AatError.BufferFailed ↔ (buffer.old.successful ≡ false) }
     ensures reason { IfErr result (λ error. error ≡ AatError.BufferFailed) }
     ensures unchanged { OnErr result (buffer.new ≡ buffer.old) }
-    ensures positioned { IfOk result (λ turns. record { buffer = buffer.new; turns = turns } ≡ kern_positioning plan.now.requested_kerning plan.now.kern_mask (kern_in (tables_of face.now).kern) buffer.old) }
-    ensures without_table { IsNone (tables_of face.now).kern → IfOk result (λ turns. (turns ≡ 0) × (buffer.new ≡ buffer.old)) }
-    ensures cut { bit_and plan.now.kern_mask 7 ≡ 0 → OnOk result (IsLeftOfParts kern_skips (map (kern_kerning plan.now.kern_mask) (kern_in (tables_of face.now).kern)) (kern_positioning plan.now.requested_kerning plan.now.kern_mask (kern_in (tables_of face.now).kern)) buffer.old buffer.new) }
-    ensures cut_alike { OnOk result (IsLeftOfAlikeParts kern_skips (map (kern_kerning plan.now.kern_mask) (kern_in (tables_of face.now).kern)) (kern_positioning plan.now.requested_kerning plan.now.kern_mask (kern_in (tables_of face.now).kern)) buffer.old buffer.new) }
-    ensures summed { IsTrue plan.now.requested_kerning → bit_and plan.now.kern_mask 7 ≡ 0 → OnOk result (KernSumsAdvances plan.now.kern_mask (kern_in (tables_of face.now).kern) buffer.old buffer.new) }
+    ensures positioned { IfOk result (λ turns.
+        record { buffer = buffer.new; turns = turns } ≡ kerned_by_kern plan.now face.now buffer.old) }
+    ensures without_table { IsNone (tables_of face.now).kern →
+        IfOk result (λ turns. (turns ≡ 0) × (buffer.new ≡ buffer.old)) }
+    ensures cut { bit_and plan.now.kern_mask 7 ≡ 0 →
+        OnOk result (KernCanBeCut plan.now face.now buffer.old buffer.new) }
+    ensures cut_alike { OnOk result (KernCanBeCutAlike plan.now face.now buffer.old buffer.new) }
+    ensures summed { IsTrue plan.now.requested_kerning → bit_and plan.now.kern_mask 7 ≡ 0 →
+        OnOk result (KernSumsAdvances plan.now.kern_mask (kern_subtables face.now) buffer.old buffer.new) }
     ensures standing { OnOk result (IsSome buffer.new.positions) }
     ensures placed { OnOk result (IsPlaced buffer.new) }
-    ensures paid { IfOk result (λ turns. turns + operations_left buffer.new.max_ops ≤ length (kern_in (tables_of face.now).kern) * (length buffer.old.line + 1) + operations_left buffer.old.max_ops) }
-    ensures bounded { IfOk result (λ turns. turns ≤ length (kern_in (tables_of face.now).kern) * (length buffer.old.line + 1) + operations_left buffer.old.max_ops) }
-    ensures staying { All (KernPaysForStaying plan.now.kern_mask) (kern_in (tables_of face.now).kern) }
+    ensures paid { IfOk result (λ turns. turns + operations_left buffer.new.max_ops
+        ≤ length (kern_subtables face.now) * (length buffer.old.line + 1) + operations_left buffer.old.max_ops) }
+    ensures staying { All (KernPaysForStaying plan.now.kern_mask) (kern_subtables face.now) }
     ensures kept { OnOk result (IsKernedFrom buffer.old buffer.new) }
 {
     if !buffer.is_successful() {
         return Err(AatError::BufferFailed);
     }
-    // there are as many positions as glyphs
     let _placed = buffer.has_positions();
     Ok(position_by_kern(plan, face.kern_subtables(), buffer))
 }

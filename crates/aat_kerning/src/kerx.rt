@@ -2,15 +2,14 @@
 ghost use Rattle.std.specs.Prelude.{◌≡◌, ℕ, ◌+◌, ◌*◌, ◌≤◌, ◌↔◌, All, bit_and, false, IfErr, IfOk, IsErrOf, IsNone, IsTrue, IsSome, length, map, OnErr, OnOk, None, option_copied};
 ghost use Rattle.aat_buffer.specs.Clusters.{IsSmall};
 ghost use Rattle.aat_buffer.specs.Marks.{unsafe_to_concat};
-ghost use Rattle.aat_font.specs.Face.{kerx_in, tables_of};
+ghost use Rattle.aat_font.specs.Face.{tables_of};
 ghost use Rattle.aat_kerning.specs.Advances.{KerxSumsAdvances};
-ghost use Rattle.aat_kerning.specs.Cut.{IsLeftOfAlikeParts, IsLeftOfParts};
+ghost use Rattle.aat_kerning.specs.FontKerning.{KerxCanBeCut, KerxCanBeCutAlike, kerned_by_kerx, kerx_subtables};
 ghost use Rattle.aat_kerning_machines.specs.Anchors.{anchor_driver};
 ghost use Rattle.aat_kerning.specs.KerningLawful.{KerxPaysForStaying};
 ghost use Rattle.aat_kerning_machines.specs.KerningLaws.{IsKernedFrom};
 ghost use Rattle.aat_kerning_machines.specs.KerningMachine.{driver_run};
-ghost use Rattle.aat_kerning.specs.Pairs.{kerx_skips};
-ghost use Rattle.aat_kerning.specs.Positioning.{AreKerxPairs, Positioned, is_kerx_pairs, kerx_kerning, kerx_positioning, kerx_run, positioned, positioning};
+ghost use Rattle.aat_kerning.specs.Positioning.{AreKerxPairs, Positioned, is_kerx_pairs, kerx_kerning, kerx_run, positioned, positioning};
 ghost use Rattle.aat_kerning_machines.specs.Positions.{IsPlaced};
 ghost use Rattle.aat_kerning_machines.specs.Stack.{kerx_driver};
 ghost use Rattle.aat_run.specs.Budget.{operations_left};
@@ -50,7 +49,10 @@ fn run_stack<A: Allocator + Copy>(
 ) -> u64
     requires ids { IsSmall buffer.old }
     requires placed { IsPlaced buffer.old }
-    ensures run { record { buffer = buffer.new; turns = result } ≡ driver_run false machine.now.state_table (kerx_driver subtable.now.has_cross_stream plan.now.kern_mask subtable.now.tuple_count machine.now.values) buffer.old }
+    ensures run { record { buffer = buffer.new; turns = result }
+        ≡ driver_run false machine.now.state_table
+        (kerx_driver subtable.now.has_cross_stream plan.now.kern_mask subtable.now.tuple_count
+        machine.now.values) buffer.old }
     ensures ids { IsSmall buffer.new }
     ensures placed { IsPlaced buffer.new }
 {
@@ -75,7 +77,9 @@ fn run_anchors<A: Allocator + Copy>(
 ) -> u64
     requires ids { IsSmall buffer.old }
     requires placed { IsPlaced buffer.old }
-    ensures run { record { buffer = buffer.new; turns = result } ≡ driver_run false machine.now.state_table (anchor_driver (option_copied ankr.entry) machine.now.anchor_points) buffer.old }
+    ensures run { record { buffer = buffer.new; turns = result }
+        ≡ driver_run false machine.now.state_table
+        (anchor_driver (option_copied ankr.entry) machine.now.anchor_points) buffer.old }
     ensures ids { IsSmall buffer.new }
     ensures placed { IsPlaced buffer.new }
 {
@@ -99,7 +103,9 @@ fn run_kerx<A: Allocator + Copy>(
 ) -> u64
     requires ids { IsSmall buffer.old }
     requires placed { IsPlaced buffer.old }
-    ensures run { record { buffer = buffer.new; turns = result } ≡ kerx_run plan.now.kern_mask (option_copied ankr.entry) subtable.now.has_cross_stream subtable.now.tuple_count subtable.now.format buffer.old }
+    ensures run { record { buffer = buffer.new; turns = result }
+        ≡ kerx_run plan.now.kern_mask (option_copied ankr.entry)
+        subtable.now.has_cross_stream subtable.now.tuple_count subtable.now.format buffer.old }
     ensures ids { IsSmall buffer.new }
     ensures placed { IsPlaced buffer.new }
 {
@@ -131,7 +137,11 @@ fn kern_by_kerx<A: Allocator + Copy>(
 ) -> u64
     requires ids { IsSmall buffer.old }
     requires placed { IsPlaced buffer.old }
-    ensures positioned { (turns : ℕ) → record { buffer = buffer.new; turns = turns + result; is_attached = is_attached.new } ≡ positioned plan.now.requested_kerning (kerx_kerning plan.now.kern_mask (option_copied ankr.entry) subtable.now) (record { buffer = buffer.old; turns = turns; is_attached = is_attached.old }) }
+    ensures positioned { (turns : ℕ) →
+        record { buffer = buffer.new; turns = turns + result; is_attached = is_attached.new }
+        ≡ positioned plan.now.requested_kerning
+        (kerx_kerning plan.now.kern_mask (option_copied ankr.entry) subtable.now)
+        (record { buffer = buffer.old; turns = turns; is_attached = is_attached.old }) }
     ensures ids { IsSmall buffer.new }
     ensures placed { IsPlaced buffer.new }
 {
@@ -155,9 +165,10 @@ fn position_by_kerx<A: Allocator + Copy>(
     requires few { length subtables.now ≤ 65535 }
     requires ids { IsSmall buffer.old }
     requires placed { IsPlaced buffer.old }
-    ensures { record { buffer = buffer.new; turns = result } ≡ positioning plan.now.requested_kerning (map (kerx_kerning plan.now.kern_mask (option_copied ankr.entry)) subtables.now) buffer.old }
+    ensures { record { buffer = buffer.new; turns = result }
+        ≡ positioning plan.now.requested_kerning
+        (map (kerx_kerning plan.now.kern_mask (option_copied ankr.entry)) subtables.now) buffer.old }
 {
-    // how long the line is and how large the budget, so that the count of turns fits
     let _length = buffer.len();
     let _budget = buffer.max_ops();
     reorder(buffer);
@@ -193,7 +204,7 @@ fn anchor_points(face: &hb_font_t) -> Option<&Ankr>
 /// Whether all subtables of a font's extended kerning table are of pairs, as they are without the table. Then a line
 /// that `hb_aat_layout_position` kerns can be cut as it says. In as many steps as there are subtables.
 pub fn has_kerx_pairs_alone(face: &hb_font_t) -> bool
-    ensures { IsTrue result ↔ AreKerxPairs (kerx_in (tables_of face.now).kerx) }
+    ensures { IsTrue result ↔ AreKerxPairs (kerx_subtables face.now) }
 {
     face.kerx_subtables()
         .iter()
@@ -251,22 +262,25 @@ pub fn hb_aat_layout_position<A: Allocator + Copy>(
     ensures failed { IsErrOf result AatError.BufferFailed ↔ (buffer.old.successful ≡ false) }
     ensures reason { IfErr result (λ error. error ≡ AatError.BufferFailed) }
     ensures unchanged { OnErr result (buffer.new ≡ buffer.old) }
-    ensures positioned { IfOk result (λ turns. record { buffer = buffer.new; turns = turns } ≡ kerx_positioning plan.now.requested_kerning plan.now.kern_mask (tables_of face.now).ankr (kerx_in (tables_of face.now).kerx) buffer.old) }
-    ensures without_table { IsNone (tables_of face.now).kerx → IfOk result (λ turns. (turns ≡ 0) × (buffer.new ≡ unsafe_to_concat buffer.old None None)) }
-    ensures cut { bit_and plan.now.kern_mask 7 ≡ 0 → OnOk result (IsLeftOfParts kerx_skips (map (kerx_kerning plan.now.kern_mask (tables_of face.now).ankr) (kerx_in (tables_of face.now).kerx)) (kerx_positioning plan.now.requested_kerning plan.now.kern_mask (tables_of face.now).ankr (kerx_in (tables_of face.now).kerx)) buffer.old buffer.new) }
-    ensures cut_alike { OnOk result (IsLeftOfAlikeParts kerx_skips (map (kerx_kerning plan.now.kern_mask (tables_of face.now).ankr) (kerx_in (tables_of face.now).kerx)) (kerx_positioning plan.now.requested_kerning plan.now.kern_mask (tables_of face.now).ankr (kerx_in (tables_of face.now).kerx)) buffer.old buffer.new) }
-    ensures summed { IsTrue plan.now.requested_kerning → bit_and plan.now.kern_mask 7 ≡ 0 → OnOk result (KerxSumsAdvances plan.now.kern_mask (kerx_in (tables_of face.now).kerx) buffer.old buffer.new) }
+    ensures positioned { IfOk result (λ turns.
+        record { buffer = buffer.new; turns = turns } ≡ kerned_by_kerx plan.now face.now buffer.old) }
+    ensures without_table { IsNone (tables_of face.now).kerx →
+        IfOk result (λ turns. (turns ≡ 0) × (buffer.new ≡ unsafe_to_concat buffer.old None None)) }
+    ensures cut { bit_and plan.now.kern_mask 7 ≡ 0 →
+        OnOk result (KerxCanBeCut plan.now face.now buffer.old buffer.new) }
+    ensures cut_alike { OnOk result (KerxCanBeCutAlike plan.now face.now buffer.old buffer.new) }
+    ensures summed { IsTrue plan.now.requested_kerning → bit_and plan.now.kern_mask 7 ≡ 0 →
+        OnOk result (KerxSumsAdvances plan.now.kern_mask (kerx_subtables face.now) buffer.old buffer.new) }
     ensures standing { OnOk result (IsSome buffer.new.positions) }
     ensures placed { OnOk result (IsPlaced buffer.new) }
-    ensures paid { IfOk result (λ turns. turns + operations_left buffer.new.max_ops ≤ length (kerx_in (tables_of face.now).kerx) * (length buffer.old.line + 1) + operations_left buffer.old.max_ops) }
-    ensures bounded { IfOk result (λ turns. turns ≤ length (kerx_in (tables_of face.now).kerx) * (length buffer.old.line + 1) + operations_left buffer.old.max_ops) }
-    ensures staying { All (KerxPaysForStaying plan.now.kern_mask (tables_of face.now).ankr) (kerx_in (tables_of face.now).kerx) }
+    ensures paid { IfOk result (λ turns. turns + operations_left buffer.new.max_ops
+        ≤ length (kerx_subtables face.now) * (length buffer.old.line + 1) + operations_left buffer.old.max_ops) }
+    ensures staying { All (KerxPaysForStaying plan.now.kern_mask (tables_of face.now).ankr) (kerx_subtables face.now) }
     ensures kept { OnOk result (IsKernedFrom buffer.old buffer.new) }
 {
     if !buffer.is_successful() {
         return Err(AatError::BufferFailed);
     }
-    // there are as many positions as glyphs
     let _placed = buffer.has_positions();
     mark_line(true, buffer);
     Ok(position_by_kerx(plan, anchor_points(face), face.kerx_subtables(), buffer))

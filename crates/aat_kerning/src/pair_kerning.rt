@@ -134,7 +134,8 @@ fn kern_in_stream<A: Allocator + Copy>(
 fn kern_across<A: Allocator + Copy>(right: usize, value: i16, buffer: &mut hb_buffer_t<A>)
     requires in_line { right < length buffer.old.line }
     requires placed { IsPlaced buffer.old }
-    ensures { buffer.new ≡ with_attachment_flag (on_position (with_cross_offset (is_horizontal buffer.old.direction) value) right buffer.old) }
+    ensures { buffer.new ≡ with_attachment_flag
+        (on_position (with_cross_offset (is_horizontal buffer.old.direction) value) right buffer.old) }
 {
     let is_horizontal = buffer.direction().is_horizontal();
     let position = buffer.pos_mut(right);
@@ -154,9 +155,9 @@ fn kern_pair<A: Allocator + Copy>(
     requires ordered { left < right }
     requires in_line { right < length buffer.old.line }
     requires placed { IsPlaced buffer.old }
-    ensures { buffer.new ≡ kerned run.now.is_cross_stream run.now.pairs.now (record { left = left; right = right }) buffer.old }
+    ensures { buffer.new
+        ≡ kerned run.now.is_cross_stream run.now.pairs.now (record { left = left; right = right }) buffer.old }
 {
-    // how long the line is, so that the place behind the right glyph fits
     let _length = buffer.len();
     let value = value_of(
         run.pairs,
@@ -186,8 +187,11 @@ fn kern_at<A: Allocator + Copy>(
     requires ordered { IfSome left (λ i. i < place) }
     requires in_line { place < length buffer.old.line }
     requires placed { IsPlaced buffer.old }
-    ensures left { result ≡ left_behind (is_solid run.now.skips (glyph_at buffer.old.line place)) (meets (glyph_at buffer.old.line place).mask run.now.kern_mask) place left }
-    ensures kerned { buffer.new ≡ kerned_where run.now.is_cross_stream run.now.pairs.now (pair_with (is_solid run.now.skips (glyph_at buffer.old.line place)) (meets (glyph_at buffer.old.line place).mask run.now.kern_mask) place left) buffer.old }
+    ensures left { result ≡ left_behind (is_solid run.now.skips (glyph_at buffer.old.line place))
+        (meets (glyph_at buffer.old.line place).mask run.now.kern_mask) place left }
+    ensures kerned { buffer.new ≡ kerned_where run.now.is_cross_stream run.now.pairs.now
+        (pair_with (is_solid run.now.skips (glyph_at buffer.old.line place))
+        (meets (glyph_at buffer.old.line place).mask run.now.kern_mask) place left) buffer.old }
 {
     let glyph = *buffer.info(place);
     let is_asked = meets(glyph.mask, run.kern_mask);
@@ -211,7 +215,8 @@ fn kern_at<A: Allocator + Copy>(
 pub(crate) fn kern_pairs<A: Allocator + Copy>(run: &PairRun, buffer: &mut hb_buffer_t<A>)
     requires ids { IsSmall buffer.old }
     requires placed { IsPlaced buffer.old }
-    ensures kerned { buffer.new ≡ pair_kerning run.now.skips run.now.kern_mask run.now.is_cross_stream run.now.pairs.now buffer.old }
+    ensures kerned { buffer.new
+        ≡ pair_kerning run.now.skips run.now.kern_mask run.now.is_cross_stream run.now.pairs.now buffer.old }
     ensures ids { IsSmall buffer.new }
     ensures placed { IsPlaced buffer.new }
 {

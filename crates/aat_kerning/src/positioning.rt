@@ -60,7 +60,8 @@ pub(crate) fn attach_once<A: Allocator + Copy>(
     buffer: &mut hb_buffer_t<A>,
 )
     requires { IsPlaced buffer.old }
-    ensures attached { buffer.new ≡ (if has_cross_stream && not is_attached.old then cursively_attached buffer.old else buffer.old) }
+    ensures attached { buffer.new
+        ≡ (if has_cross_stream && not is_attached.old then cursively_attached buffer.old else buffer.old) }
     ensures noted { is_attached.new ≡ (is_attached.old || has_cross_stream) }
     ensures line { buffer.new.line ≡ buffer.old.line }
     ensures placed { IsPlaced buffer.new }
@@ -102,7 +103,9 @@ pub(crate) fn kern_line<A: Allocator + Copy>(
 )
     requires ids { IsSmall buffer.old }
     requires placed { IsPlaced buffer.old }
-    ensures kerned { buffer.new ≡ pair_kerning run.now.skips run.now.kern_mask run.now.is_cross_stream run.now.pairs.now (line_marked marks_line buffer.old) }
+    ensures kerned { buffer.new
+        ≡ pair_kerning run.now.skips run.now.kern_mask run.now.is_cross_stream run.now.pairs.now
+        (line_marked marks_line buffer.old) }
     ensures ids { IsSmall buffer.new }
     ensures placed { IsPlaced buffer.new }
 {

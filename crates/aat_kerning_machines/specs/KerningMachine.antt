@@ -67,12 +67,17 @@ moved_on does_advance b = if does_advance || not (has_operations b) then passed 
 abbrev pub break_marked_behind : Buffer → Buffer
 break_marked_behind b = unsafe_to_break b (Some b.cursor) (Some (b.cursor + 2))
 
+-- Each turn that goes on is paid for. A `kern` machine takes an operation when a turn sets out, so that the last one
+-- moves the cursor; a `kerx` machine takes it when the turn is over, so that an entry may stay once more on the last.
+-- Two loops of the crate that is ported do so, and either way no entry can stay for ever.
+abbrev pub stepped : Bool → Bool → Buffer → Buffer
+stepped pays_first does_advance b =
+    if pays_first then moved_on does_advance (paid 1 b) else paid 1 (moved_on does_advance b)
+
 module _ {R E : Type 0} (m : KerningMachine R E) where
-  -- Each turn that goes on is paid for. A `kern` machine takes an operation when a turn sets out, so that the last one
-  -- moves the cursor; a `kerx` machine takes it when the turn is over, so that an entry may stay once more on the last.
-  -- Two loops of the crate that is ported do so, and either way no entry can stay for ever.
+  -- so it is behind an entry of this machine
   abbrev pub kerning_stepped : E → Buffer → Buffer
-  kerning_stepped e b = if m.pays_first then moved_on (m.advances e) (paid 1 b) else paid 1 (moved_on (m.advances e) b)
+  kerning_stepped e b = stepped m.pays_first (m.advances e) b
 
   -- Whether what stood before the cursor can matter here: the state is not 0, and the entry acts, goes to another state
   -- than 0 or advances. One that stays and goes back to state 0 begins anew at this glyph.

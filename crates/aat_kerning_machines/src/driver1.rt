@@ -8,9 +8,10 @@ ghost use Rattle.aat_kerning_machines.specs.Stack.{kerx_act, pushed_by};
 ghost use Rattle.aat_run.specs.inside.Places.{left_with};
 
 use crate::stack::Stack;
-use crate::stack_values::{NO_INDEX, ValueList};
+use crate::stack_values::ValueList;
 use crate::state_table_driver::StateTableDriver;
 use aat_buffer::hb_buffer_t;
+use aat_font::entry_bits::NO_INDEX;
 use aat_font::{EntryData, GenericStateEntry, Subtable1, hb_ot_shape_plan_t};
 use std::alloc::Allocator;
 use std::marker::Model;
@@ -81,7 +82,8 @@ impl Driver1 {
         buffer: &mut hb_buffer_t<A>,
     )
         requires { IsPlaced buffer.old }
-        ensures { left_with self.new buffer.new ≡ kerx_act has_cross_stream plan.now.kern_mask tuple_count aat.now.values entry.now self.old buffer.old }
+        ensures { left_with self.new buffer.new
+            ≡ kerx_act has_cross_stream plan.now.kern_mask tuple_count aat.now.values entry.now self.old buffer.old }
     {
         self.prepare(entry, buffer.backtrack_len());
         let first = entry.extra.action_index;
@@ -127,14 +129,17 @@ impl StateTableDriver<Subtable1, EntryData> for Driver1 {
         requires fit { FitsAlways self.old buffer.old.cursor (length buffer.old.line) }
         requires ids { IsSmall buffer.old }
         requires placed { IsPlaced buffer.old }
-        ensures act { record { registers = self.new; buffer = buffer.new } ≡ kerx_act has_cross_stream plan.now.kern_mask tuple_count aat.now.values entry.now self.old buffer.old }
+        ensures act { record { registers = self.new; buffer = buffer.new }
+            ≡ kerx_act has_cross_stream plan.now.kern_mask tuple_count aat.now.values entry.now self.old buffer.old }
     {
         self.act(aat, entry, has_cross_stream, tuple_count, plan, buffer);
     }
 
-    ghost keeps_fit = { λ t is_cross kern_mask tuple_count. (laws.kerx_is_lawful is_cross kern_mask tuple_count t.values).keeps_fit };
+    ghost keeps_fit = { λ t is_cross kern_mask tuple_count.
+        (laws.kerx_is_lawful is_cross kern_mask tuple_count t.values).keeps_fit };
 
     ghost passes_fit = { λ r p n fit below. tt };
 
-    ghost positions_alone = { λ t is_cross kern_mask tuple_count. laws.kerx_keeps_place is_cross kern_mask tuple_count t.values };
+    ghost positions_alone = { λ t is_cross kern_mask tuple_count.
+        laws.kerx_keeps_place is_cross kern_mask tuple_count t.values };
 }

@@ -10,12 +10,10 @@ ghost use Rattle.aat_kerning_machines.specs.Positions.{IsPlaced};
 use crate::attachment::note_attachment;
 use crate::state_table_driver::StateTableDriver;
 use aat_buffer::hb_buffer_t;
+use aat_font::entry_bits::NO_INDEX;
 use aat_font::{Ankr, EntryData, GenericStateEntry, GlyphId, Point, Subtable4, hb_ot_shape_plan_t};
 use std::alloc::Allocator;
 use std::marker::Model;
-
-/// The index of no pair of points.
-const NO_PAIR: u16 = 0xFFFF;
 
 /// The attach type of a glyph that is attached to another one as a mark.
 const MARK: u8 = 1;
@@ -61,8 +59,11 @@ impl<'a> Driver4<'a> {
         requires inside { buffer.old.cursor < length buffer.old.line }
         requires ids { IsSmall buffer.old }
         requires placed { IsPlaced buffer.old }
-        ensures standing { OnTrue result (anchored self.now.points aat.now.anchor_points index mark buffer.old ≡ Some buffer.new) }
-        ensures missing { result ≡ false → (anchored self.now.points aat.now.anchor_points index mark buffer.old ≡ None) × (buffer.new ≡ buffer.old) }
+        ensures standing { OnTrue result
+            (anchored self.now.points aat.now.anchor_points index mark buffer.old ≡ Some buffer.new) }
+        ensures missing { result ≡ false
+            → (anchored self.now.points aat.now.anchor_points index mark buffer.old ≡ None)
+            × (buffer.new ≡ buffer.old) }
         ensures line { buffer.new.line ≡ buffer.old.line }
         ensures cursor { buffer.new.cursor ≡ buffer.old.cursor }
         ensures placed { IsPlaced buffer.new }
@@ -85,12 +86,13 @@ impl<'a> Driver4<'a> {
         requires fit { held_fit self.old buffer.old.cursor (length buffer.old.line) }
         requires ids { IsSmall buffer.old }
         requires placed { IsPlaced buffer.old }
-        ensures { record { registers = self.new; buffer = buffer.new } ≡ held_act aat.now.anchor_points entry.now self.old buffer.old }
+        ensures { record { registers = self.new; buffer = buffer.new }
+            ≡ held_act aat.now.anchor_points entry.now self.old buffer.old }
     {
         let place = buffer.backtrack_len();
         let index = entry.extra.action_index;
         if let Some(mark) = self.mark {
-            if index != NO_PAIR && place < buffer.len() {
+            if index != NO_INDEX && place < buffer.len() {
                 if !self.anchor(aat, index, mark, buffer) {
                     return;
                 }
@@ -115,7 +117,7 @@ impl<'a> StateTableDriver<Subtable4, EntryData> for Driver4<'a> {
     ghost act = { λ table is_cross kern_mask tuple_count. anchors.held_act table.anchor_points };
 
     fn is_actionable(&self, entry: &GenericStateEntry<EntryData>) -> bool {
-        entry.extra.action_index != NO_PAIR
+        entry.extra.action_index != NO_INDEX
     }
 
     /// Does what the entry says. Where a place is marked and the entry has an index, the glyph at the cursor is
@@ -154,7 +156,8 @@ fn meet_points<A: Allocator + Copy>(
     requires ids { IsSmall buffer.old }
     requires placed { IsPlaced buffer.old }
     ensures standing { OnTrue result (anchored (Some ankr.now) pairs.now index mark buffer.old ≡ Some buffer.new) }
-    ensures missing { result ≡ false → (anchored (Some ankr.now) pairs.now index mark buffer.old ≡ None) × (buffer.new ≡ buffer.old) }
+    ensures missing { result ≡ false
+        → (anchored (Some ankr.now) pairs.now index mark buffer.old ≡ None) × (buffer.new ≡ buffer.old) }
     ensures line { buffer.new.line ≡ buffer.old.line }
     ensures cursor { buffer.new.cursor ≡ buffer.old.cursor }
     ensures placed { IsPlaced buffer.new }
@@ -222,7 +225,6 @@ fn attach_to_mark<A: Allocator + Copy>(mark: usize, buffer: &mut hb_buffer_t<A>)
     requires placed { IsPlaced buffer.old }
     ensures { buffer.new ≡ attached_to_mark mark buffer.old }
 {
-    // how long the line is, so that both places are small
     let _length = buffer.len();
     let place = buffer.backtrack_len();
     let attach_chain = chain_between(place, mark);

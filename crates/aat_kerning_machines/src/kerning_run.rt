@@ -4,17 +4,19 @@
 //! the loop, and what is plugged in is a context.
 ghost use Rattle.std.specs.Prelude.{◌≡◌, ◌+◌, ◌<◌, ◌≤◌, ◌^◌, false, true, length};
 ghost use Rattle.aat_buffer.specs.Clusters.{IsSmall};
-ghost use Rattle.aat_kerning_machines.specs.KerningMachine.{driver_from, driver_run, kerning_machine_with, kerning_whole, registers_left};
+ghost use Rattle.aat_kerning_machines.specs.KerningMachine.{driver_run, kerning_whole, registers_left};
 ghost use Rattle.aat_kerning_machines.specs.Positions.{IsPlaced};
+ghost use Rattle.aat_kerning_machines.specs.Runs.{driver_over, machine_over};
 ghost use Rattle.aat_run.specs.Budget.{operations_left, potential};
 ghost use Rattle.aat_run.specs.Context.{first_config};
 ghost use Rattle.aat_run.specs.inside.Places.{IsRun};
 
 use crate::kerning_turns::turn_once;
-use crate::place::Place;
 use crate::run::KerningRun;
+use crate::run_state::RunState;
 use crate::state_table_driver::StateTableDriver;
 use aat_buffer::hb_buffer_t;
+use aat_font::entry_bits::state::START_OF_TEXT;
 use std::alloc::Allocator;
 
 /// Takes turns until one ends, and answers their number.
@@ -27,17 +29,20 @@ fn run_turns<Table, E: Copy, D: StateTableDriver<Table, E>, A: Allocator + Copy>
     requires fit { D.fits driver.old buffer.old.cursor (length buffer.old.line) }
     requires ids { IsSmall buffer.old }
     requires placed { IsPlaced buffer.old }
-    ensures run { IsRun (kerning_whole (kerning_machine_with pays_first run.now.state_table.now D.actionable (D.act run.now.table.now run.now.has_cross_stream run.now.plan.now.kern_mask run.now.tuple_count)) (first_config buffer.old driver.old)) buffer.new driver.new result }
+    ensures run { IsRun (kerning_whole (machine_over run.now D.actionable D.act pays_first)
+        (first_config buffer.old driver.old)) buffer.new driver.new result }
     ensures paid { result + operations_left buffer.new.max_ops ≤ potential buffer.old + 1 }
     ensures ids { IsSmall buffer.new }
     ensures placed { IsPlaced buffer.new }
 {
-    // how long the line is and how large the budget, so that the count of turns fits
     let _length = buffer.len();
     let _budget = buffer.max_ops();
-    let mut place = Place { state: 0, turns: 0 };
-    while turn_once(run, pays_first, driver, buffer, &mut place) {}
-    place.turns
+    let mut run_state = RunState {
+        state: START_OF_TEXT,
+        turns: 0,
+    };
+    while turn_once(run, pays_first, driver, buffer, &mut run_state) {}
+    run_state.turns
 }
 
 /// Runs a machine over a line from the front, and answers the number of turns. `drive_kerx` has the rules.
@@ -51,14 +56,18 @@ fn run_machine<Table, E: Copy, D: StateTableDriver<Table, E>, A: Allocator + Cop
     requires fit { D.fits driver.old 0 (length buffer.old.line) }
     requires ids { IsSmall buffer.old }
     requires placed { IsPlaced buffer.old }
-    ensures run { record { buffer = buffer.new; turns = result } ≡ driver_run pays_first run.now.state_table.now (driver_from D.actionable (D.act run.now.table.now run.now.has_cross_stream run.now.plan.now.kern_mask run.now.tuple_count) driver.old) buffer.old }
-    ensures registers { driver.new ≡ registers_left pays_first run.now.state_table.now (driver_from D.actionable (D.act run.now.table.now run.now.has_cross_stream run.now.plan.now.kern_mask run.now.tuple_count) driver.old) buffer.old }
-    ensures paid { result + operations_left buffer.new.max_ops ≤ length buffer.old.line + 1 + operations_left buffer.old.max_ops }
+    ensures run { record { buffer = buffer.new; turns = result }
+        ≡ driver_run pays_first run.now.state_table.now
+        (driver_over run.now D.actionable D.act driver.old) buffer.old }
+    ensures registers { driver.new
+        ≡ registers_left pays_first run.now.state_table.now
+        (driver_over run.now D.actionable D.act driver.old) buffer.old }
+    ensures paid { result + operations_left buffer.new.max_ops
+        ≤ length buffer.old.line + 1 + operations_left buffer.old.max_ops }
     ensures few { result < 2 ^ 62 }
     ensures ids { IsSmall buffer.new }
     ensures placed { IsPlaced buffer.new }
 {
-    // how long the line is and how large the budget, so that the turns are few
     let _length = buffer.len();
     let _budget = buffer.max_ops();
     buffer.sync();
@@ -98,9 +107,14 @@ pub fn drive_kerx<Table, E: Copy, D: StateTableDriver<Table, E>, A: Allocator + 
     requires fit { D.fits driver.old 0 (length buffer.old.line) }
     requires ids { IsSmall buffer.old }
     requires placed { IsPlaced buffer.old }
-    ensures run { record { buffer = buffer.new; turns = result } ≡ driver_run false run.now.state_table.now (driver_from D.actionable (D.act run.now.table.now run.now.has_cross_stream run.now.plan.now.kern_mask run.now.tuple_count) driver.old) buffer.old }
-    ensures registers { driver.new ≡ registers_left false run.now.state_table.now (driver_from D.actionable (D.act run.now.table.now run.now.has_cross_stream run.now.plan.now.kern_mask run.now.tuple_count) driver.old) buffer.old }
-    ensures paid { result + operations_left buffer.new.max_ops ≤ length buffer.old.line + 1 + operations_left buffer.old.max_ops }
+    ensures run { record { buffer = buffer.new; turns = result }
+        ≡ driver_run false run.now.state_table.now
+        (driver_over run.now D.actionable D.act driver.old) buffer.old }
+    ensures registers { driver.new
+        ≡ registers_left false run.now.state_table.now
+        (driver_over run.now D.actionable D.act driver.old) buffer.old }
+    ensures paid { result + operations_left buffer.new.max_ops
+        ≤ length buffer.old.line + 1 + operations_left buffer.old.max_ops }
     ensures few { result < 2 ^ 62 }
     ensures ids { IsSmall buffer.new }
     ensures placed { IsPlaced buffer.new }
@@ -122,9 +136,14 @@ pub fn drive_kern<Table, E: Copy, D: StateTableDriver<Table, E>, A: Allocator + 
     requires fit { D.fits driver.old 0 (length buffer.old.line) }
     requires ids { IsSmall buffer.old }
     requires placed { IsPlaced buffer.old }
-    ensures run { record { buffer = buffer.new; turns = result } ≡ driver_run true run.now.state_table.now (driver_from D.actionable (D.act run.now.table.now run.now.has_cross_stream run.now.plan.now.kern_mask run.now.tuple_count) driver.old) buffer.old }
-    ensures registers { driver.new ≡ registers_left true run.now.state_table.now (driver_from D.actionable (D.act run.now.table.now run.now.has_cross_stream run.now.plan.now.kern_mask run.now.tuple_count) driver.old) buffer.old }
-    ensures paid { result + operations_left buffer.new.max_ops ≤ length buffer.old.line + 1 + operations_left buffer.old.max_ops }
+    ensures run { record { buffer = buffer.new; turns = result }
+        ≡ driver_run true run.now.state_table.now
+        (driver_over run.now D.actionable D.act driver.old) buffer.old }
+    ensures registers { driver.new
+        ≡ registers_left true run.now.state_table.now
+        (driver_over run.now D.actionable D.act driver.old) buffer.old }
+    ensures paid { result + operations_left buffer.new.max_ops
+        ≤ length buffer.old.line + 1 + operations_left buffer.old.max_ops }
     ensures few { result < 2 ^ 62 }
     ensures ids { IsSmall buffer.new }
     ensures placed { IsPlaced buffer.new }

@@ -1,25 +1,27 @@
 //! One turn of a kerning machine, by its parts: the marks before the cursor, the look ahead, the act, and what follows
 //! it.
-ghost use Rattle.std.specs.Prelude.{◌≡◌, ◌+◌, ◌<◌, ◌^◌, ◌==◌, ◌&&◌, ◌||◌, if◌then◌else◌, Bool, Some, length, nat_lt, not};
+ghost use Rattle.std.specs.Prelude.{◌≡◌, ◌+◌, ◌<◌, ◌^◌, ◌==◌, ◌&&◌, ◌||◌, if◌then◌else◌, Bool, Some, length, not};
 ghost use Rattle.aat_buffer.specs.Buffer.{Buffer};
 ghost use Rattle.aat_buffer.specs.Clusters.{IsSmall};
 ghost use Rattle.aat_buffer.specs.Marks.{unsafe_to_break};
 ghost use Rattle.aat_font.specs.Entries.{goes_on};
-ghost use Rattle.aat_font.specs.Table.{TableValue, entry_of};
+ghost use Rattle.aat_font.specs.Table.{TableValue};
 ghost use Rattle.aat_font.specs.declared.state_table.GenericStateEntry.{GenericStateEntry};
-ghost use Rattle.aat_kerning_machines.specs.KerningMachine.{break_marked_behind, kerning_acted, kerning_by_entry, kerning_machine_with, kerning_marked, kerning_turn, looked_ahead, moved_on};
+ghost use Rattle.aat_kerning_machines.specs.KerningMachine.{break_marked_behind, kerning_acted, kerning_by_entry, kerning_machine_with, kerning_marked, kerning_turn, moved_on, stepped};
 ghost use Rattle.aat_kerning_machines.specs.Positions.{IsPlaced};
-ghost use Rattle.aat_kerning_machines.specs.inside.Places.{config};
+ghost use Rattle.aat_kerning_machines.specs.Runs.{machine_over};
+ghost use Rattle.aat_kerning_machines.specs.inside.RunStates.{acted_if, behind_marks, config};
 ghost use Rattle.aat_run.specs.Budget.{paid};
 ghost use Rattle.aat_run.specs.Context.{Moved, is_at_end};
-ghost use Rattle.aat_run.specs.Machine.{Ends};
 ghost use Rattle.aat_run.specs.inside.Places.{turn_of};
 
-use crate::place::Place;
 use crate::run::KerningRun;
+use crate::run_state::RunState;
 use crate::state_table_driver::StateTableDriver;
 use aat_buffer::hb_buffer_t;
 use aat_font::GenericStateEntry;
+use aat_font::entry_bits::class::END_OF_TEXT;
+use aat_font::entry_bits::state::START_OF_TEXT;
 use aat_run::class_at_cursor;
 use std::alloc::Allocator;
 
@@ -44,7 +46,7 @@ fn move_on<A: Allocator + Copy>(buffer: &mut hb_buffer_t<A>, does_advance: bool)
 /// Moves on from a glyph and pays for the turn, or pays first.
 fn step<A: Allocator + Copy>(buffer: &mut hb_buffer_t<A>, does_advance: bool, pays_first: bool)
     requires { buffer.old.cursor < length buffer.old.line }
-    ensures { buffer.new ≡ (if pays_first then moved_on does_advance (paid 1 buffer.old) else paid 1 (moved_on does_advance buffer.old)) }
+    ensures { buffer.new ≡ stepped pays_first does_advance buffer.old }
 {
     if pays_first {
         pay(buffer);
@@ -62,7 +64,8 @@ fn settle<A: Allocator + Copy>(
     pays_first: bool,
 ) -> bool
     ensures goes { result ≡ not (is_at_end buffer.old) }
-    ensures settled { buffer.new ≡ (if is_at_end buffer.old then buffer.old else (if pays_first then moved_on does_advance (paid 1 buffer.old) else paid 1 (moved_on does_advance buffer.old))) }
+    ensures settled { buffer.new
+        ≡ (if is_at_end buffer.old then buffer.old else stepped pays_first does_advance buffer.old) }
     ensures line { buffer.new.line ≡ buffer.old.line }
     ensures positions { buffer.new.positions ≡ buffer.old.positions }
 {
@@ -81,12 +84,14 @@ fn act<Table, E: Copy, D: StateTableDriver<Table, E>, A: Allocator + Copy>(
     driver: &mut D,
     buffer: &mut hb_buffer_t<A>,
     entry: &GenericStateEntry<E>,
-    place: &mut Place,
+    run_state: &mut RunState,
 ) -> bool
     requires fit { D.fits driver.old buffer.old.cursor (length buffer.old.line) }
     requires ids { IsSmall buffer.old }
     requires placed { IsPlaced buffer.old }
-    ensures turn { kerning_acted (kerning_machine_with pays_first run.now.state_table.now D.actionable (D.act run.now.table.now run.now.has_cross_stream run.now.plan.now.kern_mask run.now.tuple_count)) entry.now (config buffer.old driver.old place.old) ≡ turn_of result (config buffer.new driver.new place.new) }
+    ensures turn { kerning_acted (machine_over run.now D.actionable D.act pays_first) entry.now
+        (config buffer.old driver.old run_state.old)
+        ≡ turn_of result (config buffer.new driver.new run_state.new) }
     ensures ids { IsSmall buffer.new }
     ensures placed { IsPlaced buffer.new }
 {
@@ -98,7 +103,7 @@ fn act<Table, E: Copy, D: StateTableDriver<Table, E>, A: Allocator + Copy>(
         run.plan,
         buffer,
     );
-    place.state = entry.new_state;
+    run_state.state = entry.new_state;
     settle(buffer, entry.has_advance(), pays_first)
 }
 
@@ -123,7 +128,6 @@ fn mark_behind<A: Allocator + Copy>(buffer: &mut hb_buffer_t<A>)
     ensures positions { buffer.new.positions ≡ buffer.old.positions }
     ensures ids { IsSmall buffer.new }
 {
-    // how long the line is, so that the end fits
     let _length = buffer.len();
     let p = buffer.backtrack_len();
     mark(buffer, p, p + 2);
@@ -135,9 +139,13 @@ fn depends_on_before<Table, E: Copy, D: StateTableDriver<Table, E>>(
     entry: &GenericStateEntry<E>,
     state: u16,
 ) -> bool
-    ensures { result ≡ (not (state == 0) && (D.actionable entry.now || (not (entry.now.new_state == 0) || goes_on entry.now))) }
+    ensures { result ≡ (not (state == 0)
+        && (D.actionable entry.now || (not (entry.now.new_state == 0) || goes_on entry.now))) }
 {
-    state != 0 && (driver.is_actionable(entry) || entry.new_state != 0 || entry.has_advance())
+    let has_effect = driver.is_actionable(entry)
+        || entry.new_state != START_OF_TEXT
+        || entry.has_advance();
+    state != START_OF_TEXT && has_effect
 }
 
 /// Marks the glyphs before and at the cursor where what stood before can matter.
@@ -146,10 +154,13 @@ fn mark_before<Table, E: Copy, D: StateTableDriver<Table, E>, A: Allocator + Cop
     driver: &D,
     buffer: &mut hb_buffer_t<A>,
     entry: &GenericStateEntry<E>,
-    place: Place,
+    run_state: RunState,
 )
     requires ids { IsSmall buffer.old }
-    ensures marked { (pays_first : Bool) (table : TableValue (GenericStateEntry E)) (act : GenericStateEntry E → D → Buffer → Moved D) → buffer.new ≡ kerning_marked (kerning_machine_with pays_first table D.actionable act) entry.now (config buffer.old driver.now place) }
+    ensures marked { (pays_first : Bool) (table : TableValue (GenericStateEntry E))
+        (act : GenericStateEntry E → D → Buffer → Moved D) →
+        let m = kerning_machine_with pays_first table D.actionable act in
+        buffer.new ≡ kerning_marked m entry.now (config buffer.old driver.now run_state) }
     ensures length { length buffer.new.line ≡ length buffer.old.line }
     ensures cursor { buffer.new.cursor ≡ buffer.old.cursor }
     ensures positions { buffer.new.positions ≡ buffer.old.positions }
@@ -157,7 +168,7 @@ fn mark_before<Table, E: Copy, D: StateTableDriver<Table, E>, A: Allocator + Cop
 {
     let p = buffer.backtrack_len();
     if 0 < p && p < buffer.len() {
-        if depends_on_before(driver, entry, place.state) {
+        if depends_on_before(driver, entry, run_state.state) {
             mark(buffer, p - 1, p + 1);
         }
     }
@@ -169,21 +180,24 @@ fn look_ahead<Table, E: Copy, D: StateTableDriver<Table, E>, A: Allocator + Copy
     run: &KerningRun<Table, E>,
     driver: &D,
     buffer: &mut hb_buffer_t<A>,
-    place: Place,
+    run_state: RunState,
 ) -> bool
     requires ids { IsSmall buffer.old }
-    ensures turn { (pays_first : Bool) (act : GenericStateEntry E → D → Buffer → Moved D) (e : GenericStateEntry E) → (if nat_lt (buffer.old.cursor + 1) (length buffer.old.line) then looked_ahead (kerning_machine_with pays_first run.now.state_table.now D.actionable act) e (entry_of run.now.state_table.now place.state 0) (config buffer.old driver.now place) else kerning_acted (kerning_machine_with pays_first run.now.state_table.now D.actionable act) e (config buffer.old driver.now place)) ≡ (if result then kerning_acted (kerning_machine_with pays_first run.now.state_table.now D.actionable act) e (config buffer.new driver.now place) else Ends (config buffer.new driver.now place)) }
+    ensures turn { (pays_first : Bool) (act : GenericStateEntry E → D → Buffer → Moved D)
+        (e : GenericStateEntry E) →
+        let m = kerning_machine_with pays_first run.now.state_table.now D.actionable act in
+        behind_marks m e (config buffer.old driver.now run_state)
+        ≡ acted_if m e (config buffer.new driver.now run_state) result }
     ensures length { length buffer.new.line ≡ length buffer.old.line }
     ensures cursor { buffer.new.cursor ≡ buffer.old.cursor }
     ensures positions { buffer.new.positions ≡ buffer.old.positions }
     ensures ids { IsSmall buffer.new }
 {
-    // how long the line is, so that the place behind the cursor fits
     let len = buffer.len();
     if buffer.backtrack_len() + 1 >= len {
         return true;
     }
-    let Some(at_end) = run.state_table.entry(place.state, 0) else {
+    let Some(at_end) = run.state_table.entry(run_state.state, END_OF_TEXT) else {
         return false;
     };
     if driver.is_actionable(&at_end) {
@@ -200,20 +214,22 @@ fn take_entry<Table, E: Copy, D: StateTableDriver<Table, E>, A: Allocator + Copy
     driver: &mut D,
     buffer: &mut hb_buffer_t<A>,
     entry: &GenericStateEntry<E>,
-    place: &mut Place,
+    run_state: &mut RunState,
 ) -> bool
     requires fit { D.fits driver.old buffer.old.cursor (length buffer.old.line) }
     requires ids { IsSmall buffer.old }
     requires placed { IsPlaced buffer.old }
-    ensures turn { kerning_by_entry (kerning_machine_with pays_first run.now.state_table.now D.actionable (D.act run.now.table.now run.now.has_cross_stream run.now.plan.now.kern_mask run.now.tuple_count)) (Some entry.now) (config buffer.old driver.old place.old) ≡ turn_of result (config buffer.new driver.new place.new) }
+    ensures turn { kerning_by_entry (machine_over run.now D.actionable D.act pays_first) (Some entry.now)
+        (config buffer.old driver.old run_state.old)
+        ≡ turn_of result (config buffer.new driver.new run_state.new) }
     ensures ids { IsSmall buffer.new }
     ensures placed { IsPlaced buffer.new }
 {
-    mark_before(&*driver, buffer, entry, *place);
-    if !look_ahead(run, &*driver, buffer, *place) {
+    mark_before(&*driver, buffer, entry, *run_state);
+    if !look_ahead(run, &*driver, buffer, *run_state) {
         return false;
     }
-    act(run, pays_first, driver, buffer, entry, place)
+    act(run, pays_first, driver, buffer, entry, run_state)
 }
 
 /// One turn: whether the run goes on.
@@ -223,20 +239,22 @@ pub(crate) fn turn_once<Table, E: Copy, D: StateTableDriver<Table, E>, A: Alloca
     pays_first: bool,
     driver: &mut D,
     buffer: &mut hb_buffer_t<A>,
-    place: &mut Place,
+    run_state: &mut RunState,
 ) -> bool
     requires fit { D.fits driver.old buffer.old.cursor (length buffer.old.line) }
     requires ids { IsSmall buffer.old }
     requires placed { IsPlaced buffer.old }
-    requires turns { place.old.turns + 1 < 2 ^ 64 }
-    ensures turn { kerning_turn (kerning_machine_with pays_first run.now.state_table.now D.actionable (D.act run.now.table.now run.now.has_cross_stream run.now.plan.now.kern_mask run.now.tuple_count)) (config buffer.old driver.old place.old) ≡ turn_of result (config buffer.new driver.new place.new) }
+    requires turns { run_state.old.turns + 1 < 2 ^ 64 }
+    ensures turn { kerning_turn (machine_over run.now D.actionable D.act pays_first)
+        (config buffer.old driver.old run_state.old)
+        ≡ turn_of result (config buffer.new driver.new run_state.new) }
     ensures ids { IsSmall buffer.new }
     ensures placed { IsPlaced buffer.new }
 {
-    place.turns += 1;
+    run_state.turns += 1;
     let class = class_at_cursor(run.state_table, buffer);
-    match run.state_table.entry(place.state, class) {
-        Some(entry) => take_entry(run, pays_first, driver, buffer, &entry, place),
+    match run.state_table.entry(run_state.state, class) {
+        Some(entry) => take_entry(run, pays_first, driver, buffer, &entry, run_state),
         None => false,
     }
 }

@@ -13,6 +13,12 @@ use crate::state_table_driver::StateTableDriver;
 /// that goes on and leaves the cursor where it was took an operation from a budget above 0, which was above 0 behind
 /// that payment too where the machine pays first.
 pub fn kerning_runs_end<Table, E: Copy, D: StateTableDriver<Table, E>>()
-    ensures ends { (pays_first : Bool) (state_table : TableValue (GenericStateEntry E)) (table : Table) (is_cross : Bool) (kern_mask tuple_count : ℕ) (fresh : D) → RunsEnd (kerning_turn (kerning_machine_of pays_first state_table (driver_from D.actionable (D.act table is_cross kern_mask tuple_count) fresh))) D.fits }
-    ensures staying { (pays_first : Bool) (state_table : TableValue (GenericStateEntry E)) (table : Table) (is_cross : Bool) (kern_mask tuple_count : ℕ) (fresh : D) → PaysForStaying (kerning_machine_of pays_first state_table (driver_from D.actionable (D.act table is_cross kern_mask tuple_count) fresh)) D.fits }
+    ensures ends { (pays_first : Bool) (state_table : TableValue (GenericStateEntry E))
+        (table : Table) (is_cross : Bool) (kern_mask tuple_count : ℕ) (fresh : D) →
+        let driver = driver_from D.actionable (D.act table is_cross kern_mask tuple_count) fresh in
+        RunsEnd (kerning_turn (kerning_machine_of pays_first state_table driver)) D.fits }
+    ensures staying { (pays_first : Bool) (state_table : TableValue (GenericStateEntry E))
+        (table : Table) (is_cross : Bool) (kern_mask tuple_count : ℕ) (fresh : D) →
+        let driver = driver_from D.actionable (D.act table is_cross kern_mask tuple_count) fresh in
+        PaysForStaying (kerning_machine_of pays_first state_table driver) D.fits }
 {}

@@ -9,8 +9,8 @@ mod kerning_run;
 mod kerning_turns;
 #[doc(hidden)]
 pub mod laws;
-mod place;
 mod run;
+mod run_state;
 mod stack;
 mod stack_values;
 mod state_machine_driver;

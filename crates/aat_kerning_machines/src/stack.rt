@@ -66,7 +66,8 @@ impl Stack {
 
     /// Takes the newest place away; none where no place waits. O(1).
     pub fn pop(&mut self) -> Option<usize>
-        ensures { MatchOption result ((self.old ≡ []) × (self.new ≡ [])) (λ place. self.old ≡ place ∷ self.new) }
+        ensures { MatchOption result ((self.old ≡ []) × (self.new ≡ []))
+            (λ place. self.old ≡ place ∷ self.new) }
     {
         if self.depth == 0 {
             return None;

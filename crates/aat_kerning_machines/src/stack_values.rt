@@ -12,9 +12,6 @@ use crate::stack::Stack;
 use aat_buffer::{GlyphPosition, hb_buffer_t, hb_mask_t};
 use std::alloc::Allocator;
 
-/// The index of an entry that has none.
-pub(crate) const NO_INDEX: u16 = 0xFFFF;
-
 /// The value that takes a glyph back to the line.
 const BACK_TO_LINE: i32 = -0x8000;
 
@@ -55,7 +52,8 @@ fn move_along(is_horizontal: bool, value: i32, position: &mut GlyphPosition)
 
 /// Adds a value to the offset of a position across the line.
 fn add_across(is_horizontal: bool, value: i32, position: &mut GlyphPosition)
-    ensures { position.new ≡ with_cross_offset is_horizontal (plus (cross_offset is_horizontal position.old) value) position.old }
+    ensures { position.new
+        ≡ with_cross_offset is_horizontal (plus (cross_offset is_horizontal position.old) value) position.old }
 {
     if is_horizontal {
         position.y_offset = position.y_offset.wrapping_add(value);
@@ -99,7 +97,9 @@ fn even(value: i16) -> i32
 fn move_across<A: Allocator + Copy>(value: i32, place: usize, buffer: &mut hb_buffer_t<A>)
     requires in_line { place < length buffer.old.line }
     requires placed { IsPlaced buffer.old }
-    ensures { buffer.new ≡ with_attachment_flag (on_position (λ q. with_cross_offset (is_horizontal buffer.old.direction) (plus (cross_offset (is_horizontal buffer.old.direction) q) value) q) place buffer.old) }
+    ensures { let h = is_horizontal buffer.old.direction in
+        let moved : GlyphPosition → GlyphPosition = λ q. with_cross_offset h (plus (cross_offset h q) value) q in
+        buffer.new ≡ with_attachment_flag (on_position moved place buffer.old) }
 {
     let is_horizontal = buffer.direction().is_horizontal();
     add_across(is_horizontal, value, buffer.pos_mut(place));
@@ -179,7 +179,8 @@ impl<'a> ValueList<'a> {
     ) -> bool
         requires placed { IsPlaced buffer.old }
         ensures ends { result ≡ ends_list value place buffer.old }
-        ensures given { buffer.new ≡ with_value_for self.now.is_cross_stream self.now.kern_mask value place buffer.old }
+        ensures given { buffer.new
+            ≡ with_value_for self.now.is_cross_stream self.now.kern_mask value place buffer.old }
     {
         if place >= buffer.len() {
             return false;
@@ -204,9 +205,11 @@ impl<'a> ValueList<'a> {
     )
         requires step { self.now.step ≤ 65535 }
         requires placed { IsPlaced buffer.old }
-        ensures { left_with stack.new buffer.new ≡ popped self.now.is_cross_stream self.now.kern_mask (value_at self.now.ends_at_missing self.now.values.now self.now.step) self.now.step stack.old first buffer.old }
+        ensures { left_with stack.new buffer.new
+            ≡ popped self.now.is_cross_stream self.now.kern_mask
+            (value_at self.now.ends_at_missing self.now.values.now self.now.step)
+            self.now.step stack.old first buffer.old }
     {
-        // how many places wait, so that the index behind the last one fits
         let _count = stack.len();
         let mut index = usize::from(first);
         while let Some(place) = stack.pop() {

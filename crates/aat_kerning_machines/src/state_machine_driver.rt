@@ -7,9 +7,10 @@ ghost use Rattle.aat_kerning_machines.specs.Stack.{kern_act, pushed_by};
 ghost use Rattle.aat_run.specs.inside.Places.{left_with};
 
 use crate::stack::Stack;
-use crate::stack_values::{NO_INDEX, ValueList};
+use crate::stack_values::ValueList;
 use crate::state_table_driver::StateTableDriver;
 use aat_buffer::hb_buffer_t;
+use aat_font::entry_bits::NO_INDEX;
 use aat_font::{GenericStateEntry, KernEntryData, KernMachine, hb_ot_shape_plan_t};
 use std::alloc::Allocator;
 use std::marker::Model;
@@ -69,7 +70,8 @@ impl StateMachineDriver {
         buffer: &mut hb_buffer_t<A>,
     )
         requires { IsPlaced buffer.old }
-        ensures { left_with self.new buffer.new ≡ kern_act has_cross_stream plan.now.kern_mask aat.now.values entry.now self.old buffer.old }
+        ensures { left_with self.new buffer.new
+            ≡ kern_act has_cross_stream plan.now.kern_mask aat.now.values entry.now self.old buffer.old }
     {
         self.prepare(entry, buffer.backtrack_len());
         let first = entry.extra.value_index;
@@ -119,12 +121,14 @@ impl StateTableDriver<KernMachine, KernEntryData> for StateMachineDriver {
         requires fit { FitsAlways self.old buffer.old.cursor (length buffer.old.line) }
         requires ids { IsSmall buffer.old }
         requires placed { IsPlaced buffer.old }
-        ensures act { record { registers = self.new; buffer = buffer.new } ≡ kern_act has_cross_stream plan.now.kern_mask aat.now.values entry.now self.old buffer.old }
+        ensures act { record { registers = self.new; buffer = buffer.new }
+            ≡ kern_act has_cross_stream plan.now.kern_mask aat.now.values entry.now self.old buffer.old }
     {
         self.act(aat, entry, has_cross_stream, plan, buffer);
     }
 
-    ghost keeps_fit = { λ t is_cross kern_mask tuple_count. (laws.kern_is_lawful is_cross kern_mask t.values).keeps_fit };
+    ghost keeps_fit = { λ t is_cross kern_mask tuple_count.
+        (laws.kern_is_lawful is_cross kern_mask t.values).keeps_fit };
 
     ghost passes_fit = { λ r p n fit below. tt };
 

@@ -63,11 +63,14 @@ pub trait StateTableDriver<Table, E: Copy> {
         requires fit { fits self.old buffer.old.cursor (length buffer.old.line) }
         requires ids { IsSmall buffer.old }
         requires placed { IsPlaced buffer.old }
-        ensures act { record { registers = self.new; buffer = buffer.new } ≡ act aat.now has_cross_stream plan.now.kern_mask tuple_count entry.now self.old buffer.old };
+        ensures act { record { registers = self.new; buffer = buffer.new }
+            ≡ act aat.now has_cross_stream plan.now.kern_mask tuple_count entry.now self.old buffer.old };
 
-    ghost keeps_fit: { (table : Table) (is_cross : Bool) (kern_mask tuple_count : ℕ) → KeepsFit (act table is_cross kern_mask tuple_count) fits };
+    ghost keeps_fit: { (table : Table) (is_cross : Bool) (kern_mask tuple_count : ℕ)
+        → KeepsFit (act table is_cross kern_mask tuple_count) fits };
 
     ghost passes_fit: { PassesFit fits };
 
-    ghost positions_alone: { (table : Table) (is_cross : Bool) (kern_mask tuple_count : ℕ) → ChangesPositionsAlone (act table is_cross kern_mask tuple_count) fits };
+    ghost positions_alone: { (table : Table) (is_cross : Bool) (kern_mask tuple_count : ℕ)
+        → ChangesPositionsAlone (act table is_cross kern_mask tuple_count) fits };
 }

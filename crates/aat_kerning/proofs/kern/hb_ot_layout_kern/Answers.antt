@@ -1,6 +1,5 @@
-use Rattle.std.proofs.Common.{◌+◌, ◌*◌, length}
 use Rattle.aat_font.specs.Face.{kern_in, tables_of}
-use Rattle.aat_kerning.proofs.Called.{bounded_by, kern_called, kern_cut, kern_cut_alike, kern_kept, kern_paid, kern_summed, kern_without_table, placed_as_asked, still_placed}
+use Rattle.aat_kerning.proofs.Called.{kern_called, kern_cut, kern_cut_alike, kern_kept, kern_paid, kern_summed, kern_without_table, placed_as_asked, still_placed}
 use Rattle.aat_kerning.proofs.kern.hb_ot_layout_kern.Goals as goal
 
 pub returns-clause-positioned : goal.returns-clause-positioned
@@ -52,11 +51,6 @@ returns-clause-paid g c =
     let d = c.position_by_kern.new.buffer in
     let n = c.position_by_kern.result in
     kern_paid requested kern_mask subtables b d n (returns-clause-positioned g c)
-
-pub returns-clause-bounded : goal.returns-clause-bounded
-returns-clause-bounded g c =
-    let b = c.args.buffer.now in
-    bounded_by (length (kern_in (tables_of c.args.face.now).kern) * (length b.line + 1)) b c.position_by_kern.new.buffer c.position_by_kern.result (returns-clause-paid g c)
 
 pub returns-clause-summed : goal.returns-clause-summed
 returns-clause-summed g c asked free =

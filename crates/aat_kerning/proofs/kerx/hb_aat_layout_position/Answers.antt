@@ -1,7 +1,6 @@
-use Rattle.std.proofs.Common.{◌+◌, ◌*◌, length}
 use Rattle.std.specs.Option.{option_copied}
 use Rattle.aat_font.specs.Face.{kerx_in, tables_of}
-use Rattle.aat_kerning.proofs.Called.{bounded_by, kerx_called, kerx_cut, kerx_cut_alike, kerx_kept, kerx_paid, kerx_summed, kerx_without_table, placed_as_asked, still_placed}
+use Rattle.aat_kerning.proofs.Called.{kerx_called, kerx_cut, kerx_cut_alike, kerx_kept, kerx_paid, kerx_summed, kerx_without_table, placed_as_asked, still_placed}
 use Rattle.aat_kerning.proofs.kerx.hb_aat_layout_position.Goals as goal
 
 pub returns-clause-positioned : goal.returns-clause-positioned
@@ -58,11 +57,6 @@ returns-clause-paid g c =
     let d = c.position_by_kerx.new.buffer in
     let n = c.position_by_kerx.result in
     kerx_paid requested kern_mask points subtables b d n (returns-clause-positioned g c)
-
-pub returns-clause-bounded : goal.returns-clause-bounded
-returns-clause-bounded g c =
-    let b = c.args.buffer.now in
-    bounded_by (length (kerx_in (tables_of c.args.face.now).kerx) * (length b.line + 1)) b c.position_by_kerx.new.buffer c.position_by_kerx.result (returns-clause-paid g c)
 
 pub returns-clause-summed : goal.returns-clause-summed
 returns-clause-summed g c asked free =

@@ -2,7 +2,7 @@ use Rattle.std.proofs.Common.{◌≡◌, ap, arith}
 use Rattle.aat_run.specs.Context.{Config, first_config}
 use Rattle.aat_run.specs.Machine.{Goes, Ends}
 use Rattle.aat_kerning_machines.specs.KerningMachine.{kerning_machine_with, kerning_turn}
-use Rattle.aat_kerning_machines.specs.inside.Places.{config}
+use Rattle.aat_kerning_machines.specs.inside.RunStates.{config}
 use Rattle.aat_kerning_machines.proofs.Coming.{goes_on, ends, ends_paid}
 use Rattle.aat_kerning_machines.proofs.kerning_run.run_turns.Goals as goal
 
@@ -18,8 +18,8 @@ loop-smaller g c =
     let places = laws.positions_alone run.table.now is_cross kern_mask run.tuple_count in
     let keeps = laws.keeps_fit run.table.now is_cross kern_mask run.tuple_count in
     let from = first_config c.args.buffer.now c.args.driver.now in
-    let old = config c.loop.buffer c.loop.driver c.loop.place in
-    let new = config c.turn_once.new.buffer c.turn_once.new.driver c.turn_once.new.place in
+    let old = config c.loop.buffer c.loop.driver c.loop.run_state in
+    let new = config c.turn_once.new.buffer c.turn_once.new.driver c.turn_once.new.run_state in
     let goes : kerning_turn m old ≡ Goes new = rw c.loop-test.true at c.turn_once.ensures.turn in
     (goes_on m d.fits places keeps laws.passes_fit from old c.loop.invariant.come new goes).0
 
@@ -35,8 +35,8 @@ loop-preserved g c =
     let places = laws.positions_alone run.table.now is_cross kern_mask run.tuple_count in
     let keeps = laws.keeps_fit run.table.now is_cross kern_mask run.tuple_count in
     let from = first_config c.args.buffer.now c.args.driver.now in
-    let old = config c.loop.buffer c.loop.driver c.loop.place in
-    let new = config c.turn_once.new.buffer c.turn_once.new.driver c.turn_once.new.place in
+    let old = config c.loop.buffer c.loop.driver c.loop.run_state in
+    let new = config c.turn_once.new.buffer c.turn_once.new.driver c.turn_once.new.run_state in
     let goes : kerning_turn m old ≡ Goes new = rw c.loop-test.true at c.turn_once.ensures.turn in
     let come = (goes_on m d.fits places keeps laws.passes_fit from old c.loop.invariant.come new goes).1 in
     record { come = come; ids = c.turn_once.ensures.ids; placed = c.turn_once.ensures.placed }
@@ -53,8 +53,8 @@ returns-clause-run g c =
     let places = laws.positions_alone run.table.now is_cross kern_mask run.tuple_count in
     let keeps = laws.keeps_fit run.table.now is_cross kern_mask run.tuple_count in
     let from = first_config c.args.buffer.now c.args.driver.now in
-    let old = config c.loop.buffer c.loop.driver c.loop.place in
-    let new = config c.turn_once.new.buffer c.turn_once.new.driver c.turn_once.new.place in
+    let old = config c.loop.buffer c.loop.driver c.loop.run_state in
+    let new = config c.turn_once.new.buffer c.turn_once.new.driver c.turn_once.new.run_state in
     let last : kerning_turn m old ≡ Ends new = rw c.loop-test.false at c.turn_once.ensures.turn in
     let done = ends m d.fits places keeps laws.passes_fit from old c.loop.invariant.come new last in
     record {
@@ -75,8 +75,8 @@ returns-clause-paid g c =
     let places = laws.positions_alone run.table.now is_cross kern_mask run.tuple_count in
     let keeps = laws.keeps_fit run.table.now is_cross kern_mask run.tuple_count in
     let from = first_config c.args.buffer.now c.args.driver.now in
-    let old = config c.loop.buffer c.loop.driver c.loop.place in
-    let new = config c.turn_once.new.buffer c.turn_once.new.driver c.turn_once.new.place in
+    let old = config c.loop.buffer c.loop.driver c.loop.run_state in
+    let new = config c.turn_once.new.buffer c.turn_once.new.driver c.turn_once.new.run_state in
     let last : kerning_turn m old ≡ Ends new = rw c.loop-test.false at c.turn_once.ensures.turn in
     let done = ends m d.fits places keeps laws.passes_fit from old c.loop.invariant.come new last in
     omega (arith, ends_paid m d.fits places keeps laws.passes_fit from new c.requires.fit done)

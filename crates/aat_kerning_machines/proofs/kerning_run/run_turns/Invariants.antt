@@ -4,7 +4,7 @@ use Rattle.aat_run.specs.Context.{first_config}
 use Rattle.aat_run.specs.inside.Standing.{HasCome}
 use Rattle.aat_kerning_machines.specs.KerningMachine.{kerning_machine_with, kerning_turn}
 use Rattle.aat_kerning_machines.specs.Positions.{IsPlaced}
-use Rattle.aat_kerning_machines.specs.inside.Places.{config}
+use Rattle.aat_kerning_machines.specs.inside.RunStates.{config}
 use Rattle.aat_kerning_machines.proofs.kerning_run.run_turns.Given as goal
 
 abbrev pub invariant-loop : goal.invariant-loop
@@ -13,7 +13,7 @@ invariant-loop g l =
     let act = d.act l.fn.run.table.now l.fn.run.has_cross_stream l.fn.run.plan.now.kern_mask l.fn.run.tuple_count in
     let m = kerning_machine_with l.fn.pays_first l.fn.run.state_table.now d.actionable act in
     record {
-      come : HasCome (kerning_turn m) d.fits (first_config l.fn.buffer l.fn.driver) (config l.buffer l.driver l.place);
+      come : HasCome (kerning_turn m) d.fits (first_config l.fn.buffer l.fn.driver) (config l.buffer l.driver l.run_state);
       ids : IsSmall l.buffer;
       placed : IsPlaced l.buffer;
     }

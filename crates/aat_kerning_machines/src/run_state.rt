@@ -1,8 +1,8 @@
-//! Where a run stands, beside its buffer and its registers.
+//! How far a run is, beside its buffer and its registers.
 
 /// The state, and the turns so far.
 #[derive(Clone, Copy)]
-pub(crate) struct Place {
+pub(crate) struct RunState {
     pub state: u16,
     pub turns: u64,
 }
