@@ -5,12 +5,12 @@ use Rattle.aat_kerning.proofs.kern.hb_ot_layout_kern.Goals as goal
 pub returns-clause-positioned : goal.returns-clause-positioned
 returns-clause-positioned g c =
     kern_called c.args.plan.now.requested_kerning c.args.plan.now.kern_mask (tables_of c.args.face.now).kern c.args.buffer.now
-    c.position_by_kern.new.buffer c.position_by_kern.result c.kern_subtables.result.now c.kern_subtables.ensures.listed c.position_by_kern.ensures
+    c.kern_by_subtables.new.buffer c.kern_by_subtables.result c.kern_subtables.result.now c.kern_subtables.ensures.listed c.kern_by_subtables.ensures
 
 pub returns-clause-without_table : goal.returns-clause-without_table
 returns-clause-without_table g c missing =
     kern_without_table c.args.plan.now.requested_kerning c.args.plan.now.kern_mask (tables_of c.args.face.now).kern c.args.buffer.now
-    c.position_by_kern.new.buffer c.position_by_kern.result missing (returns-clause-positioned g c)
+    c.kern_by_subtables.new.buffer c.kern_by_subtables.result missing (returns-clause-positioned g c)
 
 pub returns-clause-kept : goal.returns-clause-kept
 returns-clause-kept g c =
@@ -18,8 +18,8 @@ returns-clause-kept g c =
     let kern_mask = c.args.plan.now.kern_mask in
     let subtables = kern_in (tables_of c.args.face.now).kern in
     let b = c.args.buffer.now in
-    let d = c.position_by_kern.new.buffer in
-    let n = c.position_by_kern.result in
+    let d = c.kern_by_subtables.new.buffer in
+    let n = c.kern_by_subtables.result in
     kern_kept requested kern_mask subtables b d n (returns-clause-positioned g c)
 
 pub returns-clause-cut : goal.returns-clause-cut
@@ -28,8 +28,8 @@ returns-clause-cut g c free =
     let kern_mask = c.args.plan.now.kern_mask in
     let subtables = kern_in (tables_of c.args.face.now).kern in
     let b = c.args.buffer.now in
-    let d = c.position_by_kern.new.buffer in
-    let n = c.position_by_kern.result in
+    let d = c.kern_by_subtables.new.buffer in
+    let n = c.kern_by_subtables.result in
     kern_cut requested kern_mask subtables b d n (returns-clause-positioned g c) free
 
 pub returns-clause-cut_alike : goal.returns-clause-cut_alike
@@ -38,8 +38,8 @@ returns-clause-cut_alike g c =
     let kern_mask = c.args.plan.now.kern_mask in
     let subtables = kern_in (tables_of c.args.face.now).kern in
     let b = c.args.buffer.now in
-    let d = c.position_by_kern.new.buffer in
-    let n = c.position_by_kern.result in
+    let d = c.kern_by_subtables.new.buffer in
+    let n = c.kern_by_subtables.result in
     kern_cut_alike requested kern_mask subtables b d n (returns-clause-positioned g c)
 
 pub returns-clause-paid : goal.returns-clause-paid
@@ -48,8 +48,8 @@ returns-clause-paid g c =
     let kern_mask = c.args.plan.now.kern_mask in
     let subtables = kern_in (tables_of c.args.face.now).kern in
     let b = c.args.buffer.now in
-    let d = c.position_by_kern.new.buffer in
-    let n = c.position_by_kern.result in
+    let d = c.kern_by_subtables.new.buffer in
+    let n = c.kern_by_subtables.result in
     kern_paid requested kern_mask subtables b d n (returns-clause-positioned g c)
 
 pub returns-clause-summed : goal.returns-clause-summed
@@ -58,8 +58,8 @@ returns-clause-summed g c asked free =
     let kern_mask = c.args.plan.now.kern_mask in
     let subtables = kern_in (tables_of c.args.face.now).kern in
     let b = c.args.buffer.now in
-    let d = c.position_by_kern.new.buffer in
-    let n = c.position_by_kern.result in
+    let d = c.kern_by_subtables.new.buffer in
+    let n = c.kern_by_subtables.result in
     kern_summed requested kern_mask subtables b d n (returns-clause-positioned g c) asked free
     (placed_as_asked b c.has_positions-placed.result c.has_positions-placed.ensures.standing c.has_positions-placed.ensures.placed c.requires.positions)
 
@@ -69,5 +69,5 @@ returns-clause-standing g c = (returns-clause-kept g c).text.standing c.requires
 pub returns-clause-placed : goal.returns-clause-placed
 returns-clause-placed g c =
     let b = c.args.buffer.now in
-    still_placed b c.position_by_kern.new.buffer (returns-clause-kept g c)
+    still_placed b c.kern_by_subtables.new.buffer (returns-clause-kept g c)
     (placed_as_asked b c.has_positions-placed.result c.has_positions-placed.ensures.standing c.has_positions-placed.ensures.placed c.requires.positions)

@@ -6,13 +6,13 @@ use Rattle.aat_kerning.proofs.kerx.hb_aat_layout_position.Goals as goal
 pub returns-clause-positioned : goal.returns-clause-positioned
 returns-clause-positioned g c =
     kerx_called c.args.plan.now.requested_kerning c.args.plan.now.kern_mask (tables_of c.args.face.now).ankr (tables_of c.args.face.now).kerx c.args.buffer.now
-    c.position_by_kerx.new.buffer c.position_by_kerx.result (option_copied c.anchor_points.result) c.kerx_subtables.result.now c.mark_line.new.buffer
-    c.anchor_points.ensures c.kerx_subtables.ensures.listed c.mark_line.ensures.marked c.position_by_kerx.ensures
+    c.kern_by_subtables.new.buffer c.kern_by_subtables.result (option_copied c.anchor_points.result) c.kerx_subtables.result.now c.mark_line.new.buffer
+    c.anchor_points.ensures c.kerx_subtables.ensures.listed c.mark_line.ensures.marked c.kern_by_subtables.ensures
 
 pub returns-clause-without_table : goal.returns-clause-without_table
 returns-clause-without_table g c missing =
     kerx_without_table c.args.plan.now.requested_kerning c.args.plan.now.kern_mask (tables_of c.args.face.now).ankr (tables_of c.args.face.now).kerx c.args.buffer.now
-    c.position_by_kerx.new.buffer c.position_by_kerx.result missing (returns-clause-positioned g c)
+    c.kern_by_subtables.new.buffer c.kern_by_subtables.result missing (returns-clause-positioned g c)
 
 pub returns-clause-kept : goal.returns-clause-kept
 returns-clause-kept g c =
@@ -21,8 +21,8 @@ returns-clause-kept g c =
     let points = (tables_of c.args.face.now).ankr in
     let subtables = kerx_in (tables_of c.args.face.now).kerx in
     let b = c.args.buffer.now in
-    let d = c.position_by_kerx.new.buffer in
-    let n = c.position_by_kerx.result in
+    let d = c.kern_by_subtables.new.buffer in
+    let n = c.kern_by_subtables.result in
     kerx_kept requested kern_mask points subtables b d n (returns-clause-positioned g c)
 
 pub returns-clause-cut : goal.returns-clause-cut
@@ -32,8 +32,8 @@ returns-clause-cut g c free =
     let points = (tables_of c.args.face.now).ankr in
     let subtables = kerx_in (tables_of c.args.face.now).kerx in
     let b = c.args.buffer.now in
-    let d = c.position_by_kerx.new.buffer in
-    let n = c.position_by_kerx.result in
+    let d = c.kern_by_subtables.new.buffer in
+    let n = c.kern_by_subtables.result in
     kerx_cut requested kern_mask points subtables b d n (returns-clause-positioned g c) free
 
 pub returns-clause-cut_alike : goal.returns-clause-cut_alike
@@ -43,8 +43,8 @@ returns-clause-cut_alike g c =
     let points = (tables_of c.args.face.now).ankr in
     let subtables = kerx_in (tables_of c.args.face.now).kerx in
     let b = c.args.buffer.now in
-    let d = c.position_by_kerx.new.buffer in
-    let n = c.position_by_kerx.result in
+    let d = c.kern_by_subtables.new.buffer in
+    let n = c.kern_by_subtables.result in
     kerx_cut_alike requested kern_mask points subtables b d n (returns-clause-positioned g c)
 
 pub returns-clause-paid : goal.returns-clause-paid
@@ -54,8 +54,8 @@ returns-clause-paid g c =
     let points = (tables_of c.args.face.now).ankr in
     let subtables = kerx_in (tables_of c.args.face.now).kerx in
     let b = c.args.buffer.now in
-    let d = c.position_by_kerx.new.buffer in
-    let n = c.position_by_kerx.result in
+    let d = c.kern_by_subtables.new.buffer in
+    let n = c.kern_by_subtables.result in
     kerx_paid requested kern_mask points subtables b d n (returns-clause-positioned g c)
 
 pub returns-clause-summed : goal.returns-clause-summed
@@ -65,8 +65,8 @@ returns-clause-summed g c asked free =
     let points = (tables_of c.args.face.now).ankr in
     let subtables = kerx_in (tables_of c.args.face.now).kerx in
     let b = c.args.buffer.now in
-    let d = c.position_by_kerx.new.buffer in
-    let n = c.position_by_kerx.result in
+    let d = c.kern_by_subtables.new.buffer in
+    let n = c.kern_by_subtables.result in
     kerx_summed requested kern_mask points subtables b d n (returns-clause-positioned g c) asked free
     (placed_as_asked b c.has_positions-placed.result c.has_positions-placed.ensures.standing c.has_positions-placed.ensures.placed c.requires.positions)
 
@@ -76,5 +76,5 @@ returns-clause-standing g c = (returns-clause-kept g c).text.standing c.requires
 pub returns-clause-placed : goal.returns-clause-placed
 returns-clause-placed g c =
     let b = c.args.buffer.now in
-    still_placed b c.position_by_kerx.new.buffer (returns-clause-kept g c)
+    still_placed b c.kern_by_subtables.new.buffer (returns-clause-kept g c)
     (placed_as_asked b c.has_positions-placed.result c.has_positions-placed.ensures.standing c.has_positions-placed.ensures.placed c.requires.positions)
