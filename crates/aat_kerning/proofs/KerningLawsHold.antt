@@ -1,9 +1,8 @@
 -- The drivers meet their laws, kerning is bounded, its runs end, and it changes little.
-use Rattle.std.proofs.Common.{◌≡◌, ℕ, ◌+◌, ◌*◌, ◌≤◌, ◌<◌, ◌&&◌, ◌||◌, not, Bool, true, false, cond, List, [], ◌∷◌, length, map, take, Option, None, inr, refl, ap, arith}
+use Rattle.std.proofs.Common.{◌≡◌, ℕ, ◌+◌, ◌*◌, ◌≤◌, ◌&&◌, ◌||◌, not, Bool, true, false, cond, List, [], ◌∷◌, length, map, Option, None, inr, refl, ap, arith}
 use Rattle.std.specs.Prelude.{fold}
 use Rattle.std.proofs.lemmas.Slice.Zip.{AllZip-long}
-use Rattle.std.proofs.lemmas.List.{length-reverse, length-take}
-use Rattle.std.proofs.lemmas.Nat.{mul-le}
+use Rattle.std.proofs.lemmas.List.{length-reverse}
 use Rattle.aat_buffer.specs.Buffer.{Buffer, with_cursor, reversed}
 use Rattle.aat_buffer.specs.Marks.{unsafe_to_concat}
 use Rattle.aat_buffer.specs.facts.Cases.{chosen, either}
@@ -162,19 +161,6 @@ so_far_is_paid requested kerning ks b each =
     let budget : operations_left ordered.max_ops ≡ operations_left b.max_ops = ap operations_left (ordered_budget b) in
     let free : length ks * (length ordered.line + 1) ≡ length ks * (length b.line + 1) = ap (λ n. length ks * (n + 1)) (ordered_length b) in
     record { turns = omega (arith, all.turns, budget, free); kept = all.kept }
-
--- the turns of those before place i fit a number of 64 bits
-pub few_turns :
-    {X : Type 0} (requested : Bool) (kerning : X → Kerning) (xs : List X) (i : ℕ) (b : Buffer) (s : Positioned)
-    → ((x : X) (d : Buffer) → IsPaid d ((kerning x).run d)) → s ≡ positioned_so_far requested kerning (take i xs) b
-    → length xs ≤ 65535 → length b.line ≤ 0x3FFFFFFF → operations_left b.max_ops < 0x80000000 → s.turns < 0x800000000000
-few_turns {X} requested kerning xs i b s each is few line budget =
-    let ks : List X = take i xs in
-    let all = so_far_is_paid requested kerning ks b each in
-    let same : s.turns ≡ (positioned_so_far requested kerning ks b).turns = ap (λ (t : Positioned). t.turns) is in
-    let most : length ks * (length b.line + 1) ≤ 65535 * 0x40000000 =
-    mul-le (length ks) (length b.line + 1) 65535 0x40000000 (omega (arith, length-take i xs, few)) (omega (arith, line)) in
-    omega (arith, all.turns, most, same, budget)
 
 -- what positioning leaves
 record IsPositioned (count : ℕ) (b : Buffer) (o : Outcome) : Type 0 where

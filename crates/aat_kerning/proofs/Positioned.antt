@@ -1,7 +1,7 @@
 -- One subtable, and subtables one after another.
-use Rattle.std.proofs.Common.{◌≡◌, ◌∙◌, ap, sym, refl, ℕ, ◌<◌, ◌+◌, ◌&&◌, ◌||◌, not, Bool, true, false, cond, List, [], ◌∷◌, ◌++◌, Option, Some, None, length, map, take, get_or, arith}
+use Rattle.std.proofs.Common.{◌≡◌, ◌∙◌, ap, sym, refl, ℕ, ◌<◌, ◌≤◌, ◌+◌, ◌&&◌, ◌||◌, not, Bool, true, false, cond, List, [], ◌∷◌, ◌++◌, Option, Some, None, length, map, take, get_or, arith}
 use Rattle.std.specs.Prelude.{fold, option_map, reverse}
-use Rattle.std.proofs.lemmas.List.{map-append, reverse-reverse, take_more}
+use Rattle.std.proofs.lemmas.List.{map-append, reverse-reverse, take_all, take_more}
 use Rattle.std.proofs.lemmas.List.Sums.{fold_push}
 use Rattle.aat_buffer.specs.Buffer.{Buffer, reversed}
 use Rattle.aat_buffer.specs.facts.Cases.{chosen}
@@ -80,13 +80,15 @@ so_far_next requested kerning xs i x b s t below read was next =
 
 -- all of them, and the line turned back
 pub so_far_all :
-    {X : Type 0} (requested : Bool) (kerning : X → Kerning) (xs : List X) (b now after : Buffer) (n : ℕ)
-    (is_attached : Bool)
-    → record { buffer = now; turns = n; is_attached = is_attached } ≡ positioned_so_far requested kerning xs b
+    {X : Type 0} (requested : Bool) (kerning : X → Kerning) (xs : List X) (i : ℕ) (b now after : Buffer) (n : ℕ)
+    (is_attached : Bool) → length xs ≤ i
+    → record { buffer = now; turns = n; is_attached = is_attached } ≡ positioned_so_far requested kerning (take i xs) b
     → after ≡ in_processing_order now → record { buffer = after; turns = n } ≡ positioning requested (map kerning xs) b
 unfolding positioning
-so_far_all requested kerning xs b now after n is_attached was turned =
-    ap (λ (d : Buffer). record { buffer = d; turns = n }) turned ∙ ap (λ (s : Positioned). record { buffer = in_processing_order s.buffer; turns = s.turns }) was
+so_far_all {X} requested kerning xs i b now after n is_attached past was turned =
+    ap (λ (d : Buffer). record { buffer = d; turns = n }) turned
+    ∙ ap (λ (s : Positioned). record { buffer = in_processing_order s.buffer; turns = s.turns })
+    (was ∙ ap (λ (ys : List X). positioned_so_far requested kerning ys b) (take_all i xs past))
 
 -- a line that is turned twice
 twice : (o : Option (List GlyphPosition)) → option_map (λ qs. reverse qs) (option_map (λ qs. reverse qs) o) ≡ o
@@ -109,12 +111,31 @@ pub none_positioned :
 unfolding positioning
 none_positioned requested kerning b = ap untouched (sym (ordered_twice b))
 
--- a subtable is left out, or runs, by a call that was asked
-pub asked_outcome :
-    (requested : Bool) (k : Kerning) (d : Buffer) (p r : Bool) → p ≡ k.is_pairs → r ≡ (p && not requested)
-    → cond r (untouched d) (k.run d) ≡ cond (k.is_pairs && not requested) (untouched d) (k.run d)
-asked_outcome requested k d p r is answer =
-    ap (λ t. cond t (untouched d) (k.run d)) (answer ∙ ap (λ t. t && not requested) is)
+-- What follows from calls that were asked of a subtable: p whether it is of pairs, r whether it is left out, x whether
+-- it has cross-stream.
+module _ (requested : Bool) (k : Kerning) (d : Buffer) (p r : Bool) (is : p ≡ k.is_pairs) (answer : r ≡ (p && not requested))
+  where
+    asked_outcome : cond r (untouched d) (k.run d) ≡ cond (k.is_pairs && not requested) (untouched d) (k.run d)
+    asked_outcome = ap (λ t. cond t (untouched d) (k.run d)) (answer ∙ ap (λ t. t && not requested) is)
+
+    -- it is left out
+    pub asked_left_out : r ≡ true → untouched d ≡ cond (k.is_pairs && not requested) (untouched d) (k.run d)
+    asked_left_out out = sym (ap (λ t. cond t (untouched d) (k.run d)) out) ∙ asked_outcome
+
+    -- it runs
+    pub asked_run :
+        (o : Outcome) → r ≡ false → o ≡ k.run d → o ≡ cond (k.is_pairs && not requested) (untouched d) (k.run d)
+    asked_run o stays ran = ran ∙ sym (ap (λ t. cond t (untouched d) (k.run d)) stays) ∙ asked_outcome
+
+module _ (k : Kerning) (x was : Bool) (is : x ≡ k.has_cross_stream) where
+  -- it attaches a line, where none before it has
+  pub asked_attached :
+      (b d : Buffer) → d ≡ cond (x && not was) (cursively_attached b) b
+      → d ≡ cond (k.has_cross_stream && not was) (cursively_attached b) b
+  asked_attached b d attached = attached ∙ ap (λ t. cond (t && not was) (cursively_attached b) b) is
+
+  pub asked_noted : (now : Bool) → now ≡ (was || x) → now ≡ (was || k.has_cross_stream)
+  asked_noted now noted = noted ∙ ap (λ t. was || t) is
 
 -- whether a subtable is for a text, by a call that was asked
 pub asked_for_text :

@@ -10,6 +10,7 @@ use Rattle.aat_font.specs.declared.kerx.KerxFormat.TheVariants.{Format0, Format1
 use Rattle.aat_font.specs.declared.kerx.KerxSubtable.{KerxSubtable}
 use Rattle.aat_font.specs.AnchorPoints.{Points}
 use Rattle.aat_glyph.specs.Directions.{is_horizontal, is_backward}
+use Rattle.aat_glyph.specs.declared.glyph.Direction.{Direction}
 use Rattle.aat_run.specs.Truth.{is_alike}
 use Rattle.aat_kerning_machines.specs.KerningMachine.{driver_run}
 use Rattle.aat_run.specs.Outcome.{Outcome, untouched}
@@ -41,8 +42,11 @@ cursively_attached b = on_positions (attached_as 2 (if is_backward b.direction t
 
 -- a subtable is for this text where it is not variable and is of the text's orientation.
 -- TrueType Reference Manual: The 'kern' table and The 'kerx' table, coverage.
+abbrev pub is_for_direction : Kerning → Direction → Bool
+is_for_direction k direction = not k.variable && is_alike k.horizontal (is_horizontal direction)
+
 abbrev pub is_for_text : Kerning → Buffer → Bool
-is_for_text k b = not k.variable && is_alike k.horizontal (is_horizontal b.direction)
+is_for_text k b = is_for_direction k b.direction
 
 -- one subtable, on a line in processing order: the first that is for this text and has cross-stream attaches, also
 -- where it is then skipped, and pairs are kerned only where kerning is requested

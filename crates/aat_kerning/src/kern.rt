@@ -1,5 +1,5 @@
 //! Kerning by the kerning table.
-ghost use Rattle.std.specs.Prelude.{◌≡◌, ℕ, ◌+◌, ◌*◌, ◌≤◌, ◌↔◌, All, bit_and, false, true, IfErr, IfOk, IsErrOf, IsNone, IsTrue, IsSome, length, map, OnErr, OnOk};
+ghost use Rattle.std.specs.Prelude.{◌≡◌, ◌<◌, ◌^◌, ◌+◌, ◌*◌, ◌≤◌, ◌↔◌, All, bit_and, false, true, IfErr, IfOk, IsErrOf, IsNone, IsTrue, IsSome, length, map, OnErr, OnOk};
 ghost use Rattle.aat_buffer.specs.Clusters.{IsSmall};
 ghost use Rattle.aat_font.specs.Face.{tables_of};
 ghost use Rattle.aat_kerning.specs.Advances.{KernSumsAdvances};
@@ -7,16 +7,17 @@ ghost use Rattle.aat_kerning.specs.FontKerning.{KernCanBeCut, KernCanBeCutAlike,
 ghost use Rattle.aat_kerning.specs.KerningLawful.{KernPaysForStaying};
 ghost use Rattle.aat_kerning_machines.specs.KerningLaws.{IsKernedFrom};
 ghost use Rattle.aat_kerning_machines.specs.KerningMachine.{driver_run};
-ghost use Rattle.aat_kerning.specs.Positioning.{AreKernPairs, Positioned, is_kern_pairs, kern_kerning, kern_run, positioned, positioning};
+ghost use Rattle.aat_kerning.specs.Positioning.{AreKernPairs, is_kern_pairs, kern_kerning, kern_run};
 ghost use Rattle.aat_kerning_machines.specs.Positions.{IsPlaced};
 ghost use Rattle.aat_kerning_machines.specs.Stack.{kern_driver};
 ghost use Rattle.aat_run.specs.Budget.{operations_left};
 
+use crate::kerning_subtable::{KerningSubtable, kern_by_subtables};
 use crate::pair_kerning::PairRun;
-use crate::positioning::{attach_once, is_for_text, is_left_out, kern_line, reorder};
+use crate::positioning::{is_for_text, kern_line};
 use crate::solid::KERN_SKIPS;
-use aat_buffer::hb_buffer_t;
-use aat_font::{KernKind, KernMachine, KernSubtable, hb_font_t, hb_ot_shape_plan_t};
+use aat_buffer::{Direction, hb_buffer_t};
+use aat_font::{Ankr, KernKind, KernMachine, KernSubtable, hb_font_t, hb_ot_shape_plan_t};
 use aat_kerning_machines::{KerningRun, StateMachineDriver, drive_kern};
 use aat_run::AatError;
 use std::alloc::Allocator;
@@ -33,6 +34,7 @@ fn run_kern_machine<A: Allocator + Copy>(
     ensures run { record { buffer = buffer.new; turns = result }
         ≡ driver_run true machine.now.state_table
         (kern_driver has_cross_stream plan.now.kern_mask machine.now.values) buffer.old }
+    ensures few { result < 2 ^ 32 }
     ensures ids { IsSmall buffer.new }
     ensures placed { IsPlaced buffer.new }
 {
@@ -48,7 +50,7 @@ fn run_kern_machine<A: Allocator + Copy>(
 }
 
 /// Kerns by a `kern` subtable, and answers the turns of a machine, which are 0 of pairs.
-fn run_kern<A: Allocator + Copy>(
+fn run_kern_subtable<A: Allocator + Copy>(
     plan: &hb_ot_shape_plan_t,
     subtable: &KernSubtable,
     buffer: &mut hb_buffer_t<A>,
@@ -57,6 +59,7 @@ fn run_kern<A: Allocator + Copy>(
     requires placed { IsPlaced buffer.old }
     ensures run { record { buffer = buffer.new; turns = result }
         ≡ kern_run plan.now.kern_mask subtable.now.has_cross_stream subtable.now.kind buffer.old }
+    ensures few { result < 2 ^ 32 }
     ensures ids { IsSmall buffer.new }
     ensures placed { IsPlaced buffer.new }
 {
@@ -77,57 +80,6 @@ fn run_kern<A: Allocator + Copy>(
     }
 }
 
-/// One `kern` subtable, on a line in processing order. Answers the turns that its machine took.
-fn kern_by_kern<A: Allocator + Copy>(
-    plan: &hb_ot_shape_plan_t,
-    subtable: &KernSubtable,
-    is_attached: &mut bool,
-    buffer: &mut hb_buffer_t<A>,
-) -> u64
-    requires ids { IsSmall buffer.old }
-    requires placed { IsPlaced buffer.old }
-    ensures positioned { (turns : ℕ) →
-        record { buffer = buffer.new; turns = turns + result; is_attached = is_attached.new }
-        ≡ positioned plan.now.requested_kerning (kern_kerning plan.now.kern_mask subtable.now)
-        (record { buffer = buffer.old; turns = turns; is_attached = is_attached.old }) }
-    ensures ids { IsSmall buffer.new }
-    ensures placed { IsPlaced buffer.new }
-{
-    if !is_for_text(subtable.horizontal, subtable.variable, buffer.direction()) {
-        return 0;
-    }
-    attach_once(subtable.has_cross_stream, is_attached, buffer);
-    if is_left_out(is_of_kern_pairs(subtable), plan.requested_kerning) {
-        return 0;
-    }
-    run_kern(plan, subtable, buffer)
-}
-
-/// Kerns by `kern` subtables in their order, and answers the turns of the machines.
-fn position_by_kern<A: Allocator + Copy>(
-    plan: &hb_ot_shape_plan_t,
-    subtables: &[KernSubtable],
-    buffer: &mut hb_buffer_t<A>,
-) -> u64
-    requires few { length subtables.now ≤ 65535 }
-    requires ids { IsSmall buffer.old }
-    requires placed { IsPlaced buffer.old }
-    ensures { record { buffer = buffer.new; turns = result }
-        ≡ positioning plan.now.requested_kerning
-        (map (kern_kerning plan.now.kern_mask) subtables.now) buffer.old }
-{
-    let _length = buffer.len();
-    let _budget = buffer.max_ops();
-    reorder(buffer);
-    let mut is_attached = false;
-    let mut turns = 0;
-    for subtable in subtables {
-        turns += kern_by_kern(plan, subtable, &mut is_attached, buffer);
-    }
-    reorder(buffer);
-    turns
-}
-
 /// Whether a `kern` subtable is of pairs.
 fn is_of_kern_pairs(subtable: &KernSubtable) -> bool
     ensures { result ≡ is_kern_pairs subtable.now.kind }
@@ -135,6 +87,33 @@ fn is_of_kern_pairs(subtable: &KernSubtable) -> bool
     match &subtable.kind {
         KernKind::Pairs(_) => true,
         KernKind::Machine(_) => false,
+    }
+}
+
+impl KerningSubtable for KernSubtable {
+    ghost use Rattle.aat_kerning.specs.Positioning as positioning;
+
+    ghost kerning = { λ kern_mask points. positioning.kern_kerning kern_mask };
+
+    fn is_for_text(&self, direction: Direction) -> bool {
+        is_for_text(self.horizontal, self.variable, direction)
+    }
+
+    fn has_cross_stream(&self) -> bool {
+        self.has_cross_stream
+    }
+
+    fn is_of_pairs(&self) -> bool {
+        is_of_kern_pairs(self)
+    }
+
+    fn run<A: Allocator + Copy>(
+        &self,
+        plan: &hb_ot_shape_plan_t,
+        _ankr: Option<&Ankr>,
+        buffer: &mut hb_buffer_t<A>,
+    ) -> u64 {
+        run_kern_subtable(plan, self, buffer)
     }
 }
 
@@ -200,5 +179,5 @@ pub fn hb_ot_layout_kern<A: Allocator + Copy>(
         return Err(AatError::BufferFailed);
     }
     let _placed = buffer.has_positions();
-    Ok(position_by_kern(plan, face.kern_subtables(), buffer))
+    Ok(kern_by_subtables(plan, None, face.kern_subtables(), buffer))
 }

@@ -1,5 +1,5 @@
 //! Kerning by the extended kerning table.
-ghost use Rattle.std.specs.Prelude.{◌≡◌, ℕ, ◌+◌, ◌*◌, ◌≤◌, ◌↔◌, All, bit_and, false, IfErr, IfOk, IsErrOf, IsNone, IsTrue, IsSome, length, map, OnErr, OnOk, None, option_copied};
+ghost use Rattle.std.specs.Prelude.{◌≡◌, ◌<◌, ◌^◌, ◌+◌, ◌*◌, ◌≤◌, ◌↔◌, All, bit_and, false, IfErr, IfOk, IsErrOf, IsNone, IsTrue, IsSome, length, map, OnErr, OnOk, None, option_copied};
 ghost use Rattle.aat_buffer.specs.Clusters.{IsSmall};
 ghost use Rattle.aat_buffer.specs.Marks.{unsafe_to_concat};
 ghost use Rattle.aat_font.specs.Face.{tables_of};
@@ -9,15 +9,16 @@ ghost use Rattle.aat_kerning_machines.specs.Anchors.{anchor_driver};
 ghost use Rattle.aat_kerning.specs.KerningLawful.{KerxPaysForStaying};
 ghost use Rattle.aat_kerning_machines.specs.KerningLaws.{IsKernedFrom};
 ghost use Rattle.aat_kerning_machines.specs.KerningMachine.{driver_run};
-ghost use Rattle.aat_kerning.specs.Positioning.{AreKerxPairs, Positioned, is_kerx_pairs, kerx_kerning, kerx_run, positioned, positioning};
+ghost use Rattle.aat_kerning.specs.Positioning.{AreKerxPairs, is_kerx_pairs, kerx_kerning, kerx_run};
 ghost use Rattle.aat_kerning_machines.specs.Positions.{IsPlaced};
 ghost use Rattle.aat_kerning_machines.specs.Stack.{kerx_driver};
 ghost use Rattle.aat_run.specs.Budget.{operations_left};
 
+use crate::kerning_subtable::{KerningSubtable, kern_by_subtables};
 use crate::pair_kerning::PairRun;
-use crate::positioning::{attach_once, is_for_text, is_left_out, kern_line, mark_line, reorder};
+use crate::positioning::{is_for_text, kern_line, mark_line};
 use crate::solid::KERX_SKIPS;
-use aat_buffer::{hb_buffer_t, hb_mask_t};
+use aat_buffer::{Direction, hb_buffer_t, hb_mask_t};
 use aat_font::{
     Ankr, KerxFormat, KerxSubtable, Pairs, Subtable1, Subtable4, hb_font_t, hb_ot_shape_plan_t,
 };
@@ -53,6 +54,7 @@ fn run_stack<A: Allocator + Copy>(
         ≡ driver_run false machine.now.state_table
         (kerx_driver subtable.now.has_cross_stream plan.now.kern_mask subtable.now.tuple_count
         machine.now.values) buffer.old }
+    ensures few { result < 2 ^ 32 }
     ensures ids { IsSmall buffer.new }
     ensures placed { IsPlaced buffer.new }
 {
@@ -80,6 +82,7 @@ fn run_anchors<A: Allocator + Copy>(
     ensures run { record { buffer = buffer.new; turns = result }
         ≡ driver_run false machine.now.state_table
         (anchor_driver (option_copied ankr.entry) machine.now.anchor_points) buffer.old }
+    ensures few { result < 2 ^ 32 }
     ensures ids { IsSmall buffer.new }
     ensures placed { IsPlaced buffer.new }
 {
@@ -95,7 +98,7 @@ fn run_anchors<A: Allocator + Copy>(
 }
 
 /// Kerns by a `kerx` subtable, and answers the turns of a machine, which are 0 of pairs.
-fn run_kerx<A: Allocator + Copy>(
+fn run_kerx_subtable<A: Allocator + Copy>(
     plan: &hb_ot_shape_plan_t,
     ankr: Option<&Ankr>,
     subtable: &KerxSubtable,
@@ -106,6 +109,7 @@ fn run_kerx<A: Allocator + Copy>(
     ensures run { record { buffer = buffer.new; turns = result }
         ≡ kerx_run plan.now.kern_mask (option_copied ankr.entry)
         subtable.now.has_cross_stream subtable.now.tuple_count subtable.now.format buffer.old }
+    ensures few { result < 2 ^ 32 }
     ensures ids { IsSmall buffer.new }
     ensures placed { IsPlaced buffer.new }
 {
@@ -127,60 +131,6 @@ fn run_kerx<A: Allocator + Copy>(
     }
 }
 
-/// One `kerx` subtable, on a line in processing order. Answers the turns that its machine took.
-fn kern_by_kerx<A: Allocator + Copy>(
-    plan: &hb_ot_shape_plan_t,
-    ankr: Option<&Ankr>,
-    subtable: &KerxSubtable,
-    is_attached: &mut bool,
-    buffer: &mut hb_buffer_t<A>,
-) -> u64
-    requires ids { IsSmall buffer.old }
-    requires placed { IsPlaced buffer.old }
-    ensures positioned { (turns : ℕ) →
-        record { buffer = buffer.new; turns = turns + result; is_attached = is_attached.new }
-        ≡ positioned plan.now.requested_kerning
-        (kerx_kerning plan.now.kern_mask (option_copied ankr.entry) subtable.now)
-        (record { buffer = buffer.old; turns = turns; is_attached = is_attached.old }) }
-    ensures ids { IsSmall buffer.new }
-    ensures placed { IsPlaced buffer.new }
-{
-    if !is_for_text(subtable.horizontal, subtable.variable, buffer.direction()) {
-        return 0;
-    }
-    attach_once(subtable.has_cross_stream, is_attached, buffer);
-    if is_left_out(is_of_kerx_pairs(subtable), plan.requested_kerning) {
-        return 0;
-    }
-    run_kerx(plan, ankr, subtable, buffer)
-}
-
-/// Kerns by `kerx` subtables in their order, and answers the turns of the machines.
-fn position_by_kerx<A: Allocator + Copy>(
-    plan: &hb_ot_shape_plan_t,
-    ankr: Option<&Ankr>,
-    subtables: &[KerxSubtable],
-    buffer: &mut hb_buffer_t<A>,
-) -> u64
-    requires few { length subtables.now ≤ 65535 }
-    requires ids { IsSmall buffer.old }
-    requires placed { IsPlaced buffer.old }
-    ensures { record { buffer = buffer.new; turns = result }
-        ≡ positioning plan.now.requested_kerning
-        (map (kerx_kerning plan.now.kern_mask (option_copied ankr.entry)) subtables.now) buffer.old }
-{
-    let _length = buffer.len();
-    let _budget = buffer.max_ops();
-    reorder(buffer);
-    let mut is_attached = false;
-    let mut turns = 0;
-    for subtable in subtables {
-        turns += kern_by_kerx(plan, ankr, subtable, &mut is_attached, buffer);
-    }
-    reorder(buffer);
-    turns
-}
-
 /// Whether a `kerx` subtable is of pairs: of format 0, 2 or 6.
 fn is_of_kerx_pairs(subtable: &KerxSubtable) -> bool
     ensures { result ≡ is_kerx_pairs subtable.now.format }
@@ -191,6 +141,33 @@ fn is_of_kerx_pairs(subtable: &KerxSubtable) -> bool
         KerxFormat::Format2(_) => true,
         KerxFormat::Format4(_) => false,
         KerxFormat::Format6(_) => true,
+    }
+}
+
+impl KerningSubtable for KerxSubtable {
+    ghost use Rattle.aat_kerning.specs.Positioning as positioning;
+
+    ghost kerning = { positioning.kerx_kerning };
+
+    fn is_for_text(&self, direction: Direction) -> bool {
+        is_for_text(self.horizontal, self.variable, direction)
+    }
+
+    fn has_cross_stream(&self) -> bool {
+        self.has_cross_stream
+    }
+
+    fn is_of_pairs(&self) -> bool {
+        is_of_kerx_pairs(self)
+    }
+
+    fn run<A: Allocator + Copy>(
+        &self,
+        plan: &hb_ot_shape_plan_t,
+        ankr: Option<&Ankr>,
+        buffer: &mut hb_buffer_t<A>,
+    ) -> u64 {
+        run_kerx_subtable(plan, ankr, self, buffer)
     }
 }
 
@@ -283,5 +260,5 @@ pub fn hb_aat_layout_position<A: Allocator + Copy>(
     }
     let _placed = buffer.has_positions();
     mark_line(true, buffer);
-    Ok(position_by_kerx(plan, anchor_points(face), face.kerx_subtables(), buffer))
+    Ok(kern_by_subtables(plan, anchor_points(face), face.kerx_subtables(), buffer))
 }

@@ -4,6 +4,7 @@
 
 mod deleted;
 mod kern;
+mod kerning_subtable;
 mod kerx;
 #[doc(hidden)]
 pub mod laws;

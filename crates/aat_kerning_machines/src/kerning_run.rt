@@ -64,7 +64,7 @@ fn run_machine<Table, E: Copy, D: StateTableDriver<Table, E>, A: Allocator + Cop
         (driver_over run.now D.actionable D.act driver.old) buffer.old }
     ensures paid { result + operations_left buffer.new.max_ops
         ≤ length buffer.old.line + 1 + operations_left buffer.old.max_ops }
-    ensures few { result < 2 ^ 62 }
+    ensures few { result < 2 ^ 32 }
     ensures ids { IsSmall buffer.new }
     ensures placed { IsPlaced buffer.new }
 {
@@ -115,7 +115,7 @@ pub fn drive_kerx<Table, E: Copy, D: StateTableDriver<Table, E>, A: Allocator + 
         (driver_over run.now D.actionable D.act driver.old) buffer.old }
     ensures paid { result + operations_left buffer.new.max_ops
         ≤ length buffer.old.line + 1 + operations_left buffer.old.max_ops }
-    ensures few { result < 2 ^ 62 }
+    ensures few { result < 2 ^ 32 }
     ensures ids { IsSmall buffer.new }
     ensures placed { IsPlaced buffer.new }
 {
@@ -144,7 +144,7 @@ pub fn drive_kern<Table, E: Copy, D: StateTableDriver<Table, E>, A: Allocator + 
         (driver_over run.now D.actionable D.act driver.old) buffer.old }
     ensures paid { result + operations_left buffer.new.max_ops
         ≤ length buffer.old.line + 1 + operations_left buffer.old.max_ops }
-    ensures few { result < 2 ^ 62 }
+    ensures few { result < 2 ^ 32 }
     ensures ids { IsSmall buffer.new }
     ensures placed { IsPlaced buffer.new }
 {
