@@ -1,9 +1,13 @@
 -- What an inspection lists of a font's chains. Apple's TrueType Reference Manual, "The 'morx' table", chain header and
 -- feature subtables.
-use Rattle.std.specs.Prelude.{◌≡◌, ℕ, ◌+◌, ◌≤◌, ◌==◌, ◌⊎◌, Bool, List, [], ◌∷◌, map, Option, Some, slice_get, if◌then◌else◌}
+use Rattle.std.specs.Prelude.{◌≡◌, ℕ, ◌+◌, ◌≤◌, ◌==◌, ◌⊎◌, Bool, List, [], ◌∷◌, Vec, map, Option, Some, slice_get, if◌then◌else◌}
+use Rattle.std.specs.declared.alloc.Global.{Global}
+use Rattle.aat_font.specs.declared.face.hb_font_t.{hb_font_t}
 use Rattle.aat_layout.specs.Adding.{RefusesFeatures}
+use Rattle.aat_layout.specs.Face.{chains_in, tables_of}
 use Rattle.aat_layout.specs.Live.{flags_at_cluster}
 use Rattle.aat_layout.specs.Ranges.{last_cluster}
+use Rattle.aat_layout.specs.Requests.{requests_of}
 use Rattle.aat_layout.specs.SwitchedChains.{switched_at}
 use Rattle.aat_layout.specs.FeatureName.{FeatureName}
 use Rattle.aat_layout.specs.Chain.{Chain}
@@ -25,6 +29,18 @@ pub record TableLine : Type 0 where
 -- the line of a range
 abbrev pub table_line : InspectedRange → TableLine
 table_line r = record { chain = r.chain; first = r.first; last = r.last; flags = r.flags; on = r.on.items }
+
+-- the lines of ranges
+abbrev pub table_lines : Vec InspectedRange Global → List TableLine
+table_lines ranges = map table_line ranges.items
+
+-- the chains of a font
+abbrev pub chains_of : hb_font_t → List Chain
+chains_of face = chains_in (tables_of face).morx
+
+-- the requests that features make of a font
+abbrev pub requests_to : hb_font_t → List Feature → List feature_range_t
+requests_to face features = requests_of (tables_of face).feat features
 
 -- at cluster x a line has what substitution asks of its chain: the chain's flags there, and of each of its subtables
 -- whether it is on there

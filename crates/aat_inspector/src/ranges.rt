@@ -3,11 +3,10 @@ ghost use Rattle.std.specs.Prelude.{◌≡◌, ◌++◌, All, IfErr, IfOk, IsTru
 ghost use Rattle.std.specs.List.{list_all};
 ghost use Rattle.aat_layout.specs.Adding.{first_too_large_among};
 ghost use Rattle.aat_layout.specs.Compiled.{HaveFlags};
-ghost use Rattle.aat_layout.specs.Face.{chains_in, tables_of};
+ghost use Rattle.aat_layout.specs.Face.{tables_of};
 ghost use Rattle.aat_layout.specs.Ranges.{is_whole_list};
 ghost use Rattle.aat_layout.specs.Switches.{meets};
-ghost use Rattle.aat_layout.specs.Requests.{requests_of};
-ghost use Rattle.aat_inspector.specs.Inspected.{IsAsked, Lead, RefusesInspection, table_line};
+ghost use Rattle.aat_inspector.specs.Inspected.{IsAsked, Lead, RefusesInspection, chains_of, requests_to, table_lines};
 ghost use Rattle.aat_inspector.specs.inside.Lines.{line_over};
 
 use aat_layout::buffer::hb_mask_t;
@@ -49,8 +48,9 @@ pub fn inspect(
     face: &hb_font_t,
     features: &[Feature],
 ) -> Result<Vec<InspectedRange>, AatError>
-    ensures asked { IfOk result (λ ranges. All (IsAsked (requests_of (tables_of face.now).feat features.now) (chains_in (tables_of face.now).morx)) (map table_line ranges.items)) }
-    ensures whole { IfOk result (λ ranges. Lead (0, 0) (length (chains_in (tables_of face.now).morx), 0) (map table_line ranges.items)) }
+    ensures asked { IfOk result (λ ranges.
+        All (IsAsked (requests_to face.now features.now) (chains_of face.now)) (table_lines ranges)) }
+    ensures whole { IfOk result (λ ranges. Lead (0, 0) (length (chains_of face.now), 0) (table_lines ranges)) }
     ensures fits { OnOk result (first_too_large_among (tables_of face.now).feat features.now ≡ None) }
     ensures reason { IfErr result (RefusesInspection (tables_of face.now).feat features.now) }
 {
@@ -64,7 +64,7 @@ pub fn inspect(
 
 /// The map that features make of a font.
 fn map_of(alloc: Global, face: &hb_font_t, features: &[Feature]) -> Result<hb_aat_map_t, AatError>
-    ensures flags { IfOk result (λ map. HaveFlags (requests_of (tables_of face.now).feat features.now) (chains_in (tables_of face.now).morx) map) }
+    ensures flags { IfOk result (λ map. HaveFlags (requests_to face.now features.now) (chains_of face.now) map) }
     ensures whole { IfOk result (λ map. IsTrue (list_all is_whole_list map)) }
     ensures fits { OnOk result (first_too_large_among (tables_of face.now).feat features.now ≡ None) }
     ensures reason { IfErr result (RefusesInspection (tables_of face.now).feat features.now) }
@@ -83,7 +83,8 @@ fn add_chain(
     ranges: &[range_flags_t],
     inspected: &mut Vec<InspectedRange>,
 ) -> Result<(), AatError>
-    ensures ok { OnOk result (map table_line inspected.new.items ≡ map table_line inspected.old.items ++ map (line_over place chain.now) ranges.now) }
+    ensures ok { OnOk result (table_lines inspected.new
+        ≡ table_lines inspected.old ++ map (line_over place chain.now) ranges.now) }
     ensures err { IfErr result (λ e. e ≡ AatError.OutOfMemory) }
 {
     for range in ranges {

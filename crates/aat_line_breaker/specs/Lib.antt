@@ -1,1 +1,2 @@
+pub mod LineBreak
 pub mod LineCut

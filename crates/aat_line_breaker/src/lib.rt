@@ -5,12 +5,14 @@ ghost use Rattle.std.specs.Prelude.{◌≡◌, ◌↔◌, false, IfErr, IfOk, If
 ghost use Rattle.aat_layout.specs.Clusters.{IsSmall};
 ghost use Rattle.aat_layout.specs.Face.{kern_in, tables_of};
 ghost use Rattle.aat_layout.specs.Pairs.{kern_skips};
-ghost use Rattle.aat_layout.specs.Positioning.{AreKernPairs, kern_positioning};
-ghost use Rattle.aat_line_breaker.specs.LineCut.{IsCutWithin, IsLast, IsLeftOfPartsAt};
+ghost use Rattle.aat_layout.specs.Positioning.{AreKernPairs};
+ghost use Rattle.aat_line_breaker.specs.LineCut.{IsCutWithin, IsLast, IsLeftOfPartsAt, kerned_by_kern};
 
+mod between;
 mod order;
 mod place;
 
+pub use crate::between::may_break_between;
 pub use crate::place::last_cut;
 use aat_layout::buffer::hb_buffer_t;
 use aat_layout::font::{hb_font_t, hb_ot_shape_plan_t};
@@ -47,9 +49,10 @@ pub fn kern_and_cut<A: Allocator + Copy>(
     ensures failed { IsErrOf result AatError.BufferFailed ↔ (buffer.old.successful ≡ false) }
     ensures reason { IfErr result (λ error. error ≡ AatError.BufferFailed) }
     ensures unchanged { OnErr result (buffer.new ≡ buffer.old) }
-    ensures kerned { OnOk result (buffer.new ≡ (kern_positioning plan.now.requested_kerning plan.now.kern_mask (kern_in (tables_of face.now).kern) buffer.old).buffer) }
+    ensures kerned { OnOk result (buffer.new ≡ (kerned_by_kern plan.now face.now buffer.old).buffer) }
     ensures last { IfOk result (λ place. IsLast (IsCutWithin limit kern_skips buffer.new) place) }
-    ensures apart { IfOk result (λ place. IfSome place (λ q. IsLeftOfPartsAt q (kern_positioning plan.now.requested_kerning plan.now.kern_mask (kern_in (tables_of face.now).kern)) buffer.old buffer.new)) }
+    ensures apart { IfOk result (λ place.
+        IfSome place (λ q. IsLeftOfPartsAt q (kerned_by_kern plan.now face.now) buffer.old buffer.new)) }
 {
     hb_ot_layout_kern(plan, face, buffer)?;
     Ok(last_cut(limit, KERN_SKIPS, buffer))

@@ -1,11 +1,9 @@
 //! What a line has at a place in processing order.
-ghost use Rattle.std.specs.Prelude.{◌≡◌, ◌<◌, ◌<ℤ◌, ◌≤ℤ◌, length, negsuc, pos, slice_index_or};
-ghost use Rattle.aat_layout.specs.Advances.{advance};
-ghost use Rattle.aat_layout.specs.Buffer.{glyph_at, position_list, zero_position};
-ghost use Rattle.aat_layout.specs.Cut.{ordered_line, ordered_positions};
-ghost use Rattle.aat_layout.specs.Directions.{is_horizontal};
+ghost use Rattle.std.specs.Prelude.{◌≡◌, ◌<◌, ◌≤ℤ◌, length, negsuc, pos};
+ghost use Rattle.aat_layout.specs.Buffer.{glyph_at, position_at};
+ghost use Rattle.aat_layout.specs.Cut.{ordered_line};
 ghost use Rattle.aat_layout.specs.Positions.{IsPlaced};
-ghost use Rattle.aat_line_breaker.specs.LineCut.{text_advance};
+ghost use Rattle.aat_line_breaker.specs.LineCut.{advance_at, ordered_position_at};
 
 use aat_layout::buffer::{hb_buffer_t, hb_glyph_info_t};
 use std::alloc::Allocator;
@@ -16,7 +14,7 @@ fn in_buffer<A: Allocator + Copy>(buffer: &hb_buffer_t<A>, place: usize) -> usiz
     requires placed { IsPlaced buffer.now }
     ensures in_line { result < length buffer.now.line }
     ensures glyph { glyph_at buffer.now.line result ≡ glyph_at (ordered_line buffer.now) place }
-    ensures position { slice_index_or (position_list buffer.now) result zero_position ≡ slice_index_or (ordered_positions buffer.now) place zero_position }
+    ensures position { position_at buffer.now result ≡ ordered_position_at buffer.now place }
 {
     if buffer.direction().is_backward() {
         buffer.len() - 1 - place
@@ -42,7 +40,7 @@ pub(crate) fn glyph_at<A: Allocator + Copy>(
 pub(crate) fn advance_at<A: Allocator + Copy>(buffer: &hb_buffer_t<A>, place: usize) -> i64
     requires in_line { place < length buffer.now.line }
     requires placed { IsPlaced buffer.now }
-    ensures value { result ≡ text_advance (is_horizontal buffer.now.direction) (advance (is_horizontal buffer.now.direction) (slice_index_or (ordered_positions buffer.now) place zero_position)) }
+    ensures value { result ≡ advance_at buffer.now place }
     ensures low { negsuc 0x7FFF_FFFF ≤ℤ result }
     ensures high { result ≤ℤ pos 0x8000_0000 }
 {

@@ -7,8 +7,9 @@ ghost use Rattle.aat_layout.specs.Positioning.{Kerning};
 ghost use Rattle.aat_layout.specs.Positions.{IsPlaced};
 ghost use Rattle.aat_line_breaker.specs.LineCut.{IsCutWithin, IsLast, IsLeftOfPartsAt, advance_before};
 
+use crate::between::may_break_between;
 use crate::order::{advance_at, glyph_at};
-use aat_layout::buffer::{glyph_flag, hb_buffer_t};
+use aat_layout::buffer::hb_buffer_t;
 use aat_layout::is_solid;
 use std::alloc::Allocator;
 
@@ -22,15 +23,8 @@ fn may_be_cut<A: Allocator + Copy>(skips: u16, buffer: &hb_buffer_t<A>, place: u
         return false;
     }
     let before = glyph_at(buffer, place - 1);
-    let behind = glyph_at(buffer, place);
-    let greater = if before.cluster < behind.cluster {
-        behind
-    } else {
-        before
-    };
-    is_solid(&behind, skips)
-        && behind.cluster != before.cluster
-        && greater.mask & glyph_flag::UNSAFE_TO_BREAK == 0
+    let after = glyph_at(buffer, place);
+    is_solid(&after, skips) && may_break_between(&before, &after)
 }
 
 /// Whether a kerned line may be cut at a place, before which it goes so far, and that is no further than the limit.
@@ -77,7 +71,9 @@ pub fn last_cut<A: Allocator + Copy>(
 ) -> Option<usize>
     requires placed { IsPlaced buffer.now }
     ensures last { IsLast (IsCutWithin limit skips buffer.now) result }
-    ensures apart { (ks : List Kerning) (kern : Buffer → Outcome) (line : Buffer) → PairsAlone ks line → IsLeftOfAlikeParts skips ks kern line buffer.now → IfSome result (λ q. IsLeftOfPartsAt q kern line buffer.now) }
+    ensures apart { (ks : List Kerning) (kern : Buffer → Outcome) (line : Buffer)
+        → PairsAlone ks line → IsLeftOfAlikeParts skips ks kern line buffer.now
+        → IfSome result (λ q. IsLeftOfPartsAt q kern line buffer.now) }
 {
     let mut last = None;
     let mut advance: i64 = 0;

@@ -1,4 +1,5 @@
-//! The layer as one call, and the printing of worked examples of Apple Advanced Typography, row by row.
+//! Hands on the one call `shape` of `aat_shaping`, with `run`, which prints worked examples row by row, for the program
+//! of the rows. A program takes `aat_shaper` for texts, and `aat_layout` for calls one by one.
 #![tactic(auto)]
 
 mod print;

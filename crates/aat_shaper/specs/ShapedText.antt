@@ -1,10 +1,9 @@
 -- A text that is shaped: its glyphs as a line, and what is handed out of the line that shaping leaves. (No chapter of
 -- the manual: how a text is handed in and out, and where a line may be broken, are the shaper's own.)
-use Rattle.std.specs.Prelude.{◌⊎◌, ℕ, ◌<◌, ◌≤◌, ◌-◌, ◌==◌, ◌&&◌, Bool, true, pos, not, nat_lt, bit_and, List, Vec, AllPairs, length, map}
+use Rattle.std.specs.Prelude.{◌⊎◌, ℕ, ◌<◌, ◌≤◌, ◌-◌, ◌&&◌, Bool, true, pos, nat_lt, List, Vec, AllPairs, length, map}
 use Rattle.std.specs.List.{range_with_len}
 use Rattle.std.specs.declared.alloc.Global.{Global}
 use Rattle.aat_layout.specs.Buffer.{Buffer, empty_buffer, glyph_at, no_glyph, position_at, with_direction, with_line}
-use Rattle.aat_layout.specs.Cut.{greater_at}
 use Rattle.aat_layout.specs.Marks.{cluster_at}
 use Rattle.aat_layout.specs.Refusals.{RefusesSubstitution}
 use Rattle.aat_layout.specs.AatError.{AatError}
@@ -14,6 +13,7 @@ use Rattle.aat_glyph.specs.declared.glyph.hb_glyph_info_t.{hb_glyph_info_t}
 use Rattle.aat_font.specs.declared.face.hb_font_t.{hb_font_t}
 use Rattle.aat_font.specs.declared.plan.Feature.{Feature}
 use Rattle.aat_font.specs.declared.plan.hb_ot_shape_plan_t.{hb_ot_shape_plan_t}
+use Rattle.aat_line_breaker.specs.LineBreak.{may_break_between}
 use Rattle.aat_shaping.specs.Shaping.{shaping}
 use Rattle.aat_shaper.specs.declared.text.ShapedGlyph.{ShapedGlyph}
 use Rattle.aat_shaper.specs.declared.text.TextGlyph.{TextGlyph}
@@ -30,11 +30,10 @@ text_buffer d text = with_line (with_direction (empty_buffer 16384 (pos 16384)) 
 abbrev pub text_plan : Vec Feature Global → hb_ot_shape_plan_t
 text_plan features = record { user_features = features; apply_morx = true; requested_kerning = true; kern_mask = 8 }
 
--- a line may be broken before the glyph at place i: it is not the first one, it has another cluster than the glyph
--- before it, and of these two the one with the greater cluster is without UNSAFE_TO_BREAK (1)
+-- a line may be broken before the glyph at place i, as far as the marks of this glyph and of the one before it tell; it
+-- is not the first one
 abbrev pub may_be_broken_at : List hb_glyph_info_t → ℕ → Bool
-may_be_broken_at gs i =
-    nat_lt 0 i && not (cluster_at gs i == cluster_at gs (i - 1)) && bit_and (glyph_at gs (greater_at i gs)).mask 1 == 0
+may_be_broken_at gs i = nat_lt 0 i && may_break_between (glyph_at gs (i - 1)) (glyph_at gs i)
 
 -- what is handed out of the glyph at place i
 abbrev pub shaped_glyph : Buffer → ℕ → ShapedGlyph

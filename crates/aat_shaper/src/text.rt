@@ -8,10 +8,9 @@ ghost use Rattle.aat_shaper.specs.ShapedText.{AreRising, IsRisingText, RefusesTe
 ghost use Rattle.aat_shaper.specs.inside.Lines.{IsLineRefused};
 
 use aat_layout::AatError;
-use aat_layout::buffer::{
-    Direction, GlyphPosition, glyph_flag, hb_buffer_t, hb_glyph_info_t, hb_mask_t,
-};
+use aat_layout::buffer::{Direction, GlyphPosition, hb_buffer_t, hb_glyph_info_t, hb_mask_t};
 use aat_layout::font::{Feature, hb_font_t, hb_ot_shape_plan_t};
+use aat_line_breaker::may_break_between;
 use aat_shaping::shape;
 use std::alloc::Global;
 
@@ -50,23 +49,35 @@ pub struct ShapedGlyph {
     /// The character that it came from, or the first of several.
     pub cluster: u32,
     /// Its advance and its offset, in units of the font, and the glyph that it is attached to.
+    ///
+    /// `attach_chain` says how many places on that glyph stood in the line that was kerned. In a backward direction the
+    /// chain of an anchor points the other way: it was counted in processing order, and the line was turned afterwards.
+    /// Deleted glyphs were removed after kerning, so a chain may point at another glyph, or past the line.
     pub position: GlyphPosition,
-    /// Whether the line may be broken before it, as far as the marks of the two glyphs tell.
+    /// Whether the line may be broken before it, as far as the marks of this glyph and of the one before it tell:
+    /// [`may_break_between`]. It is `false` at the first glyph.
+    ///
+    /// A machine or a pair that looks at glyphs on both sides of a place sets the mark. The mark is not asked of glyphs
+    /// that kerning skips, nor of deleted glyphs, which take theirs along. A machine may carry what it noted over a
+    /// place without a mark. So `true` does not promise that the two parts, shaped apart, look as the line does.
     pub may_break_before: bool,
 }
 
-/// Shapes a text by the tables of a font, and hands out its glyphs in their order, with their positions, and before
-/// which of them the line may be broken.
+/// Shapes a text by the tables of a font, and hands out its glyphs in their order, with their positions, and with what
+/// the marks tell of where the line may be broken.
 ///
 /// The line of the text is shaped as [`shape`] does, with a plan that applies the features and kerns each glyph, at the
 /// cluster level 0. A feature holds over its range of clusters alone. Advances go to the right in horizontal text, in
 /// `x_advance`, and down in vertical text, in `y_advance`, below 0.
 ///
-/// The line may be broken before a glyph that has another cluster than the glyph before it, where of these two the one
-/// with the greater cluster is not marked `UNSAFE_TO_BREAK`; elsewhere both parts would have to be shaped again. It may
-/// not be broken before its first glyph. These are the marks that machines and kerning set; nothing is proved here of
-/// the two parts shaped apart. The glyphs are in the order of the line, whatever the direction is: nothing is turned
-/// round, and in a backward direction kerning takes the last glyph of the text first.
+/// `may_break_before` says of a glyph whether it has another cluster than the glyph before it, and of these two the one
+/// with the greater cluster is not marked `UNSAFE_TO_BREAK`. Machines and pairs set these marks. Where the mark stands,
+/// both parts would have to be shaped again. Where it does not, nothing is promised of the two parts shaped apart: the
+/// mark is not asked of glyphs that kerning skips, nor of deleted glyphs, and a machine may carry what it noted over
+/// the place.
+///
+/// The glyphs are in the order of the line, whatever the direction is: nothing is turned round, and in a backward
+/// direction kerning takes the last glyph of the text first.
 ///
 /// No glyph that is handed out is 0xFFFF. Where the clusters of the text never fall, those that are handed out never
 /// fall either. A line has at most 16384 glyphs, and a budget of as many operations.
@@ -144,22 +155,12 @@ fn buffer_of(
     Ok(buffer)
 }
 
-/// Whether the line may be broken before the glyph at a place.
+/// Whether the line may be broken before the glyph at a place, as far as the marks tell.
 fn may_be_broken_at(buffer: &hb_buffer_t, i: usize) -> bool
     requires in_line { i < length buffer.now.line }
     ensures { result ≡ may_be_broken_at buffer.now.line i }
 {
-    if i == 0 {
-        return false;
-    }
-    let before = buffer.info(i - 1);
-    let glyph = buffer.info(i);
-    let greater = if before.cluster < glyph.cluster {
-        glyph
-    } else {
-        before
-    };
-    glyph.cluster != before.cluster && greater.mask & glyph_flag::UNSAFE_TO_BREAK == 0
+    i > 0 && may_break_between(buffer.info(i - 1), buffer.info(i))
 }
 
 /// What is handed out of the glyph at a place.
