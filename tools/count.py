@@ -1,14 +1,20 @@
 #!/usr/bin/env python3
-"""Counts what has to be believed, and how long clauses and documents are. Run it anywhere: python3 tools/count.py
+"""Counts what has to be believed, and how long clauses and documents are.
 
-For each public call it counts the definitions behind its contract: the words of crates/*/specs/*.antt that its clauses
-cite, and those that their definitions cite, and so on. It follows the names that `use` and `ghost use` bring in.
+    python3 tools/count.py            this repository
+    python3 tools/count.py FOLDER     the checkout that stands in FOLDER
 
-- The calls are the functions that aat_layout hands on, `shape` and `shape_text`. Methods are not counted.
+For each public call it counts the definitions behind its contract: the words of crates/*/specs that its clauses cite,
+and those that their definitions cite, and so on. It follows the names that `use` and `ghost use` bring in.
+
+- A public call is a `pub fn`, a function or a method, or a method of a trait's impl that has clauses. The crates are
+  those of the layer and of its callers: no crate of tests, no program, no rows, and no module `laws` or `worked`.
+- A call over a trait of the repository owes the trait's clauses too, so these count. At a method of a trait's impl
+  count what the impl says of the trait's members.
 - A definition is an abbreviation, a function, a record or a data type. Its lines are those of its text, without comments
-  and blank lines.
-- Not counted are the words of the toolchain's library, the types that the code declares, the folders `facts` and `inside`
-  of specs, and what a clause cites by a member of a trait, as `C.act`.
+  and blank lines. A definition inside a module with parameters cites what the module's head cites.
+- Not counted are the words of the toolchain's library, the types that the code declares with how their values are seen,
+  and the lemmas of specs/facts.
 - A clause is a `requires` or `ensures`, or a ghost item of a trait or a type. Its length is in characters, where a line
   break with its indentation counts as one space.
 - A word of a document is what `wc -w` takes for one.
@@ -16,12 +22,16 @@ cite, and those that their definitions cite, and so on. It follows the names tha
 import glob
 import os
 import re
+import sys
 
-TOP = os.path.dirname(os.path.dirname(os.path.abspath(__file__)))
+TOP = os.path.abspath(sys.argv[1] if len(sys.argv) > 1 else os.path.join(os.path.dirname(__file__), ".."))
 NAME = re.compile(r"[^\s(){}\[\],;:.λ→×¬|∷]+(?:\.[^\s(){}\[\],;:.λ→×¬|∷]+)*")
 USE = re.compile(r"\buse Rattle\.([\w.]+?)(?:\.\{([^}]*)\}| as (\w+))?\s*;?\s*$", re.M)
-START = re.compile(r"^(?:abbrev |unfoldable )?(?:pub )?(?:abbrev |unfoldable )?(?:record |data )?([^\s:]+)")
+HANDED_ON = re.compile(r"^pub use Rattle\.([\w.]+?)(?:\.\{([^}]*)\})?\s*$", re.M)
+START = re.compile(r"^(?:abbrev |unfoldable )?(?:pub )?(?:abbrev |unfoldable )?(record |data )?([^\s:]+)")
 WORDS_OF_ANTT = {"use", "pub", "mod", "module", "where", "abbrev", "unfoldable", "record", "data"}
+NOT_COUNTED = re.compile(r"_tests$|^aat_(driver_contexts|rows|shape)$")
+FUNCTION = re.compile(r"^( *)(pub )?(?:const )?(?:unsafe )?fn (\w+)")
 
 
 def read(path):
@@ -33,74 +43,109 @@ def files(pattern):
     return sorted(os.path.relpath(path, TOP) for path in glob.glob(os.path.join(TOP, pattern), recursive=True))
 
 
-def handed_on():
-    """Where a crate hands on a module of another one: its own path of the module, and the true one."""
-    on = {}
-    for path in files("crates/*/specs/Lib.antt"):
-        crate = path.split("/")[1]
-        for module in re.findall(r"^pub use Rattle\.([\w.]+)", read(path), re.M):
-            on[f"{crate}.specs.{module.split('.')[-1]}"] = module
-    return on
+def module_of(path):
+    """The name of the module in a file of specs."""
+    return path.removeprefix("crates/").removesuffix(".antt").replace("/", ".")
 
 
-def names_in(text, on):
-    """What `use` lines bring in: a name to the path of its definition, and an alias to its module."""
-    names = {}
-    for module, listed, alias in USE.findall(text):
-        while module in on:
-            module = on[module]
-        for name in filter(None, re.split(r"[,\s]+", listed or "")):
-            names[name] = (module, name)
-        if alias:
-            names[alias] = (module, None)
-    return names
+class Names:
+    """Where a name that a text brings in is defined: what one module hands on of another is followed."""
+
+    def __init__(self):
+        self.modules, self.names = {}, {}
+        for path in files("crates/*/specs/**/*.antt"):
+            here = module_of(path).removesuffix(".Lib")
+            for module, listed in HANDED_ON.findall(read(path)):
+                if listed:
+                    self.names.update({(here, name): (module, name) for name in words(listed)})
+                else:
+                    self.modules[f"{here}.{module.split('.')[-1]}"] = module
+
+    def true(self, module, name):
+        while module in self.modules or (module, name) in self.names:
+            module, name = self.names.get((module, name)) or (self.modules[module], name)
+        return module, name
+
+    def brought_in(self, text):
+        """What `use` lines bring in: a name to its definition, and an alias to its module."""
+        names = {}
+        for module, listed, alias in USE.findall(text):
+            names.update({name: (module, name) for name in words(listed)})
+            if alias:
+                names[alias] = (module, None)
+        return names
+
+    def cited(self, text, names):
+        """The definitions that a text cites."""
+        found = set()
+        for token in NAME.findall(text):
+            first, _, rest = token.partition(".")
+            if first in names:
+                module, name = names[first]
+                found.add(self.true(module, name or rest.split(".")[0]))
+        return found
 
 
-def items_in(text):
-    """The definitions of a file, those inside `module _` too: each name with its lines, without comments."""
-    items, name, in_module = {}, None, False
+def words(listed):
+    return filter(None, re.split(r"[,\s]+", listed))
+
+
+def unfolded(text):
+    """The lines of a file without comments, those of a module with parameters less indented, each with its head."""
+    head, in_head, depth = "", False, 0
     for line in text.splitlines():
         if not line.strip() or line.lstrip().startswith("--"):
             continue
-        in_module = line.startswith("module ") or (in_module and line.startswith("  "))
-        line = line.removeprefix("  ") if in_module else line
+        indent = len(line) - len(line.lstrip())
+        if line.startswith("module "):
+            head, in_head, depth = "", True, None
+        elif indent == 0:
+            head, in_head, depth = "", False, 0
+        if in_head:
+            head, in_head = head + line + "\n", not line.rstrip().endswith("where")
+            continue
+        depth = indent if depth is None else depth
+        yield line[depth:] if depth else line, head
+
+
+def items_in(text):
+    """The definitions of a file: each name with its lines, its head, and the constructors of its data."""
+    items, name = {}, None
+    for line, head in unfolded(text):
         if line[0] not in " ()[]{}":
-            found = START.match(line).group(1)
+            kind, found = START.match(line).groups()
             name = None if found in WORDS_OF_ANTT else found
-            items.setdefault(name, [])
-        items.setdefault(name, []).append(line)
+            items.setdefault(name, ([], head, [], kind == "data "))
+        lines, _, constructors, is_data = items.setdefault(name, ([], head, [], False))
+        lines.append(line)
+        if is_data and (found := re.match(r"^ +([^\s:]+) :", line)):
+            constructors.append(found.group(1))
     items.pop(None, None)
     return items
 
 
-def definitions():
+def definitions(known):
     """All definitions: (module, name) to its lines and to what it cites."""
-    on, all_items = handed_on(), {}
-    for path in files("crates/*/specs/*.antt"):
-        crate, file = path.split("/")[1], path.split("/")[-1][:-5]
-        if file in ("Lib", "facts", "inside"):
+    found, texts = {}, {}
+    for path in files("crates/*/specs/**/*.antt"):
+        if path.endswith("/Lib.antt") or "/facts/" in path or re.search(r"/(facts|inside)\.antt$", path):
             continue
-        text, module = read(path), f"{crate}.specs.{file}"
-        items, names = items_in(text), names_in(text, on)
+        module = module_of(path)
+        texts[module] = items_in(read(path)), known.brought_in(read(path))
+        for name, (_, _, constructors, _) in texts[module][0].items():
+            for constructor in constructors:
+                known.names[module, constructor] = (module, name)
+                known.names[f"{module}.{name}", constructor] = (module, name)
+    for module, (items, names) in texts.items():
         names.update({name: (module, name) for name in items})
-        for name, lines in items.items():
-            all_items[module, name] = (lines, cited("\n".join(lines), names))
-    return all_items, on
-
-
-def cited(text, names):
-    """The definitions that a text cites."""
-    found = set()
-    for token in NAME.findall(text):
-        first, _, rest = token.partition(".")
-        if first in names:
-            module, name = names[first]
-            found.add((module, name or rest.split(".")[0]))
+        names.update({other: (module, other) for item in items.values() for other in item[2]})
+        for name, (lines, head, _, _) in items.items():
+            found[module, name] = lines, known.cited("\n".join(lines) + head, names)
     return found
 
 
 def clauses_in(text):
-    """The clauses of a source file: each as its lines."""
+    """The clauses of a source text: each as its lines."""
     for start in re.finditer(r"^ *(?:ensures|requires|ghost)\b(?! use)[^{\n;]*\{", text, re.M):
         depth, at = 1, start.end()
         while depth and at < len(text):
@@ -109,21 +154,76 @@ def clauses_in(text):
         yield text[start.start():at].split("\n")
 
 
-def contract(name):
-    """The source file and the clauses of a public function."""
+def clauses_of(text):
+    """What the clauses of a source text say, without their names."""
+    return "\n".join("\n".join(clause).partition("{")[2] for clause in clauses_in(text))
+
+
+def blocks(text):
+    """The outer items of a source text: each as its first line and its lines."""
+    lines = []
+    for line in text.split("\n"):
+        if re.match(r"(pub(\(crate\))? )?(impl|trait|fn|const fn|unsafe fn|struct|enum|mod|const|type)\b", line) and lines:
+            yield lines
+            lines = []
+        lines.append(line)
+    yield lines
+
+
+def contracts(lines):
+    """The functions of an outer item: each as its indentation, whether it is `pub`, its name and its contract."""
+    for at, line in enumerate(lines):
+        if found := FUNCTION.match(line):
+            indent, end = found.group(1), at
+            while end < len(lines) and not is_body(lines[end], indent, end == at):
+                end += 1
+            yield indent, bool(found.group(2)), found.group(3), "\n".join(lines[at:end + 1])
+
+
+def is_body(line, indent, is_first):
+    """Whether the body of a function begins in a line: alone after a contract, or at the end of the parameters."""
+    return line in (indent + "{", indent + "{}") or (
+        line.endswith(("{", "{}")) and (is_first or line.startswith((indent + ")", indent + ">"))))
+
+
+def traits(known):
+    """The traits of the repository: each with what its clauses cite."""
+    found = {}
     for path in files("crates/*/src/**/*.rt"):
-        text = read(path)
-        found = re.search(rf"^pub fn {name}\b.*?^\{{$", text, re.M | re.S)
-        if found:
-            return text, "\n".join(line for clause in clauses_in(found.group(0)) for line in clause)
-    return None
+        outer = known.brought_in("\n".join(re.findall(r"^ghost use .*$", read(path), re.M)))
+        for lines in blocks(read(path)):
+            if trait := re.match(r"pub trait (\w+)", lines[0]):
+                names = outer | known.brought_in("\n".join(lines[1:]))
+                found[trait.group(1)] = known.cited(clauses_of("\n".join(lines)), names)
+    return found
 
 
-def calls():
-    text = re.sub(r"\bpub mod \w+ \{.*?^\}", "", read("crates/aat_layout/src/lib.rt"), flags=re.M | re.S)
-    for names in re.findall(r"pub use [^;]*", text):
-        yield from (name for name in re.findall(r"\b[a-z]\w*\b", names) if contract(name))
-    yield from ("shape", "shape_text")
+def calls(known):
+    """The public calls: each with what its contract cites."""
+    asked = traits(known)
+    for path in files("crates/*/src/**/*.rt"):
+        crate, file = path.split("/")[1], path.split("/")[-1]
+        is_program = os.path.exists(os.path.join(TOP, f"crates/{crate}/src/main.rt"))
+        if is_program or NOT_COUNTED.search(crate) or file in ("laws.rt", "worked.rt"):
+            continue
+        outer = known.brought_in("\n".join(re.findall(r"^ghost use .*$", read(path), re.M)))
+        for lines in blocks(read(path)):
+            first, text = lines[0], "\n".join(lines)
+            if re.match(r"(pub(\(crate\))? )?trait\b", first):
+                continue
+            is_impl, of_trait = first.startswith("impl"), re.match(r"impl\b.*? for (\w+)", first)
+            names = outer | (known.brought_in("\n".join(lines[1:])) if is_impl else {})
+            owner = re.match(r"impl(?:<[^{]*?>)? (?:.*? for )?(\w+)", first)
+            for indent, is_public, name, contract in contracts(lines):
+                clauses = clauses_of(contract)
+                if not (is_public or (of_trait and clauses)):
+                    continue
+                cited = known.cited(clauses, names)
+                for trait in re.findall(r"\w+", contract.split("ensures")[0].split("requires")[0]):
+                    cited |= asked.get(trait, set())
+                if of_trait:
+                    cited |= known.cited(clauses_of(text.split("    fn ")[0]), names)
+                yield f"{crate}: {owner.group(1) + '::' if indent and owner else ''}{name}", cited
 
 
 def behind(first, all_items):
@@ -138,15 +238,15 @@ def behind(first, all_items):
 
 
 def print_calls():
-    all_items, on = definitions()
+    known = Names()
+    all_items = definitions(known)
     lines, every = {item: len(text) for item, (text, _) in all_items.items()}, set()
-    print(f"{'call':<42}{'definitions':>12}{'lines':>8}")
-    for name in sorted(set(calls())):
-        text, clauses = contract(name)
-        found = behind(cited(clauses, names_in(text, on)), all_items)
+    print(f"{'call':<64}{'definitions':>12}{'lines':>8}")
+    for name, cited in sorted(calls(known), key=lambda call: call[0]):
+        found = behind(cited, all_items)
         every |= found
-        print(f"{name:<42}{len(found):>12}{sum(lines[item] for item in found):>8}")
-    print(f"{'all of them':<42}{len(every):>12}{sum(lines[item] for item in every):>8}")
+        print(f"{name:<64}{len(found):>12}{sum(lines[item] for item in found):>8}")
+    print(f"{'all of them':<64}{len(every):>12}{sum(lines[item] for item in every):>8}")
 
 
 def print_lengths():
@@ -154,9 +254,11 @@ def print_lengths():
     whole = max(clauses, key=lambda clause: len(" ".join(line.strip() for line in clause)))
     print(f"longest clause: {len(' '.join(line.strip() for line in whole))} characters: {whole[0].strip()[:60]}")
     print(f"longest line of a clause: {max(len(line) for clause in clauses for line in clause)} characters")
-    words = {path: len(read(path).split()) for path in ["README.md"] + files("docs/*.md")}
-    print(f"words of documents: {sum(words.values())} in {len(words)} files")
+    print(f"edits that must fail: {len(files('crates/*/must-fail/*.edit'))}")
+    count = {path: len(read(path).split()) for path in ["README.md"] + files("docs/*.md")}
+    print(f"words of documents: {sum(count.values())} in {len(count)} files")
 
 
-print_calls()
-print_lengths()
+if __name__ == "__main__":
+    print_calls()
+    print_lengths()
