@@ -55,18 +55,30 @@ fn clusters_at(
 }
 
 fn line_is<A: Allocator + Copy>(buffer: &hb_buffer_t<A>, wanted: &[Glyph]) -> bool {
+    for i in 0..wanted.len() {
+        if i >= buffer.len() || *buffer.info(i) != record(wanted[i]) {
+            return false;
+        }
+    }
     buffer.len() == wanted.len()
-        && (0..wanted.len()).all(|i| i < buffer.len() && *buffer.info(i) == record(wanted[i]))
 }
 
 fn clusters_are<A: Allocator + Copy>(buffer: &hb_buffer_t<A>, wanted: &[u32]) -> bool {
+    for i in 0..wanted.len() {
+        if i >= buffer.len() || buffer.info(i).cluster != wanted[i] {
+            return false;
+        }
+    }
     buffer.len() == wanted.len()
-        && (0..wanted.len()).all(|i| i < buffer.len() && buffer.info(i).cluster == wanted[i])
 }
 
 fn masks_are<A: Allocator + Copy>(buffer: &hb_buffer_t<A>, wanted: &[u32]) -> bool {
+    for i in 0..wanted.len() {
+        if i >= buffer.len() || buffer.info(i).mask != wanted[i] {
+            return false;
+        }
+    }
     buffer.len() == wanted.len()
-        && (0..wanted.len()).all(|i| i < buffer.len() && buffer.info(i).mask == wanted[i])
 }
 
 /// Gives each glyph a position whose advance is its place.
@@ -85,11 +97,12 @@ fn number_positions<A: Allocator + Copy>(
 }
 
 fn advances_are<A: Allocator + Copy>(buffer: &hb_buffer_t<A>, wanted: &[i32]) -> bool {
-    buffer.has_positions()
-        && buffer.len() == wanted.len()
-        && (0..wanted.len()).all(|i| buffer.has_positions()
-            && i < buffer.len()
-            && buffer.pos(i).x_advance == wanted[i])
+    for i in 0..wanted.len() {
+        if !buffer.has_positions() || i >= buffer.len() || buffer.pos(i).x_advance != wanted[i] {
+            return false;
+        }
+    }
+    buffer.has_positions() && buffer.len() == wanted.len()
 }
 
 /// Writes through a borrow: no proof file says what this leaves.

@@ -1,29 +1,88 @@
 //! A caller of the layer call by call: a font's tables, a line of glyphs, a request over a part of it, substitution,
-//! and what comes out.
+//! and what comes out. Its one error takes those of all calls by `?`.
 use aat_layout::buffer::{BufferError, hb_buffer_t, hb_glyph_info_t};
 use aat_layout::font::{
     Chain, ChainFeature, Coverage, FaceTables, Feat, Feature, FeatureName, Lookup, Morx, Subtable,
-    SubtableKind, hb_font_t, hb_ot_shape_plan_t, hb_tag_t,
+    SubtableKind, TableError, hb_font_t, hb_ot_shape_plan_t, hb_tag_t,
 };
 use aat_layout::{AatError, Turns, hb_aat_layout_substitute};
-use std::alloc::Global;
+use std::alloc::{AllocError, Global};
+use std::process::Abort;
 use std::test::Fail;
+use thiserror::Error;
 
-/// A font whose small capitals turn glyph 5 into glyph 9.
-fn font_of(alloc: Global) -> Result<hb_font_t, Fail> {
-    let kind = SubtableKind::NonContextual(Lookup::new(alloc, &[(5, 9)])?);
+/// Why the caller fails.
+#[derive(Clone, Copy, PartialEq, Eq, Debug, Error)]
+enum CallerError {
+    #[error("the font: {0}")]
+    Font(#[from] TableError),
+    #[error("the line: {0}")]
+    Line(#[from] BufferError),
+    #[error("substitution: {0}")]
+    Substitution(#[from] AatError),
+    #[error("a glyph has more than 16 bits")]
+    LargeGlyph,
+    #[error("the caller: {0}")]
+    Memory(#[from(alloc)] AllocError),
+}
+
+/// What the caller is given.
+#[derive(Clone, Copy)]
+struct Given {
+    /// Which glyphs small capitals turn into others.
+    small_capitals: &'static [(u16, u16)],
+    /// The feature that is requested from cluster 1 up to cluster 3, which is not included, and its value.
+    tag: &'static [u8; 4],
+    value: u32,
+    /// The greatest length of the line, in glyphs.
+    max_len: usize,
+    /// The glyphs, each with its cluster.
+    glyphs: &'static [(u32, u32)],
+}
+
+/// Small capitals turn glyph 5 into glyph 9.
+const GIVEN: Given = Given {
+    small_capitals: &[(5, 9)],
+    tag: b"smcp",
+    value: 1,
+    max_len: 16384,
+    glyphs: &[(5, 0), (5, 1), (6, 2), (5, 3)],
+};
+
+/// The substitution table of the font.
+fn morx_of(alloc: Global, given: &Given) -> Result<Morx, CallerError> {
+    let kind = SubtableKind::NonContextual(Lookup::new(alloc, given.small_capitals)?);
     let subtable = Subtable::new(kind, Coverage::ALL_DIRECTIONS, 1);
     let setting = ChainFeature::new(37, 1, 1, 0xFFFF_FFFF);
     let chain = Chain::new(0, vec![in alloc; setting]?, vec![in alloc; subtable]?);
-    let morx = Morx::new(vec![in alloc; chain]?)?;
-    let feat = Feat::new(alloc, &[FeatureName::new(37, 2, true)])?;
+    Ok(Morx::new(vec![in alloc; chain]?)?)
+}
+
+/// The names of the features that the font has: alternates and small capitals.
+const NAMES: [FeatureName; 2] = [
+    FeatureName {
+        kind: 17,
+        settings: 1,
+        exclusive: true,
+    },
+    FeatureName {
+        kind: 37,
+        settings: 2,
+        exclusive: true,
+    },
+];
+
+/// The font.
+fn font_of(alloc: Global, given: &Given) -> Result<hb_font_t, CallerError> {
+    let morx = morx_of(alloc, given)?;
+    let feat = Feat::new(alloc, &NAMES)?;
     let tables = FaceTables::default().with_morx(morx).with_feat(feat);
     Ok(hb_font_t::new(tables, None, None))
 }
 
-/// A plan that requests small capitals from cluster 1 up to cluster 3, which is not included.
-fn plan_of(alloc: Global) -> Result<hb_ot_shape_plan_t, Fail> {
-    let feature = Feature::new(hb_tag_t::from_bytes(b"smcp"), 1, 1..3);
+/// The plan.
+fn plan_of(alloc: Global, given: &Given) -> Result<hb_ot_shape_plan_t, CallerError> {
+    let feature = Feature::new(hb_tag_t::from_bytes(given.tag), given.value, 1..3);
     Ok(hb_ot_shape_plan_t {
         user_features: vec![in alloc; feature]?,
         apply_morx: true,
@@ -32,44 +91,49 @@ fn plan_of(alloc: Global) -> Result<hb_ot_shape_plan_t, Fail> {
     })
 }
 
-/// A line of these glyphs, each with its cluster.
-fn buffer_of(alloc: Global, glyphs: &[(u32, u32)]) -> Result<hb_buffer_t, Fail> {
-    let mut buffer = hb_buffer_t::new(alloc, 16384, 16384);
-    for (id, cluster) in glyphs {
-        match buffer.add(hb_glyph_info_t::new(*id, *cluster)) {
-            Ok(()) => {}
-            Err(BufferError::TooLong) => return Err(Fail::new("more than 16384 glyphs")),
-            Err(BufferError::OutOfMemory) => return Err(Fail::new("no memory for a glyph")),
-        }
+/// The line.
+fn buffer_of(alloc: Global, given: &Given) -> Result<hb_buffer_t, CallerError> {
+    let mut buffer = hb_buffer_t::new(alloc, given.max_len, 16384);
+    for (id, cluster) in given.glyphs {
+        buffer.add(hb_glyph_info_t::new(*id, *cluster))?;
     }
     Ok(buffer)
 }
 
-/// Substitutes a line, if its glyphs have ids of 16 bits. Each error is told by its name.
-fn substituted(
+/// Substitutes a line, if its glyphs have ids of 16 bits.
+fn substitute(
     alloc: Global,
     plan: &hb_ot_shape_plan_t,
     font: &hb_font_t,
     buffer: &mut hb_buffer_t,
-) -> Result<Turns, Fail> {
+) -> Result<Turns, CallerError> {
     if !buffer.all_glyphs_16() {
-        return Err(Fail::new("a glyph id of more than 16 bits"));
+        return Err(CallerError::LargeGlyph);
     }
-    match hb_aat_layout_substitute(alloc, plan, font, buffer) {
-        Ok(turns) => Ok(turns),
-        Err(AatError::AaltValue(_)) => Err(Fail::new("an alternate that is no setting")),
-        Err(AatError::TooLong) => Err(Fail::new("the line grew too long")),
-        Err(AatError::OutOfMemory) => Err(Fail::new("no memory for substitution")),
-        Err(AatError::BufferFailed) => Err(Fail::new("the buffer had failed before")),
-    }
+    Ok(hb_aat_layout_substitute(alloc, plan, font, buffer)?)
+}
+
+/// The line that a font leaves, and the turns that it took.
+fn substituted_by(
+    alloc: Global,
+    given: &Given,
+    font: &hb_font_t,
+) -> Result<(hb_buffer_t, Turns), CallerError> {
+    let plan = plan_of(alloc, given)?;
+    let mut buffer = buffer_of(alloc, given)?;
+    let turns = substitute(alloc, &plan, font, &mut buffer)?;
+    Ok((buffer, turns))
+}
+
+/// The line that the font leaves, and the turns that it took.
+fn substituted(alloc: Global, given: &Given) -> Result<(hb_buffer_t, Turns), CallerError> {
+    let font = font_of(alloc, given)?;
+    substituted_by(alloc, given, &font)
 }
 
 #[test]
 fn calls_one_by_one(rt: HostRuntime) -> Result<(), Fail> {
-    let font = font_of(rt.alloc())?;
-    let plan = plan_of(rt.alloc())?;
-    let mut buffer = buffer_of(rt.alloc(), &[(5, 0), (5, 1), (6, 2), (5, 3)])?;
-    let turns = substituted(rt.alloc(), &plan, &font, &mut buffer)?;
+    let (buffer, turns) = substituted(rt.alloc(), &GIVEN)?;
     let glyphs = [(5, 0), (9, 1), (6, 2), (5, 3)];
     assert_eq!(&rt; buffer.len(), glyphs.len());
     for (i, (id, cluster)) in glyphs.iter().enumerate() {
@@ -79,5 +143,65 @@ fn calls_one_by_one(rt: HostRuntime) -> Result<(), Fail> {
         }
     }
     assert_eq!(&rt; turns, 4);
+    Ok(())
+}
+
+/// Asserts why the caller fails, and the text of that.
+fn assert_fails(
+    rt: &impl Abort,
+    alloc: Global,
+    given: &Given,
+    wanted: CallerError,
+    text: &str,
+) -> Result<(), Fail> {
+    let error = substituted(alloc, given).err();
+    assert_eq!(rt; error, Some(wanted));
+    let shown = format!(in alloc; "{wanted}")?;
+    assert_eq!(rt; shown.as_str(), text);
+    Ok(())
+}
+
+/// The failures of the caller, one for each call that can refuse, each with its error and the text of that.
+const FAILURES: [(Given, CallerError, &str); 4] = [
+    (
+        Given {
+            small_capitals: &[(5, 9), (5, 8)],
+            ..GIVEN
+        },
+        CallerError::Font(TableError::NotRising(1)),
+        "the font: the element at place 1 is not above the one before it",
+    ),
+    (
+        Given {
+            max_len: 3,
+            ..GIVEN
+        },
+        CallerError::Line(BufferError::TooLong),
+        "the line: the line would be too long",
+    ),
+    (
+        Given {
+            tag: b"aalt",
+            value: 65536,
+            ..GIVEN
+        },
+        CallerError::Substitution(AatError::AaltValue(65536)),
+        "substitution: the value 65536 is no alternate",
+    ),
+    (
+        Given {
+            glyphs: &[(65536, 0)],
+            ..GIVEN
+        },
+        CallerError::LargeGlyph,
+        "a glyph has more than 16 bits",
+    ),
+];
+
+#[test]
+fn errors_of_calls_are_taken(rt: HostRuntime) -> Result<(), Fail> {
+    for (given, error, text) in &FAILURES {
+        assert_fails(&rt, rt.alloc(), given, *error, text)?;
+    }
     Ok(())
 }

@@ -1,9 +1,11 @@
-//! Tests of what stands on the layer: shaping in one call, the printed rows, the three callers, and the calls one by
-//! one.
+//! Tests of what stands on the layer: shaping in one call, the printed rows, the three callers, the calls one by one,
+//! and the texts of errors.
 #![tactic(auto)]
 
 #[cfg(test)]
 mod calls_tests;
+#[cfg(test)]
+mod error_tests;
 #[cfg(test)]
 mod inspector_tests;
 #[cfg(test)]

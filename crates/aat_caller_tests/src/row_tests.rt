@@ -8,30 +8,33 @@ use std::io::{self, Write};
 use std::process::Abort;
 use std::test::Fail;
 
-/// A writer that keeps what it is given, up to a number of writes, and refuses those after it.
+/// A writer that keeps what it is given but for one write, which it refuses.
 #[derive(Drop)]
-struct Counting {
+struct Refusing {
     text: Vec<u8>,
-    writes: usize,
-    allowed: usize,
+    /// How many bytes stood there at each write.
+    lengths: Vec<usize>,
+    /// The number of the refused write, from 0.
+    refused: usize,
 }
 
-impl Counting {
-    fn new(alloc: Global, allowed: usize) -> Counting {
-        Counting {
+impl Refusing {
+    fn new(alloc: Global, refused: usize) -> Refusing {
+        Refusing {
             text: Vec::new(alloc),
-            writes: 0,
-            allowed,
+            lengths: Vec::new(alloc),
+            refused,
         }
     }
 }
 
-impl Write for Counting {
+impl Write for Refusing {
     fn write(&mut self, bytes: &[u8]) -> io::Result<usize> {
-        if self.writes >= self.allowed {
+        let number = self.lengths.len();
+        self.lengths.push(self.text.len())?;
+        if number == self.refused {
             return Err(io::Error::from(io::ErrorKind::BrokenPipe));
         }
-        self.writes += 1;
         self.text.extend_from_slice(bytes)?;
         Ok(bytes.len())
     }
@@ -50,29 +53,54 @@ fn words_of(alloc: Global, words: &[&str]) -> Result<Vec<String>, Fail> {
     Ok(owned)
 }
 
-/// Runs the program over words, and asserts its status and its text.
+/// Runs the program over words, asserts its status and its text, and answers how many bytes stood there at each write.
 fn assert_prints(
     rt: &impl Abort,
     alloc: Global,
-    words: &[&str],
+    words: &[String],
     status: u8,
     text: &str,
-) -> Result<(), Fail> {
-    let words = words_of(alloc, words)?;
-    let mut out = Counting::new(alloc, usize::MAX);
-    assert_eq!(rt; run(alloc, &words, &mut out), status);
+) -> Vec<usize> {
+    let mut out = Refusing::new(alloc, usize::MAX);
+    assert_eq!(rt; run(alloc, words, &mut out), status);
     assert!(rt; out.text.as_slice() == text.as_bytes());
-    Ok(())
+    out.lengths
+}
+
+/// Runs the program over words with one write refused, and asserts that it ends with status 1, with so many bytes of
+/// the text, and without another write.
+fn assert_refused(
+    rt: &impl Abort,
+    alloc: Global,
+    words: &[String],
+    refused: usize,
+    text: &str,
+    length: usize,
+) {
+    let mut out = Refusing::new(alloc, refused);
+    assert_eq!(rt; run(alloc, words, &mut out), 1, "without write {refused}");
+    assert_eq!(rt; out.lengths.len(), refused.saturating_add(1));
+    assert!(rt; text.as_bytes().get(..length) == Some(out.text.as_slice()));
+}
+
+/// The text of all rows.
+fn whole_text(alloc: Global) -> Result<String, Fail> {
+    let mut whole = String::new(alloc);
+    for (_, text) in ROWS {
+        whole.push_str(text)?;
+    }
+    Ok(whole)
 }
 
 #[test]
 fn each_row_prints_its_text(rt: HostRuntime) -> Result<(), Fail> {
-    let mut whole = String::new(rt.alloc());
     for (number, text) in ROWS {
-        assert_prints(&rt, rt.alloc(), &[number], 0, text)?;
-        whole.push_str(text)?;
+        let words = words_of(rt.alloc(), &[number])?;
+        assert_prints(&rt, rt.alloc(), &words, 0, text);
     }
-    assert_prints(&rt, rt.alloc(), &[], 0, whole.as_str())
+    let whole = whole_text(rt.alloc())?;
+    assert_prints(&rt, rt.alloc(), &[], 0, whole.as_str());
+    Ok(())
 }
 
 #[test]
@@ -88,38 +116,69 @@ fn other_words_are_unknown(rt: HostRuntime) -> Result<(), Fail> {
         &["row"],
         &["1", "1"],
     ];
-    for words in wrong {
-        assert_prints(&rt, rt.alloc(), words, 2, "unknown row\n")?;
+    for wrong in wrong {
+        let words = words_of(rt.alloc(), wrong)?;
+        assert_prints(&rt, rt.alloc(), &words, 2, "unknown row\n");
     }
     Ok(())
 }
 
-/// Each write is refused in turn, until a run meets no refusal.
+/// Each write is refused in turn. Answers the number of writes.
 fn assert_refused_in_turn(
     rt: &impl Abort,
     alloc: Global,
-    words: &[&str],
+    words: &[String],
     status: u8,
-) -> Result<(), Fail> {
-    let words = words_of(alloc, words)?;
-    for allowed in 0..1000usize {
-        let mut out = Counting::new(alloc, allowed);
-        let answer = run(alloc, &words, &mut out);
-        if answer == status {
-            assert!(rt; allowed > 0);
-            assert_eq!(rt; out.writes, allowed);
-            return Ok(());
-        }
-        assert_eq!(rt; answer, 1, "with {allowed} writes");
+    text: &str,
+) -> usize {
+    let lengths = assert_prints(rt, alloc, words, status, text);
+    for (refused, length) in lengths.iter().enumerate() {
+        assert_refused(rt, alloc, words, refused, text, *length);
     }
-    Err(Fail::new("every run was refused"))
+    lengths.len()
 }
 
-/// One row of each thing that rows show, and of each list of rows.
+/// Each write of each row is refused in turn, and so is the one of unknown words.
 #[test]
 fn a_refused_write_ends_with_1(rt: HostRuntime) -> Result<(), Fail> {
-    for number in ["3", "7", "11", "18", "19", "30", "37", "38"] {
-        assert_refused_in_turn(&rt, rt.alloc(), &[number], 0)?;
+    for (number, text) in ROWS {
+        let words = words_of(rt.alloc(), &[number])?;
+        assert!(&rt; assert_refused_in_turn(&rt, rt.alloc(), &words, 0, text) > 0);
     }
-    assert_refused_in_turn(&rt, rt.alloc(), &["0"], 2)
+    let words = words_of(rt.alloc(), &["0"])?;
+    assert!(&rt; assert_refused_in_turn(&rt, rt.alloc(), &words, 2, "unknown row\n") > 0);
+    Ok(())
+}
+
+/// The number of the first write before which so many bytes stood there.
+fn write_at(lengths: &[usize], length: usize) -> Option<usize> {
+    for i in 0..lengths.len() {
+        if lengths[i] == length {
+            return Some(i);
+        }
+    }
+    None
+}
+
+/// Asserts that the rows before some byte of the text are printed, where the first write behind them is refused.
+fn assert_refused_at(rt: &impl Abort, alloc: Global, lengths: &[usize], text: &str, start: usize) {
+    let refused = write_at(lengths, start);
+    assert!(rt; refused.is_some());
+    if let Some(refused) = refused {
+        assert_refused(rt, alloc, &[], refused, text, start);
+    }
+}
+
+/// Where all rows are printed the first write of each is refused in turn.
+#[test]
+fn a_refused_row_ends_the_text(rt: HostRuntime) -> Result<(), Fail> {
+    let whole = whole_text(rt.alloc())?;
+    let lengths = assert_prints(&rt, rt.alloc(), &[], 0, whole.as_str());
+    let mut start = 0usize;
+    for (_, text) in ROWS {
+        assert_refused_at(&rt, rt.alloc(), &lengths, whole.as_str(), start);
+        start = start.saturating_add(text.len());
+    }
+    assert_eq!(&rt; start, whole.len());
+    Ok(())
 }

@@ -12,6 +12,8 @@ pub mod paths;
 #[cfg(test)]
 mod promise_tests;
 #[cfg(test)]
+mod refusal_tests;
+#[cfg(test)]
 mod refused_insertion_tests;
 #[cfg(test)]
 mod request_tests;

@@ -1,28 +1,125 @@
 //! The public paths of the layer, named once, but for its theorems: this file compiles only while each of them stands.
 
-pub use aat_layout::buffer::{
-    BufferError, BufferFlags, DELETED_GLYPH as BUFFER_DELETED_GLYPH, Direction, GlyphPosition,
-    HB_BUFFER_CLUSTER_LEVEL_CHARACTERS, HB_BUFFER_CLUSTER_LEVEL_MONOTONE_CHARACTERS,
-    HB_BUFFER_CLUSTER_LEVEL_MONOTONE_GRAPHEMES, ScratchFlags, UnicodeProps, glyph_flag,
-    hb_buffer_t, hb_glyph_info_t, hb_mask_t,
-};
-pub use aat_layout::font::keys::{Keyed, row_at};
-pub use aat_layout::font::{
-    Ankr, Chain, ChainFeature, ContextualEntryData, ContextualSubtable, Coverage, EntryData,
-    ExtendedStateTable, FaceTables, Feat, Feature, FeatureName, GenericStateEntry, GlyphId,
-    InsertionEntryData, InsertionSubtable, Kern, KernEntryData, KernKind, KernMachine,
-    KernSubtable, Kerx, KerxFormat, KerxSubtable, LigatureSubtable, Lookup, Morx, Pairs, Point,
-    Subtable, Subtable1, Subtable4, SubtableKind, TableError, constants as font_constants,
-    hb_font_t, hb_ot_shape_plan_t, hb_tag_t,
-};
-pub use aat_layout::{
-    AatError, ContextualCtx, DELETED_GLYPH, Driver1, Driver4, InsertionCtx, KERN_SKIPS, KERX_SKIPS,
-    KerningRun, LIGATURE_SLOTS, LigatureCtx, MAX_CONTEXT_LENGTH, RearrangementCtx,
-    StateMachineDriver, StateTableDriver, Turns, apply, apply_with, compile_flags, constants,
-    drive, drive_kern, drive_kerx, driver_context_t, ends_at_last, feature_info_t,
-    feature_mappings, feature_order, feature_range_t, has_kern_pairs_alone, has_kerx_pairs_alone,
-    hb_aat_apply_context_t, hb_aat_feature_mapping_t, hb_aat_layout_position,
-    hb_aat_layout_remove_deleted_glyphs, hb_aat_layout_substitute, hb_aat_layout_substitute_with,
-    hb_aat_layout_zero_width_deleted_glyphs, hb_aat_map_builder_t, hb_aat_map_t, hb_ot_layout_kern,
-    is_solid, range_flags_t, range_of,
-};
+pub use aat_layout::AatError;
+pub use aat_layout::ContextualCtx;
+pub use aat_layout::DELETED_GLYPH;
+pub use aat_layout::Driver1;
+pub use aat_layout::Driver4;
+pub use aat_layout::InsertionCtx;
+pub use aat_layout::KERN_SKIPS;
+pub use aat_layout::KERX_SKIPS;
+pub use aat_layout::KerningRun;
+pub use aat_layout::LIGATURE_SLOTS;
+pub use aat_layout::LigatureCtx;
+pub use aat_layout::MAX_CONTEXT_LENGTH;
+pub use aat_layout::RearrangementCtx;
+pub use aat_layout::StateMachineDriver;
+pub use aat_layout::StateTableDriver;
+pub use aat_layout::Turns;
+pub use aat_layout::apply;
+pub use aat_layout::apply_with;
+pub use aat_layout::buffer::BufferError;
+pub use aat_layout::buffer::BufferFlags;
+pub use aat_layout::buffer::DELETED_GLYPH as BUFFER_DELETED_GLYPH;
+pub use aat_layout::buffer::Direction;
+pub use aat_layout::buffer::GlyphPosition;
+pub use aat_layout::buffer::HB_BUFFER_CLUSTER_LEVEL_CHARACTERS;
+pub use aat_layout::buffer::HB_BUFFER_CLUSTER_LEVEL_MONOTONE_CHARACTERS;
+pub use aat_layout::buffer::HB_BUFFER_CLUSTER_LEVEL_MONOTONE_GRAPHEMES;
+pub use aat_layout::buffer::ScratchFlags;
+pub use aat_layout::buffer::UnicodeProps;
+pub use aat_layout::buffer::glyph_flag;
+pub use aat_layout::buffer::hb_buffer_t;
+pub use aat_layout::buffer::hb_glyph_info_t;
+pub use aat_layout::buffer::hb_mask_t;
+pub use aat_layout::compile_flags;
+pub use aat_layout::constants;
+pub use aat_layout::drive;
+pub use aat_layout::drive_kern;
+pub use aat_layout::drive_kerx;
+pub use aat_layout::driver_context_t;
+pub use aat_layout::ends_at_last;
+pub use aat_layout::feature_info_t;
+pub use aat_layout::feature_mappings;
+pub use aat_layout::feature_order;
+pub use aat_layout::feature_range_t;
+pub use aat_layout::font::Ankr;
+pub use aat_layout::font::Chain;
+pub use aat_layout::font::ChainFeature;
+pub use aat_layout::font::ContextualEntryData;
+pub use aat_layout::font::ContextualSubtable;
+pub use aat_layout::font::Coverage;
+pub use aat_layout::font::EntryData;
+pub use aat_layout::font::ExtendedStateTable;
+pub use aat_layout::font::FaceTables;
+pub use aat_layout::font::Feat;
+pub use aat_layout::font::Feature;
+pub use aat_layout::font::FeatureName;
+pub use aat_layout::font::GenericStateEntry;
+pub use aat_layout::font::GlyphId;
+pub use aat_layout::font::InsertionEntryData;
+pub use aat_layout::font::InsertionSubtable;
+pub use aat_layout::font::Kern;
+pub use aat_layout::font::KernEntryData;
+pub use aat_layout::font::KernKind;
+pub use aat_layout::font::KernMachine;
+pub use aat_layout::font::KernSubtable;
+pub use aat_layout::font::Kerx;
+pub use aat_layout::font::KerxFormat;
+pub use aat_layout::font::KerxSubtable;
+pub use aat_layout::font::LigatureSubtable;
+pub use aat_layout::font::Lookup;
+pub use aat_layout::font::Morx;
+pub use aat_layout::font::Pairs;
+pub use aat_layout::font::Point;
+pub use aat_layout::font::Subtable;
+pub use aat_layout::font::Subtable1;
+pub use aat_layout::font::Subtable4;
+pub use aat_layout::font::SubtableKind;
+pub use aat_layout::font::TableError;
+pub use aat_layout::font::constants as font_constants;
+pub use aat_layout::font::entry_bits::DONT_ADVANCE;
+pub use aat_layout::font::entry_bits::NO_INDEX;
+pub use aat_layout::font::entry_bits::anchor::MARK as ANCHOR_MARK;
+pub use aat_layout::font::entry_bits::class::DELETED_GLYPH as CLASS_DELETED_GLYPH;
+pub use aat_layout::font::entry_bits::class::END_OF_LINE;
+pub use aat_layout::font::entry_bits::class::END_OF_TEXT;
+pub use aat_layout::font::entry_bits::class::OUT_OF_BOUNDS;
+pub use aat_layout::font::entry_bits::contextual::SET_MARK as CONTEXTUAL_SET_MARK;
+pub use aat_layout::font::entry_bits::insertion::CURRENT_INSERT_BEFORE;
+pub use aat_layout::font::entry_bits::insertion::CURRENT_INSERT_COUNT;
+pub use aat_layout::font::entry_bits::insertion::MARKED_INSERT_BEFORE;
+pub use aat_layout::font::entry_bits::insertion::MARKED_INSERT_COUNT;
+pub use aat_layout::font::entry_bits::insertion::SET_MARK as INSERTION_SET_MARK;
+pub use aat_layout::font::entry_bits::ligature::LIG_ACTION_LAST;
+pub use aat_layout::font::entry_bits::ligature::LIG_ACTION_OFFSET;
+pub use aat_layout::font::entry_bits::ligature::LIG_ACTION_STORE;
+pub use aat_layout::font::entry_bits::ligature::PERFORM_ACTION;
+pub use aat_layout::font::entry_bits::ligature::SET_COMPONENT;
+pub use aat_layout::font::entry_bits::rearrangement::MARK_FIRST;
+pub use aat_layout::font::entry_bits::rearrangement::MARK_LAST;
+pub use aat_layout::font::entry_bits::rearrangement::VERB;
+pub use aat_layout::font::entry_bits::stack::PUSH;
+pub use aat_layout::font::entry_bits::stack::RESET;
+pub use aat_layout::font::entry_bits::state::START_OF_LINE;
+pub use aat_layout::font::entry_bits::state::START_OF_TEXT;
+pub use aat_layout::font::hb_font_t;
+pub use aat_layout::font::hb_ot_shape_plan_t;
+pub use aat_layout::font::hb_tag_t;
+pub use aat_layout::font::keys::Keyed;
+pub use aat_layout::font::keys::row_at;
+pub use aat_layout::has_kern_pairs_alone;
+pub use aat_layout::has_kerx_pairs_alone;
+pub use aat_layout::hb_aat_apply_context_t;
+pub use aat_layout::hb_aat_feature_mapping_t;
+pub use aat_layout::hb_aat_layout_position;
+pub use aat_layout::hb_aat_layout_remove_deleted_glyphs;
+pub use aat_layout::hb_aat_layout_substitute;
+pub use aat_layout::hb_aat_layout_substitute_with;
+pub use aat_layout::hb_aat_layout_zero_width_deleted_glyphs;
+pub use aat_layout::hb_aat_map_builder_t;
+pub use aat_layout::hb_aat_map_t;
+pub use aat_layout::hb_ot_layout_kern;
+pub use aat_layout::is_solid;
+pub use aat_layout::range_flags_t;
+pub use aat_layout::range_of;

@@ -35,10 +35,19 @@ fn long_run(rt: HostRuntime) -> Result<(), Fail> {
     number_positions(&rt, &mut buffer)?;
     remove_deleted(&mut buffer);
     assert!(rt; buffer.len() == 5_000 && buffer.has_positions());
-    assert!(rt; (0..5_000).all(|i| i < buffer.len() && buffer.info(i).cluster == 26_000));
-    assert!(rt; (0..5_000).all(|i| i < buffer.len() && buffer.info(i).mask & 7 == 2));
+    assert!(rt; are_joined(&buffer));
     assert!(rt; buffer.info(3_999).mask == 3_994 && buffer.pos(4_000).x_advance == 7_000);
     Ok(())
+}
+
+/// Whether the kept glyphs have one cluster, and are marked unsafe to concatenate alone.
+fn are_joined(buffer: &hb_buffer_t) -> bool {
+    for i in 0..5_000usize {
+        if i >= buffer.len() || buffer.info(i).cluster != 26_000 || buffer.info(i).mask & 7 != 2 {
+            return false;
+        }
+    }
+    true
 }
 
 /// Adds glyphs of one cluster, and behind them glyphs that go, of ever lower ones.
@@ -137,12 +146,14 @@ fn insert_runs(rt: &impl Abort, alloc: Global, back: bool) -> Result<hb_buffer_t
 
 /// Whether a line is what `insert_runs` leaves.
 fn has_runs(buffer: &hb_buffer_t) -> bool {
+    for i in 0..130_000usize {
+        let id = if i % 13 < 3 { 2 } else { 1 };
+        let cluster = 10 * (i / 13) + (i % 13).max(3) - 3;
+        if i >= buffer.len() || *buffer.info(i) != record((id, cluster as u32, 0)) {
+            return false;
+        }
+    }
     buffer.len() == 130_000
-        && (0..130_000usize).all(|i| {
-            let id = if i % 13 < 3 { 2 } else { 1 };
-            let cluster = 10 * (i / 13) + (i % 13).max(3) - 3;
-            i < buffer.len() && *buffer.info(i) == record((id, cluster as u32, 0))
-        })
 }
 
 /// From the front on this takes as many steps as the line is long.

@@ -16,23 +16,27 @@ fn rows(alloc: Global, glyphs: &[u16]) -> Result<Vec<(u16, Vec<Point>)>, Fail> {
     Ok(rows)
 }
 
+/// The point of a row.
+fn at(x: i16) -> Option<Point> {
+    Some(Point { x, y: -1 })
+}
+
 #[test]
 fn points_of_glyphs(rt: HostRuntime) -> Result<(), Fail> {
     let ankr = Ankr::new(rows(rt.alloc(), &[0, 7, 65535])?)?;
     let wanted = [
-        (0, 0, Some(0)),
+        (0, 0, at(0)),
         (0, 1, None),
         (0, 65535, None),
         (1, 0, None),
         (6, 0, None),
-        (7, 0, Some(7)),
+        (7, 0, at(7)),
         (8, 0, None),
         (65534, 0, None),
-        (65535, 0, Some(535)),
+        (65535, 0, at(535)),
         (65535, 65535, None),
     ];
-    for (glyph, index, x) in wanted {
-        let point = x.map(|x| Point { x, y: -1 });
+    for (glyph, index, point) in wanted {
         let found = ankr.point(GlyphId(glyph), index);
         assert!(rt; found == point, "at {glyph} {index}");
     }
@@ -84,16 +88,16 @@ fn refused_rows(rt: HostRuntime) -> Result<(), Fail> {
     Ok(())
 }
 
+/// The first point of the glyph 9.
+fn first_point(font: &hb_font_t) -> Option<Point> {
+    font.tables().ankr.as_ref()?.point(GlyphId(9), 0)
+}
+
 #[test]
 fn fonts_with_points(rt: HostRuntime) -> Result<(), Fail> {
     let ankr = Ankr::new(rows(rt.alloc(), &[9])?)?;
     let font = hb_font_t::from_tables(FaceTables::default().with_ankr(ankr));
-    let point = font
-        .tables()
-        .ankr
-        .as_ref()
-        .and_then(|ankr| ankr.point(GlyphId(9), 0));
-    assert!(rt; point == Some(Point { x: 9, y: -1 }));
+    assert!(rt; first_point(&font) == at(9));
     assert!(rt; FaceTables::default().ankr.is_none());
     Ok(())
 }

@@ -1,9 +1,9 @@
 //! Hostile fonts.
 
-use crate::kerning::{ankr, kern, kerx};
-use crate::numbers::Numbers;
-use crate::subtables::{FLAGS, subtables};
-use crate::tables::lookup;
+use crate::hostile_tests::kerning::{ankr, kern, kerx};
+use crate::hostile_tests::numbers::Numbers;
+use crate::hostile_tests::subtables::{FLAGS, subtables};
+use crate::hostile_tests::tables::lookup;
 use aat_layout::font::{
     Chain, ChainFeature, FaceTables, Feat, FeatureName, Lookup, Morx, SubtableKind, TableError,
     hb_font_t,

@@ -104,7 +104,10 @@ fn left_by(alloc: Global, font: &hb_font_t) -> Result<Option<(u32, u32, u64)>, F
         return Ok(None);
     }
     let turns = hb_aat_layout_substitute(alloc, &plan, font, &mut buffer)?;
-    Ok(ids_of(&buffer).map(|ids| (ids.0, ids.1, turns)))
+    Ok(match ids_of(&buffer) {
+        Some((first, second)) => Some((first, second, turns)),
+        None => None,
+    })
 }
 
 /// An index that names the last lookup, one behind it, the last one that can be named, and the one that names none.

@@ -1,7 +1,9 @@
 //! The calls of the builder and of maps that take memory, over heaps of which so many blocks are left.
 
-use crate::hoard::{HEAP, Hoard};
-use crate::rows::{RANGES_OF_ROW_5, face_of_row_5, face_of_row_7b, request, requests_of_row_5};
+use crate::refusal_tests::hoard::{HEAP, Hoard};
+use crate::refusal_tests::rows::{
+    RANGES_OF_ROW_5, face_of_row_5, face_of_row_7b, request, requests_of_row_5,
+};
 use aat_layout::font::hb_font_t;
 use aat_layout::{AatError, compile_flags, hb_aat_map_builder_t, hb_aat_map_t};
 use linked_list_allocator::LocalHeap;

@@ -1,8 +1,8 @@
 //! What has to hold of an answer, and of a refusal.
 
-use crate::fonts::counts;
-use crate::lines::LONGEST;
-use crate::plans::first_too_large;
+use crate::hostile_tests::fonts::counts;
+use crate::hostile_tests::lines::LONGEST;
+use crate::hostile_tests::plans::first_too_large;
 use aat_layout::buffer::{
     BufferFlags, Direction, HB_BUFFER_CLUSTER_LEVEL_CHARACTERS, ScratchFlags, hb_buffer_t,
     hb_glyph_info_t,

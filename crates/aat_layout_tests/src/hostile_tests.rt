@@ -1,14 +1,23 @@
-//! Hostile cases keep the bounds. A case is made of its number and the seed alone, and a failure tells its number.
+//! Hostile tables and lines, which a seed makes, and the bounds that the layer keeps over them. A case is made of its
+//! number and the seed alone, and a failure tells its number.
 
-use crate::bounds::{
-    Call, Fault, Outcome, deleted_fault, kerning_fault, second_fault, substitution,
-};
-use crate::fonts::font;
-use crate::lines::{line, place};
-use crate::numbers::Numbers;
-use crate::plans::plan;
+mod bounds;
+mod ends_tests;
+mod fonts;
+mod kerning;
+mod lines;
+mod numbers;
+mod plans;
+mod subtables;
+mod tables;
+
 use aat_layout::buffer::hb_buffer_t;
 use aat_layout::font::{hb_font_t, hb_ot_shape_plan_t};
+use bounds::{Call, Fault, Outcome, deleted_fault, kerning_fault, second_fault, substitution};
+use fonts::font;
+use lines::{line, place};
+use numbers::Numbers;
+use plans::plan;
 use std::alloc::Global;
 use std::test::Fail;
 

@@ -1,6 +1,6 @@
 //! Hostile lookups and state tables.
 
-use crate::numbers::{GLYPHS, Numbers};
+use crate::hostile_tests::numbers::{GLYPHS, Numbers};
 use aat_layout::font::{
     ContextualEntryData, EntryData, ExtendedStateTable, GenericStateEntry, InsertionEntryData,
     KernEntryData, Lookup, TableError,

@@ -1,6 +1,6 @@
 //! Hostile lines, and what of them is compared.
 
-use crate::numbers::{GLYPHS, Numbers};
+use crate::hostile_tests::numbers::{GLYPHS, Numbers};
 use aat_layout::buffer::{
     BufferError, BufferFlags, Direction, GlyphPosition, hb_buffer_t, hb_glyph_info_t,
 };

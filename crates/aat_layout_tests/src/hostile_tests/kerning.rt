@@ -1,7 +1,7 @@
 //! Hostile subtables of both kerning tables, and anchor points.
 
-use crate::numbers::{GLYPHS, Numbers};
-use crate::tables::state_table;
+use crate::hostile_tests::numbers::{GLYPHS, Numbers};
+use crate::hostile_tests::tables::state_table;
 use aat_layout::font::{
     Ankr, Kern, KernKind, KernMachine, KernSubtable, Kerx, KerxFormat, KerxSubtable, Pairs, Point,
     Subtable1, Subtable4, TableError,

@@ -1,7 +1,7 @@
 //! Hostile subtables of the extended glyph metamorphosis table, one of each kind.
 
-use crate::numbers::{GLYPHS, Numbers};
-use crate::tables::{lookup, state_table};
+use crate::hostile_tests::numbers::{GLYPHS, Numbers};
+use crate::hostile_tests::tables::{lookup, state_table};
 use aat_layout::font::{
     ContextualSubtable, Coverage, GlyphId, InsertionSubtable, LigatureSubtable, Lookup, Subtable,
     SubtableKind,

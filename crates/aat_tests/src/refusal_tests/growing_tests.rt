@@ -1,8 +1,8 @@
 //! The calls of the buffer that take memory, again and again over one line with positions. Before each call the heap is
 //! filled, and where the call is refused it is emptied and the call made again.
 
-use crate::hoard::{HEAP, Hoard};
-use crate::rows::{Settings, line_over};
+use crate::refusal_tests::hoard::{HEAP, Hoard};
+use crate::refusal_tests::rows::{Settings, line_over};
 use aat_layout::buffer::{
     BufferError, BufferFlags, Direction, GlyphPosition, HB_BUFFER_CLUSTER_LEVEL_CHARACTERS,
     ScratchFlags, hb_buffer_t, hb_glyph_info_t,

@@ -1,7 +1,7 @@
 //! Substitution over heaps of which so many blocks are left, and the run of a compiled map without any memory.
 
-use crate::hoard::{HEAP, Hoard};
-use crate::rows::{
+use crate::refusal_tests::hoard::{HEAP, Hoard};
+use crate::refusal_tests::rows::{
     Glyph, MAX_LEN, Settings, assert_line, face_of_row_12, face_of_row_13, glyphs_of, line_over,
     request,
 };

@@ -1,6 +1,6 @@
 //! Plans whose requests fall together.
 
-use crate::numbers::Numbers;
+use crate::hostile_tests::numbers::Numbers;
 use aat_layout::font::{Feature, hb_ot_shape_plan_t, hb_tag_t};
 use std::alloc::{AllocError, Global};
 
