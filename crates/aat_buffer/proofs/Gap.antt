@@ -75,6 +75,10 @@ read_behind_gap xs i j k x lt le within e =
 pub whole_range : {X : Type 0} (xs : List X) → slice_range xs 0 (length xs) ≡ xs
 whole_range xs = let all : length xs - 0 ≡ length xs = omega arith in ap (λ n. take n xs) all ∙ take-length xs
 
+-- two parts of a line's whole range are the line
+pub parts_of_whole : {X : Type 0} (front back xs : List X) (n : ℕ) → front ++ back ≡ slice_range xs 0 n → n ≡ length xs → front ++ back ≡ xs
+parts_of_whole front back xs n parts long = parts ∙ (ap (slice_range xs 0) long ∙ whole_range xs)
+
 -- what holds of the cells on both sides holds before the gap
 pub all_parts_first : {X : Type 0} (P : X → Type 0) (b c : List X) → All P (b ++ c) → All P b
 all_parts_first P b c all = λ k d h. rw (get_or_append_left b c d k h) at (all k d (omega (arith, length-append b c)))

@@ -344,10 +344,8 @@ impl<A: Allocator + Copy> hb_buffer_t<A> {
 
     /// Puts the cursor at the start, and drops the positions. It is never refused and takes no memory.
     pub fn clear_output(&mut self) -> Result<(), BufferError>
-        ensures ok { OnOk result (self.new ≡ with_cursor (without_positions self.old) 0) }
-        ensures memory_only { IfErr result (λ e. e ≡ BufferError.OutOfMemory) }
-        ensures err { OnErr result (self.new ≡ failed self.old) }
         ensures success { IsOk result }
+        ensures after { self.new ≡ with_cursor (without_positions self.old) 0 }
     {
         self.sync();
         self.have_positions = false;

@@ -1,5 +1,5 @@
 -- A context in place that counts, and marks a mask.
-use Rattle.std.specs.Prelude.{ℕ, Bool, ◌+◌, ◌&&◌, length, min, nat_lt, bit_or, if◌then◌else◌}
+use Rattle.std.specs.Prelude.{◌≡◌, ℕ, Bool, ◌+◌, ◌&&◌, length, min, nat_lt, bit_or, if◌then◌else◌}
 use Rattle.aat_buffer.specs.Buffer.{Buffer, glyph_at, with_info}
 use Rattle.aat_font.specs.Entries.{is_present}
 use Rattle.aat_font.specs.declared.state_table.GenericStateEntry.{GenericStateEntry}
@@ -8,6 +8,10 @@ use Rattle.aat_driver_contexts.specs.declared.counting.CountingCtx.{CountingCtx}
 
 abbrev pub Entry : Type 0
 Entry = GenericStateEntry ℕ
+
+-- nothing is counted yet
+abbrev pub IsFresh : CountingCtx → Type 0
+IsFresh r = r.count ≡ 0
 
 abbrev pub actionable : Entry → CountingCtx → ℕ → ℕ → Bool
 actionable e r p n = is_present e.extra && nat_lt p n

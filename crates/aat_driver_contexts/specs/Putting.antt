@@ -1,5 +1,5 @@
 -- A context that puts glyphs in, and pays for them.
-use Rattle.std.specs.Prelude.{ℕ, Bool, ◌&&◌, length, nat_lt, if◌then◌else◌}
+use Rattle.std.specs.Prelude.{◌≡◌, ℕ, Bool, ◌&&◌, length, nat_lt, if◌then◌else◌}
 use Rattle.aat_buffer.specs.Buffer.{Buffer, output}
 use Rattle.aat_font.specs.Entries.{is_present}
 use Rattle.aat_font.specs.declared.state_table.GenericStateEntry.{GenericStateEntry}
@@ -9,6 +9,10 @@ use Rattle.aat_driver_contexts.specs.declared.putting.PuttingCtx.{PuttingCtx}
 
 abbrev pub Entry : Type 0
 Entry = GenericStateEntry ℕ
+
+-- nothing is seen yet
+abbrev pub IsFresh : PuttingCtx → Type 0
+IsFresh r = r.seen ≡ 0
 
 abbrev pub actionable : Entry → PuttingCtx → ℕ → ℕ → Bool
 actionable e r p n = is_present e.extra && nat_lt p n

@@ -19,6 +19,8 @@ impl driver_context_t<u16> for CountingCtx {
 
     ghost fits = { FitsAlways };
 
+    ghost is_fresh = { c.IsFresh };
+
     ghost stays_in_place = { true };
 
     ghost keeps_length = { true };
@@ -56,6 +58,8 @@ impl driver_context_t<u16> for CountingCtx {
         }
         Ok(())
     }
+
+    ghost fits_fresh = { laws.fits_fresh };
 
     ghost keeps_fit = { laws.keeps_fit };
 

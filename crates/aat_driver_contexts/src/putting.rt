@@ -38,6 +38,8 @@ impl driver_context_t<u16> for PuttingCtx {
 
     ghost fits = { FitsAlways };
 
+    ghost is_fresh = { p.IsFresh };
+
     ghost stays_in_place = { false };
 
     ghost keeps_length = { false };
@@ -77,6 +79,8 @@ impl driver_context_t<u16> for PuttingCtx {
         }
         Ok(())
     }
+
+    ghost fits_fresh = { laws.fits_fresh };
 
     ghost keeps_fit = { laws.keeps_fit };
 

@@ -11,7 +11,7 @@ use Rattle.aat_font.specs.declared.kern.KernSubtable.{KernSubtable}
 use Rattle.aat_font.specs.declared.kerx.KerxSubtable.{KerxSubtable}
 use Rattle.aat_run.specs.Outcome.{Outcome, untouched}
 use Rattle.aat_kerning_machines.specs.KerningLaws.{IsKernedFrom, IsMarkedFrom}
-use Rattle.aat_kerning.specs.Positioning.{Kerning, kern_kerning, kern_positioning, kerx_kerning, kerx_positioning, positioning}
+use Rattle.aat_kerning.specs.Positioning.{Kerning, kerning_of_kern_subtable, kern_positioning, kerning_of_kerx_subtable, kerx_positioning, positioning}
 use Rattle.aat_kerning_machines.specs.Positions.{IsPlaced}
 use Rattle.aat_kerning.proofs.Positioned.{none_positioned}
 
@@ -53,34 +53,34 @@ none_called {X} requested kerning subtables b d n none ran =
 module _ (requested : Bool) (kern_mask : ℕ) (table : Option (List KernSubtable)) (b d : Buffer) (n : ℕ) where
   pub kern_called :
       (subtables : List KernSubtable) → subtables ≡ kern_in table
-      → record { buffer = d; turns = n } ≡ positioning requested (map (kern_kerning kern_mask) subtables) b
+      → record { buffer = d; turns = n } ≡ positioning requested (map (kerning_of_kern_subtable kern_mask) subtables) b
       → record { buffer = d; turns = n } ≡ kern_positioning requested kern_mask (kern_in table) b
   unfolding kern_positioning
   kern_called subtables listed ran =
-      ran ∙ ap (λ (ss : List KernSubtable). positioning requested (map (kern_kerning kern_mask) ss) b) listed
+      ran ∙ ap (λ (ss : List KernSubtable). positioning requested (map (kerning_of_kern_subtable kern_mask) ss) b) listed
 
   pub kern_without_table :
       IsNone table → record { buffer = d; turns = n } ≡ kern_positioning requested kern_mask (kern_in table) b
       → (n ≡ 0) × (d ≡ b)
   unfolding kern_positioning
-  kern_without_table missing = none_called requested (kern_kerning kern_mask) (kern_in table) b d n (kern_none table missing)
+  kern_without_table missing = none_called requested (kerning_of_kern_subtable kern_mask) (kern_in table) b d n (kern_none table missing)
 
 module _ (requested : Bool) (kern_mask : ℕ) (points : Option Points) (table : Option (List KerxSubtable)) (b d : Buffer) (n : ℕ) where
   pub kerx_called :
       (given : Option Points) (subtables : List KerxSubtable) (marked : Buffer) → given ≡ points → subtables ≡ kerx_in table
       → marked ≡ unsafe_to_concat b None None
-      → record { buffer = d; turns = n } ≡ positioning requested (map (kerx_kerning kern_mask given) subtables) marked
+      → record { buffer = d; turns = n } ≡ positioning requested (map (kerning_of_kerx_subtable kern_mask given) subtables) marked
       → record { buffer = d; turns = n } ≡ kerx_positioning requested kern_mask points (kerx_in table) b
   unfolding kerx_positioning
   kerx_called given subtables marked same listed is ran =
       ran
-      ∙ ap (λ (ps : Option Points). positioning requested (map (kerx_kerning kern_mask ps) subtables) marked) same
-      ∙ ap (λ (ss : List KerxSubtable). positioning requested (map (kerx_kerning kern_mask points) ss) marked) listed
-      ∙ ap (positioning requested (map (kerx_kerning kern_mask points) (kerx_in table))) is
+      ∙ ap (λ (ps : Option Points). positioning requested (map (kerning_of_kerx_subtable kern_mask ps) subtables) marked) same
+      ∙ ap (λ (ss : List KerxSubtable). positioning requested (map (kerning_of_kerx_subtable kern_mask points) ss) marked) listed
+      ∙ ap (positioning requested (map (kerning_of_kerx_subtable kern_mask points) (kerx_in table))) is
 
   pub kerx_without_table :
       IsNone table → record { buffer = d; turns = n } ≡ kerx_positioning requested kern_mask points (kerx_in table) b
       → (n ≡ 0) × (d ≡ unsafe_to_concat b None None)
   unfolding kerx_positioning
   kerx_without_table missing =
-      none_called requested (kerx_kerning kern_mask points) (kerx_in table) (unsafe_to_concat b None None) d n (kerx_none table missing)
+      none_called requested (kerning_of_kerx_subtable kern_mask points) (kerx_in table) (unsafe_to_concat b None None) d n (kerx_none table missing)

@@ -23,7 +23,7 @@ use Rattle.aat_kerning.specs.PairKerning.{kerned, pair_kerning, in_stream, cross
 use Rattle.aat_kerning.specs.Pairs.{Pair, kerx_skips, kern_skips, is_solid, pairs_of}
 use Rattle.aat_font.specs.declared.kern.KernSubtable.{KernSubtable}
 use Rattle.aat_font.specs.declared.kerx.KerxSubtable.{KerxSubtable}
-use Rattle.aat_kerning.specs.Positioning.{cursively_attached, in_processing_order, line_marked, kerx_kerning, kern_kerning, kerx_positioning, kern_positioning}
+use Rattle.aat_kerning.specs.Positioning.{cursively_attached, in_processing_order, line_marked, kerning_of_kerx_subtable, kerning_of_kern_subtable, kerx_positioning, kern_positioning}
 use Rattle.aat_kerning.proofs.Changes.{of_marked, of_pair, of_pairs, of_pair_kerning, of_attachment}
 use Rattle.aat_kerning.proofs.CutHolds.{AreNow, cut_of, marked_parts_now, now_after, now_attached, now_marked, parts_now, short_first}
 use Rattle.aat_kerning.proofs.CutMarks.{IsUnflagged}
@@ -424,7 +424,7 @@ marked_parts_alike q b first second alike =
 
 kerx_apart :
     (requested : Bool) (kern_mask : ℕ) (points : Option Points) (subtables : List KerxSubtable) (b : Buffer)
-    → CanBeCutAlike kerx_skips (map (kerx_kerning kern_mask points) subtables)
+    → CanBeCutAlike kerx_skips (map (kerning_of_kerx_subtable kern_mask points) subtables)
     (kerx_positioning requested kern_mask points subtables) b
 kerx_apart requested kern_mask points subtables b q first second alone place alike =
     kerx_parted requested kern_mask q b first second (AreAlike q b.direction (ordered_line b)) points subtables alone place
@@ -432,7 +432,7 @@ kerx_apart requested kern_mask points subtables b q first second alone place ali
 
 kern_apart :
     (requested : Bool) (kern_mask : ℕ) (subtables : List KernSubtable) (b : Buffer)
-    → CanBeCutAlike kern_skips (map (kern_kerning kern_mask) subtables) (kern_positioning requested kern_mask subtables) b
+    → CanBeCutAlike kern_skips (map (kerning_of_kern_subtable kern_mask) subtables) (kern_positioning requested kern_mask subtables) b
 kern_apart requested kern_mask subtables b q first second alone place alike =
     kern_parted requested kern_mask q b first second (AreAlike q b.direction (ordered_line b)) subtables alone place
     (alike_kept kern_skips kern_mask q b.direction (ordered_line b)) (parts_alike q b first second alike)

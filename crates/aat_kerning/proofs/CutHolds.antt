@@ -16,7 +16,7 @@ use Rattle.aat_kerning_machines.specs.KerningLaws.{IsKernedFrom, IsMarkedFrom}
 use Rattle.aat_kerning.specs.Pairs.{kerx_skips, kern_skips, is_solid}
 use Rattle.aat_font.specs.declared.kern.KernSubtable.{KernSubtable}
 use Rattle.aat_font.specs.declared.kerx.KerxSubtable.{KerxSubtable}
-use Rattle.aat_kerning.specs.Positioning.{cursively_attached, in_processing_order, line_marked, kerx_kerning, kern_kerning, kerx_positioning, kern_positioning}
+use Rattle.aat_kerning.specs.Positioning.{cursively_attached, in_processing_order, line_marked, kerning_of_kerx_subtable, kerning_of_kern_subtable, kerx_positioning, kern_positioning}
 use Rattle.aat_kerning_machines.specs.Positions.{attached_as}
 use Rattle.aat_kerning.proofs.Changes.{of_concat, of_marked, of_pair_kerning, of_attachment}
 use Rattle.aat_kerning.proofs.CutMarks.{looks_as_before}
@@ -235,7 +235,7 @@ marked_parts_now q b first second parts =
 kerx_apart :
     (requested : Bool) (kern_mask : ℕ) (points : Option Points) (subtables : List KerxSubtable) (b : Buffer)
     → bit_and kern_mask 7 ≡ 0
-    → CanBeCut kerx_skips (map (kerx_kerning kern_mask points) subtables)
+    → CanBeCut kerx_skips (map (kerning_of_kerx_subtable kern_mask points) subtables)
     (kerx_positioning requested kern_mask points subtables) b
 kerx_apart requested kern_mask points subtables b free q first second alone place parts =
     kerx_parted requested kern_mask q b first second (AreNow q b.direction (ordered_line b)) points subtables alone place
@@ -244,7 +244,7 @@ kerx_apart requested kern_mask points subtables b free q first second alone plac
 kern_apart :
     (requested : Bool) (kern_mask : ℕ) (subtables : List KernSubtable) (b : Buffer)
     → bit_and kern_mask 7 ≡ 0
-    → CanBeCut kern_skips (map (kern_kerning kern_mask) subtables) (kern_positioning requested kern_mask subtables) b
+    → CanBeCut kern_skips (map (kerning_of_kern_subtable kern_mask) subtables) (kern_positioning requested kern_mask subtables) b
 kern_apart requested kern_mask subtables b free q first second alone place parts =
     kern_parted requested kern_mask q b first second (AreNow q b.direction (ordered_line b)) subtables alone place
     (λ cut. now_kept kern_skips kern_mask q b.direction (ordered_line b) cut free) (parts_now q b first second parts)

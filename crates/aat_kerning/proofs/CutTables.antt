@@ -17,7 +17,7 @@ use Rattle.aat_kerning_machines.specs.KerningLaws.{IsKernedFrom, IsMarkedFrom}
 use Rattle.aat_kerning.specs.Cut.{ordered_line, greater_at, IsCutPlace, IsKernedInParts, PairsAlone}
 use Rattle.aat_kerning.specs.PairKerning.{pair_kerning}
 use Rattle.aat_kerning.specs.Pairs.{kerx_skips, kern_skips, is_solid}
-use Rattle.aat_kerning.specs.Positioning.{cursively_attached, in_processing_order, line_marked, is_kerx_pairs, is_kern_pairs, kerx_run, kern_run, kerx_kerning, kern_kerning, kerx_positioning, kern_positioning}
+use Rattle.aat_kerning.specs.Positioning.{cursively_attached, in_processing_order, line_marked, is_kerx_pairs, is_kern_pairs, run_of_kerx_subtable, run_of_kern_subtable, kerning_of_kerx_subtable, kerning_of_kern_subtable, kerx_positioning, kern_positioning}
 use Rattle.aat_kerning.proofs.Changes.{of_concat}
 use Rattle.aat_kerning.proofs.CutMarks.{IsUnflagged}
 use Rattle.aat_kerning.proofs.CutRuns.{greater_of, positioned_apart}
@@ -87,9 +87,9 @@ module _ (kern_mask great : ℕ) (Now : Buffer → Buffer → Buffer → Type 0)
       PairsKeep kerx_skips kern_mask great Now
       → (points : Option Points) (is_cross : Bool) (tuple_count : ℕ) (k : KerxFormat) (b first second : Buffer)
       → is_kerx_pairs k ≡ true → Now b first second
-      → IsUnflagged (glyph_at (kerx_run kern_mask points is_cross tuple_count k b).buffer.line great)
-      → Now (kerx_run kern_mask points is_cross tuple_count k b).buffer
-      (kerx_run kern_mask points is_cross tuple_count k first).buffer (kerx_run kern_mask points is_cross tuple_count k second).buffer
+      → IsUnflagged (glyph_at (run_of_kerx_subtable kern_mask points is_cross tuple_count k b).buffer.line great)
+      → Now (run_of_kerx_subtable kern_mask points is_cross tuple_count k b).buffer
+      (run_of_kerx_subtable kern_mask points is_cross tuple_count k first).buffer (run_of_kerx_subtable kern_mask points is_cross tuple_count k second).buffer
   kerx_now keep points is_cross tuple_count (Format0 values) b first second pairs = keep is_cross values false b first second
   kerx_now keep points is_cross tuple_count (Format1 s) b first second pairs = absurd (true≢false (sym pairs))
   kerx_now keep points is_cross tuple_count (Format2 values) b first second pairs = keep is_cross values true b first second
@@ -99,9 +99,9 @@ module _ (kern_mask great : ℕ) (Now : Buffer → Buffer → Buffer → Type 0)
   kern_now :
       PairsKeep kern_skips kern_mask great Now → (is_cross : Bool) (k : KernKind) (b first second : Buffer)
       → is_kern_pairs k ≡ true → Now b first second
-      → IsUnflagged (glyph_at (kern_run kern_mask is_cross k b).buffer.line great)
-      → Now (kern_run kern_mask is_cross k b).buffer
-      (kern_run kern_mask is_cross k first).buffer (kern_run kern_mask is_cross k second).buffer
+      → IsUnflagged (glyph_at (run_of_kern_subtable kern_mask is_cross k b).buffer.line great)
+      → Now (run_of_kern_subtable kern_mask is_cross k b).buffer
+      (run_of_kern_subtable kern_mask is_cross k first).buffer (run_of_kern_subtable kern_mask is_cross k second).buffer
   kern_now keep is_cross (kind.Pairs values) b first second pairs = keep is_cross values true b first second
   kern_now keep is_cross (kind.Machine s) b first second pairs = absurd (true≢false (sym pairs))
 
@@ -114,7 +114,7 @@ module _ (requested : Bool) (kern_mask q : ℕ) (b first second : Buffer) (Now :
 
   pub kerx_parted :
       (points : Option Points) (subtables : List KerxSubtable)
-      → PairsAlone (map (kerx_kerning kern_mask points) subtables) b
+      → PairsAlone (map (kerning_of_kerx_subtable kern_mask points) subtables) b
       → IsCutPlace kerx_skips q (kerx_positioning requested kern_mask points subtables b).buffer → Keeps kerx_skips
       → Now (in_processing_order (unsafe_to_concat b None None))
       (in_processing_order (unsafe_to_concat first None None)) (in_processing_order (unsafe_to_concat second None None))
@@ -127,14 +127,14 @@ module _ (requested : Bool) (kern_mask q : ℕ) (b first second : Buffer) (Now :
       keeps (line_before kerx_skips q b (kerx_positioning requested kern_mask points subtables b).buffer
       (kerning_changes_little.kerx requested kern_mask points subtables b) place)
       in
-      positioned_apart (kerx_kerning kern_mask points) requested (greater_at q line) b.direction Now kept.ways kept.attaches
+      positioned_apart (kerning_of_kerx_subtable kern_mask points) requested (greater_at q line) b.direction Now kept.ways kept.attaches
       (λ x. kerx_now kern_mask (greater_at q line) Now kept.pairs points x.has_cross_stream x.tuple_count x.format)
       (kerx_each_paid kern_mask points)
       q line subtables b (unsafe_to_concat b None None) (unsafe_to_concat first None None) (unsafe_to_concat second None None)
       refl alone refl kept.apart now (ordered_kept b (unsafe_to_concat b None None) (of_concat b None None)) place.unflagged
 
   pub kern_parted :
-      (subtables : List KernSubtable) → PairsAlone (map (kern_kerning kern_mask) subtables) b
+      (subtables : List KernSubtable) → PairsAlone (map (kerning_of_kern_subtable kern_mask) subtables) b
       → IsCutPlace kern_skips q (kern_positioning requested kern_mask subtables b).buffer → Keeps kern_skips
       → Now (in_processing_order b) (in_processing_order first) (in_processing_order second)
       → IsKernedInParts (kern_positioning requested kern_mask subtables)
@@ -146,7 +146,7 @@ module _ (requested : Bool) (kern_mask q : ℕ) (b first second : Buffer) (Now :
       keeps (line_before kern_skips q b (kern_positioning requested kern_mask subtables b).buffer
       (kerning_changes_little.kern requested kern_mask subtables b) place)
       in
-      positioned_apart (kern_kerning kern_mask) requested (greater_at q line) b.direction Now kept.ways kept.attaches
+      positioned_apart (kerning_of_kern_subtable kern_mask) requested (greater_at q line) b.direction Now kept.ways kept.attaches
       (λ x. kern_now kern_mask (greater_at q line) Now kept.pairs x.has_cross_stream x.kind)
       (kern_each_paid kern_mask)
       q line subtables b b first second refl alone refl kept.apart now (line_same line) place.unflagged

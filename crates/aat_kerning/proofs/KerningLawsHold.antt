@@ -25,7 +25,7 @@ use Rattle.aat_run.specs.Laws.{RunsEnd}
 use Rattle.aat_kerning_machines.specs.KerningLaws.{IsLawfulDriver, IsMarkedFrom, IsKernedFrom}
 use Rattle.aat_kerning.specs.KerningLawful.{DriversAreLawful, IsPaidBeyond, KerningIsBounded, KerningChangesLittle}
 use Rattle.aat_kerning_machines.specs.KerningMachine.{Driver, driver_run, kerning_machine_of, kerning_turn, kerning_whole}
-use Rattle.aat_kerning.specs.Positioning.{Kerning, Positioned, positioned, positioning, cursively_attached, in_processing_order, is_for_text, kerx_run, kern_run, kerx_kerning, kern_kerning, kerx_positioning, kern_positioning}
+use Rattle.aat_kerning.specs.Positioning.{Kerning, Positioned, positioned, positioning, cursively_attached, in_processing_order, is_for_text, run_of_kerx_subtable, run_of_kern_subtable, kerning_of_kerx_subtable, kerning_of_kern_subtable, kerx_positioning, kern_positioning}
 use Rattle.aat_kerning_machines.specs.Stack.{kerx_driver, kern_driver}
 use Rattle.aat_kerning_machines.specs.facts.AnchorLaws.{anchors_are_lawful}
 use Rattle.aat_kerning_machines.specs.facts.StackLaws.{kerx_is_lawful, kern_is_lawful}
@@ -81,7 +81,7 @@ module _ {T R : Type 0} (pays_first : Bool) (x : Driver R (GenericStateEntry T))
 
 kerx_is_paid :
     (kern_mask : ℕ) (points : Option Points) (is_cross : Bool) (tuple_count : ℕ) (k : KerxFormat) (b : Buffer)
-    → IsPaid b (kerx_run kern_mask points is_cross tuple_count k b)
+    → IsPaid b (run_of_kerx_subtable kern_mask points is_cross tuple_count k b)
 kerx_is_paid kern_mask points is_cross tuple_count (Format0 values) b =
     paid_without_turns b _ (of_pair_kerning _ kern_mask is_cross values false b)
 kerx_is_paid kern_mask points is_cross tuple_count (Format1 s) b =
@@ -94,7 +94,7 @@ kerx_is_paid kern_mask points is_cross tuple_count (Format6 values) b =
     paid_without_turns b _ (of_pair_kerning _ kern_mask is_cross values false b)
 
 kern_is_paid :
-    (kern_mask : ℕ) (is_cross : Bool) (k : KernKind) (b : Buffer) → IsPaid b (kern_run kern_mask is_cross k b)
+    (kern_mask : ℕ) (is_cross : Bool) (k : KernKind) (b : Buffer) → IsPaid b (run_of_kern_subtable kern_mask is_cross k b)
 kern_is_paid kern_mask is_cross (kind.Pairs values) b =
     paid_without_turns b _ (of_pair_kerning _ kern_mask is_cross values true b)
 kern_is_paid kern_mask is_cross (kind.Machine s) b =
@@ -182,10 +182,10 @@ positioning_is_bounded requested kerning ks b each =
 
 -- each subtable of a table
 pub kerx_each_paid :
-    (kern_mask : ℕ) (points : Option Points) (s : KerxSubtable) (b : Buffer) → IsPaid b ((kerx_kerning kern_mask points s).run b)
+    (kern_mask : ℕ) (points : Option Points) (s : KerxSubtable) (b : Buffer) → IsPaid b ((kerning_of_kerx_subtable kern_mask points s).run b)
 kerx_each_paid kern_mask points s b = kerx_is_paid kern_mask points s.has_cross_stream s.tuple_count s.format b
 
-pub kern_each_paid : (kern_mask : ℕ) (s : KernSubtable) (b : Buffer) → IsPaid b ((kern_kerning kern_mask s).run b)
+pub kern_each_paid : (kern_mask : ℕ) (s : KernSubtable) (b : Buffer) → IsPaid b ((kerning_of_kern_subtable kern_mask s).run b)
 kern_each_paid kern_mask s b = kern_is_paid kern_mask s.has_cross_stream s.kind b
 
 kerx_is_positioned :
@@ -194,10 +194,10 @@ kerx_is_positioned :
 unfolding kerx_positioning
 kerx_is_positioned requested kern_mask points subtables b =
     let d = unsafe_to_concat b None None in
-    let o = positioning requested (map (kerx_kerning kern_mask points) subtables) d in
+    let o = positioning requested (map (kerning_of_kerx_subtable kern_mask points) subtables) d in
     let marked = of_marked true b in
     let k : IsPositioned (length subtables) d o =
-    positioning_is_bounded requested (kerx_kerning kern_mask points) subtables d (kerx_each_paid kern_mask points) in
+    positioning_is_bounded requested (kerning_of_kerx_subtable kern_mask points) subtables d (kerx_each_paid kern_mask points) in
     let turns : length subtables * (length d.line + 1) ≡ length subtables * (length b.line + 1) = ap (λ n. length subtables * (n + 1)) (long b d marked) in
     record { turns = omega (arith, k.turns, marked.budget, turns); kept = kerned_twice b d o.buffer marked k.kept }
 
@@ -205,7 +205,7 @@ kern_is_positioned : (requested : Bool) (kern_mask : ℕ) (subtables : List Kern
     → IsPositioned (length subtables) b (kern_positioning requested kern_mask subtables b)
 unfolding kern_positioning
 kern_is_positioned requested kern_mask subtables b =
-    positioning_is_bounded requested (kern_kerning kern_mask) subtables b (kern_each_paid kern_mask)
+    positioning_is_bounded requested (kerning_of_kern_subtable kern_mask) subtables b (kern_each_paid kern_mask)
 
 pub kerning_is_bounded : KerningIsBounded
 kerning_is_bounded = record {

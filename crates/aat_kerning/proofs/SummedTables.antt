@@ -28,7 +28,7 @@ use Rattle.aat_kerning.specs.Cut.{ordered_line, ordered_positions}
 use Rattle.aat_kerning_machines.specs.KerningLaws.{IsMarkedFrom}
 use Rattle.aat_kerning.specs.PairKerning.{pair_kerning}
 use Rattle.aat_kerning.specs.Pairs.{Pair, kern_skips, kerx_skips, pair_at, pairs_of, places}
-use Rattle.aat_kerning.specs.Positioning.{Kerning, Positioned, cursively_attached, in_processing_order, is_for_text, is_kern_pairs, is_kerx_pairs, kern_kerning, kern_positioning, kern_run, kerx_kerning, kerx_positioning, kerx_run, line_marked, positioned, positioning}
+use Rattle.aat_kerning.specs.Positioning.{Kerning, Positioned, cursively_attached, in_processing_order, is_for_text, is_kern_pairs, is_kerx_pairs, kerning_of_kern_subtable, kern_positioning, run_of_kern_subtable, kerning_of_kerx_subtable, kerx_positioning, run_of_kerx_subtable, line_marked, positioned, positioning}
 use Rattle.aat_kerning_machines.specs.Positions.{IsPlaced}
 use Rattle.aat_kerning.proofs.Changes.{of_concat, of_marked, of_pair_kerning}
 use Rattle.aat_kerning.proofs.CutHolds.{ordered_places, ordered_way, places_of_marked}
@@ -242,7 +242,7 @@ module _ (kern_mask : ℕ) (free : bit_and kern_mask 7 ≡ 0) (way : Direction) 
       → is_kerx_pairs format ≡ true → is_cross ≡ false → All (λ v. FitsSigned w16 v.2) (kerx_values format)
       → IsSummed way glyphs start v d
       → IsSummed way glyphs start (v +ℤ all_values (kerx_values format) glyphs (pairs_of kerx_skips kern_mask glyphs))
-      (kerx_run kern_mask points is_cross tuple_count format d).buffer
+      (run_of_kerx_subtable kern_mask points is_cross tuple_count format d).buffer
   kerx_run_summed points true tuple_count format v d pairs along small now = absurd (true≢false along)
   kerx_run_summed points false tuple_count (Format0 values) v d pairs along small now =
       pairs_summed kerx_skips kern_mask free way glyphs start values false v d small now
@@ -258,7 +258,7 @@ module _ (kern_mask : ℕ) (free : bit_and kern_mask 7 ≡ 0) (way : Direction) 
       → is_kern_pairs k ≡ true → is_cross ≡ false → All (λ v. FitsSigned w16 v.2) (kern_values k)
       → IsSummed way glyphs start v d
       → IsSummed way glyphs start (v +ℤ all_values (kern_values k) glyphs (pairs_of kern_skips kern_mask glyphs))
-      (kern_run kern_mask is_cross k d).buffer
+      (run_of_kern_subtable kern_mask is_cross k d).buffer
   kern_run_summed true k v d pairs along small now = absurd (true≢false along)
   kern_run_summed false (kind.Pairs values) v d pairs along small now =
       pairs_summed kern_skips kern_mask free way glyphs start values true v d small now
@@ -273,11 +273,11 @@ kerx_sums requested kern_mask points subtables b asked free placed fits each =
     let way = b.direction in
     let glyphs = ordered_line b in
     let start = all_advances (is_horizontal way) (position_list b) in
-    positioned_sum (kerx_kerning kern_mask points) (λ (s : KerxSubtable). kerx_values s.format) kerx_skips kern_mask way glyphs start
+    positioned_sum (kerning_of_kerx_subtable kern_mask points) (λ (s : KerxSubtable). kerx_values s.format) kerx_skips kern_mask way glyphs start
     (λ x v d is. kerx_run_summed kern_mask free way glyphs start points x.has_cross_stream x.tuple_count x.format v d is.pairs is.in_stream is.small)
     subtables requested (unsafe_to_concat b None None) asked
-    (All-weaker (λ (x : KerxSubtable). is_for_text (kerx_kerning kern_mask None x) b ≡ true → IsInStream (kerx_kerning kern_mask None x) (kerx_values x.format))
-    (λ x. is_for_text (kerx_kerning kern_mask points x) b ≡ true → IsInStream (kerx_kerning kern_mask points x) (kerx_values x.format))
+    (All-weaker (λ (x : KerxSubtable). is_for_text (kerning_of_kerx_subtable kern_mask None x) b ≡ true → IsInStream (kerning_of_kerx_subtable kern_mask None x) (kerx_values x.format))
+    (λ x. is_for_text (kerning_of_kerx_subtable kern_mask points x) b ≡ true → IsInStream (kerning_of_kerx_subtable kern_mask points x) (kerx_values x.format))
     (λ x so for. let is = so for in record { pairs = is.pairs; in_stream = is.in_stream; small = is.small }) subtables each)
     (at_start b (unsafe_to_concat b None None) (ordered_kept b (unsafe_to_concat b None None) (of_concat b None None)) (ordered_places b) refl placed fits)
 
@@ -289,7 +289,7 @@ kern_sums requested kern_mask subtables b asked free placed fits each =
     let way = b.direction in
     let glyphs = ordered_line b in
     let start = all_advances (is_horizontal way) (position_list b) in
-    positioned_sum (kern_kerning kern_mask) (λ (s : KernSubtable). kern_values s.kind) kern_skips kern_mask way glyphs start
+    positioned_sum (kerning_of_kern_subtable kern_mask) (λ (s : KernSubtable). kern_values s.kind) kern_skips kern_mask way glyphs start
     (λ x v d is. kern_run_summed kern_mask free way glyphs start x.has_cross_stream x.kind v d is.pairs is.in_stream is.small)
     subtables requested b asked each
     (at_start b b (line_same glyphs) refl refl placed fits)

@@ -14,7 +14,7 @@ use Rattle.aat_glyph.specs.declared.glyph.hb_glyph_info_t.{hb_glyph_info_t}
 use Rattle.aat_kerning.specs.Cut.{ordered_line}
 use Rattle.aat_kerning.specs.PairKerning.{pair_kerning, value_of}
 use Rattle.aat_kerning.specs.Pairs.{Pair, kern_skips, kerx_skips, pairs_of}
-use Rattle.aat_kerning.specs.Positioning.{Kerning, is_for_text, kern_kerning, kerx_kerning}
+use Rattle.aat_kerning.specs.Positioning.{Kerning, is_for_text, kerning_of_kern_subtable, kerning_of_kerx_subtable}
 
 -- the advance along the line: in x where the text is horizontal, and else in y
 abbrev pub advance : Bool → GlyphPosition → ℤ
@@ -86,9 +86,11 @@ AdvancesGainValues kerning values_of skips kern_mask xs b left =
 -- so it is of the subtables of a `kerx` table
 abbrev pub KerxSumsAdvances : ℕ → List KerxSubtable → Buffer → Buffer → Type 0
 KerxSumsAdvances kern_mask subtables b left =
-    AdvancesGainValues (kerx_kerning kern_mask None) (λ s. kerx_values s.format) kerx_skips kern_mask subtables b left
+    AdvancesGainValues (kerning_of_kerx_subtable kern_mask None) (λ s. kerx_values s.format) kerx_skips kern_mask
+    subtables b left
 
 -- and of those of a `kern` table
 abbrev pub KernSumsAdvances : ℕ → List KernSubtable → Buffer → Buffer → Type 0
 KernSumsAdvances kern_mask subtables b left =
-    AdvancesGainValues (kern_kerning kern_mask) (λ s. kern_values s.kind) kern_skips kern_mask subtables b left
+    AdvancesGainValues (kerning_of_kern_subtable kern_mask) (λ s. kern_values s.kind) kern_skips kern_mask
+    subtables b left

@@ -10,7 +10,7 @@ use Rattle.aat_glyph.specs.declared.glyph.GlyphPosition.{GlyphPosition}
 use Rattle.aat_glyph.specs.declared.glyph.hb_glyph_info_t.{hb_glyph_info_t}
 use Rattle.aat_run.specs.Outcome.{Outcome}
 use Rattle.aat_kerning.specs.Pairs.{kerx_skips, kern_skips, is_solid}
-use Rattle.aat_kerning.specs.Positioning.{Kerning, is_for_text, in_processing_order, kerx_kerning, kern_kerning, kerx_positioning, kern_positioning}
+use Rattle.aat_kerning.specs.Positioning.{Kerning, is_for_text, in_processing_order, kerning_of_kerx_subtable, kerning_of_kern_subtable, kerx_positioning, kern_positioning}
 
 -- the glyphs of a buffer in processing order
 abbrev pub ordered_line : Buffer → List hb_glyph_info_t
@@ -97,20 +97,21 @@ pub record PartsAreKernedApart : Type 0 where
   pub kerx :
       (requested : Bool) (kern_mask : ℕ) (points : Option Points) (subtables : List KerxSubtable) (b : Buffer)
       → bit_and kern_mask 7 ≡ 0
-      → CanBeCut kerx_skips (map (kerx_kerning kern_mask points) subtables)
+      → CanBeCut kerx_skips (map (kerning_of_kerx_subtable kern_mask points) subtables)
       (kerx_positioning requested kern_mask points subtables) b
   pub kern :
       (requested : Bool) (kern_mask : ℕ) (subtables : List KernSubtable) (b : Buffer)
       → bit_and kern_mask 7 ≡ 0
-      → CanBeCut kern_skips (map (kern_kerning kern_mask) subtables) (kern_positioning requested kern_mask subtables) b
+      → CanBeCut kern_skips (map (kerning_of_kern_subtable kern_mask) subtables)
+      (kern_positioning requested kern_mask subtables) b
 
 -- by every kern mask they can, where the parts have the flags of the whole
 pub record AlikePartsAreKernedApart : Type 0 where
   pub kerx :
       (requested : Bool) (kern_mask : ℕ) (points : Option Points) (subtables : List KerxSubtable) (b : Buffer)
-      → CanBeCutAlike kerx_skips (map (kerx_kerning kern_mask points) subtables)
+      → CanBeCutAlike kerx_skips (map (kerning_of_kerx_subtable kern_mask points) subtables)
       (kerx_positioning requested kern_mask points subtables) b
   pub kern :
       (requested : Bool) (kern_mask : ℕ) (subtables : List KernSubtable) (b : Buffer)
-      → CanBeCutAlike kern_skips (map (kern_kerning kern_mask) subtables)
+      → CanBeCutAlike kern_skips (map (kerning_of_kern_subtable kern_mask) subtables)
       (kern_positioning requested kern_mask subtables) b

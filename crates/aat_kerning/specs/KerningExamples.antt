@@ -17,7 +17,7 @@ use Rattle.aat_kerning.specs.Pairs.{kern_skips, pairs_of}
 use Rattle.aat_font.specs.declared.kerx.KerxFormat.TheVariants.{Format0, Format2}
 use Rattle.aat_font.specs.declared.kern.KernSubtable.{KernSubtable}
 use Rattle.aat_font.specs.declared.kerx.KerxSubtable.{KerxSubtable}
-use Rattle.aat_kerning.specs.Positioning.{kerx_run, kern_kerning, kern_positioning}
+use Rattle.aat_kerning.specs.Positioning.{run_of_kerx_subtable, kerning_of_kern_subtable, kern_positioning}
 use Rattle.aat_kerning_machines.specs.Positions.{attached_as}
 use Rattle.aat_kerning.specs.RowWords.{position, untouched_position, along_x, PrintedKerning, printed_kerning, shows_positions, shows_three_turns, asking_from, two_glyphs, two_glyphs_marked, buffer_with_advances, kern_subtable, kerx_subtable, by_kern, by_kerx, values_from, no_values, action_at, no_action, kern_rules, kerx_rules, kern_entries, kerx_entries, anchor_entries, kern_pairs, pairs_of_kern, machine_of_kern, stack_of_kerx, anchors_of_kerx}
 
@@ -125,7 +125,7 @@ pub record PairExamples : Type 0 where
       all_advances true (positions_of (by_kern three_tables (buffer_with_advances LeftToRight many four_glyphs)))
       ≡ pos 1980
   pub values_added_twice :
-      values_by_all (kern_kerning 8) (λ s. kern_values s.kind) kern_skips 8 three_tables
+      values_by_all (kerning_of_kern_subtable 8) (λ s. kern_values s.kind) kern_skips 8 three_tables
       (buffer_with_advances LeftToRight many four_glyphs) ≡ negsuc 19
 
 -- a `kern` machine with rules, values and glyphs
@@ -268,7 +268,8 @@ pub record StackExamples : Type 0 where
         scratch = 8;
       }
   pub values_across_unattached :
-      printed_kerning (kerx_run 8 None true 1 (stack_of_kerx kerx_entries (pos 20 ∷ negsuc 6 ∷ [])) in_a_row)
+      printed_kerning
+      (run_of_kerx_subtable 8 None true 1 (stack_of_kerx kerx_entries (pos 20 ∷ negsuc 6 ∷ [])) in_a_row)
       ≡ shows_three_turns two_glyphs two_untouched
   -- in vertical text a value goes to y, but only where there is no offset yet, and one across the stream goes to x
   pub vertical_values :
@@ -381,8 +382,9 @@ pub record PositioningExamples : Type 0 where
       ≡ shows_positions two_glyphs
       (attached_as 2 (pos 1) untouched_position ∷ attached_as 2 (pos 1) untouched_position ∷ [])
   -- where the buffer asks for marks against joining, format 2 of `kerx` marks the whole line first, format 0 does not
-  pub format_2_marks : (kerx_run 8 None false 0 (Format2 []) asking_for_concat).buffer.line ≡ two_glyphs_apart
-  pub format_0_does_not : (kerx_run 8 None false 0 (Format0 []) asking_for_concat).buffer.line ≡ two_glyphs
+  pub format_2_marks :
+      (run_of_kerx_subtable 8 None false 0 (Format2 []) asking_for_concat).buffer.line ≡ two_glyphs_apart
+  pub format_0_does_not : (run_of_kerx_subtable 8 None false 0 (Format0 []) asking_for_concat).buffer.line ≡ two_glyphs
   -- pairs of `kern` do, and its machines do not
   pub kern_pairs_mark :
       by_kern (kern_subtable (pairs_of_kern []) ∷ []) asking_for_concat ≡ shows_positions two_glyphs_apart two_untouched

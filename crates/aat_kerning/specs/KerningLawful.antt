@@ -68,7 +68,8 @@ pub record StayingIsPaid : Type 0 where
       (table : TableValue (GenericStateEntry EntryData)) (points : Option Points) (pairs : List (ℕ × ℕ))
       → PaysForStaying (kerning_machine_of false table (anchor_driver points pairs)) IsFit
 
--- a turn that stays has been paid for in the machine that `kerx_run` runs by this format; pairs have no turns
+-- a turn that stays has been paid for in the machine that `run_of_kerx_subtable` runs by this format; pairs have no
+-- turns
 abbrev pub KerxFormatPaysForStaying : ℕ → Option Points → Bool → ℕ → KerxFormat → Type 0
 KerxFormatPaysForStaying kern_mask points is_cross tuple_count (Format0 values) = Unit {0}
 KerxFormatPaysForStaying kern_mask points is_cross tuple_count (Format1 s) =
@@ -84,7 +85,7 @@ unfoldable pub KerxPaysForStaying : ℕ → Option Points → KerxSubtable → T
 KerxPaysForStaying kern_mask points s =
     KerxFormatPaysForStaying kern_mask points s.has_cross_stream s.tuple_count s.format
 
--- a turn that stays has been paid for in the machine that `kern_run` runs; pairs have no turns
+-- a turn that stays has been paid for in the machine that `run_of_kern_subtable` runs; pairs have no turns
 abbrev pub KernKindPaysForStaying : ℕ → Bool → KernKind → Type 0
 KernKindPaysForStaying kern_mask is_cross (kind.Pairs values) = Unit {0}
 KernKindPaysForStaying kern_mask is_cross (kind.Machine s) =

@@ -75,16 +75,16 @@ line_marked asked b = if asked then unsafe_to_concat b None None else b
 
 -- the run of a `kerx` subtable: pairs, of which format 2 marks the whole line first, a stack machine, or an anchor
 -- machine. TrueType Reference Manual: The 'kerx' table, formats 0, 1, 2, 4 and 6.
-abbrev pub kerx_run : ℕ → Option Points → Bool → ℕ → KerxFormat → Buffer → Outcome
-kerx_run kern_mask points is_cross tuple_count (Format0 values) b =
+abbrev pub run_of_kerx_subtable : ℕ → Option Points → Bool → ℕ → KerxFormat → Buffer → Outcome
+run_of_kerx_subtable kern_mask points is_cross tuple_count (Format0 values) b =
     untouched (pair_kerning kerx_skips kern_mask is_cross values (line_marked false b))
-kerx_run kern_mask points is_cross tuple_count (Format1 s) b =
+run_of_kerx_subtable kern_mask points is_cross tuple_count (Format1 s) b =
     driver_run false s.state_table (kerx_driver is_cross kern_mask tuple_count s.values) b
-kerx_run kern_mask points is_cross tuple_count (Format2 values) b =
+run_of_kerx_subtable kern_mask points is_cross tuple_count (Format2 values) b =
     untouched (pair_kerning kerx_skips kern_mask is_cross values (line_marked true b))
-kerx_run kern_mask points is_cross tuple_count (Format4 s) b =
+run_of_kerx_subtable kern_mask points is_cross tuple_count (Format4 s) b =
     driver_run false s.state_table (anchor_driver points s.anchor_points) b
-kerx_run kern_mask points is_cross tuple_count (Format6 values) b =
+run_of_kerx_subtable kern_mask points is_cross tuple_count (Format6 values) b =
     untouched (pair_kerning kerx_skips kern_mask is_cross values (line_marked false b))
 
 -- whether a `kerx` subtable is of pairs
@@ -100,26 +100,26 @@ abbrev pub AreKerxPairs : List KerxSubtable → Type 0
 AreKerxPairs subtables = All (λ s. IsTrue (is_kerx_pairs s.format)) subtables
 
 -- a `kerx` subtable, as positioning sees it
-abbrev pub kerx_kerning : ℕ → Option Points → KerxSubtable → Kerning
-kerx_kerning kern_mask points s = record {
+abbrev pub kerning_of_kerx_subtable : ℕ → Option Points → KerxSubtable → Kerning
+kerning_of_kerx_subtable kern_mask points s = record {
   horizontal = s.horizontal;
   has_cross_stream = s.has_cross_stream;
   variable = s.variable;
   is_pairs = is_kerx_pairs s.format;
-  run = kerx_run kern_mask points s.has_cross_stream s.tuple_count s.format;
+  run = run_of_kerx_subtable kern_mask points s.has_cross_stream s.tuple_count s.format;
 }
 
 -- kerning by a `kerx` table: the whole line is marked first
 unfoldable pub kerx_positioning : Bool → ℕ → Option Points → List KerxSubtable → Buffer → Outcome
 kerx_positioning requested kern_mask points subtables b =
-    positioning requested (map (kerx_kerning kern_mask points) subtables) (unsafe_to_concat b None None)
+    positioning requested (map (kerning_of_kerx_subtable kern_mask points) subtables) (unsafe_to_concat b None None)
 
 -- the run of a `kern` subtable: pairs, which mark the whole line first, or a stack machine. TrueType Reference
 -- Manual: The 'kern' table, formats 0 to 3.
-abbrev pub kern_run : ℕ → Bool → KernKind → Buffer → Outcome
-kern_run kern_mask is_cross (kind.Pairs values) b =
+abbrev pub run_of_kern_subtable : ℕ → Bool → KernKind → Buffer → Outcome
+run_of_kern_subtable kern_mask is_cross (kind.Pairs values) b =
     untouched (pair_kerning kern_skips kern_mask is_cross values (line_marked true b))
-kern_run kern_mask is_cross (kind.Machine s) b =
+run_of_kern_subtable kern_mask is_cross (kind.Machine s) b =
     driver_run true s.state_table (kern_driver is_cross kern_mask s.values) b
 
 -- whether a `kern` subtable is of pairs
@@ -132,15 +132,16 @@ abbrev pub AreKernPairs : List KernSubtable → Type 0
 AreKernPairs subtables = All (λ s. IsTrue (is_kern_pairs s.kind)) subtables
 
 -- a `kern` subtable, as positioning sees it
-abbrev pub kern_kerning : ℕ → KernSubtable → Kerning
-kern_kerning kern_mask s = record {
+abbrev pub kerning_of_kern_subtable : ℕ → KernSubtable → Kerning
+kerning_of_kern_subtable kern_mask s = record {
   horizontal = s.horizontal;
   has_cross_stream = s.has_cross_stream;
   variable = s.variable;
   is_pairs = is_kern_pairs s.kind;
-  run = kern_run kern_mask s.has_cross_stream s.kind;
+  run = run_of_kern_subtable kern_mask s.has_cross_stream s.kind;
 }
 
 -- kerning by a `kern` table
 unfoldable pub kern_positioning : Bool → ℕ → List KernSubtable → Buffer → Outcome
-kern_positioning requested kern_mask subtables b = positioning requested (map (kern_kerning kern_mask) subtables) b
+kern_positioning requested kern_mask subtables b =
+    positioning requested (map (kerning_of_kern_subtable kern_mask) subtables) b

@@ -7,7 +7,7 @@ ghost use Rattle.aat_kerning.specs.FontKerning.{KernCanBeCut, KernCanBeCutAlike,
 ghost use Rattle.aat_kerning.specs.KerningLawful.{KernPaysForStaying};
 ghost use Rattle.aat_kerning_machines.specs.KerningLaws.{IsKernedFrom};
 ghost use Rattle.aat_kerning_machines.specs.KerningMachine.{driver_run};
-ghost use Rattle.aat_kerning.specs.Positioning.{AreKernPairs, is_kern_pairs, kern_kerning, kern_run};
+ghost use Rattle.aat_kerning.specs.Positioning.{AreKernPairs, is_kern_pairs, kerning_of_kern_subtable, run_of_kern_subtable};
 ghost use Rattle.aat_kerning_machines.specs.Positions.{IsPlaced};
 ghost use Rattle.aat_kerning_machines.specs.Stack.{kern_driver};
 ghost use Rattle.aat_run.specs.Budget.{operations_left};
@@ -58,7 +58,7 @@ fn run_kern_subtable<A: Allocator + Copy>(
     requires ids { IsSmall buffer.old }
     requires placed { IsPlaced buffer.old }
     ensures run { record { buffer = buffer.new; turns = result }
-        ≡ kern_run plan.now.kern_mask subtable.now.has_cross_stream subtable.now.kind buffer.old }
+        ≡ run_of_kern_subtable plan.now.kern_mask subtable.now.has_cross_stream subtable.now.kind buffer.old }
     ensures few { result < 2 ^ 32 }
     ensures ids { IsSmall buffer.new }
     ensures placed { IsPlaced buffer.new }
@@ -93,7 +93,7 @@ fn is_of_kern_pairs(subtable: &KernSubtable) -> bool
 impl KerningSubtable for KernSubtable {
     ghost use Rattle.aat_kerning.specs.Positioning as positioning;
 
-    ghost kerning = { λ kern_mask points. positioning.kern_kerning kern_mask };
+    ghost kerning = { λ kern_mask points. positioning.kerning_of_kern_subtable kern_mask };
 
     fn is_for_text(&self, direction: Direction) -> bool {
         is_for_text(self.horizontal, self.variable, direction)
@@ -168,7 +168,6 @@ pub fn hb_ot_layout_kern<A: Allocator + Copy>(
     ensures cut_alike { OnOk result (KernCanBeCutAlike plan.now face.now buffer.old buffer.new) }
     ensures summed { IsTrue plan.now.requested_kerning → bit_and plan.now.kern_mask 7 ≡ 0 →
         OnOk result (KernSumsAdvances plan.now.kern_mask (kern_subtables face.now) buffer.old buffer.new) }
-    ensures standing { OnOk result (IsSome buffer.new.positions) }
     ensures placed { OnOk result (IsPlaced buffer.new) }
     ensures paid { IfOk result (λ turns. turns + operations_left buffer.new.max_ops
         ≤ length (kern_subtables face.now) * (length buffer.old.line + 1) + operations_left buffer.old.max_ops) }

@@ -9,7 +9,7 @@ ghost use Rattle.aat_kerning_machines.specs.Anchors.{anchor_driver};
 ghost use Rattle.aat_kerning.specs.KerningLawful.{KerxPaysForStaying};
 ghost use Rattle.aat_kerning_machines.specs.KerningLaws.{IsKernedFrom};
 ghost use Rattle.aat_kerning_machines.specs.KerningMachine.{driver_run};
-ghost use Rattle.aat_kerning.specs.Positioning.{AreKerxPairs, is_kerx_pairs, kerx_kerning, kerx_run};
+ghost use Rattle.aat_kerning.specs.Positioning.{AreKerxPairs, is_kerx_pairs, kerning_of_kerx_subtable, run_of_kerx_subtable};
 ghost use Rattle.aat_kerning_machines.specs.Positions.{IsPlaced};
 ghost use Rattle.aat_kerning_machines.specs.Stack.{kerx_driver};
 ghost use Rattle.aat_run.specs.Budget.{operations_left};
@@ -107,7 +107,7 @@ fn run_kerx_subtable<A: Allocator + Copy>(
     requires ids { IsSmall buffer.old }
     requires placed { IsPlaced buffer.old }
     ensures run { record { buffer = buffer.new; turns = result }
-        ≡ kerx_run plan.now.kern_mask (option_copied ankr.entry)
+        ≡ run_of_kerx_subtable plan.now.kern_mask (option_copied ankr.entry)
         subtable.now.has_cross_stream subtable.now.tuple_count subtable.now.format buffer.old }
     ensures few { result < 2 ^ 32 }
     ensures ids { IsSmall buffer.new }
@@ -147,7 +147,7 @@ fn is_of_kerx_pairs(subtable: &KerxSubtable) -> bool
 impl KerningSubtable for KerxSubtable {
     ghost use Rattle.aat_kerning.specs.Positioning as positioning;
 
-    ghost kerning = { positioning.kerx_kerning };
+    ghost kerning = { positioning.kerning_of_kerx_subtable };
 
     fn is_for_text(&self, direction: Direction) -> bool {
         is_for_text(self.horizontal, self.variable, direction)
@@ -248,7 +248,6 @@ pub fn hb_aat_layout_position<A: Allocator + Copy>(
     ensures cut_alike { OnOk result (KerxCanBeCutAlike plan.now face.now buffer.old buffer.new) }
     ensures summed { IsTrue plan.now.requested_kerning → bit_and plan.now.kern_mask 7 ≡ 0 →
         OnOk result (KerxSumsAdvances plan.now.kern_mask (kerx_subtables face.now) buffer.old buffer.new) }
-    ensures standing { OnOk result (IsSome buffer.new.positions) }
     ensures placed { OnOk result (IsPlaced buffer.new) }
     ensures paid { IfOk result (λ turns. turns + operations_left buffer.new.max_ops
         ≤ length (kerx_subtables face.now) * (length buffer.old.line + 1) + operations_left buffer.old.max_ops) }

@@ -79,8 +79,9 @@ module _ {R E : Type 0} (m : KerningMachine R E) where
   abbrev pub kerning_stepped : E → Buffer → Buffer
   kerning_stepped e b = stepped m.pays_first (m.advances e) b
 
-  -- Whether what stood before the cursor can matter here: the state is not 0, and the entry acts, goes to another state
-  -- than 0 or advances. One that stays and goes back to state 0 begins anew at this glyph.
+  -- Whether the state tells that what stood before the cursor matters here: it is not 0, and the entry acts, goes to
+  -- another state than 0 or advances. One that stays and goes back to state 0 looks at this glyph again from there. The
+  -- registers are not asked, and they outlive state 0, so that what stood before may matter where this does not hold.
   abbrev pub depends_on_before : E → Config R → Bool
   depends_on_before e c = not (c.state == 0) && (m.actionable e || (not (m.next e == 0) || m.advances e))
 

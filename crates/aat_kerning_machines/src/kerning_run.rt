@@ -82,7 +82,8 @@ fn run_machine<Table, E: Copy, D: StateTableDriver<Table, E>, A: Allocator + Cop
 /// Each turn takes the entry at the state and the class of the glyph at the cursor: class 1 for a glyph without one,
 /// and class 0 at the end of the line. A missing entry ends the run. Behind the first glyph and before the end, where
 /// the state is not 0, an entry that is actionable, goes to a state that is not 0 or advances marks the glyphs before
-/// and at the cursor, between which the line may not be broken. Where two glyphs or more are left, the entry at the
+/// and at the cursor as unsafe to break between; the registers, which outlive state 0, are not asked, so that a line
+/// without that mark may depend on what they hold. Where two glyphs or more are left, the entry at the
 /// state and class 0 is looked at: a missing one ends the run, and one that is actionable marks the glyph at the
 /// cursor and the one behind it. Then the driver does the act of the turn's entry, whose state is the new one. At the
 /// end of the line the run ends then; else the cursor moves on where the entry advances or the budget is 0 or less,

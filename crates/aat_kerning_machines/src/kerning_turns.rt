@@ -107,7 +107,7 @@ fn act<Table, E: Copy, D: StateTableDriver<Table, E>, A: Allocator + Copy>(
     settle(buffer, entry.has_advance(), pays_first)
 }
 
-/// Marks the glyphs from one place up to another: no line break is safe between them.
+/// Marks the glyphs from one place up to another as unsafe to break between.
 fn mark<A: Allocator + Copy>(buffer: &mut hb_buffer_t<A>, start: usize, end: usize)
     requires ids { IsSmall buffer.old }
     ensures marked { buffer.new ≡ unsafe_to_break buffer.old (Some start) (Some end) }
@@ -133,7 +133,8 @@ fn mark_behind<A: Allocator + Copy>(buffer: &mut hb_buffer_t<A>)
     mark(buffer, p, p + 2);
 }
 
-/// Whether what stood before the cursor can matter to an entry that is taken in a state.
+/// Whether the state tells that what stood before the cursor matters to an entry. The registers, which outlive state 0,
+/// are not asked.
 fn depends_on_before<Table, E: Copy, D: StateTableDriver<Table, E>>(
     driver: &D,
     entry: &GenericStateEntry<E>,
@@ -148,7 +149,7 @@ fn depends_on_before<Table, E: Copy, D: StateTableDriver<Table, E>>(
     state != START_OF_TEXT && has_effect
 }
 
-/// Marks the glyphs before and at the cursor where what stood before can matter.
+/// Marks the glyphs before and at the cursor where the state tells that what stood before matters.
 #[tactic(auto, unfolding(crate::specs::KerningMachine::kerning_marked))]
 fn mark_before<Table, E: Copy, D: StateTableDriver<Table, E>, A: Allocator + Copy>(
     driver: &D,

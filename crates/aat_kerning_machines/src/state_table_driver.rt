@@ -44,7 +44,9 @@ pub trait StateTableDriver<Table, E: Copy> {
     /// the registers and the buffer that `transition` leaves.
     ghost act: { Table → Bool → ℕ → ℕ → GenericStateEntry E → Self → Buffer → Moved Self };
 
-    /// Whether the entry does something beside going to its state, so that the line may not be broken there.
+    /// Whether the entry does something beside going to its state: then the run marks the line there as unsafe to
+    /// break, unless it takes the entry in state 0. By that state alone a run tells of the registers, which outlive it:
+    /// where they hold a glyph from before, the line may depend on it and have no mark.
     fn is_actionable(&self, entry: &GenericStateEntry<E>) -> bool
         ensures { result ≡ actionable entry.now };
 

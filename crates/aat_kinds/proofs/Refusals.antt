@@ -13,7 +13,7 @@ use Rattle.aat_run.specs.declared.error.AatError.TheVariants.{AaltValue, TooLong
 pub refusal_within : (old new part whole : Buffer) → new.max_len ≡ old.max_len → length old.line ≤ length new.line → length part.line ≤ length whole.line → (e : AatError) → IsRefusal new part e → IsRefusal old whole e
 refusal_within old new part whole most begins ends (AaltValue value) r = r
 refusal_within old new part whole most begins ends TooLong r = omega (arith, most, ends, r)
-refusal_within old new part whole most begins ends OutOfMemory r = omega (arith, begins, ends, r)
+refusal_within old new part whole most begins ends OutOfMemory r = (omega (arith, begins, ends, r.0), omega (arith, most, begins, r.1))
 refusal_within old new part whole most begins ends BufferFailed r = r
 
 -- a refused run of glyphs behind what keeps the settings, as an act that is refused

@@ -94,6 +94,10 @@ pub record Held : Type 0 where
 abbrev pub held_fresh : Option (List (ℕ × ℕ)) → List (List (ℕ × ℕ)) → Held
 held_fresh classes lookups = record { classes = classes; lookups = lookups; registers = fresh }
 
+-- no place is marked, with which a run starts
+abbrev pub IsHeldFresh : Held → Type 0
+IsHeldFresh h = h.registers ≡ fresh
+
 -- the same with other registers
 abbrev pub with_registers : Held → Registers → Held
 with_registers h r = record h { registers = r }

@@ -114,6 +114,10 @@ held_act e h b =
 abbrev pub held_fit : Held → ℕ → ℕ → Type 0
 held_fit h p n = IsFit h.registers p n
 
+-- the first place is marked, with which a run starts
+abbrev pub IsHeldFresh : Held → Type 0
+IsHeldFresh h = h.registers ≡ fresh
+
 -- the act of an entry puts its marked run in: it has an index, and leaves a budget once it is paid for
 abbrev pub puts_marked : Entry → Buffer → Bool
 puts_marked e b = is_present e.extra.marked_insert_index && has_operations (paid (marked_count e) b)

@@ -167,6 +167,11 @@ DeletesLater e h b line =
     (j : ℕ) → n ≤ j → j < s.count → component s j ≢ component s (n - 1)
     → IsTrue (is_deleted (glyph_at line (component s j)))
 
+-- no component is held, with which a run starts, and there is a slot
+pub record IsHeldFresh (h : Held) : Type 0 where
+  pub none : h.registers.count ≡ 0
+  pub some : 0 < length h.registers.slots
+
 -- what a context holds fits where its registers do, no more components are held than glyphs stand before the cursor and
 -- one at it, and where there are as many, the newest is the cursor
 pub record IsHeldFit (h : Held) (p n : ℕ) : Type 0 where

@@ -1,5 +1,5 @@
 -- The rearrangement act. TrueType Reference Manual: The 'morx' table, rearrangement.
-use Rattle.std.specs.Prelude.{ℕ, ◌+◌, ◌-◌, ◌==◌, ◌&&◌, ◌≤◌, not, Bool, true, nat_le, nat_lt, min, bit_and, List, [], ◌∷◌, ◌++◌, length, take, drop, reverse, slice_range, slice_index_or, if◌then◌else◌}
+use Rattle.std.specs.Prelude.{◌≡◌, ℕ, ◌+◌, ◌-◌, ◌==◌, ◌&&◌, ◌≤◌, not, Bool, true, nat_le, nat_lt, min, bit_and, List, [], ◌∷◌, ◌++◌, length, take, drop, reverse, slice_range, slice_index_or, if◌then◌else◌}
 use Rattle.aat_buffer.specs.Buffer.{Buffer}
 use Rattle.aat_buffer.specs.Marks.{merge_clusters, on_line_span}
 use Rattle.aat_font.specs.declared.state_table.GenericStateEntry.{GenericStateEntry}
@@ -65,6 +65,10 @@ pub record Registers : Type 0 where
 
 abbrev pub fresh : Registers
 fresh = record { start = 0; end = 0 }
+
+-- an empty span at the front, with which a run starts
+abbrev pub IsFresh : Registers → Type 0
+IsFresh r = r ≡ fresh
 
 -- the number of an entry's verb
 abbrev pub verb_number : Entry → ℕ

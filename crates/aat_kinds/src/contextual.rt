@@ -1,5 +1,5 @@
 //! Contextual substitution: the marked and the current glyph get values of lookups.
-ghost use Rattle.std.specs.Prelude.{◌≡◌, ◌<◌, length, false, List, Option, ℕ, Some, None, IfErr, IsOk, OnErr, OnOk};
+ghost use Rattle.std.specs.Prelude.{◌≡◌, ◌<◌, length, false, List, Option, ℕ, Some, None, IsOk, OnOk, IfErr, OnErr};
 ghost use Rattle.std.specs.Bool.{OnTrue};
 ghost use Rattle.aat_buffer.specs.Buffer.{with_line};
 ghost use Rattle.aat_buffer.specs.Clusters.{IsSmall};
@@ -156,6 +156,8 @@ impl<'a> driver_context_t<ContextualEntryData> for ContextualCtx<'a> {
 
     ghost fits = { contextual.held_fit };
 
+    ghost is_fresh = { contextual.IsHeldFresh };
+
     ghost stays_in_place = { true };
 
     ghost keeps_length = { true };
@@ -196,7 +198,6 @@ impl<'a> driver_context_t<ContextualEntryData> for ContextualCtx<'a> {
         ensures act { OnOk result (
             record { registers = self.new; buffer = buffer.new } ≡ held_act entry.now self.old buffer.old) }
         ensures ids { OnOk result (IsSmall buffer.new) }
-        ensures successful { OnOk result (buffer.new.successful ≡ buffer.old.successful) }
         ensures reason { IfErr result (IsRefusal buffer.old (held_act entry.now self.old buffer.old).buffer) }
         ensures refused { OnErr result (IsRefused buffer.old buffer.new) }
         ensures count { length buffer.new.line ≡ length buffer.old.line }
@@ -204,6 +205,8 @@ impl<'a> driver_context_t<ContextualEntryData> for ContextualCtx<'a> {
         self.act(entry, buffer);
         Ok(())
     }
+
+    ghost fits_fresh = { laws.fits_where_fresh };
 
     ghost keeps_fit = { laws.keeps_fit };
 

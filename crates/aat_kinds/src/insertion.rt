@@ -140,6 +140,8 @@ impl<'a> driver_context_t<InsertionEntryData> for InsertionCtx<'a> {
 
     ghost fits = { insertion.held_fit };
 
+    ghost is_fresh = { insertion.IsHeldFresh };
+
     ghost stays_in_place = { false };
 
     ghost keeps_length = { false };
@@ -173,10 +175,11 @@ impl<'a> driver_context_t<InsertionEntryData> for InsertionCtx<'a> {
     /// Refused as 2, `TooLong`, only where the act would leave a line longer than the buffer's `max_len`, and as 3,
     /// `OutOfMemory`, only where it would leave a longer line than it found. A run goes in whole or not at all, and the
     /// length is looked at before memory is asked for: where the line would be too long by the first run that goes in,
-    /// it is always 2, `TooLong`, and where it would be by the second one alone either may come. After a refusal the
-    /// buffer has failed, its line is of 16-bit glyphs, at most its greatest length long, and that from before the act
-    /// or, where the current run is refused behind a marked one that went in, the one with that marked run; all but
-    /// line, cursor, positions and budget is as before, and the registers are any.
+    /// it is always 2, `TooLong`, and where it would be by the second one alone either may come. The driver sees whole
+    /// acts and not their runs of glyphs, so from here up that is told of a line without room for a glyph alone. After
+    /// a refusal the buffer has failed, its line is of 16-bit glyphs, at most its greatest length long, and that from
+    /// before the act or, where the current run is refused behind a marked one that went in, the one with that marked
+    /// run; all but line, cursor, positions and budget is as before, and the registers are any.
     ///
     /// The registers have to fit, and each glyph id has to be at most 0xFFFF, and is so again.
     #[tactic(auto, using(crate::proofs::Refusals::refused_for_run), unfolding(crate::specs::Insertion::act))]
@@ -190,7 +193,6 @@ impl<'a> driver_context_t<InsertionEntryData> for InsertionCtx<'a> {
         ensures act { OnOk result (
             record { registers = self.new; buffer = buffer.new } ≡ held_act entry.now self.old buffer.old) }
         ensures ids { OnOk result (IsSmall buffer.new) }
-        ensures successful { OnOk result (buffer.new.successful ≡ buffer.old.successful) }
         ensures reason { IfErr result (IsRefusal buffer.old (held_act entry.now self.old buffer.old).buffer) }
         ensures too_long { buffer.old.max_len < length (line_of_first_run entry.now self.old buffer.old)
             → IsErrOf result AatError.TooLong }
@@ -209,6 +211,8 @@ impl<'a> driver_context_t<InsertionEntryData> for InsertionCtx<'a> {
         self.insert_marked(entry, buffer)?;
         self.mark_and_insert(entry, place, buffer)
     }
+
+    ghost fits_fresh = { laws.fits_where_fresh };
 
     ghost keeps_fit = { laws.keeps_fit };
 

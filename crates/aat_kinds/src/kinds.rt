@@ -23,9 +23,10 @@ use std::alloc::Allocator;
 /// and where there is one alone the subtable is on there.
 ///
 /// Only an insertion subtable is refused: as 2, `TooLong`, only where the run would leave a line longer than the
-/// buffer's `max_len`, and as 3, `OutOfMemory`, only where it would leave a longer line than it found; where both hold
-/// either may come. After a refusal the buffer has failed, its line is some line of 16-bit glyphs that has at most its
-/// greatest length, and all but line, cursor, positions and budget is as before.
+/// buffer's `max_len`, and as 3, `OutOfMemory`, only where it would leave a longer line than it found, and the line was
+/// shorter than `max_len`; where all of this holds either may come. After a refusal the buffer has failed, its line is
+/// some line of 16-bit glyphs that has at most its greatest length, and all but line, cursor, positions and budget is
+/// as before.
 ///
 /// Apple's TrueType Reference Manual, "The 'morx' table", metamorphosis subtables.
 #[tactic(auto, unfolding(crate::specs::Kinds::noncontextual_run))]

@@ -1,5 +1,5 @@
 //! Ligature subtables: glyphs are held as components, and joined to ligatures.
-ghost use Rattle.std.specs.Prelude.{◌≡◌, ℕ, ◌+◌, ◌-◌, ◌<◌, ◌≤◌, ◌^◌, pos, ◌+ℤ◌, length, if◌then◌else◌, nat_lt, IfErr, IfSome, IsOk, IsTrue, None, OnErr, OnOk};
+ghost use Rattle.std.specs.Prelude.{◌≡◌, ℕ, ◌+◌, ◌-◌, ◌<◌, ◌≤◌, ◌^◌, pos, ◌+ℤ◌, length, if◌then◌else◌, nat_lt, IfSome, IsOk, IsTrue, None, OnOk, IfErr, OnErr};
 ghost use Rattle.aat_buffer.specs.Buffer.{glyph_at, with_line};
 ghost use Rattle.aat_buffer.specs.Clusters.{IsSmall};
 ghost use Rattle.aat_buffer.specs.Marks.{merge_out_clusters};
@@ -310,6 +310,8 @@ impl<'a, const SLOTS: usize> driver_context_t<u16> for LigatureCtx<'a, SLOTS> {
 
     ghost fits = { ligature.IsHeldFit };
 
+    ghost is_fresh = { ligature.IsHeldFresh };
+
     ghost stays_in_place = { false };
 
     ghost keeps_length = { true };
@@ -353,7 +355,6 @@ impl<'a, const SLOTS: usize> driver_context_t<u16> for LigatureCtx<'a, SLOTS> {
         ensures act { OnOk result (
             record { registers = self.new; buffer = buffer.new } ≡ held_act entry.now self.old buffer.old) }
         ensures ids { OnOk result (IsSmall buffer.new) }
-        ensures successful { OnOk result (buffer.new.successful ≡ buffer.old.successful) }
         ensures reason { IfErr result (IsRefusal buffer.old (held_act entry.now self.old buffer.old).buffer) }
         ensures refused { OnErr result (IsRefused buffer.old buffer.new) }
         ensures count { length buffer.new.line ≡ length buffer.old.line }
@@ -362,6 +363,8 @@ impl<'a, const SLOTS: usize> driver_context_t<u16> for LigatureCtx<'a, SLOTS> {
         self.act(entry, buffer);
         Ok(())
     }
+
+    ghost fits_fresh = { laws.fits_where_fresh };
 
     ghost keeps_fit = { laws.keeps_fit };
 

@@ -88,7 +88,8 @@ pub(crate) fn run_ligature<const SLOTS: usize, A: Allocator + Copy>(
 /// Runs an insertion subtable, and answers the turns.
 ///
 /// Refused as 2, `TooLong`, only where the run would leave a line longer than the buffer's `max_len`, and as 3,
-/// `OutOfMemory`, only where it would leave a longer line than it found; where both hold either may come.
+/// `OutOfMemory`, only where it would leave a longer line than it found, and the line was shorter than `max_len`; where
+/// all of this holds either may come.
 pub(crate) fn run_insertion<A: Allocator + Copy>(
     run: &SubtableRun,
     subtable: &InsertionSubtable,

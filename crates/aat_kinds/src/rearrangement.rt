@@ -1,5 +1,5 @@
 //! Rearrangement: spans of a line whose ends change their places.
-ghost use Rattle.std.specs.Prelude.{◌≡◌, ◌+◌, ◌-◌, ◌<◌, ◌≤◌, length, min, IfErr, IsOk, IsPermutation, OnErr, OnOk};
+ghost use Rattle.std.specs.Prelude.{◌≡◌, ◌+◌, ◌-◌, ◌<◌, ◌≤◌, length, min, IsOk, IsPermutation, OnOk, IfErr, OnErr};
 ghost use Rattle.aat_buffer.specs.Clusters.{IsSmall, ids};
 ghost use Rattle.aat_buffer.specs.Marks.{merge_clusters};
 ghost use Rattle.aat_run.specs.Driven.{IsRefusal, IsRefused};
@@ -142,6 +142,8 @@ impl<const LONGEST: usize> driver_context_t<()> for RearrangementCtx<LONGEST> {
 
     ghost fits = { rearrangement.IsFit };
 
+    ghost is_fresh = { rearrangement.IsFresh };
+
     ghost stays_in_place = { true };
 
     ghost keeps_length = { true };
@@ -181,7 +183,6 @@ impl<const LONGEST: usize> driver_context_t<()> for RearrangementCtx<LONGEST> {
         ensures act { OnOk result (
             record { registers = self.new; buffer = buffer.new } ≡ act LONGEST entry.now self.old buffer.old) }
         ensures ids { OnOk result (IsSmall buffer.new) }
-        ensures successful { OnOk result (buffer.new.successful ≡ buffer.old.successful) }
         ensures reason { IfErr result (IsRefusal buffer.old (act LONGEST entry.now self.old buffer.old).buffer) }
         ensures refused { OnErr result (IsRefused buffer.old buffer.new) }
         ensures permutes { IsPermutation (ids buffer.old.line) (ids buffer.new.line) }
@@ -189,6 +190,8 @@ impl<const LONGEST: usize> driver_context_t<()> for RearrangementCtx<LONGEST> {
         self.act(entry, buffer);
         Ok(())
     }
+
+    ghost fits_fresh = { laws.fits_where_fresh };
 
     ghost keeps_fit = { laws.keeps_fit LONGEST };
 

@@ -16,17 +16,19 @@ use Rattle.aat_layout.specs.Refusals.{RefusesSubstitutionWith, LeavesBehindWith,
 is_below : (n m : ℕ) → n < m → nat_lt n m ≡ true
 is_below n m h = grind (arith, nat_tests, h)
 
--- a line that grows by a plan in which no value is too large
-grown : (z : Sizes) (plan : hb_ot_shape_plan_t) (face : hb_font_t) (b : Buffer) → first_too_large plan face ≡ None → length b.line < length (substitution_with z plan face b).buffer.line → grows_with z plan face b ≡ true
-grown z plan face b fits h =
-    ap (λ o. is_none o && passes_with z plan face b (length b.line)) fits ∙ is_below (length b.line) (length (substitution_with z plan face b).buffer.line) h
+-- a line with room that grows by a plan in which no value is too large
+grown : (z : Sizes) (plan : hb_ot_shape_plan_t) (face : hb_font_t) (b : Buffer) → first_too_large plan face ≡ None → length b.line < length (substitution_with z plan face b).buffer.line → length b.line < b.max_len
+    → grows_with z plan face b ≡ true
+grown z plan face b fits h room =
+    ap (λ o. is_none o && passes_with z plan face b (length b.line) && nat_lt (length b.line) b.max_len) fits
+    ∙ (ap (λ t. t && nat_lt (length b.line) b.max_len) (is_below (length b.line) (length (substitution_with z plan face b).buffer.line) h) ∙ is_below (length b.line) b.max_len room)
 
 -- why
 pub reason_of_run : (z : Sizes) (plan : hb_ot_shape_plan_t) (face : hb_font_t) (b : Buffer) (e : AatError) → b.successful ≡ true → first_too_large plan face ≡ None
     → IsRefusal b (substitution_with z plan face b).buffer e → RefusesSubstitutionWith z plan face b e
 reason_of_run z plan face b (AaltValue value) good fits h = absurd h
 reason_of_run z plan face b TooLong good fits h = (good, fits, is_below b.max_len (length (substitution_with z plan face b).buffer.line) h)
-reason_of_run z plan face b OutOfMemory good fits h = (good, rw (grown z plan face b fits h) (or-true (wants_memory plan face)))
+reason_of_run z plan face b OutOfMemory good fits h = (good, rw (grown z plan face b fits h.0 h.1) (or-true (wants_memory plan face)))
 reason_of_run z plan face b BufferFailed good fits h = absurd h
 
 -- what is left
@@ -34,5 +36,5 @@ pub left_by_run : (z : Sizes) (plan : hb_ot_shape_plan_t) (face : hb_font_t) (b 
     → IsRefusal b (substitution_with z plan face b).buffer e → IsRefused b d → LeavesBehindWith z plan face b d e
 left_by_run z plan face b d (AaltValue value) fits h refused = absurd h
 left_by_run z plan face b d TooLong fits h refused = refused
-left_by_run z plan face b d OutOfMemory fits h refused = inr (refused, grown z plan face b fits h)
+left_by_run z plan face b d OutOfMemory fits h refused = inr (refused, grown z plan face b fits h.0 h.1)
 left_by_run z plan face b d BufferFailed fits h refused = absurd h

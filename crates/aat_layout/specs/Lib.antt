@@ -23,6 +23,7 @@ pub use Rattle.aat_map.specs.Builder
 pub use Rattle.aat_map.specs.Compiled
 pub use Rattle.aat_map.specs.Live
 pub use Rattle.aat_map.specs.Map
+pub use Rattle.aat_map.specs.Mappings
 pub use Rattle.aat_map.specs.Requests
 pub use Rattle.aat_map.specs.SwitchedChains
 pub use Rattle.aat_map.specs.declared.feature.feature_range_t
@@ -32,6 +33,7 @@ pub use Rattle.aat_morx.specs.Kept
 pub use Rattle.aat_morx.specs.Substitution
 pub use Rattle.aat_kerning.specs.Advances
 pub use Rattle.aat_kerning.specs.Cut
+pub use Rattle.aat_kerning.specs.FontKerning
 pub use Rattle.aat_kerning.specs.KerningLawful
 pub use Rattle.aat_kerning.specs.PairKerning
 pub use Rattle.aat_kerning.specs.Pairs

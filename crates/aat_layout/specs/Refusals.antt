@@ -39,12 +39,16 @@ RefusesBeforeRuns plan face b BufferFailed = b.successful ≡ false
 abbrev pub passes_with : Sizes → hb_ot_shape_plan_t → hb_font_t → Buffer → ℕ → Bool
 passes_with z plan face b n = nat_lt n (length (substitution_with z plan face b).buffer.line)
 
--- no value is too large, and the line that substitution leaves, with sizes, is longer than the one that it is given
+-- no value is too large, the line that substitution leaves, with sizes, is longer than the one that it is given, and
+-- that one has room for a glyph more
 abbrev pub grows_with : Sizes → hb_ot_shape_plan_t → hb_font_t → Buffer → Bool
-grows_with z plan face b = is_none (first_too_large plan face) && passes_with z plan face b (length b.line)
+grows_with z plan face b =
+    is_none (first_too_large plan face)
+    && passes_with z plan face b (length b.line)
+    && nat_lt (length b.line) b.max_len
 
 -- why a substitution with sizes is refused: first a buffer that had failed; then the plan; then a line that would pass
--- the longest one, or want of memory where the line would get longer
+-- the longest one, or want of memory where the line would get longer and has room
 abbrev pub RefusesSubstitutionWith : Sizes → hb_ot_shape_plan_t → hb_font_t → Buffer → AatError → Type 0
 RefusesSubstitutionWith z plan face b (AaltValue value) =
     (b.successful ≡ true) × (first_too_large plan face ≡ Some value)

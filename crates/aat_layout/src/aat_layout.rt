@@ -1,5 +1,5 @@
 //! The entry points of the layer.
-ghost use Rattle.std.specs.Prelude.{◌≡◌, ◌^◌, ◌<◌, ◌≤◌, ◌↔◌, IfOk, IfErr, IsErrOf, IsTrue, OnErr, OnOk, ◌++◌, None, find, false, length, true};
+ghost use Rattle.std.specs.Prelude.{◌≡◌, ◌^◌, ◌<◌, ◌≤◌, ◌↔◌, IfOk, IfErr, IsErrOf, IsTrue, OnErr, OnOk, ◌++◌, None, find, false, length};
 ghost use Rattle.std.specs.List.{list_all};
 ghost use Rattle.aat_buffer.specs.Clusters.{IsSmall};
 ghost use Rattle.aat_font.specs.Chains.{subtable_count};
@@ -45,9 +45,9 @@ pub type Turns = u64;
 /// then as 3, `OutOfMemory`, where compiling gets no memory. After each of these the buffer is unchanged (of 3,
 /// `OutOfMemory`, the contract says so where substitution leaves no longer line, or a feature asks for alternates by
 /// such a value). At last, in the middle of a run, as 2, `TooLong`, only where substitution leaves a line longer than
-/// the buffer's `max_len`, and as 3, `OutOfMemory`, only where it leaves a longer line than it found; where both hold
-/// either may come. Then the buffer has failed, its line is some line of 16-bit glyphs that has at most its greatest
-/// length, and all but line, cursor, positions and budget is as before.
+/// the buffer's `max_len`, and as 3, `OutOfMemory`, only where it leaves a longer line than it found, and that one was
+/// shorter than `max_len`; where all of this holds either may come. Then the buffer has failed, its line is some line
+/// of 16-bit glyphs that has at most its greatest length, and all but line, cursor, positions and budget is as before.
 ///
 /// With S subtables in all chains, n glyphs and a budget M (0 where it is negative) it takes at most S(n + M + 1) turns
 /// and leaves at most n + M glyphs. So it is never refused as 2, `TooLong`, where n + M is at most `max_len`; and where
@@ -74,7 +74,6 @@ pub fn hb_aat_layout_substitute<H: Allocator + Copy, A: Allocator + Copy>(
     ensures substituted { IfOk result (IsOutcome (substitution plan.now face.now buffer.old) buffer.new) }
     ensures within { IfOk result
         (StaysWithin (subtable_count (chains_in (tables_of face.now).morx)) buffer.old buffer.new) }
-    ensures successful { OnOk result (buffer.new.successful ≡ true) }
     ensures order { OnOk result (HasOrderOf buffer.old buffer.new) }
     ensures isolation { OnOk result (IsIsolated plan.now face.now buffer.old buffer.new) }
     ensures room { IsErrOf result AatError.TooLong → buffer.old.max_len < extent buffer.old }
@@ -115,7 +114,6 @@ pub fn hb_aat_layout_substitute_with<const SLOTS: usize, const LONGEST: usize>(
         (substitution_with (sizes_of SLOTS LONGEST face.now) plan.now face.now buffer.old) buffer.new) }
     ensures within { IfOk result
         (StaysWithin (subtable_count (chains_in (tables_of face.now).morx)) buffer.old buffer.new) }
-    ensures successful { OnOk result (buffer.new.successful ≡ true) }
     ensures order { OnOk result (HasOrderOf buffer.old buffer.new) }
     ensures isolation { OnOk result
         (IsIsolatedWith (sizes_of SLOTS LONGEST face.now) plan.now face.now buffer.old buffer.new) }

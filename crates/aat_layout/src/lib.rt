@@ -53,7 +53,7 @@ pub mod laws {
 #[doc(hidden)]
 pub mod worked {
     pub use aat_kerning::worked::{kerning_examples, kerning_rows};
-    pub use aat_map::worked::{alternate_rows, range_rows, small_capital_rows};
+    pub use aat_map::worked::{alternate_rows, mappings_rise, range_rows, small_capital_rows};
     pub use aat_morx::worked::{
         contextual_rows, insertion_rows, ligature_rows, rearrangement_rows, substitution_examples,
     };

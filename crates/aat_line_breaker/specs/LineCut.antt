@@ -2,15 +2,11 @@
 -- manual: where a line may be cut is the shaper's own.)
 use Rattle.std.specs.Prelude.{ℕ, ℤ, pos, ◌<◌, ◌≤ℤ◌, ◌-ℤ◌, Bool, true, false, take, Option, Some, None, slice_index_or}
 use Rattle.aat_glyph.specs.declared.glyph.GlyphPosition.{GlyphPosition}
-use Rattle.aat_font.specs.declared.face.hb_font_t.{hb_font_t}
-use Rattle.aat_font.specs.declared.plan.hb_ot_shape_plan_t.{hb_ot_shape_plan_t}
 use Rattle.aat_layout.specs.Advances.{advance, all_advances}
 use Rattle.aat_layout.specs.Buffer.{Buffer, zero_position}
 use Rattle.aat_layout.specs.Cut.{AreAlikeParts, IsCutPlace, IsKernedInParts, ordered_positions}
 use Rattle.aat_layout.specs.Directions.{is_horizontal}
-use Rattle.aat_layout.specs.Face.{kern_in, tables_of}
 use Rattle.aat_layout.specs.Outcome.{Outcome}
-use Rattle.aat_layout.specs.Positioning.{kern_positioning}
 
 -- how far the text goes by an advance: by so much in a row, and in a column, where advances go down below 0, by 0 less
 -- so much
@@ -24,7 +20,8 @@ ordered_position_at b q = slice_index_or (ordered_positions b) q zero_position
 
 -- how far the text goes by the glyph at place q, in processing order
 abbrev pub advance_at : Buffer → ℕ → ℤ
-advance_at b q = text_advance (is_horizontal b.direction) (advance (is_horizontal b.direction) (ordered_position_at b q))
+advance_at b q =
+    text_advance (is_horizontal b.direction) (advance (is_horizontal b.direction) (ordered_position_at b q))
 
 -- how far the text goes before place q, in processing order: by the sum of the advances there, in x in a row and in y
 -- in a column
@@ -42,10 +39,6 @@ pub record IsCutWithin (limit : ℤ) (skips : ℕ) (b : Buffer) (q : ℕ) : Type
 abbrev pub IsLast : (ℕ → Type 0) → Option ℕ → Type 0
 IsLast IsSo None = (p : ℕ) → ¬ IsSo p
 IsLast IsSo (Some q) = IsSo q × ((p : ℕ) → q < p → ¬ IsSo p)
-
--- kerning by a plan and the `kern` table of a font
-abbrev pub kerned_by_kern : hb_ot_shape_plan_t → hb_font_t → Buffer → Outcome
-kerned_by_kern plan face = kern_positioning plan.requested_kerning plan.kern_mask (kern_in (tables_of face).kern)
 
 -- The positions that were left of a line are those that kerning leaves of its part before q, and then those that it
 -- leaves of its part from q on. Parts are the glyphs with the masks and the positions that they had before kerning, in

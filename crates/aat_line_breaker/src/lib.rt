@@ -3,10 +3,10 @@
 
 ghost use Rattle.std.specs.Prelude.{◌≡◌, ◌↔◌, false, IfErr, IfOk, IfSome, IsErrOf, IsSome, OnErr, OnOk};
 ghost use Rattle.aat_layout.specs.Clusters.{IsSmall};
-ghost use Rattle.aat_layout.specs.Face.{kern_in, tables_of};
+ghost use Rattle.aat_layout.specs.FontKerning.{kern_subtables, kerned_by_kern};
 ghost use Rattle.aat_layout.specs.Pairs.{kern_skips};
 ghost use Rattle.aat_layout.specs.Positioning.{AreKernPairs};
-ghost use Rattle.aat_line_breaker.specs.LineCut.{IsCutWithin, IsLast, IsLeftOfPartsAt, kerned_by_kern};
+ghost use Rattle.aat_line_breaker.specs.LineCut.{IsCutWithin, IsLast, IsLeftOfPartsAt};
 
 mod between;
 mod order;
@@ -45,7 +45,7 @@ pub fn kern_and_cut<A: Allocator + Copy>(
 ) -> Result<Option<usize>, AatError>
     requires ids { IsSmall buffer.old }
     requires positions { IsSome buffer.old.positions }
-    requires pairs { AreKernPairs (kern_in (tables_of face.now).kern) }
+    requires pairs { AreKernPairs (kern_subtables face.now) }
     ensures failed { IsErrOf result AatError.BufferFailed ↔ (buffer.old.successful ≡ false) }
     ensures reason { IfErr result (λ error. error ≡ AatError.BufferFailed) }
     ensures unchanged { OnErr result (buffer.new ≡ buffer.old) }

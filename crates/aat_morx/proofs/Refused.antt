@@ -12,14 +12,14 @@ use Rattle.aat_run.specs.facts.InOrder.{in_order_more, in_order_part, in_order_l
 pub refusal_turned : (b d : Buffer) (e : AatError) → IsRefusal (reversed b) d e → IsRefusal b (reversed d) e
 refusal_turned b d (AaltValue value) h = h
 refusal_turned b d TooLong h = omega (arith, h, length-reverse d.line)
-refusal_turned b d OutOfMemory h = omega (arith, h, length-reverse d.line, length-reverse b.line)
+refusal_turned b d OutOfMemory h = (omega (arith, h.0, length-reverse d.line, length-reverse b.line), omega (arith, h.1, length-reverse b.line))
 refusal_turned b d BufferFailed h = h
 
 -- a reason over a line that is no shorter, for a run that leaves no more glyphs than the whole
 pub refusal_grown : (a b c d : Buffer) (e : AatError) → IsRefusal b c e → length a.line ≤ length b.line → length c.line ≤ length d.line → b.max_len ≡ a.max_len → IsRefusal a d e
 refusal_grown a b c d (AaltValue value) h low high same = h
 refusal_grown a b c d TooLong h low high same = omega (arith, h, high, same)
-refusal_grown a b c d OutOfMemory h low high same = omega (arith, h, low, high)
+refusal_grown a b c d OutOfMemory h low high same = (omega (arith, h.0, low, high), omega (arith, h.1, low, same))
 refusal_grown a b c d BufferFailed h low high same = h
 
 -- a refusal of run i in an order of runs, none of which shortens the line, is one of them all

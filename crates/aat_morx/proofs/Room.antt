@@ -99,5 +99,5 @@ none_refused z cs ls b d e some none within ready h =
     by_error : (e : AatError) → IsRefusal d (in_order (chain_run z) (switched_by cs ls) d).buffer e → length (in_order (chain_run z) (switched_by cs ls) d).buffer.line ≡ length b.line → length d.line ≡ length b.line → d.max_len ≡ b.max_len → ⊥
     by_error (AaltValue value) h same long most = h
     by_error TooLong h same long most = omega (arith, h, same, most, within)
-    by_error OutOfMemory h same long most = omega (arith, h, same, long)
+    by_error OutOfMemory h same long most = omega (arith, h.0, same, long)
     by_error BufferFailed h same long most = h

@@ -35,11 +35,12 @@ use std::alloc::Allocator;
 ///
 /// Refused as 4, `BufferFailed`, where a call of the buffer was refused before, and nothing changes then. Else as 2,
 /// `TooLong`, only where substitution leaves a line longer than the buffer's `max_len`, and as 3, `OutOfMemory`, only
-/// where it leaves a longer line than it found; where both hold either may come. Then the buffer has failed, its line
-/// is some line of 16-bit glyphs that has at most its greatest length, all but line, cursor, positions and budget is as
-/// before, the run has no ranges and no feature flags, and no turns are added. So it is never refused as 2, `TooLong`,
-/// where the number of glyphs and the budget (0 where it is negative) together are at most `max_len`; and where no
-/// subtable is one of insertion the number of glyphs stays, and neither comes.
+/// where it leaves a longer line than it found, and that one was shorter than `max_len`; where all of this holds either
+/// may come. Then the buffer has failed, its line is some line of 16-bit glyphs that has at most its greatest length,
+/// all but line, cursor, positions and budget is as before, the run has no ranges and no feature flags, and no turns
+/// are added. So it is never refused as 2, `TooLong`, where the number of glyphs and the budget (0 where it is
+/// negative) together are at most `max_len`; and where no subtable is one of insertion the number of glyphs stays, and
+/// neither comes.
 ///
 /// At each cluster level but `HB_BUFFER_CLUSTER_LEVEL_CHARACTERS`, clusters that never fall along the line never fall
 /// afterwards, and those that never rise never rise. At every level each cluster stood on the line before.

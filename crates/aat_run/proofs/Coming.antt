@@ -40,5 +40,5 @@ module _ {R E : Type 0} (m : Machine R E) (fits : R → ℕ → ℕ → Type 0)
             omega (arith, long, same.max_len, rw come.run at more)
         refuses OutOfMemory long =
             let more = longer_after m fits keeps passes pays lengthens (length (left_by (turn m to)).buffer.line) to come.fit (omega arith) in
-            omega (arith, long, longer, rw come.run at more)
+            (omega (arith, long.0, longer, rw come.run at more), omega (arith, long.1, longer, same.max_len))
         refuses BufferFailed none = none

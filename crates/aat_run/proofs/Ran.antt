@@ -45,7 +45,7 @@ module _ {T R : Type 0} (on : ℕ → Bool) (table : TableValue (GenericStateEnt
     by_error : (d : Buffer) → length d.line ≤ d.max_len → fits x.fresh d.cursor (length d.line) → (e : AatError) → IsRefusal d (run_to_end (machine_of on table x) (first_config d x.fresh)).buffer e → ⊥
     by_error d short stands (AaltValue value) none = none
     by_error d short stands TooLong long = omega (arith, long, short, whole_in_place (machine_of on table x) fits keeps passes pays count (first_config d x.fresh) stands)
-    by_error d short stands OutOfMemory long = omega (arith, long, whole_in_place (machine_of on table x) fits keeps passes pays count (first_config d x.fresh) stands)
+    by_error d short stands OutOfMemory long = omega (arith, long.0, whole_in_place (machine_of on table x) fits keeps passes pays count (first_config d x.fresh) stands)
     by_error d short stands BufferFailed none = none
 
     pub never_refused : (d : Buffer) (in_place : Bool) → d ≡ with_cursor (cond in_place b (without_positions b)) 0

@@ -62,18 +62,20 @@ module _ {T R : Type 0} (ranges : List range_flags_t) (feature_flags : ℕ) (tab
     abbrev pub driven_registers : Bool → (GenericStateEntry T → Bool) → (GenericStateEntry T → R → ℕ → ℕ → Bool)
         → (GenericStateEntry T → R → Buffer → Moved R) → R → Buffer → R
     driven_registers in_place advances actionable act fresh b =
-        registers_behind (is_driven_on ranges feature_flags) table (context_from in_place advances actionable act fresh) b
+        let context = context_from in_place advances actionable act fresh in
+        registers_behind (is_driven_on ranges feature_flags) table context b
 
 -- the positions that a run leaves: those that stood before it, and none where the context is not in place
 abbrev pub positions_behind : Bool → Buffer → Option (List GlyphPosition)
 positions_behind in_place b = if in_place then b.positions else None
 
 -- why an act or a run is refused over a buffer, given the buffer that it would leave: as too long only where the
--- line would pass the longest one, and for want of memory only where the line would get longer
+-- line would pass the longest one, and for want of memory only where the line would get longer, and there was room for
+-- a glyph: the length is looked at first, so that over a line without room the error is always the first one
 abbrev pub IsRefusal : Buffer → Buffer → AatError → Type 0
 IsRefusal old left (AaltValue value) = ⊥
 IsRefusal old left TooLong = old.max_len < length left.line
-IsRefusal old left OutOfMemory = length old.line < length left.line
+IsRefusal old left OutOfMemory = (length old.line < length left.line) × (length old.line < old.max_len)
 IsRefusal old left BufferFailed = ⊥
 
 -- a buffer that has failed, and but for line, cursor, positions and budget is as before

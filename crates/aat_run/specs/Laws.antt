@@ -20,9 +20,13 @@ pub record SameSettings (old new : Buffer) : Type 0 where
 abbrev pub PassesFit : {R : Type 0} → (R → ℕ → ℕ → Type 0) → Type 0
 PassesFit {R} fits = (r : R) (p n : ℕ) → fits r p n → p < n → fits r (p + 1) n
 
--- fresh registers fit at the front
+-- these registers fit at the front of each line
 abbrev pub FitsFresh : {R : Type 0} → (R → ℕ → ℕ → Type 0) → R → Type 0
 FitsFresh fits fresh = (n : ℕ) → fits fresh 0 n
+
+-- all fresh registers fit at the front
+abbrev pub FitsWhereFresh : {R : Type 0} → (R → Type 0) → (R → ℕ → ℕ → Type 0) → Type 0
+FitsWhereFresh {R} is_fresh fits = (r : R) → is_fresh r → FitsFresh fits r
 
 -- all registers fit everywhere
 abbrev pub FitsAlways : {R : Type 0} → R → ℕ → ℕ → Type 0
@@ -152,10 +156,11 @@ pub record KeepsOrderWhere (holds : Type 0) (old new : Buffer) : Type 0 where
 abbrev pub HasOrderOf : Buffer → Buffer → Type 0
 HasOrderOf old new = KeepsOrderWhere (ClustersMerge old.cluster_level) old new
 
--- the ten laws of a context: what its act keeps, whatever the entry, where the registers fit
-pub record MeetsLaws {R E : Type 0} (act : E → R → Buffer → Moved R) (fits : R → ℕ → ℕ → Type 0)
+-- the eleven laws of a context: fresh registers fit, and what its act keeps, whatever the entry, where they fit
+pub record MeetsLaws {R E : Type 0} (act : E → R → Buffer → Moved R) (fits : R → ℕ → ℕ → Type 0) (is_fresh : R → Type 0)
     (in_place keeps_length : Bool) : Type 0
   where
+    pub fits_fresh : FitsWhereFresh is_fresh fits
     pub keeps_fit : KeepsFit act fits
     pub passes_fit : PassesFit fits
     pub pays : Pays act fits

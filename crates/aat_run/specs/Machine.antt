@@ -63,7 +63,7 @@ abbrev pub break_marked_at : Buffer → Buffer
 break_marked_at b = unsafe_to_break b (Some (b.cursor - 1)) (Some (b.cursor + 1))
 
 module _ {R E : Type 0} (m : Machine R E) where
-  -- the buffer that the act of e finds: marked before the cursor where it is not safe to break there
+  -- the buffer that the act of e finds: marked before the cursor, unless the turn passes the test of `is_safe`
   unfoldable pub marked : E → Config R → Buffer
   marked e c =
       if is_inside c.buffer && not (is_safe m e (m.entry 0 (class_at m.class_of c.buffer)) (m.entry c.state 0) c)

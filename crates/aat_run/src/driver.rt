@@ -153,11 +153,14 @@ pub fn run_machine<T: Copy, C: driver_context_t<T>, A: Allocator + Copy>(
 ///
 /// Each turn looks at the glyph at the cursor, or at the end of the text. Where the subtable is off at its cluster,
 /// the cursor passes it in state 0, and registers and budget stay; at the end the run ends. Else the entry at the
-/// state and the glyph's class is taken: the line gets the break marks before the cursor where it may not be broken
-/// there, the context does its act, and the entry's state is the new one. At the end of the line the run ends then;
-/// else the cursor moves on where the entry advances, and where it stays one operation is paid for, and the cursor
-/// moves on in spite of it once the budget is used up. A missing entry ends the run. The cursor is at the front
-/// afterwards.
+/// state and the glyph's class is taken: the line gets the mark before the cursor, unless the turn passes HarfBuzz's
+/// test of three conditions, the context does its act, and the entry's state is the new one. At the end of the line the
+/// run ends then; else the cursor moves on where the entry advances, and where it stays one operation is paid for, and
+/// the cursor moves on in spite of it once the budget is used up. A missing entry ends the run. The cursor is at the
+/// front afterwards.
+///
+/// A turn that leaves no mark passed that test, and no more. Registers outlive state 0, so that the two parts of the
+/// line, shaped apart, may come out differently there: `specs/Safe.antt` says what the mark tells.
 ///
 /// The subtable is on where its feature flags share a bit with those of the range that holds the cluster; with
 /// fewer than two ranges, or with none, it is on everywhere. At the end of the text the cluster is that of the last
@@ -168,10 +171,11 @@ pub fn run_machine<T: Copy, C: driver_context_t<T>, A: Allocator + Copy>(
 ///
 /// A context in place keeps the positions; another drops them. A context that is in place, or that keeps the number of
 /// glyphs, is never refused. Another is refused as 2, `TooLong`, only where the run would leave a line longer than the
-/// buffer's `max_len`, and as 3, `OutOfMemory`, only where it would leave a longer line than it found. Where the line
-/// would be too long either may come, since memory can be wanting before. After a refusal the buffer has failed, its
-/// line is some line of 16-bit glyphs that has at most its greatest length, all but line, cursor, positions and budget
-/// is as before, the registers are any, and no turns are added. A buffer that had failed before is run as any other.
+/// buffer's `max_len`, and as 3, `OutOfMemory`, only where it would leave a longer line than it found, and the line was
+/// shorter than `max_len`: a line of that length is always refused as 2. Of a shorter one that would be too long either
+/// may come, since memory can be wanting before. After a refusal the buffer has failed, its line is some line of 16-bit
+/// glyphs that has at most its greatest length, all but line, cursor, positions and budget is as before, the registers
+/// are any, and no turns are added. A buffer that had failed before is run as any other.
 ///
 /// What follows of its steps is not proved. A turn takes a bounded number of them but for its act, the look-ups in the
 /// table, which search by bisection where it has no array, pages or grid, and the search for the range of a cluster

@@ -1,7 +1,7 @@
 //! What a driver runs: the registers of a state machine, and what the entries of its table do.
 //!
-//! The driver is the loop, and a context is what is plugged in. In `aat_kerning_machines` a driver is what is plugged in,
-//! as in the crate `rustybuzz`.
+//! The driver is the loop, and a context is what is plugged in. In `aat_kerning_machines` a driver is what is plugged
+//! in, as in the crate `rustybuzz`.
 ghost use Rattle.std.specs.Prelude.{◌≡◌, OnOk, IfErr, OnErr, length};
 
 use crate::error::AatError;
@@ -18,9 +18,10 @@ use std::alloc::Allocator;
 /// glyph at the cursor; at the end, class 0. Its `extra` is the context's own.
 ///
 /// Whoever writes a context gives the ghost members and proves the clauses of its four calls, and then the laws, of
-/// which `specs/Laws.antt` has each as a word, and all ten as `MeetsLaws`. They hold for every entry, whatever its
+/// which `specs/Laws.antt` has each as a word, and all eleven as `MeetsLaws`. They hold for every entry, whatever its
 /// numbers, and for all registers that fit:
 ///
+/// - `fits_fresh`: fresh registers fit at the front of each line, so that a run may start with them;
 /// - `keeps_fit`, `passes_fit`: an act that leaves the cursor before the end leaves registers that fit, and so does
 ///   a cursor that moves over a glyph;
 /// - `pays`, `bounded`: neither the glyphs from the cursor on nor all of them grow by more than what is paid of the
@@ -41,12 +42,14 @@ pub trait driver_context_t<T: Copy> {
     ghost use Rattle.aat_font.specs.declared.state_table.GenericStateEntry.{GenericStateEntry};
     ghost use Rattle.aat_run.specs.Context.{Moved};
     ghost use Rattle.aat_run.specs.Driven.{IsRefusal, IsRefused};
-    ghost use Rattle.aat_run.specs.Laws.{KeepsFit, PassesFit, Pays, Bounded, Lengthens, MakesNoPositions, KeepsSettings, KeepsPlaceWhere, KeepsLengthWhere, KeepsClusterOrder};
+    ghost use Rattle.aat_run.specs.Laws.{FitsWhereFresh, KeepsFit, PassesFit, Pays, Bounded, Lengthens, MakesNoPositions, KeepsSettings, KeepsPlaceWhere, KeepsLengthWhere, KeepsClusterOrder};
 
     /// The registers fit a cursor and a length: the places that they name lie on the line, and their numbers in their
-    /// types. The registers that a run starts with have to fit at cursor 0, whatever the length: `drive` requires it,
-    /// and no law says it, so that what makes fresh registers should have it as a clause (`FitsFresh`).
+    /// types. `drive` requires it of the registers that it is handed, at cursor 0.
     ghost fits: { Self → ℕ → ℕ → Type 0 };
+
+    /// The registers are fresh: those that a run of the context is to start with.
+    ghost is_fresh: { Self → Type 0 };
 
     /// What `in_place` answers.
     ghost stays_in_place: { Bool };
@@ -73,8 +76,10 @@ pub trait driver_context_t<T: Copy> {
     fn can_advance(&self, entry: &GenericStateEntry<T>) -> bool
         ensures { result ≡ advances entry.now };
 
-    /// Whether the line may not be broken before the cursor, since the entry may do something there. It is asked of
-    /// entries that are not taken, too. Of the buffer it may look at cursor and length alone.
+    /// Whether the entry may do something by what the registers hold before its act: then the line is marked as unsafe
+    /// to break before the cursor. It is asked of entries that are not taken, too. `false` does not say that the entry
+    /// leaves the registers as they are, nor that it would do nothing by other ones. Of the buffer it may look at
+    /// cursor and length alone.
     fn is_actionable<A: Allocator + Copy>(
         &self,
         entry: &GenericStateEntry<T>,
@@ -86,9 +91,10 @@ pub trait driver_context_t<T: Copy> {
     /// to fit, and each glyph id has to be at most 0xFFFF, and is so again.
     ///
     /// Refused as 2, `TooLong`, only where the act would leave a line longer than the buffer's `max_len`, and as 3,
-    /// `OutOfMemory`, only where it would leave a longer line than it found; where both hold either may come. After a
-    /// refusal the buffer has failed, its line is some line of 16-bit glyphs that has at most its greatest length, all
-    /// but line, cursor, positions and budget is as before, and the registers are any.
+    /// `OutOfMemory`, only where it would leave a longer line than it found, and the line was shorter than `max_len`;
+    /// where all of this holds either may come. After a refusal the buffer has failed, its line is some line of 16-bit
+    /// glyphs that has at most its greatest length, all but line, cursor, positions and budget is as before, and the
+    /// registers are any.
     fn transition<A: Allocator + Copy>(
         &mut self,
         entry: &GenericStateEntry<T>,
@@ -99,9 +105,10 @@ pub trait driver_context_t<T: Copy> {
         ensures act { OnOk result (
             record { registers = self.new; buffer = buffer.new } ≡ act entry.now self.old buffer.old) }
         ensures ids { OnOk result (IsSmall buffer.new) }
-        ensures successful { OnOk result (buffer.new.successful ≡ buffer.old.successful) }
         ensures reason { IfErr result (IsRefusal buffer.old (act entry.now self.old buffer.old).buffer) }
         ensures refused { OnErr result (IsRefused buffer.old buffer.new) };
+
+    ghost fits_fresh: { FitsWhereFresh is_fresh fits };
 
     ghost keeps_fit: { KeepsFit act fits };
 

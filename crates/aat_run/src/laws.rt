@@ -18,9 +18,9 @@ pub fn floor_is_unseen()
     ensures { FloorIsUnseen }
 {}
 
-/// Each context meets the ten laws of `driver_context_t`, as one word.
+/// Each context meets the eleven laws of `driver_context_t`, as one word.
 pub fn contexts_meet_laws<T: Copy, C: driver_context_t<T>>()
-    ensures { MeetsLaws C.act C.fits C.stays_in_place C.keeps_length }
+    ensures { MeetsLaws C.act C.fits C.is_fresh C.stays_in_place C.keeps_length }
 {}
 
 /// Each run of a context ends by itself, within the turns that it is given, and more turns would change nothing.

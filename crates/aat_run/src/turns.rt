@@ -1,5 +1,5 @@
-//! One turn of the driver, by its parts: the class at the cursor, whether the line may be broken before it, the mark,
-//! the act, and what follows it.
+//! One turn of the driver, by its parts: the class at the cursor, the test whether the line is marked before it, the
+//! mark, the act, and what follows it.
 ghost use Rattle.std.specs.Prelude.{◌≡◌, ◌+◌, ◌<◌, ◌^◌, ◌==◌, ◌&&◌, if◌then◌else◌, ℕ, Bool, Option, Some, length, not, OnOk, OnErr, IfOk, IfErr};
 ghost use Rattle.aat_buffer.specs.Clusters.{IsSmall};
 ghost use Rattle.aat_font.specs.Table.{TableValue, class_of, entry_of};
@@ -56,7 +56,7 @@ fn count<A: Allocator + Copy>(buffer: &hb_buffer_t<A>, run_state: &mut RunState)
     }
 }
 
-/// Whether another entry does as this one does, without an act.
+/// Whether another entry is not actionable, goes to the state of this one, and advances as it does.
 #[tactic(auto, unfolding(crate::specs::inside::Branches::does_alike))]
 fn does_alike<T: Copy, C: driver_context_t<T>, A: Allocator + Copy>(
     context: &C,
@@ -93,8 +93,8 @@ fn stays_for_start<T: Copy, C: driver_context_t<T>>(
     !context.can_advance(entry) && entry.new_state == START_OF_TEXT
 }
 
-/// Whether starting over at the cursor, in the state for the start of the text, takes the entries that the run takes:
-/// HarfBuzz's condition 2, of which one part is enough. The registers are not looked at.
+/// Whether the state for the start of the text leads on from the cursor as the run goes on: HarfBuzz's condition 2, of
+/// which one part is enough. What a part that begins there would find in its registers is not looked at.
 fn restarts_alike<T: Copy, C: driver_context_t<T>, A: Allocator + Copy>(
     machine: &ExtendedStateTable<T>,
     context: &C,
@@ -110,11 +110,11 @@ fn restarts_alike<T: Copy, C: driver_context_t<T>, A: Allocator + Copy>(
     if run_state.state == START_OF_TEXT {
         return true;
     }
-    // 2b: the entry stays and goes to that state, from which the glyph at the cursor is then looked at again
+    // 2b: the entry stays and goes to that state, from which the glyph is looked at again while the budget lasts
     if stays_for_start(context, entry) {
         return true;
     }
-    // 2c: in that state the class has an entry without an act that goes to the same state and advances as this one does
+    // 2c: in that state the class has an entry that is not actionable, and leads on as this one does
     does_alike(
         context,
         buffer,
@@ -124,8 +124,8 @@ fn restarts_alike<T: Copy, C: driver_context_t<T>, A: Allocator + Copy>(
     )
 }
 
-/// Whether the line counts as safe to break before the cursor, by the three conditions of HarfBuzz, which numbers them
-/// so. `specs/Safe.antt` says what the mark tells, and what it does not tell.
+/// Whether the line gets no mark before the cursor, by the three conditions of HarfBuzz, which numbers them so. Where
+/// it gets none the two parts may still come out differently: `specs/Safe.antt` says what the mark tells.
 #[tactic(auto, using(crate::specs::facts::SafeBranches::safe_by_branches))]
 fn is_safe<T: Copy, C: driver_context_t<T>, A: Allocator + Copy>(
     machine: &ExtendedStateTable<T>,
@@ -139,22 +139,22 @@ fn is_safe<T: Copy, C: driver_context_t<T>, A: Allocator + Copy>(
         (entry_of machine.now 0 class) (entry_of machine.now run_state.state 0)
         (config buffer.now context.now run_state) }
 {
-    // 1: the entry has no act, since an act may use what was marked before the cursor
+    // 1: the entry is not actionable, since an act may use what was marked before the cursor
     if context.is_actionable(entry, buffer) {
         return false;
     }
-    // 2: a part of the text that begins at the cursor takes the same entries
+    // 2: a part of the text that begins at the cursor is led as the run is, whatever the registers hold
     if !restarts_alike(machine, context, buffer, entry, class, run_state) {
         return false;
     }
-    // 3: a part of the text that ends before the cursor ends without an act
+    // 3: the entry that the state has for the end of the text is not actionable, by the registers as they are here
     match machine.entry(run_state.state, END_OF_TEXT) {
         Some(end) => !context.is_actionable(&end, buffer),
         None => false,
     }
 }
 
-/// Marks the line before the cursor as unsafe to break where it is not safe there.
+/// Marks the line before the cursor as unsafe to break, unless `is_safe` holds there.
 #[tactic(auto, unfolding(crate::specs::Machine::marked))]
 fn mark_unsafe<T: Copy, C: driver_context_t<T>, A: Allocator + Copy>(
     machine: &ExtendedStateTable<T>,

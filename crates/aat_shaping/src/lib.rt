@@ -1,5 +1,6 @@
 //! Shaping: substitution, advances, kerning and the removal of deleted glyphs, in one call, `shape`. A program takes
-//! `aat_shaper` for texts, and `aat_layout` for calls one by one; both `aat_shaper` and `aat_shape` stand on this crate.
+//! `aat_shaper` for texts, and `aat_layout` for calls one by one; both `aat_shaper` and `aat_shape` stand on this
+//! crate.
 #![tactic(auto)]
 
 mod shaping;

@@ -1,5 +1,5 @@
 //! The layer as one call: substitution, advances, kerning, and no deleted glyph is left.
-ghost use Rattle.std.specs.Prelude.{◌≡◌, ◌≢◌, ◌≤◌, ◌^◌, ◌↔◌, IfErr, IfOk, IsErrOf, IsSome, IsTrue, None, OnErr, OnOk, false, is_some, length, true};
+ghost use Rattle.std.specs.Prelude.{◌≡◌, ◌≢◌, ◌≤◌, ◌^◌, ◌↔◌, IfErr, IfOk, IsErrOf, IsSome, IsTrue, None, OnErr, OnOk, false, is_some, length};
 ghost use Rattle.aat_buffer.specs.Buffer.{failed, with_scratch_flags, without_positions};
 ghost use Rattle.aat_buffer.specs.Clusters.{IsSmall};
 ghost use Rattle.aat_buffer.specs.Removal.{HasNoneDeleted};
@@ -69,7 +69,6 @@ pub fn shape<H: Allocator + Copy, A: Allocator + Copy>(
         → OnOk result (length buffer.new.line ≤ length buffer.old.line) }
     ensures standing { OnOk result (IsSome buffer.new.positions) }
     ensures placed { OnOk result (IsPlaced buffer.new) }
-    ensures successful { OnOk result (buffer.new.successful ≡ true) }
     ensures settings { OnOk result (SameSettings (with_scratch_flags buffer.old buffer.new.scratch_flags) buffer.new) }
     ensures order { OnOk result (HasShapedOrderOf plan.now.apply_morx buffer.old buffer.new) }
 {
@@ -164,7 +163,6 @@ fn kern_by_font<A: Allocator + Copy>(
     requires positions { IsSome buffer.old.positions }
     requires successful { IsTrue buffer.old.successful }
     ensures kerned { record { buffer = buffer.new; turns = result } ≡ kerned_by_font plan.now face.now buffer.old }
-    ensures standing { IsSome buffer.new.positions }
     ensures placed { IsPlaced buffer.new }
     ensures kept { IsKernedFrom buffer.old buffer.new }
     ensures few { result ≤ 2 ^ 62 }

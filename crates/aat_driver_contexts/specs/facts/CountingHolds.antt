@@ -5,9 +5,9 @@ use Rattle.aat_buffer.specs.Buffer.{Buffer, glyph_at}
 use Rattle.aat_buffer.specs.facts.Cases.{chosen}
 use Rattle.aat_buffer.specs.facts.Order.{Kept, kept_refl, kept_set}
 use Rattle.aat_run.specs.Context.{Moved}
-use Rattle.aat_run.specs.Laws.{FitsAlways, KeepsFit, PassesFit, Pays, Bounded, Lengthens, KeepsPlaceWhere, KeepsLengthWhere, MakesNoPositions, KeepsSettings, SameSettings, KeepsClusterOrder}
+use Rattle.aat_run.specs.Laws.{FitsAlways, FitsWhereFresh, KeepsFit, PassesFit, Pays, Bounded, Lengthens, KeepsPlaceWhere, KeepsLengthWhere, MakesNoPositions, KeepsSettings, SameSettings, KeepsClusterOrder}
 use Rattle.aat_run.specs.facts.InPlace.{Keeps, KeepsAll, pays_in_place, bounded_in_place, lengthens_in_place}
-use Rattle.aat_driver_contexts.specs.Counting.{Entry, actionable, masked, act}
+use Rattle.aat_driver_contexts.specs.Counting.{Entry, IsFresh, actionable, masked, act}
 use Rattle.aat_driver_contexts.specs.declared.counting.CountingCtx.{CountingCtx}
 
 of_act : (P : Buffer → Type 0) (e : Entry) (r : CountingCtx) (b : Buffer) → P b → P (masked b) → P (act e r b).buffer
@@ -15,6 +15,9 @@ of_act P e r b p q = chosen (λ (m : Moved CountingCtx). P m.buffer) (actionable
 
 pub keeps : KeepsAll act FitsAlways
 keeps e r b fit = of_act (Keeps act FitsAlways b) e r b (record { length = refl; cursor = refl; budget = refl }) (record { length = length-set b.line b.cursor _; cursor = refl; budget = refl })
+
+pub fits_fresh : FitsWhereFresh IsFresh FitsAlways
+fits_fresh r fresh n = tt
 
 pub keeps_fit : KeepsFit act FitsAlways
 keeps_fit e r b fit below = tt

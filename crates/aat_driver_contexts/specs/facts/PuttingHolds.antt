@@ -17,8 +17,8 @@ use Rattle.aat_buffer.specs.facts.Order.{Kept, kept_refl}
 use Rattle.aat_font.specs.Entries.{is_present}
 use Rattle.aat_run.specs.Budget.{paid, has_overspent, operations_left, potential, extent}
 use Rattle.aat_run.specs.Context.{Moved}
-use Rattle.aat_run.specs.Laws.{FitsAlways, KeepsFit, PassesFit, Pays, Bounded, Lengthens, KeepsPlaceWhere, KeepsLengthWhere, MakesNoPositions, KeepsSettings, SameSettings, KeepsClusterOrder}
-use Rattle.aat_driver_contexts.specs.Putting.{Entry, actionable, put, act}
+use Rattle.aat_run.specs.Laws.{FitsAlways, FitsWhereFresh, KeepsFit, PassesFit, Pays, Bounded, Lengthens, KeepsPlaceWhere, KeepsLengthWhere, MakesNoPositions, KeepsSettings, SameSettings, KeepsClusterOrder}
+use Rattle.aat_driver_contexts.specs.Putting.{Entry, IsFresh, actionable, put, act}
 use Rattle.aat_driver_contexts.specs.declared.putting.PuttingCtx.{PuttingCtx}
 
 -- the glyph that is put in
@@ -57,6 +57,9 @@ less z = grind (arith, ints)
 
 longer : (g : ℕ) (b : Buffer) → b.cursor < length b.line → length (with_put g b).line ≡ length b.line + 1
 longer g b below = length-insert b.line b.cursor (like g b) (omega (arith, below))
+
+pub fits_fresh : FitsWhereFresh IsFresh FitsAlways
+fits_fresh r fresh n = tt
 
 pub keeps_fit : KeepsFit act FitsAlways
 keeps_fit e r b fit below = tt

@@ -1,9 +1,12 @@
 -- The laws of the contextual act, over the classes and lookups that a context holds, and what it keeps.
 use Rattle.std.proofs.Common.{◌≤◌, ◌∙◌, arith}
-use Rattle.aat_run.specs.Laws.{Bounded, KeepsClusterOrder, KeepsFit, KeepsPlace, KeepsSettings, Lengthens, MakesNoPositions, PassesFit, Pays}
-use Rattle.aat_kinds.specs.Contextual.{held_act, held_fit}
+use Rattle.aat_run.specs.Laws.{Bounded, FitsWhereFresh, KeepsClusterOrder, KeepsFit, KeepsPlace, KeepsSettings, Lengthens, MakesNoPositions, PassesFit, Pays}
+use Rattle.aat_kinds.specs.Contextual.{IsHeldFresh, held_act, held_fit}
 use Rattle.aat_kinds.specs.facts.ContextualLaws as laws
 use Rattle.aat_kinds.specs.facts.OrderHolds.{contextual_kept}
+
+pub fits_where_fresh : FitsWhereFresh IsHeldFresh held_fit
+fits_where_fresh h same n = rw same (laws.fits_fresh n)
 
 pub keeps_fit : KeepsFit held_act held_fit
 keeps_fit e h b fit below = laws.keeps_fit h.classes h.lookups e h.registers b fit below

@@ -9,10 +9,10 @@ use Rattle.aat_font.specs.declared.plan.GlyphId.{GlyphId}
 use Rattle.aat_font.specs.declared.state_table.GenericStateEntry.{GenericStateEntry}
 use Rattle.aat_run.specs.Context.{start}
 use Rattle.aat_run.specs.Driven.{context_from, machine_run, outcome_of}
-use Rattle.aat_run.specs.Laws.{KeepsFit, PassesFit, Pays, Bounded, Lengthens, MakesNoPositions, KeepsSettings, KeepsPlaceWhere, KeepsLengthWhere, KeepsClusterOrder, FitsFresh}
+use Rattle.aat_run.specs.Laws.{KeepsFit, PassesFit, Pays, Bounded, Lengthens, MakesNoPositions, KeepsSettings, KeepsPlaceWhere, KeepsLengthWhere, KeepsClusterOrder, FitsFresh, FitsWhereFresh}
 use Rattle.aat_run.specs.facts.Views.{whole_is_seen}
 use Rattle.aat_kinds.specs.Kinds.{insertion_run}
-use Rattle.aat_kinds.specs.Insertion.{Entry, Registers, Held, act, actionable, fresh, held_act, held_actionable, held_fit}
+use Rattle.aat_kinds.specs.Insertion.{Entry, Registers, Held, IsHeldFresh, act, actionable, fresh, held_act, held_actionable, held_fit}
 use Rattle.aat_kinds.specs.facts.InsertionLaws as laws
 use Rattle.aat_kinds.specs.facts.OrderHolds.{insertion_kept}
 
@@ -21,6 +21,9 @@ held glyphs r = record { glyphs = glyphs; registers = r }
 
 pub fits_fresh : (glyphs : List GlyphId) → FitsFresh held_fit (held glyphs fresh)
 fits_fresh glyphs n = laws.fits_fresh n
+
+pub fits_where_fresh : FitsWhereFresh IsHeldFresh held_fit
+fits_where_fresh h same n = rw same (laws.fits_fresh n)
 
 pub passes_fit : PassesFit held_fit
 passes_fit h p n fit below = fit

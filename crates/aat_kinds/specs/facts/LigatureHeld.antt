@@ -11,10 +11,10 @@ use Rattle.aat_font.specs.declared.plan.GlyphId.{GlyphId}
 use Rattle.aat_font.specs.declared.state_table.GenericStateEntry.{GenericStateEntry}
 use Rattle.aat_run.specs.Context.{start}
 use Rattle.aat_run.specs.Driven.{context_from, machine_run, outcome_of}
-use Rattle.aat_run.specs.Laws.{KeepsFit, PassesFit, Pays, Bounded, Lengthens, KeepsLength, MakesNoPositions, KeepsSettings, KeepsPlaceWhere, KeepsClusterOrder, FitsFresh}
+use Rattle.aat_run.specs.Laws.{KeepsFit, PassesFit, Pays, Bounded, Lengthens, KeepsLength, MakesNoPositions, KeepsSettings, KeepsPlaceWhere, KeepsClusterOrder, FitsFresh, FitsWhereFresh}
 use Rattle.aat_run.specs.facts.Views.{whole_is_seen}
 use Rattle.aat_kinds.specs.Kinds.{ligature_run}
-use Rattle.aat_kinds.specs.Ligature.{Registers, Held, IsHeldFit, act, component, fresh, held_act, held_actionable, with_component, with_place_held}
+use Rattle.aat_kinds.specs.Ligature.{Registers, Held, IsHeldFit, IsHeldFresh, act, component, fresh, held_act, held_actionable, with_component, with_place_held}
 use Rattle.aat_kinds.specs.facts.LigatureLaws as laws
 use Rattle.aat_kinds.specs.facts.OrderHolds.{ligature_kept}
 
@@ -28,6 +28,13 @@ record IsCounted (r : Registers) (p : ℕ) : Type 0 where
 
 pub fits_fresh : (size : ℕ) (actions values : List ℕ) (ligatures : List GlyphId) → 0 < size → FitsFresh IsHeldFit (held actions values ligatures (fresh size))
 fits_fresh size actions values ligatures some n = record { fit = laws.fits_fresh size some n; few = omega arith; newest = λ low. absurd (omega arith) }
+
+pub fits_where_fresh : FitsWhereFresh IsHeldFresh IsHeldFit
+fits_where_fresh h fresh n = record {
+  fit = record { some = fresh.some; within = λ j below. absurd (omega (arith, below, fresh.none)) };
+  few = omega (arith, fresh.none);
+  newest = λ low. absurd (omega (arith, low, fresh.none));
+}
 
 pub passes_fit : PassesFit IsHeldFit
 passes_fit s p n fit below = record { fit = laws.passes_fit s.registers p n fit.fit below; few = omega (arith, fit.few); newest = λ low. absurd (omega (arith, low, fit.few)) }

@@ -7,11 +7,11 @@ use Rattle.aat_buffer.specs.Buffer.{Buffer}
 use Rattle.aat_buffer.specs.Marks.{merge_clusters}
 use Rattle.aat_glyph.specs.declared.glyph.hb_glyph_info_t.{hb_glyph_info_t}
 use Rattle.aat_font.specs.Entries.{has_flag}
-use Rattle.aat_run.specs.Laws.{KeepsFit, PassesFit, FitsFresh, Pays, Bounded, Lengthens, KeepsLength, KeepsCursor, KeepsPositions, KeepsSettings, SameSettings}
+use Rattle.aat_run.specs.Laws.{KeepsFit, PassesFit, FitsFresh, FitsWhereFresh, Pays, Bounded, Lengthens, KeepsLength, KeepsCursor, KeepsPositions, KeepsSettings, SameSettings}
 use Rattle.aat_kinds.specs.declared.verb.Part.{Part}
 use Rattle.aat_kinds.specs.declared.verb.Part.TheVariants.{Nothing, One, Two, TwoTurned}
 use Rattle.aat_kinds.specs.declared.verb.Verb.{Verb}
-use Rattle.aat_kinds.specs.Rearrangement.{Entry, Registers, IsFit, act, moved, rearranged, size_of, in_its_order, with_marks, is_within, verb_of, actionable, fresh}
+use Rattle.aat_kinds.specs.Rearrangement.{Entry, Registers, IsFit, IsFresh, act, moved, rearranged, size_of, in_its_order, with_marks, is_within, verb_of, actionable, fresh}
 use Rattle.aat_run.specs.facts.InPlace.{Keeps, KeepsAll, pays_in_place, bounded_in_place, lengthens_in_place}
 use Rattle.aat_buffer.specs.facts.Cases.{chosen}
 use Rattle.aat_buffer.specs.facts.Lines.{length_slice, length_of_span, length_merge, of_merge}
@@ -52,6 +52,9 @@ length_moved v r b room some within =
 
 pub fits_fresh : FitsFresh IsFit fresh
 fits_fresh n = omega arith
+
+pub fits_where_fresh : FitsWhereFresh IsFresh IsFit
+fits_where_fresh r same n = rw same (fits_fresh n)
 
 pub passes_fit : PassesFit IsFit
 passes_fit r p n fit below = fit

@@ -80,9 +80,6 @@ returns-clause-summed g c asked free =
     (kerx_sums plan.requested_kerning plan.kern_mask (tables_of face).ankr subtables b asked free
     (placed_as_asked b c.has_positions-placed.result c.has_positions-placed.ensures.standing c.has_positions-placed.ensures.placed c.requires.positions))
 
-pub returns-clause-standing : goal.returns-clause-standing
-returns-clause-standing g c = (returns-clause-kept g c).text.standing c.requires.positions
-
 pub returns-clause-placed : goal.returns-clause-placed
 returns-clause-placed g c =
     let b = c.args.buffer.now in

@@ -1,4 +1,4 @@
-use Rattle.std.proofs.Common.{◌≡◌, ◌≤◌, ◌∙◌, ap, ◌==◌, not, true, length, rules, arith}
+use Rattle.std.proofs.Common.{◌≡◌, ◌≤◌, ap, refl, ◌==◌, not, length, arith}
 use Rattle.aat_font.specs.Face.{advance_of}
 use Rattle.aat_buffer.specs.Buffer.{Buffer}
 use Rattle.aat_shaping.proofs.Shaped.{placed_by_test, settings_of_shaped, shaped_so, standing_of_shaped}
@@ -52,7 +52,7 @@ returns-clause-unlengthened g c unapplied =
 pub returns-clause-standing : goal.returns-clause-standing
 returns-clause-standing g c =
     standing_of_shaped c.kern_by_font-kerning.new.buffer c.hb_aat_layout_zero_width_deleted_glyphs.new.buffer c.hb_aat_layout_remove_deleted_glyphs.new.buffer
-    c.kern_by_font-kerning.ensures.standing c.hb_aat_layout_zero_width_deleted_glyphs.ensures c.hb_aat_layout_remove_deleted_glyphs.ensures.removed
+    (c.kern_by_font-kerning.ensures.kept.text.standing (rw c.in_ok-advance.ensures.ok refl)) c.hb_aat_layout_zero_width_deleted_glyphs.ensures c.hb_aat_layout_remove_deleted_glyphs.ensures.removed
 
 pub returns-clause-placed : goal.returns-clause-placed
 returns-clause-placed g c =
@@ -65,11 +65,6 @@ returns-clause-settings g c =
     c.hb_aat_layout_zero_width_deleted_glyphs.new.buffer c.hb_aat_layout_remove_deleted_glyphs.new.buffer
     c.in_ok-substituting.ensures.settings c.in_ok-advance.ensures.ok c.kern_by_font-kerning.ensures.kept
     c.hb_aat_layout_zero_width_deleted_glyphs.ensures c.hb_aat_layout_remove_deleted_glyphs.ensures.removed
-
-pub returns-clause-successful : goal.returns-clause-successful
-returns-clause-successful g c =
-    let good : c.args.buffer.now.successful ≡ true = search rules in
-    (returns-clause-settings g c).successful ∙ good
 
 pub returns-clause-order : goal.returns-clause-order
 returns-clause-order g c =

@@ -1,12 +1,8 @@
 use Rattle.std.proofs.Common.{◌∙◌, ap, length}
 use Rattle.aat_run.specs.Context.{Moved}
 use Rattle.aat_kinds.specs.Contextual.{Held}
-use Rattle.aat_kinds.specs.facts.ContextualHeld.{keeps_place, keeps_settings}
+use Rattle.aat_kinds.specs.facts.ContextualHeld.{keeps_place}
 use Rattle.aat_kinds.proofs.contextual.ContextualCtxdriver_context_tContextualEntryData.transition.Goals as goal
-
-pub returns-clause-successful : goal.returns-clause-successful
-returns-clause-successful g c =
-    ap (λ (m : Moved Held). m.buffer.successful) c.act.ensures.act ∙ (keeps_settings c.args.entry.now c.args.self.now c.args.buffer.now c.requires.fit).successful
 
 pub returns-clause-count : goal.returns-clause-count
 returns-clause-count g c =
