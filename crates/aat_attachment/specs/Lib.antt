@@ -1,0 +1,4 @@
+pub mod AttachmentExamples
+pub mod AttachmentLaws
+pub mod Attachments
+pub mod inside

@@ -1,0 +1,16 @@
+//! The laws of attachments as theorems. These calls do nothing: what is proved is their contracts.
+
+ghost use Rattle.aat_attachment.specs.AttachmentLaws.{GlyphsFollowTheirParents, UnattachedLinesStay};
+
+/// The offset of each glyph is its own, and added to it the offset of its parent as that is drawn: for a mark less the
+/// advances between, and for a cursive glyph across the line alone. A glyph without a parent stays.
+#[tactic(auto, using(crate::proofs::AttachmentLawsHold::glyphs_follow_their_parents))]
+pub fn glyphs_follow_their_parents()
+    ensures { GlyphsFollowTheirParents }
+{}
+
+/// A line in which no glyph is attached to another stays as it is.
+#[tactic(auto, using(crate::proofs::AttachmentLawsHold::unattached_lines_stay))]
+pub fn unattached_lines_stay()
+    ensures { UnattachedLinesStay }
+{}
