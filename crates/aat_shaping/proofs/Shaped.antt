@@ -18,21 +18,30 @@ use Rattle.aat_run.specs.declared.error.AatError.{AatError}
 use Rattle.aat_run.specs.declared.error.AatError.TheVariants.{AaltValue, TooLong, OutOfMemory, BufferFailed}
 use Rattle.aat_shaping.proofs.ShapedLines.{kept_by_removal, stand_by_removal}
 use Rattle.aat_shaping.specs.RefusedShaping.{IsSubstitutionRefused, RefusesShaping}
-use Rattle.aat_shaping.specs.Shaping.{shaped_by, substituted_by_plan, with_advances, without_deleted}
+use Rattle.aat_shaping.specs.Shaping.{shaped_by, shaped_with_deleted_by, substituted_by_plan, with_advances}
 
 -- what the parts leave, one behind the other
-pub shaped_so : (substitute : Buffer → Outcome) (advance : ℕ → ℕ) (kern : Buffer → Outcome) (b c d e f g : Buffer) (m n : ℕ)
+pub shaped_so : (substitute : Buffer → Outcome) (advance : ℕ → ℕ) (kern : Buffer → Outcome) (b c d e f : Buffer) (m n : ℕ)
     → record { buffer = c; turns = m } ≡ substitute b → d ≡ with_advances advance c → record { buffer = e; turns = n } ≡ kern d
-    → f ≡ zeroed e → g ≡ removed is_deleted f → record { buffer = g; turns = m + n } ≡ shaped_by substitute advance kern b
-unfolding shaped_by
-shaped_so substitute advance kern b c d e f g m n substituted advanced kerned took gone =
+    → f ≡ zeroed e → record { buffer = f; turns = m + n } ≡ shaped_with_deleted_by substitute advance kern b
+unfolding shaped_with_deleted_by
+shaped_so substitute advance kern b c d e f m n substituted advanced kerned took =
     let behind : Outcome → Outcome = λ o. record {
-      buffer = without_deleted (kern (with_advances advance o.buffer)).buffer;
+      buffer = zeroed (kern (with_advances advance o.buffer)).buffer;
       turns = o.turns + (kern (with_advances advance o.buffer)).turns;
     } in
-    ap (λ (x : Buffer). record { buffer = x; turns = m + n }) (gone ∙ ap (removed is_deleted) took)
-    ∙ ap (λ (k : Outcome). record { buffer = without_deleted k.buffer; turns = m + k.turns }) (kerned ∙ ap kern advanced)
+    ap (λ (x : Buffer). record { buffer = x; turns = m + n }) took
+    ∙ ap (λ (k : Outcome). record { buffer = zeroed k.buffer; turns = m + k.turns }) (kerned ∙ ap kern advanced)
     ∙ ap behind substituted
+
+-- and then the deleted glyphs go
+pub removed_so : (substitute : Buffer → Outcome) (advance : ℕ → ℕ) (kern : Buffer → Outcome) (b f g : Buffer) (n : ℕ)
+    → record { buffer = f; turns = n } ≡ shaped_with_deleted_by substitute advance kern b → g ≡ removed is_deleted f
+    → record { buffer = g; turns = n } ≡ shaped_by substitute advance kern b
+unfolding shaped_by
+removed_so substitute advance kern b f g n shaped gone =
+    ap (λ (x : Buffer). record { buffer = x; turns = n }) gone
+    ∙ ap (λ (o : Outcome). record { buffer = removed is_deleted o.buffer; turns = o.turns }) shaped
 
 -- substitution's own refusal
 pub refused_in_substitution : (plan : hb_ot_shape_plan_t) (face : hb_font_t) (old new : Buffer) (error : AatError) → error ≢ BufferFailed
@@ -55,14 +64,14 @@ refused_at_positions plan face b c d m error good fits substituted left is =
     }))
 
 -- the plain fields stay but for the scratch flags
-module _ (advance : ℕ → ℕ) (b c d e f g : Buffer) (substituted : SameSettings b c) (advanced : d ≡ with_advances advance c)
-    (kerned : IsKernedFrom d e) (took : f ≡ zeroed e) (gone : g ≡ removed is_deleted f) where
+module _ (advance : ℕ → ℕ) (b c d e f : Buffer) (substituted : SameSettings b c) (advanced : d ≡ with_advances advance c)
+    (kerned : IsKernedFrom d e) (took : f ≡ zeroed e) where
   same : {A : Type 0} (h : Buffer → A)
       → ((x : Buffer) (line : List hb_glyph_info_t) (p : ℕ) (qs : Option (List GlyphPosition)) → h (record x { line = line; cursor = p; positions = qs }) ≡ h x)
-      → h g ≡ h e
-  same h keeps = ap h gone ∙ (kept_by_removal h keeps is_deleted f ∙ (ap h took ∙ keeps e e.line e.cursor (zeroed e).positions))
+      → h f ≡ h e
+  same h keeps = ap h took ∙ keeps e e.line e.cursor (zeroed e).positions
 
-  pub settings_of_shaped : SameSettings (with_scratch_flags b g.scratch_flags) g
+  pub settings_of_shaped : SameSettings (with_scratch_flags b f.scratch_flags) f
   settings_of_shaped =
       let k = kerned.text.settings in
       record {
@@ -74,6 +83,23 @@ module _ (advance : ℕ → ℕ) (b c d e f g : Buffer) (substituted : SameSetti
         successful = same (λ x. x.successful) (λ x line p qs. refl) ∙ (k.successful ∙ (ap (λ (x : Buffer). x.successful) advanced ∙ substituted.successful));
       }
 
+-- and they stay where glyphs are removed
+module _ (b f g : Buffer) (shaped : SameSettings (with_scratch_flags b f.scratch_flags) f) (gone : g ≡ removed is_deleted f) where
+  kept : {A : Type 0} (h : Buffer → A)
+      → ((x : Buffer) (line : List hb_glyph_info_t) (p : ℕ) (qs : Option (List GlyphPosition)) → h (record x { line = line; cursor = p; positions = qs }) ≡ h x)
+      → h g ≡ h f
+  kept h keeps = ap h gone ∙ kept_by_removal h keeps is_deleted f
+
+  pub settings_of_removed : SameSettings (with_scratch_flags b g.scratch_flags) g
+  settings_of_removed = record {
+    direction = kept (λ x. x.direction) (λ x line p qs. refl) ∙ shaped.direction;
+    cluster_level = kept (λ x. x.cluster_level) (λ x line p qs. refl) ∙ shaped.cluster_level;
+    flags = kept (λ x. x.flags) (λ x line p qs. refl) ∙ shaped.flags;
+    scratch_flags = refl;
+    max_len = kept (λ x. x.max_len) (λ x line p qs. refl) ∙ shaped.max_len;
+    successful = kept (λ x. x.successful) (λ x line p qs. refl) ∙ shaped.successful;
+  }
+
 -- positions that stand, as many as the glyphs
 zeroed_stand : (e : Buffer) → is_some (zeroed e).positions ≡ is_some e.positions
 zeroed_stand e = by_list e.positions
@@ -82,9 +108,11 @@ zeroed_stand e = by_list e.positions
     by_list None = refl
     by_list (Some qs) = refl
 
-pub standing_of_shaped : (e f g : Buffer) → IsSome e.positions → f ≡ zeroed e → g ≡ removed is_deleted f → IsSome g.positions
-standing_of_shaped e f g some took gone =
-    ap (λ (x : Buffer). is_some x.positions) gone ∙ (stand_by_removal is_deleted f ∙ (ap (λ (x : Buffer). is_some x.positions) took ∙ (zeroed_stand e ∙ some)))
+pub standing_of_shaped : (e f : Buffer) → IsSome e.positions → f ≡ zeroed e → IsSome f.positions
+standing_of_shaped e f some took = ap (λ (x : Buffer). is_some x.positions) took ∙ (zeroed_stand e ∙ some)
+
+pub standing_of_removed : (f g : Buffer) → IsSome f.positions → g ≡ removed is_deleted f → IsSome g.positions
+standing_of_removed f g some gone = ap (λ (x : Buffer). is_some x.positions) gone ∙ (stand_by_removal is_deleted f ∙ some)
 
 pub placed_by_test : (b : Buffer) (asked : Bool) → asked ≡ is_some b.positions → OnTrue asked (IsPlaced b) → IsSome b.positions → IsPlaced b
 placed_by_test b true e placed some = placed

@@ -100,7 +100,7 @@ order_of_marked b d marked =
     }
 
 -- one step behind another
-order_behind : (applied : Bool) (b c d : Buffer) → HasShapedOrderOf applied b c → KeepsOrder c.line d.line → HasShapedOrderOf applied b d
+pub order_behind : (applied : Bool) (b c d : Buffer) → HasShapedOrderOf applied b c → KeepsOrder c.line d.line → HasShapedOrderOf applied b d
 order_behind applied b c d first second = record {
   rising = λ merges up. second.rising (first.rising merges up);
   falling = λ merges down. second.falling (first.falling merges down);
@@ -130,23 +130,21 @@ order_of_substituted applied b d is kept = record {
   clusters = kept.clusters;
 }
 
--- advances, kerning, zeroing and removal, one after another
-pub order_of_shaped : (applied : Bool) (b c d e f g : Buffer) → HasShapedOrderOf applied b c
-    → d.line ≡ c.line → IsKernedFrom d e → f.line ≡ e.line → KeepsOrder f.line g.line → HasShapedOrderOf applied b g
-order_of_shaped applied b c d e f g first advanced kerned zeroed removed =
+-- advances, kerning and zeroing, one after another
+pub order_of_shaped : (applied : Bool) (b c d e f : Buffer) → HasShapedOrderOf applied b c
+    → d.line ≡ c.line → IsKernedFrom d e → f.line ≡ e.line → HasShapedOrderOf applied b f
+order_of_shaped applied b c d e f first advanced kerned zeroed =
     let by_d = order_behind applied b c d first (same_order c d advanced) in
     let by_e = order_behind applied b d e by_d (order_of_marked d e kerned.line) in
-    let by_f = order_behind applied b e f by_e (same_order e f zeroed) in
-    order_behind applied b f g by_f removed
+    order_behind applied b e f by_e (same_order e f zeroed)
 
 -- the ids that a filter leaves are no more
-length_of_others : (t : ℕ → Bool) (gs hs : List hb_glyph_info_t) → ids hs ≡ filter t (ids gs) → length hs ≤ length gs
+pub length_of_others : (t : ℕ → Bool) (gs hs : List hb_glyph_info_t) → ids hs ≡ filter t (ids gs) → length hs ≤ length gs
 length_of_others t gs hs others =
     let id : hb_glyph_info_t → ℕ = λ g. g.glyph_id in
     omega (arith, length-map hs id, length-map gs id, ap length others, length-filter_both t (λ x. not (t x)) (λ _. refl) (ids gs))
 
--- and the line gets no longer
-pub length_of_shaped : (t : ℕ → Bool) (c d e f g : Buffer) → d.line ≡ c.line → IsKernedFrom d e → f.line ≡ e.line
-    → ids g.line ≡ filter t (ids f.line) → length g.line ≤ length c.line
-length_of_shaped t c d e f g advanced kerned zeroed others =
-    omega (arith, length_of_others t f.line g.line others, ap length zeroed, AllZip-long IsMarkedFrom d.line e.line kerned.line, ap length advanced)
+-- and the line stays as long
+pub length_of_shaped : (c d e f : Buffer) → d.line ≡ c.line → IsKernedFrom d e → f.line ≡ e.line → length f.line ≡ length c.line
+length_of_shaped c d e f advanced kerned zeroed =
+    omega (arith, ap length zeroed, AllZip-long IsMarkedFrom d.line e.line kerned.line, ap length advanced)

@@ -23,15 +23,18 @@ advanced false advance = record zero_position { y_advance = pos 0 -ℤ pos advan
 abbrev pub with_advances : (ℕ → ℕ) → Buffer → Buffer
 with_advances advance b = with_positions b (map (λ g. advanced (is_horizontal b.direction) (advance g.glyph_id)) b.line)
 
--- the deleted glyphs take no room, and then they go
-abbrev pub without_deleted : Buffer → Buffer
-without_deleted b = removed is_deleted (zeroed b)
+-- one after the other: what substitutes, the advances, what kerns, and the deleted glyphs take no room; the turns are
+-- added up
+unfoldable pub shaped_with_deleted_by : (Buffer → Outcome) → (ℕ → ℕ) → (Buffer → Outcome) → Buffer → Outcome
+shaped_with_deleted_by substitute advance kern b =
+    let o = then_run (substitute b) (λ c. kern (with_advances advance c)) in
+    record { buffer = zeroed o.buffer; turns = o.turns }
 
--- one after the other: what substitutes, the advances, what kerns, and no deleted glyph is left; the turns are added up
+-- the same, and then no deleted glyph is left
 unfoldable pub shaped_by : (Buffer → Outcome) → (ℕ → ℕ) → (Buffer → Outcome) → Buffer → Outcome
 shaped_by substitute advance kern b =
-    let o = then_run (substitute b) (λ c. kern (with_advances advance c)) in
-    record { buffer = without_deleted o.buffer; turns = o.turns }
+    let o = shaped_with_deleted_by substitute advance kern b in
+    record { buffer = removed is_deleted o.buffer; turns = o.turns }
 
 -- substitution where the plan applies the table; else the line stays as it is, and no request is looked at
 abbrev pub substituted_by_plan : hb_ot_shape_plan_t → hb_font_t → Buffer → Outcome
@@ -47,3 +50,8 @@ kerned_by_font plan face b =
 -- shaping by a plan and a font
 abbrev pub shaping : hb_ot_shape_plan_t → hb_font_t → Buffer → Outcome
 shaping plan face b = shaped_by (substituted_by_plan plan face) (advance_of face) (kerned_by_font plan face) b
+
+-- the same, where the deleted glyphs stay, and take no room
+abbrev pub shaping_with_deleted : hb_ot_shape_plan_t → hb_font_t → Buffer → Outcome
+shaping_with_deleted plan face b =
+    shaped_with_deleted_by (substituted_by_plan plan face) (advance_of face) (kerned_by_font plan face) b

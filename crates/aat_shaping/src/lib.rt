@@ -7,4 +7,4 @@ mod shaping;
 #[doc(hidden)]
 pub mod worked;
 
-pub use shaping::shape;
+pub use shaping::{shape, shape_with_deleted};

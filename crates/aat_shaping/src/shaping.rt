@@ -12,7 +12,7 @@ ghost use Rattle.aat_run.specs.Laws.{SameSettings};
 ghost use Rattle.aat_run.specs.Outcome.{Outcome};
 ghost use Rattle.aat_shaping.specs.RefusedShaping.{IsSubstitutionRefused, RefusesShaping};
 ghost use Rattle.aat_shaping.specs.ShapedOrder.{HasShapedOrderOf};
-ghost use Rattle.aat_shaping.specs.Shaping.{advanced, kerned_by_font, shaping, substituted_by_plan, with_advances};
+ghost use Rattle.aat_shaping.specs.Shaping.{advanced, kerned_by_font, shaping, shaping_with_deleted, substituted_by_plan, with_advances};
 
 use aat_layout::buffer::{GlyphPosition, hb_buffer_t, hb_glyph_info_t};
 use aat_layout::font::{GlyphId, hb_font_t, hb_ot_shape_plan_t};
@@ -72,6 +72,38 @@ pub fn shape<H: Allocator + Copy, A: Allocator + Copy>(
     ensures settings { OnOk result (SameSettings (with_scratch_flags buffer.old buffer.new.scratch_flags) buffer.new) }
     ensures order { OnOk result (HasShapedOrderOf plan.now.apply_morx buffer.old buffer.new) }
 {
+    let turns = shape_with_deleted(alloc, plan, face, buffer)?;
+    hb_aat_layout_remove_deleted_glyphs(buffer);
+    let _placed = buffer.has_positions();
+    Ok(turns)
+}
+
+/// Shapes a line as [`shape`] does, but deleted glyphs stay on it. They take no room. The cursor ends anywhere.
+///
+/// Each glyph id has to be at most 0xFFFF. It is refused as [`shape`] is, and leaves the same then.
+///
+/// Apple's TrueType Reference Manual, "The 'morx' table", "The 'kerx' table" and "The 'kern' table".
+pub fn shape_with_deleted<H: Allocator + Copy, A: Allocator + Copy>(
+    alloc: H,
+    plan: &hb_ot_shape_plan_t,
+    face: &hb_font_t,
+    buffer: &mut hb_buffer_t<A>,
+) -> Result<Turns, AatError>
+    requires ids { IsSmall buffer.old }
+    ensures failed { IsErrOf result AatError.BufferFailed ↔ (buffer.old.successful ≡ false) }
+    ensures refused { IfErr result (RefusesShaping plan.now face.now buffer.old buffer.new) }
+    ensures fits { IsTrue plan.now.apply_morx → OnOk result (first_too_large plan.now face.now ≡ None) }
+    ensures shaped { IfOk result (λ turns. record { buffer = buffer.new; turns = turns }
+        ≡ shaping_with_deleted plan.now face.now buffer.old) }
+    ensures ids { OnOk result (IsSmall buffer.new) }
+    ensures bounded { OnOk result (length buffer.new.line ≤ extent buffer.old) }
+    ensures unlengthened { plan.now.apply_morx ≡ false
+        → OnOk result (length buffer.new.line ≤ length buffer.old.line) }
+    ensures standing { OnOk result (IsSome buffer.new.positions) }
+    ensures placed { OnOk result (IsPlaced buffer.new) }
+    ensures settings { OnOk result (SameSettings (with_scratch_flags buffer.old buffer.new.scratch_flags) buffer.new) }
+    ensures order { OnOk result (HasShapedOrderOf plan.now.apply_morx buffer.old buffer.new) }
+{
     if !buffer.is_successful() {
         return Err(AatError::BufferFailed);
     }
@@ -79,7 +111,6 @@ pub fn shape<H: Allocator + Copy, A: Allocator + Copy>(
     advance(face, buffer)?;
     let kerning = kern_by_font(plan, face, buffer);
     hb_aat_layout_zero_width_deleted_glyphs(buffer);
-    hb_aat_layout_remove_deleted_glyphs(buffer);
     let _placed = buffer.has_positions();
     Ok(substituting + kerning)
 }
