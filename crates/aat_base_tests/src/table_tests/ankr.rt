@@ -93,11 +93,25 @@ fn first_point(font: &hb_font_t) -> Option<Point> {
     font.tables().ankr.as_ref()?.point(GlyphId(9), 0)
 }
 
+/// A font with one row.
+fn font_of(alloc: Global) -> Result<hb_font_t, Fail> {
+    let ankr = Ankr::new(rows(alloc, &[9])?)?;
+    Ok(hb_font_t::from_tables(FaceTables::default().with_ankr(ankr)))
+}
+
+/// Whether a font has the table.
+fn has_points(font: &hb_font_t) -> bool {
+    font.tables().ankr.is_some()
+}
+
+/// A font without tables.
+fn bare_font() -> hb_font_t {
+    hb_font_t::from_tables(FaceTables::default())
+}
+
 #[test]
 fn fonts_with_points(rt: HostRuntime) -> Result<(), Fail> {
-    let ankr = Ankr::new(rows(rt.alloc(), &[9])?)?;
-    let font = hb_font_t::from_tables(FaceTables::default().with_ankr(ankr));
-    assert!(rt; first_point(&font) == at(9));
-    assert!(rt; FaceTables::default().ankr.is_none());
+    assert!(rt; first_point(&font_of(rt.alloc())?) == at(9));
+    assert!(rt; !has_points(&bare_font()));
     Ok(())
 }

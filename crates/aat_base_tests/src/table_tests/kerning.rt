@@ -176,19 +176,26 @@ fn many_subtables(rt: HostRuntime) -> Result<(), Fail> {
 
 #[test]
 fn fonts_with_kerning(rt: HostRuntime) -> Result<(), Fail> {
-    let alloc = rt.alloc();
-    let kern = Kern::new(kern_subtables(alloc, 2)?)?;
-    let kerx = Kerx::new(kerx_subtables(alloc, 1)?)?;
-    let font = font_of(kerx, kern);
-    assert!(rt; kerx_count(&font) == Some(1) && kern_count(&font) == Some(2));
-    let bare = hb_font_t::from_tables(FaceTables::default());
-    assert!(rt; kerx_count(&bare).is_none() && kern_count(&bare).is_none());
+    assert!(rt; counts(&font_of(rt.alloc())?) == (Some(1), Some(2)));
+    assert!(rt; counts(&bare_font()) == (None, None));
     Ok(())
 }
 
 /// A font with both tables of kerning.
-fn font_of(kerx: Kerx, kern: Kern) -> hb_font_t {
-    hb_font_t::from_tables(FaceTables::default().with_kerx(kerx).with_kern(kern))
+fn font_of(alloc: Global) -> Result<hb_font_t, Fail> {
+    let kern = Kern::new(kern_subtables(alloc, 2)?)?;
+    let kerx = Kerx::new(kerx_subtables(alloc, 1)?)?;
+    Ok(hb_font_t::from_tables(FaceTables::default().with_kerx(kerx).with_kern(kern)))
+}
+
+/// A font without tables.
+fn bare_font() -> hb_font_t {
+    hb_font_t::from_tables(FaceTables::default())
+}
+
+/// How many subtables of `kerx` and of `kern` a font has, where it has the table.
+fn counts(font: &hb_font_t) -> (Option<usize>, Option<usize>) {
+    (kerx_count(font), kern_count(font))
 }
 
 /// How many subtables of `kerx` a font has, if it has the table.
@@ -211,21 +218,38 @@ fn told(subtable: &KerxSubtable) -> (bool, bool, bool, u32) {
     )
 }
 
-#[test]
-fn fields_of_subtables(rt: HostRuntime) -> Result<(), Fail> {
-    let alloc = rt.alloc();
-    let plain = KerxSubtable::new(stack(alloc)?, true);
-    assert!(rt; told(&plain) == (true, false, false, 0));
-    let crossing = KerxSubtable {
+/// A plain subtable of `kerx`.
+fn plain(alloc: Global) -> Result<KerxSubtable, Fail> {
+    Ok(KerxSubtable::new(stack(alloc)?, true))
+}
+
+/// A subtable of `kerx` across the line, with variation tuples.
+fn crossing(alloc: Global) -> Result<KerxSubtable, Fail> {
+    Ok(KerxSubtable {
         has_cross_stream: true,
         tuple_count: 2,
         ..KerxSubtable::new(stack(alloc)?, false)
-    };
-    assert!(rt; told(&crossing) == (false, true, false, 2));
-    let variable = KernSubtable {
+    })
+}
+
+/// A variable subtable of `kern`.
+fn variable(alloc: Global) -> Result<KernSubtable, Fail> {
+    let kind = KernKind::Pairs(Pairs::new(alloc, &[])?);
+    Ok(KernSubtable {
         variable: true,
-        ..KernSubtable::new(KernKind::Pairs(Pairs::new(alloc, &[])?), true)
-    };
-    assert!(rt; variable.horizontal && variable.variable && !variable.has_cross_stream);
+        ..KernSubtable::new(kind, true)
+    })
+}
+
+/// Whether a subtable of `kern` is variable, for horizontal text and along the line.
+fn is_variable_along(subtable: &KernSubtable) -> bool {
+    subtable.horizontal && subtable.variable && !subtable.has_cross_stream
+}
+
+#[test]
+fn fields_of_subtables(rt: HostRuntime) -> Result<(), Fail> {
+    assert!(rt; told(&plain(rt.alloc())?) == (true, false, false, 0));
+    assert!(rt; told(&crossing(rt.alloc())?) == (false, true, false, 2));
+    assert!(rt; is_variable_along(&variable(rt.alloc())?));
     Ok(())
 }

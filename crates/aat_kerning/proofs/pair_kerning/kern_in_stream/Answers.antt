@@ -26,4 +26,4 @@ returns g c =
     (c.is_horizontal-is_horizontal.ensures ∙ ap is_horizontal c.direction.ensures)
     c.pos_mut-position.ensures.read (c.with_advance.ensures ∙ ap (λ k. with_advance h k c.pos_mut-position.result.now) first)
     c.pos_mut-position-2.ensures.read (c.with_advance-2.ensures ∙ ap (λ k. with_advance h k c.pos_mut-position-2.result.now) rest)
-    (c.with_shift.ensures ∙ ap (λ k. with_shift h k c.with_advance-2.result) rest)
+    (◌∙◌ {b = with_shift h (to_z w32 (of_z w32 c.rest_of-rest.result)) c.with_advance-2.result} c.with_shift.ensures (ap (λ k. with_shift h k c.with_advance-2.result) rest))

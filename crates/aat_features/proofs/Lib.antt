@@ -1,0 +1,4 @@
+pub mod Decimals
+pub mod FeatureExamples
+pub mod Runs
+pub mod TagLaws

@@ -1,0 +1,10 @@
+pub mod Characters
+pub mod Clusters
+pub mod Errors
+pub mod FeatureExamples
+pub mod Numbers
+pub mod Reading
+pub mod TagLaws
+pub mod Tags
+pub mod Values
+pub mod inside

@@ -1,0 +1,19 @@
+//! Features and tags as a person writes them: `smcp`, `-liga`, `aalt[3:5]=2`, `"kern" off`.
+#![tactic(auto)]
+
+mod characters;
+mod clusters;
+mod error;
+#[doc(hidden)]
+pub mod laws;
+mod numbers;
+mod reading;
+mod tags;
+mod values;
+#[doc(hidden)]
+pub mod worked;
+
+pub use clusters::feature;
+pub use error::FeatureError;
+pub use reading::parse_feature;
+pub use tags::{parse_tag, tag_text};
