@@ -35,7 +35,7 @@ struct Given {
     tag: &'static [u8; 4],
     value: u32,
     /// The greatest length of the line, in glyphs.
-    max_len: usize,
+    max_len: u16,
     /// The glyphs, each with its cluster.
     glyphs: &'static [(u32, u32)],
 }
@@ -93,7 +93,7 @@ fn plan_of(alloc: Global, given: &Given) -> Result<hb_ot_shape_plan_t, CallerErr
 
 /// The line.
 fn buffer_of(alloc: Global, given: &Given) -> Result<hb_buffer_t, CallerError> {
-    let mut buffer = hb_buffer_t::new(alloc, given.max_len, 16384);
+    let mut buffer = hb_buffer_t::new(alloc, given.max_len as usize, 16384);
     for (id, cluster) in given.glyphs {
         buffer.add(hb_glyph_info_t::new(*id, *cluster))?;
     }

@@ -99,19 +99,16 @@ fn font_of(alloc: Global) -> Result<hb_font_t, Fail> {
     Ok(hb_font_t::from_tables(FaceTables::default().with_ankr(ankr)))
 }
 
-/// Whether a font has the table.
-fn has_points(font: &hb_font_t) -> bool {
-    font.tables().ankr.is_some()
-}
-
-/// A font without tables.
-fn bare_font() -> hb_font_t {
-    hb_font_t::from_tables(FaceTables::default())
+#[test]
+fn fonts_with_points(rt: HostRuntime) -> Result<(), Fail> {
+    let font = font_of(rt.alloc())?;
+    let point = first_point(&font);
+    assert!(rt; point == at(9));
+    Ok(())
 }
 
 #[test]
-fn fonts_with_points(rt: HostRuntime) -> Result<(), Fail> {
-    assert!(rt; first_point(&font_of(rt.alloc())?) == at(9));
-    assert!(rt; !has_points(&bare_font()));
-    Ok(())
+fn fonts_without_points(rt: HostRuntime) {
+    let has_points = FaceTables::default().ankr.is_some();
+    assert!(rt; !has_points);
 }

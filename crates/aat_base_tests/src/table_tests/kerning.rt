@@ -176,9 +176,17 @@ fn many_subtables(rt: HostRuntime) -> Result<(), Fail> {
 
 #[test]
 fn fonts_with_kerning(rt: HostRuntime) -> Result<(), Fail> {
-    assert!(rt; counts(&font_of(rt.alloc())?) == (Some(1), Some(2)));
-    assert!(rt; counts(&bare_font()) == (None, None));
+    let font = font_of(rt.alloc())?;
+    let counts = counts(&font);
+    assert!(rt; counts == (Some(1), Some(2)));
     Ok(())
+}
+
+#[test]
+fn fonts_without_kerning(rt: HostRuntime) {
+    let font = hb_font_t::from_tables(FaceTables::default());
+    let counts = counts(&font);
+    assert!(rt; counts == (None, None));
 }
 
 /// A font with both tables of kerning.
@@ -186,11 +194,6 @@ fn font_of(alloc: Global) -> Result<hb_font_t, Fail> {
     let kern = Kern::new(kern_subtables(alloc, 2)?)?;
     let kerx = Kerx::new(kerx_subtables(alloc, 1)?)?;
     Ok(hb_font_t::from_tables(FaceTables::default().with_kerx(kerx).with_kern(kern)))
-}
-
-/// A font without tables.
-fn bare_font() -> hb_font_t {
-    hb_font_t::from_tables(FaceTables::default())
 }
 
 /// How many subtables of `kerx` and of `kern` a font has, where it has the table.
@@ -218,38 +221,40 @@ fn told(subtable: &KerxSubtable) -> (bool, bool, bool, u32) {
     )
 }
 
-/// A plain subtable of `kerx`.
-fn plain(alloc: Global) -> Result<KerxSubtable, Fail> {
-    Ok(KerxSubtable::new(stack(alloc)?, true))
+/// What a plain subtable of `kerx` tells.
+fn told_of_plain(alloc: Global) -> Result<(bool, bool, bool, u32), Fail> {
+    let plain = KerxSubtable::new(stack(alloc)?, true);
+    Ok(told(&plain))
 }
 
-/// A subtable of `kerx` across the line, with variation tuples.
-fn crossing(alloc: Global) -> Result<KerxSubtable, Fail> {
-    Ok(KerxSubtable {
+/// What a subtable of `kerx` across the line, with variation tuples, tells.
+fn told_of_crossing(alloc: Global) -> Result<(bool, bool, bool, u32), Fail> {
+    let crossing = KerxSubtable {
         has_cross_stream: true,
         tuple_count: 2,
         ..KerxSubtable::new(stack(alloc)?, false)
-    })
+    };
+    Ok(told(&crossing))
 }
 
-/// A variable subtable of `kern`.
-fn variable(alloc: Global) -> Result<KernSubtable, Fail> {
+/// Whether a variable subtable of `kern` is for horizontal text, variable and across the line.
+fn told_of_variable(alloc: Global) -> Result<(bool, bool, bool), Fail> {
     let kind = KernKind::Pairs(Pairs::new(alloc, &[])?);
-    Ok(KernSubtable {
+    let subtable = KernSubtable {
         variable: true,
         ..KernSubtable::new(kind, true)
-    })
-}
-
-/// Whether a subtable of `kern` is variable, for horizontal text and along the line.
-fn is_variable_along(subtable: &KernSubtable) -> bool {
-    subtable.horizontal && subtable.variable && !subtable.has_cross_stream
+    };
+    Ok((
+        subtable.horizontal,
+        subtable.variable,
+        subtable.has_cross_stream,
+    ))
 }
 
 #[test]
 fn fields_of_subtables(rt: HostRuntime) -> Result<(), Fail> {
-    assert!(rt; told(&plain(rt.alloc())?) == (true, false, false, 0));
-    assert!(rt; told(&crossing(rt.alloc())?) == (false, true, false, 2));
-    assert!(rt; is_variable_along(&variable(rt.alloc())?));
+    assert!(rt; told_of_plain(rt.alloc())? == (true, false, false, 0));
+    assert!(rt; told_of_crossing(rt.alloc())? == (false, true, false, 2));
+    assert!(rt; told_of_variable(rt.alloc())? == (true, true, false));
     Ok(())
 }
