@@ -1,0 +1,16 @@
+//! The bytes of a font: numbers at places, slices by offset and length, and why a table cannot be read.
+//!
+//! All numbers are big-endian. No call takes memory.
+#![tactic(auto)]
+
+mod error;
+mod numbers;
+mod slices;
+mod tag;
+#[doc(hidden)]
+pub mod worked;
+
+pub use error::{Fault, FaultKind, ReadError};
+pub use numbers::{be16, be32, i16_at, tag_at, u8_at, u16_at, u32_at};
+pub use slices::{slice, slice_from};
+pub use tag::Tag;

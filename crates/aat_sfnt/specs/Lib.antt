@@ -1,0 +1,11 @@
+pub mod Characters
+pub mod ClassDefinition
+pub mod Directory
+pub mod Examples
+pub mod GlyphClasses
+pub mod Header
+pub mod Metrics
+pub mod Names
+pub mod SegmentMapping
+pub mod SegmentedCoverage
+pub mod ShortTables

@@ -1,0 +1,166 @@
+//! Classes of glyphs, in two formats.
+ghost use Rattle.std.specs.Prelude.{◌≡◌, ◌+◌, ◌*◌, ◌<◌, ◌==◌, ◌&&◌, IfSome, nat_le};
+ghost use Rattle.aat_bytes.specs.Numbers.{be16};
+ghost use Rattle.aat_sfnt.specs.ClassDefinition.{class_array_at, class_in_array, class_in_ranges, class_of, class_ranges_at, definition_at, definition_of, range_of};
+
+use crate::tags::GDEF;
+use aat_bytes::{Fault, FaultKind, be16, slice_from};
+use std::marker::Model;
+
+/// Classes of format 1: a class for each glyph of one range. A contract sees them as their bytes.
+#[derive(Drop)]
+pub struct ClassArray<'a> {
+    bytes: &'a [u8],
+}
+
+impl<'a> Model for ClassArray<'a> {
+    ghost use Rattle.std.specs.Prelude.{ℕ, List, ◌+◌, ◌*◌, ◌≤◌, length};
+    ghost use Rattle.aat_bytes.specs.Numbers.{be16};
+
+    ghost Value = { List ℕ };
+
+    ghost view = { λ m. m.bytes.now };
+
+    ghost invariant = { λ m. 6 + 2 * be16 m.bytes.now 4 ≤ length m.bytes.now };
+}
+
+impl<'a> ClassArray<'a> {
+    /// The classes at the start of bytes, which stand at a place of the table.
+    #[tactic(auto, unfolding(crate::specs::ClassDefinition::class_array_at))]
+    fn read(bytes: &'a [u8], place: u16) -> Result<ClassArray<'a>, Fault>
+        ensures { result ≡ class_array_at bytes.now place }
+    {
+        if bytes.len() < 6 {
+            return Err(Fault::new(GDEF, FaultKind::PastEnd, place as usize));
+        }
+        if bytes.len() < 6 + 2 * be16(bytes, 4) as usize {
+            return Err(Fault::new(GDEF, FaultKind::PastEnd, place as usize + 6));
+        }
+        Ok(ClassArray { bytes })
+    }
+
+    /// The class of a glyph, 0 where none is named.
+    pub fn class(&self, glyph: u16) -> u16
+        ensures { result ≡ class_in_array self.now glyph }
+    {
+        let glyph = glyph as usize;
+        let first = be16(self.bytes, 2) as usize;
+        if glyph < first || glyph >= first + be16(self.bytes, 4) as usize {
+            return 0;
+        }
+        be16(self.bytes, 6 + 2 * (glyph - first))
+    }
+}
+
+/// Classes of format 2: a class for each of some ranges. A contract sees them as their bytes.
+#[derive(Drop)]
+pub struct ClassRanges<'a> {
+    bytes: &'a [u8],
+}
+
+impl<'a> Model for ClassRanges<'a> {
+    ghost use Rattle.std.specs.Prelude.{ℕ, List, ◌+◌, ◌*◌, ◌≤◌, length};
+    ghost use Rattle.aat_bytes.specs.Numbers.{be16};
+
+    ghost Value = { List ℕ };
+
+    ghost view = { λ m. m.bytes.now };
+
+    ghost invariant = { λ m. 4 + 6 * be16 m.bytes.now 2 ≤ length m.bytes.now };
+}
+
+impl<'a> ClassRanges<'a> {
+    /// The classes at the start of bytes, which stand at a place of the table.
+    #[tactic(auto, unfolding(crate::specs::ClassDefinition::class_ranges_at))]
+    fn read(bytes: &'a [u8], place: u16) -> Result<ClassRanges<'a>, Fault>
+        ensures { result ≡ class_ranges_at bytes.now place }
+    {
+        if bytes.len() < 4 {
+            return Err(Fault::new(GDEF, FaultKind::PastEnd, place as usize));
+        }
+        if bytes.len() < 4 + 6 * be16(bytes, 2) as usize {
+            return Err(Fault::new(GDEF, FaultKind::PastEnd, place as usize + 4));
+        }
+        Ok(ClassRanges { bytes })
+    }
+
+    /// Whether a range has a glyph.
+    fn range_has(&self, i: u16, glyph: u16) -> bool
+        requires { i < be16 self.now 2 }
+        ensures { result ≡ (nat_le (be16 self.now (4 + 6 * i)) glyph && nat_le glyph (be16 self.now (6 + 6 * i))) }
+    {
+        let range = 4 + 6 * i as usize;
+        be16(self.bytes, range) <= glyph && glyph <= be16(self.bytes, range + 2)
+    }
+
+    /// The first range that has a glyph.
+    fn range_of(&self, glyph: u16) -> Option<u16>
+        ensures first { result ≡ range_of self.now glyph }
+        ensures below { IfSome result (λ i. i < be16 self.now 2) }
+    {
+        (0..be16(self.bytes, 2)).find(|i| self.range_has(*i, glyph))
+    }
+
+    /// The class of a glyph, 0 where none is named.
+    pub fn class(&self, glyph: u16) -> u16
+        ensures { result ≡ class_in_ranges self.now glyph }
+    {
+        match self.range_of(glyph) {
+            Some(i) => be16(self.bytes, 8 + 6 * i as usize),
+            None => 0,
+        }
+    }
+}
+
+/// Classes of glyphs.
+#[derive(Drop)]
+pub enum ClassDefinition<'a> {
+    /// No glyph has a class.
+    Empty,
+    /// Format 1.
+    Array(ClassArray<'a>),
+    /// Format 2.
+    Ranges(ClassRanges<'a>),
+}
+
+/// The definition at the start of bytes, which stand at a place of the table.
+#[tactic(auto, unfolding(crate::specs::ClassDefinition::definition_at))]
+fn definition_at(bytes: &[u8], place: u16) -> Result<ClassDefinition<'_>, Fault>
+    ensures { result ≡ definition_at bytes.now place }
+{
+    if bytes.len() < 2 {
+        return Err(Fault::new(GDEF, FaultKind::PastEnd, place as usize));
+    }
+    match be16(bytes, 0) {
+        1 => Ok(ClassDefinition::Array(ClassArray::read(bytes, place)?)),
+        2 => Ok(ClassDefinition::Ranges(ClassRanges::read(bytes, place)?)),
+        _ => Err(Fault::new(GDEF, FaultKind::UnknownFormat, place as usize)),
+    }
+}
+
+impl<'a> ClassDefinition<'a> {
+    /// The definition at an offset of the table, or an empty one at offset 0.
+    #[tactic(auto, unfolding(crate::specs::ClassDefinition::definition_of))]
+    pub(crate) fn read(gdef: &'a [u8], offset: u16) -> Result<ClassDefinition<'a>, Fault>
+        ensures { result ≡ definition_of gdef.now offset }
+    {
+        if offset == 0 {
+            return Ok(ClassDefinition::Empty);
+        }
+        match slice_from(gdef, offset as usize) {
+            Some(bytes) => definition_at(bytes, offset),
+            None => Err(Fault::new(GDEF, FaultKind::PastEnd, offset as usize)),
+        }
+    }
+
+    /// The class of a glyph, 0 where none is named.
+    pub fn class(&self, glyph: u16) -> u16
+        ensures { result ≡ class_of self.now glyph }
+    {
+        match self {
+            ClassDefinition::Empty => 0,
+            ClassDefinition::Array(array) => array.class(glyph),
+            ClassDefinition::Ranges(ranges) => ranges.class(glyph),
+        }
+    }
+}

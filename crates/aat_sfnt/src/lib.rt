@@ -1,0 +1,26 @@
+//! A font file: its directory, the tables of characters, metrics and classes, and the names.
+//!
+//! A table is a slice of the file, and each answer is read from its bytes when it is asked for: no call takes memory.
+#![tactic(auto)]
+
+mod class_definition;
+mod cmap;
+mod directory;
+mod gdef;
+mod header;
+mod metrics;
+mod name;
+pub mod tags;
+#[doc(hidden)]
+pub mod worked;
+
+pub use class_definition::{ClassArray, ClassDefinition, ClassRanges};
+pub use cmap::Cmap;
+pub use cmap::segment_mapping::SegmentMapping;
+pub use cmap::segmented_coverage::SegmentedCoverage;
+pub use cmap::short_tables::{ByteEncoding, TrimmedTable};
+pub use directory::FontFile;
+pub use gdef::GlyphClasses;
+pub use header::{glyph_count, units_per_em};
+pub use metrics::{Metrics, long_metric_count};
+pub use name::{NameKey, Names};
