@@ -7,9 +7,11 @@ mod parents;
 mod pens;
 
 /// The laws of attachments, as theorems.
+#[doc(hidden)]
 pub mod laws;
 
 /// Worked examples, as theorems.
+#[doc(hidden)]
 pub mod worked;
 
 pub use offsets::add_up_attachments;

@@ -18,8 +18,8 @@ pub mod attach_type {
 ///
 /// The attach chain is counted in places: that of a mark in the order of drawing, since a backward line is kerned put
 /// the other way round, and that of a cursive glyph in the order of the text. One that leaves the line, or leads to the
-/// glyph itself or to one that is drawn after it, counts as none. Kerning makes no such chain, but the removal of glyphs
-/// may leave one.
+/// glyph itself or to one that is drawn after it, counts as none. Kerning across the stream makes such a chain at the
+/// first glyph, and the removal of glyphs may leave one.
 pub fn parent_of(direction: Direction, positions: &[GlyphPosition], i: usize) -> Option<usize>
     requires { i < length positions.now }
     ensures value { result ≡ parent direction positions.now i }

@@ -1,4 +1,4 @@
-//! Fonts that join two glyphs, delete one and kern.
+//! A font that joins two glyphs, deletes one and kerns.
 use aat_layout::font::{
     Chain, ChainFeature, Coverage, ExtendedStateTable, FaceTables, Feat, FeatureName,
     GenericStateEntry, GlyphId, Kern, KernKind, KernSubtable, LigatureSubtable, Lookup, Morx,
@@ -71,12 +71,6 @@ fn morx_with(alloc: Global, default_flags: u32, features: Vec<ChainFeature>) -> 
     Ok(Morx::new(vec![in alloc; chain]?)?)
 }
 
-/// A substitution table that joins where a flag is set: by default, or where common ligatures are asked for.
-fn morx_of(alloc: Global, default_flags: u32) -> Result<Morx, Fail> {
-    let ligatures = ChainFeature::new(1, 2, 1, 0xFFFF_FFFF);
-    morx_with(alloc, default_flags, vec![in alloc; ligatures]?)
-}
-
 /// A kerning table that moves 20 and 12 together in rows.
 fn kern_of(alloc: Global) -> Result<Kern, Fail> {
     let pairs = Pairs::new(alloc, &[(20, 12, -50)])?;
@@ -92,16 +86,6 @@ fn font_with(alloc: Global, morx: Morx, advances: &[(u16, u16)]) -> Result<hb_fo
         .with_feat(Feat::new(alloc, &NAMES)?);
     let advances = Lookup::new(alloc, advances)?;
     Ok(hb_font_t::new(tables, None, Some(advances)))
-}
-
-/// A font of both tables, with advances, that joins by default or not.
-pub fn font_of(alloc: Global, default_flags: u32) -> Result<hb_font_t, Fail> {
-    let morx = morx_of(alloc, default_flags)?;
-    font_with(
-        alloc,
-        morx,
-        &[(10, 250), (12, 400), (20, 600), (65535, 300)],
-    )
 }
 
 /// The font of row 38a, which joins by default and has no feature in its chain; it has names of features besides.

@@ -1,4 +1,4 @@
-//! Tests of what stands on the layer: shaping in one call, the printed rows, the three callers, the calls one by one,
+//! Tests of what stands on the layer: shaping in one call, the printed rows, the two callers, the calls one by one,
 //! and the texts of errors.
 #![tactic(auto)]
 
@@ -14,7 +14,5 @@ mod joining;
 mod line_breaker_tests;
 #[cfg(test)]
 mod row_tests;
-#[cfg(test)]
-mod shaper_tests;
 #[cfg(test)]
 mod shaping_tests;

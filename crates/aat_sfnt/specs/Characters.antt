@@ -16,8 +16,9 @@ use Rattle.aat_sfnt.specs.declared.tags.TheConstants.{CMAP}
 abbrev pub record_place : ℕ → ℕ
 record_place i = 4 + 8 * i
 
--- platforms and encodings in the order in which HarfBuzz takes them: 3 with 10, 0 with 6 and 4, which have all
--- characters, then 3 with 1, 0 with 3, 2, 1 and 0. Fonts of symbols and of the Macintosh alone have no subtable here
+-- platforms and encodings in the order in which HarfBuzz takes them behind 3 with 0, symbols: 3 with 10, 0 with 6 and
+-- 4, which have all characters, then 3 with 1, 0 with 3, 2, 1 and 0. Fonts of symbols and of the Macintosh alone have
+-- no subtable here
 abbrev pub encodings : List ℕ
 encodings = 0x3000A ∷ 6 ∷ 4 ∷ 0x30001 ∷ 3 ∷ 2 ∷ 1 ∷ 0 ∷ []
 

@@ -54,7 +54,8 @@ directory_of file index = after (directory_place file index) (directory_at file)
 abbrev pub record_place : Directory → ℕ → ℕ
 record_place directory i = directory.place + 12 + 16 * i
 
--- the record of a table: the first with its tag, in the order of the file. HarfBuzz does not believe that tags rise
+-- the record of a table: the first with its tag, in the order of the file. HarfBuzz believes that tags
+-- rise where there are 16 or more
 abbrev pub record_of : Directory → ℕ → Option ℕ
 record_of directory tag =
     find (λ i. be32 directory.file (record_place directory i) == tag)

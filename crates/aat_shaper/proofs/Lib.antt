@@ -1,1 +1,9 @@
-pub mod Handed
+pub mod DrawnText
+pub mod Exposed
+pub mod Kept
+pub mod KernsApart
+pub mod Ordered
+pub mod Planned
+pub mod Rising
+pub mod Runs
+pub mod Taken

@@ -1,2 +1,3 @@
-pub mod ShapedText
+pub mod Named
+pub mod Shaper
 pub mod inside

@@ -1,1 +1,3 @@
-pub mod Lines
+pub mod Drawing
+pub mod Inside
+pub mod TextPlan

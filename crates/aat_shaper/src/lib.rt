@@ -1,8 +1,15 @@
 //! A shaper, which is what a program takes for texts: a text of glyphs with clusters goes in, with features over ranges
-//! of clusters, and the glyphs to be drawn come out, with their positions and with what the marks tell of where the
-//! line may be broken. A program that makes the calls one by one takes `aat_layout`.
+//! of clusters, and the glyphs to be drawn come out, with their positions, and with where the text may be broken. A
+//! program that makes the calls one by one takes `aat_layout`.
 #![tactic(auto)]
 
-mod text;
+mod breaks;
+mod drawn;
+mod features;
+mod font;
+mod line;
+mod names;
+mod shaper;
 
-pub use text::{ShapedGlyph, TextGlyph, shape_text};
+pub use aat_shaped_text::{ShapedGlyph, TextGlyph};
+pub use shaper::Shaper;

@@ -1,0 +1,198 @@
+-- A place before which a line may be broken is one at which it can be kerned in parts.
+use Rattle.std.proofs.Common.{◌≡◌, ◌≢◌, ◌∙◌, sym, ap, refl, ℕ, suc, ◌+◌, ◌-◌, ◌<◌, ◌==◌, ◌&&◌, ◌||◌, Bool, true, false, not, cond, List, [], ◌∷◌, ◌++◌, reverse, take, drop, length, filter, arith, true≢false, nat_lt, bit_and, append_assoc, take_at, drop_at, subst, one-add}
+use Rattle.std.specs.List.{list_any, prefix_len}
+use Rattle.std.specs.Prelude.{take_while}
+use Rattle.std.proofs.lemmas.Bool.{eqb-true}
+use Rattle.std.proofs.lemmas.Bool.Decides.{nat_tests}
+use Rattle.std.proofs.lemmas.List.{get_or_at, length-append, reverse-append}
+use Rattle.aat_glyph.specs.declared.glyph.hb_glyph_info_t.{hb_glyph_info_t}
+use Rattle.aat_buffer.specs.Buffer.{Buffer, glyph_at, no_glyph}
+use Rattle.aat_buffer.specs.Marks.{cluster_at}
+use Rattle.aat_buffer.specs.Removal.{is_deleted}
+use Rattle.aat_font.specs.declared.plan.Feature.{Feature}
+use Rattle.aat_kerning.specs.Cut.{IsCutPlace, IsUnflaggedAt, ordered_line}
+use Rattle.aat_kerning.specs.Pairs.{is_solid}
+use Rattle.aat_shaped_text.specs.Breaks.{is_unsafe, kept_before, later_run, may_break_at, run_from, run_up_to, shares_cluster}
+use Rattle.aat_shaped_text.specs.TextFeatures.{ask_alike}
+use Rattle.aat_shaped_text.proofs.LooksSplit.{stays}
+use Rattle.aat_shaped_text.proofs.Places.{PlaceOf}
+use Rattle.aat_shaped_text.proofs.Spots.{Spot, some_stays}
+use Rattle.aat_shaped_text.proofs.SpotsRuns.{Glyphs, spots}
+
+-- what the test of a break asks for
+pub record MayBreak (skips : ℕ) (line : Glyphs) (i : ℕ) : Type 0 where
+  pub some : nat_lt 0 (kept_before line i) ≡ true
+  pub starts : not (cluster_at line i == cluster_at line (i - 1)) ≡ true
+  pub solid : is_solid skips (glyph_at line i) ≡ true
+  pub safe : not (list_any is_unsafe (later_run line i)) ≡ true
+
+five : (a b c d e : Bool) → (a && b && c && d && e) ≡ true → (a ≡ true) × (b ≡ true) × (c ≡ true) × (d ≡ true)
+five true true true true e is = (refl, refl, refl, refl)
+five true true true false e is = absurd (true≢false (sym is))
+five true true false d e is = absurd (true≢false (sym is))
+five true false c d e is = absurd (true≢false (sym is))
+five false b c d e is = absurd (true≢false (sym is))
+
+pub may_break_is : (skips : ℕ) (features : List Feature) (line : Glyphs) (i : ℕ) → may_break_at skips features line i ≡ true → MayBreak skips line i
+may_break_is skips features line i is =
+    let all = five (nat_lt 0 (kept_before line i)) (not (cluster_at line i == cluster_at line (i - 1))) (is_solid skips (glyph_at line i))
+    (not (list_any is_unsafe (later_run line i))) (ask_alike features (cluster_at line (i - 1)) (cluster_at line i)) is in
+    record { some = all.0; starts = all.1; solid = all.2; safe = all.3 }
+
+pub count_kept : (gs : Glyphs) → length (filter (λ g. not (is_deleted g)) gs) ≡ stays (spots gs)
+count_kept [] = refl
+count_kept (g ∷ gs) = by (count_kept gs) (is_deleted g)
+  where
+    by : length (filter (λ g. not (is_deleted g)) gs) ≡ stays (spots gs) → (t : Bool)
+        → length (cond (not t) (g ∷ filter (λ g. not (is_deleted g)) gs) (filter (λ g. not (is_deleted g)) gs)) ≡ cond t (stays (spots gs)) (suc (stays (spots gs)))
+    by below true = below
+    by below false = ap suc below
+
+some_from : (ss : List Spot) → 0 < stays ss → some_stays ss ≡ true
+some_from [] some = absurd (omega (arith, some))
+some_from ((true, c) ∷ ss) some = some_from ss some
+some_from ((false, c) ∷ ss) some = refl
+
+-- the last of a list
+pub record Ended (gs : Glyphs) : Type 0 where
+  pub front : Glyphs
+  pub last : hb_glyph_info_t
+  pub whole : gs ≡ front ++ last ∷ []
+
+ended : (g : hb_glyph_info_t) (gs : Glyphs) → Ended (g ∷ gs)
+ended g [] = record { front = []; last = g; whole = refl }
+ended g (h ∷ gs) = let e = ended h gs in record { front = g ∷ e.front; last = e.last; whole = ap (λ zs. g ∷ zs) e.whole }
+
+ended_some : (gs : Glyphs) → some_stays (spots gs) ≡ true → Ended gs
+ended_some [] some = absurd (true≢false (sym some))
+ended_some (g ∷ gs) some = ended g gs
+
+-- none in a run passes, so its first does not
+first_of_run :
+    (p q : hb_glyph_info_t → Bool) (g : hb_glyph_info_t) (gs : Glyphs) → p g ≡ true
+    → not (list_any q (take_while p (g ∷ gs))) ≡ true → q g ≡ false
+first_of_run p q g gs in_run none = by (q g) refl
+  where
+    run : take_while p (g ∷ gs) ≡ g ∷ take (prefix_len p gs) gs
+    run =
+        ap (λ (t : Bool). take (cond t (1 + prefix_len p gs) 0) (g ∷ gs)) in_run
+        ∙ ap (λ n. take n (g ∷ gs)) (one-add (prefix_len p gs))
+
+    by : (t : Bool) → q g ≡ t → t ≡ false
+    by false is = refl
+    by true is = absurd (true≢false (sym (sym (ap (λ zs. not (list_any q zs)) run ∙ ap (λ (t : Bool). not (t || list_any q (take (prefix_len p gs) gs))) is) ∙ none)))
+
+safe_bit : (g : hb_glyph_info_t) → is_unsafe g ≡ false → bit_and g.mask 1 ≡ 0
+safe_bit g safe = by (bit_and g.mask 1 == 0) refl
+  where
+    by : (t : Bool) → (bit_and g.mask 1 == 0) ≡ t → bit_and g.mask 1 ≡ 0
+    by true is = eqb-true (bit_and g.mask 1) 0 is
+    by false is = absurd (true≢false (sym (ap not is) ∙ safe))
+
+same_is : (n m : ℕ) → n ≡ m → (n == m) ≡ true
+same_is n m e = grind (arith, nat_tests, e)
+
+-- a line that may be broken before a kept glyph: the glyphs that meet there
+pub record MeetsAt (skips : ℕ) (line : Glyphs) (k i : ℕ) : Type 0 where
+  pub front : Glyphs
+  pub last : hb_glyph_info_t
+  pub here : hb_glyph_info_t
+  pub back : Glyphs
+  pub whole : line ≡ (front ++ last ∷ []) ++ here ∷ back
+  pub long : length (front ++ last ∷ []) ≡ i
+  pub kept : is_deleted here ≡ false
+  pub count : stays (spots (front ++ last ∷ [])) ≡ k
+  pub some : some_stays (spots (front ++ last ∷ [])) ≡ true
+  pub other : last.cluster ≢ here.cluster
+  pub behind_first : 0 < i
+  pub before_end : i < length line
+  pub solid : is_solid skips (glyph_at line i) ≡ true
+  pub starts : cluster_at line i ≢ cluster_at line (i - 1)
+  pub unflagged : IsUnflaggedAt i line
+
+module _ (skips : ℕ) (line : Glyphs) (k i : ℕ) (at_place : PlaceOf line k i) (may : MayBreak skips line i) where
+  some_kept : some_stays (spots at_place.front) ≡ true
+  some_kept =
+      let before : take i line ≡ at_place.front = ap (take i) at_place.whole ∙ take_at at_place.front (at_place.here ∷ at_place.back) i (sym at_place.stands) in
+      let count : kept_before line i ≡ stays (spots at_place.front) = ap (λ zs. length (filter (λ g. not (is_deleted g)) zs)) before ∙ count_kept at_place.front in
+      let some : 0 < kept_before line i = grind (arith, nat_tests, may.some) in
+      some_from (spots at_place.front) (omega (arith, some, count))
+
+  abbrev end : Ended at_place.front
+  end = ended_some at_place.front some_kept
+
+  whole_is : line ≡ (end.front ++ end.last ∷ []) ++ at_place.here ∷ at_place.back
+  whole_is = at_place.whole ∙ ap (λ zs. zs ++ at_place.here ∷ at_place.back) end.whole
+
+  long_is : length (end.front ++ end.last ∷ []) ≡ i
+  long_is = ap length (sym end.whole) ∙ sym at_place.stands
+
+  here_is : glyph_at line i ≡ at_place.here
+  here_is = ap (λ zs. glyph_at zs i) at_place.whole ∙ get_or_at at_place.front at_place.here at_place.back no_glyph i (sym at_place.stands)
+
+  place_is : length end.front + 1 ≡ i
+  place_is = sym (length-append end.front (end.last ∷ [])) ∙ long_is
+
+  last_is : glyph_at line (i - 1) ≡ end.last
+  last_is =
+      ap (λ zs. glyph_at zs (i - 1)) (whole_is ∙ append_assoc end.front (end.last ∷ []) (at_place.here ∷ at_place.back))
+      ∙ get_or_at end.front end.last (at_place.here ∷ at_place.back) no_glyph (i - 1) (omega (arith, place_is))
+
+  clusters_differ : cluster_at line i ≢ cluster_at line (i - 1)
+  clusters_differ e = let fails = may.starts in true≢false (sym fails ∙ ap not (same_is (cluster_at line i) (cluster_at line (i - 1)) e))
+
+  unflagged_is : IsUnflaggedAt i line
+  unflagged_is = by (nat_lt (cluster_at line (i - 1)) (cluster_at line i)) may.safe
+    where
+      by :
+          (t : Bool) → not (list_any is_unsafe (cond t (run_from line i) (run_up_to line (i - 1)))) ≡ true
+          → bit_and (glyph_at line (cond t i (i - 1))).mask 1 ≡ 0
+      by true safe =
+          let rest : drop i line ≡ at_place.here ∷ at_place.back = ap (drop i) at_place.whole ∙ drop_at at_place.front (at_place.here ∷ at_place.back) i (sym at_place.stands) in
+          let none : not (list_any is_unsafe (take_while (shares_cluster line i) (at_place.here ∷ at_place.back))) ≡ true =
+          ap (λ zs. not (list_any is_unsafe (take_while (shares_cluster line i) zs))) (sym rest) ∙ safe in
+          let first = first_of_run (shares_cluster line i) is_unsafe at_place.here at_place.back
+          (same_is at_place.here.cluster (cluster_at line i) (ap (λ (g : hb_glyph_info_t). g.cluster) (sym here_is))) none in
+          ap (λ (g : hb_glyph_info_t). bit_and g.mask 1) here_is ∙ safe_bit at_place.here first
+      by false safe =
+          let place : (i - 1) + 1 ≡ i = omega (arith, place_is) in
+          let before : reverse (take ((i - 1) + 1) line) ≡ end.last ∷ reverse end.front =
+          ap (λ n. reverse (take n line)) place
+          ∙ (ap (λ zs. reverse (take i zs)) whole_is
+          ∙ (ap reverse (take_at (end.front ++ end.last ∷ []) (at_place.here ∷ at_place.back) i long_is)
+          ∙ reverse-append end.front (end.last ∷ []))) in
+          let none : not (list_any is_unsafe (take_while (shares_cluster line (i - 1)) (end.last ∷ reverse end.front))) ≡ true =
+          ap (λ zs. not (list_any is_unsafe (take_while (shares_cluster line (i - 1)) zs))) (sym before) ∙ safe in
+          let first = first_of_run (shares_cluster line (i - 1)) is_unsafe end.last (reverse end.front)
+          (same_is end.last.cluster (cluster_at line (i - 1)) (ap (λ (g : hb_glyph_info_t). g.cluster) (sym last_is))) none in
+          ap (λ (g : hb_glyph_info_t). bit_and g.mask 1) last_is ∙ safe_bit end.last first
+
+  pub meets_at : MeetsAt skips line k i
+  meets_at = record {
+    front = end.front;
+    last = end.last;
+    here = at_place.here;
+    back = at_place.back;
+    whole = whole_is;
+    long = long_is;
+    kept = at_place.kept;
+    count = ap (λ zs. stays (spots zs)) (sym end.whole) ∙ at_place.count;
+    some = ap (λ zs. some_stays (spots zs)) (sym end.whole) ∙ some_kept;
+    other = λ e. clusters_differ (ap (λ (g : hb_glyph_info_t). g.cluster) here_is ∙ (sym e ∙ ap (λ (g : hb_glyph_info_t). g.cluster) (sym last_is)));
+    behind_first = omega (arith, place_is);
+    before_end =
+        let whole : length line ≡ length at_place.front + suc (length at_place.back) = ap length at_place.whole ∙ length-append at_place.front (at_place.here ∷ at_place.back) in
+        let stands = at_place.stands in omega (arith, whole, stands);
+    solid = may.solid;
+    starts = clusters_differ;
+    unflagged = unflagged_is;
+  }
+
+pub cut_place : (skips k i : ℕ) (line : Glyphs) (b : Buffer) → line ≡ ordered_line b → MeetsAt skips line k i → IsCutPlace skips i b
+cut_place skips k i line b same m = record {
+  behind_first = m.behind_first;
+  before_end = subst (λ (zs : Glyphs). i < length zs) same m.before_end;
+  solid = subst (λ (zs : Glyphs). is_solid skips (glyph_at zs i) ≡ true) same m.solid;
+  starts = subst (λ (zs : Glyphs). cluster_at zs i ≢ cluster_at zs (i - 1)) same m.starts;
+  unflagged = subst (IsUnflaggedAt i) same m.unflagged;
+}

@@ -1,0 +1,146 @@
+-- Where a font kerns pairs along the line, kerning attaches nothing.
+use Rattle.std.proofs.Common.{◌≡◌, ◌∙◌, sym, refl, ℕ, zero, suc, ◌+◌, ◌-ℤ◌, ◌&&◌, ◌||◌, Bool, true, false, not, cond, List, [], ◌∷◌, ◌++◌, reverse, fold, true≢false, ℤ, pos}
+use Rattle.std.specs.Prelude.{Option, Some, None, slice_set, slice_index_or}
+use Rattle.std.specs.Ordering.{int_eq}
+use Rattle.std.proofs.lemmas.Grind.{reverse_onto}
+use Rattle.aat_glyph.specs.Directions.{is_backward, is_horizontal}
+use Rattle.aat_glyph.specs.declared.glyph.GlyphPosition.{GlyphPosition}
+use Rattle.aat_buffer.specs.Buffer.{Buffer, glyph_at, position_at, position_list, reversed, zero_position}
+use Rattle.aat_buffer.specs.Marks.{unsafe_to_break}
+use Rattle.aat_font.specs.AnchorPoints.{Points}
+use Rattle.aat_font.specs.declared.kern.KernKind.{KernKind}
+use Rattle.aat_font.specs.declared.kern.KernKind.TheVariants as kind
+use Rattle.aat_font.specs.declared.kerx.KerxFormat.{KerxFormat}
+use Rattle.aat_font.specs.declared.kerx.KerxFormat.TheVariants.{Format0, Format1, Format2, Format4, Format6}
+use Rattle.aat_kerning_machines.specs.Positions.{on_position, with_advance, with_shift}
+use Rattle.aat_kerning.specs.PairKerning.{half, in_stream, kerned, pair_kerning, value_of}
+use Rattle.aat_kerning.specs.Pairs.{Pair, kern_skips, kerx_skips, pairs_of}
+use Rattle.aat_kerning.specs.Positioning.{Kerning, Positioned, in_processing_order, is_for_direction, is_kern_pairs, is_kerx_pairs, run_of_kern_subtable, run_of_kerx_subtable, line_marked, positioned}
+use Rattle.aat_shaped_text.specs.Breaks.{kerns_pairs_along}
+
+-- no position is attached
+abbrev pub Plain : List GlyphPosition → Type 0
+Plain [] = Unit {0}
+Plain (q ∷ qs) = (q.attach_type ≡ 0) × Plain qs
+
+pub plain_at : (qs : List GlyphPosition) (i : ℕ) → Plain qs → (slice_index_or qs i zero_position).attach_type ≡ 0
+plain_at [] i plain = refl
+plain_at (q ∷ qs) zero plain = plain.0
+plain_at (q ∷ qs) (suc i) plain = plain_at qs i plain.1
+
+plain_set : (qs : List GlyphPosition) (i : ℕ) (q : GlyphPosition) → q.attach_type ≡ 0 → Plain qs → Plain (slice_set qs i q)
+plain_set [] i q is plain = tt
+plain_set (p ∷ qs) zero q is plain = (is, plain.1)
+plain_set (p ∷ qs) (suc i) q is plain = (plain.0, plain_set qs i q is plain.1)
+
+plain_push : (qs : List GlyphPosition) (q : GlyphPosition) → q.attach_type ≡ 0 → Plain qs → Plain (qs ++ q ∷ [])
+plain_push [] q is plain = (is, tt)
+plain_push (p ∷ qs) q is plain = (plain.0, plain_push qs q is plain.1)
+
+pub plain_reverse : (qs : List GlyphPosition) → Plain qs → Plain (reverse qs)
+plain_reverse [] plain = tt
+plain_reverse (q ∷ qs) plain = rw (reverse_onto qs q []) (plain_push (reverse qs) q plain.0 (plain_reverse qs plain.1))
+
+-- a buffer of the same direction, in which nothing more is attached
+pub record IsPlainFrom (b c : Buffer) : Type 0 where
+  pub direction : c.direction ≡ b.direction
+  pub plain : Plain (position_list b) → Plain (position_list c)
+
+pub plain_then : (b c d : Buffer) → IsPlainFrom b c → IsPlainFrom c d → IsPlainFrom b d
+plain_then b c d first second = record { direction = second.direction ∙ first.direction; plain = λ p. second.plain (first.plain p) }
+
+pub plain_same : (b : Buffer) → IsPlainFrom b b
+plain_same b = record { direction = refl; plain = λ p. p }
+
+on_position_plain : (f : GlyphPosition → GlyphPosition) (i : ℕ) (b : Buffer) → ((q : GlyphPosition) → (f q).attach_type ≡ q.attach_type) → IsPlainFrom b (on_position f i b)
+on_position_plain f i b keeps = record {
+  direction = refl;
+  plain = λ p. plain_set (position_list b) i (f (position_at b i)) (keeps (position_at b i) ∙ plain_at (position_list b) i p) p;
+}
+
+advance_keeps : (h : Bool) (v : ℤ) (q : GlyphPosition) → (with_advance h v q).attach_type ≡ q.attach_type
+advance_keeps true v q = refl
+advance_keeps false v q = refl
+
+shift_keeps : (h : Bool) (v : ℤ) (q : GlyphPosition) → (with_shift h v q).attach_type ≡ q.attach_type
+shift_keeps true v q = refl
+shift_keeps false v q = refl
+
+in_stream_plain : (p : Pair) (v : ℤ) (b : Buffer) → IsPlainFrom b (in_stream p v b)
+in_stream_plain p v b =
+    let h = is_horizontal b.direction in
+    let rest = v -ℤ half v in
+    let first = on_position_plain (with_advance h (half v)) p.left b (advance_keeps h (half v)) in
+    let second = on_position_plain (λ q. with_shift h rest (with_advance h rest q)) p.right (on_position (with_advance h (half v)) p.left b)
+    (λ q. shift_keeps h rest (with_advance h rest q) ∙ advance_keeps h rest q) in
+    record { direction = refl; plain = λ x. second.plain (first.plain x) }
+
+kerned_plain : (values : List (ℕ × ℕ × ℤ)) (p : Pair) (b : Buffer) → IsPlainFrom b (kerned false values p b)
+unfolding kerned
+kerned_plain values p b = by (int_eq v (pos 0))
+  where
+    v : ℤ
+    v = value_of values (glyph_at b.line p.left).glyph_id (glyph_at b.line p.right).glyph_id
+
+    by : (t : Bool) → IsPlainFrom b (cond t b (unsafe_to_break (in_stream p v b) (Some p.left) (Some (p.right + 1))))
+    by true = plain_same b
+    by false = let s = in_stream_plain p v b in record { direction = s.direction; plain = s.plain }
+
+pairs_plain : (values : List (ℕ × ℕ × ℤ)) (ps : List Pair) (b : Buffer) → IsPlainFrom b (fold (λ d p. kerned false values p d) b ps)
+pairs_plain values [] b = plain_same b
+pairs_plain values (p ∷ ps) b =
+    plain_then b (kerned false values p b) (fold (λ d p. kerned false values p d) (kerned false values p b) ps)
+    (kerned_plain values p b) (pairs_plain values ps (kerned false values p b))
+
+pair_kerning_plain :
+    (asked : Bool) (skips mask : ℕ) (values : List (ℕ × ℕ × ℤ)) (b : Buffer)
+    → IsPlainFrom b (pair_kerning skips mask false values (line_marked asked b))
+unfolding pair_kerning
+pair_kerning_plain true skips mask values b =
+    let m = pairs_plain values (pairs_of skips mask (line_marked true b).line) (line_marked true b) in
+    record { direction = m.direction; plain = m.plain }
+pair_kerning_plain false skips mask values b = pairs_plain values (pairs_of skips mask b.line) b
+
+-- a subtable of pairs along the line attaches nothing
+abbrev pub RunsPlain : Kerning → Type 0
+RunsPlain k = k.is_pairs ≡ true → k.has_cross_stream ≡ false → (b : Buffer) → IsPlainFrom b (k.run b).buffer
+
+pub kerx_plain :
+    (mask : ℕ) (points : Option Points) (cross : Bool) (tuple : ℕ) (format : KerxFormat) → is_kerx_pairs format ≡ true
+    → cross ≡ false → (b : Buffer) → IsPlainFrom b (run_of_kerx_subtable mask points cross tuple format b).buffer
+kerx_plain mask points true tuple format pairs along b = absurd (true≢false along)
+kerx_plain mask points false tuple (Format0 values) pairs along b = pair_kerning_plain false kerx_skips mask values b
+kerx_plain mask points false tuple (Format1 s) pairs along b = absurd (true≢false (sym pairs))
+kerx_plain mask points false tuple (Format2 values) pairs along b = pair_kerning_plain true kerx_skips mask values b
+kerx_plain mask points false tuple (Format4 s) pairs along b = absurd (true≢false (sym pairs))
+kerx_plain mask points false tuple (Format6 values) pairs along b = pair_kerning_plain false kerx_skips mask values b
+
+pub kern_plain :
+    (mask : ℕ) (cross : Bool) (kind : KernKind) → is_kern_pairs kind ≡ true → cross ≡ false → (b : Buffer)
+    → IsPlainFrom b (run_of_kern_subtable mask cross kind b).buffer
+kern_plain mask true kind pairs along b = absurd (true≢false along)
+kern_plain mask false (kind.Pairs values) pairs along b = pair_kerning_plain true kern_skips mask values b
+kern_plain mask false (kind.Machine s) pairs along b = absurd (true≢false (sym pairs))
+
+pub step_plain :
+    (requested : Bool) (k : Kerning) (s : Positioned) → RunsPlain k → kerns_pairs_along s.buffer.direction k ≡ true
+    → IsPlainFrom s.buffer (positioned requested k s).buffer
+unfolding positioned
+step_plain requested k s runs holds = by (is_for_direction k s.buffer.direction) refl k.is_pairs refl k.has_cross_stream refl holds requested
+  where
+    by :
+        (t : Bool) → is_for_direction k s.buffer.direction ≡ t → (u : Bool) → k.is_pairs ≡ u → (v : Bool) → k.has_cross_stream ≡ v
+        → (not t || (u && not v)) ≡ true → (requested : Bool) → IsPlainFrom s.buffer (positioned requested k s).buffer
+    by false for u pairs v cross holds requested = rw for (plain_same s.buffer)
+    by true for false pairs v cross holds requested = absurd (true≢false (sym holds))
+    by true for true pairs true cross holds requested = absurd (true≢false (sym holds))
+    by true for true pairs false cross holds true = rw (for, pairs, cross) (runs pairs cross s.buffer)
+    by true for true pairs false cross holds false = rw (for, pairs, cross) (plain_same s.buffer)
+
+pub ordered_plain : (b : Buffer) → IsPlainFrom b (in_processing_order b)
+ordered_plain b = by (is_backward b.direction) b.positions refl
+  where
+    by : (t : Bool) (o : Option (List GlyphPosition)) → b.positions ≡ o → IsPlainFrom b (cond t (reversed b) b)
+    by true None is = record { direction = refl; plain = λ p. rw is tt }
+    by true (Some qs) is = record { direction = refl; plain = λ p. rw is (plain_reverse qs (rw is at p)) }
+    by false o is = plain_same b

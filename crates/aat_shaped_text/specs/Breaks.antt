@@ -1,0 +1,110 @@
+-- Where a text may be broken between two glyphs that are drawn side by side. (No chapter of the manual: where a line
+-- may be broken is the shaper's own.)
+use Rattle.std.specs.Prelude.{ℕ, ◌+◌, ◌-◌, ◌==◌, ◌&&◌, ◌||◌, not, Bool, true, false, nat_lt, bit_and, bit_or, List, ◌∷◌, [], is_some, length, take, drop, take_while, reverse, filter, fold, map, if◌then◌else◌}
+use Rattle.std.specs.List.{list_any, list_all}
+use Rattle.aat_buffer.specs.Buffer.{glyph_at}
+use Rattle.aat_buffer.specs.Marks.{cluster_at}
+use Rattle.aat_buffer.specs.Removal.{is_deleted}
+use Rattle.aat_glyph.specs.declared.glyph.Direction.{Direction}
+use Rattle.aat_glyph.specs.declared.glyph.hb_glyph_info_t.{hb_glyph_info_t}
+use Rattle.aat_font.specs.Face.{chains_in, kern_in, kerx_in, tables_of}
+use Rattle.aat_font.specs.declared.face.hb_font_t.{hb_font_t}
+use Rattle.aat_font.specs.declared.morx.Chain.{Chain}
+use Rattle.aat_font.specs.declared.morx.Subtable.{Subtable}
+use Rattle.aat_font.specs.declared.morx.SubtableKind.{SubtableKind}
+use Rattle.aat_font.specs.declared.morx.SubtableKind.TheVariants.{Rearrangement, Contextual, Ligature, NonContextual, Insertion}
+use Rattle.aat_font.specs.declared.plan.Feature.{Feature}
+use Rattle.aat_run.specs.Switches.{meets}
+use Rattle.aat_kinds.specs.Kinds.{is_for}
+use Rattle.aat_kerning.specs.Pairs.{is_solid, kern_skips, kerx_skips}
+use Rattle.aat_kerning.specs.Positioning.{Kerning, is_for_direction, kerning_of_kern_subtable, kerning_of_kerx_subtable}
+use Rattle.aat_shaped_text.specs.TextFeatures.{ask_alike}
+use Rattle.aat_shaped_text.specs.declared.text.TextGlyph.{TextGlyph}
+
+-- all flags that a chain can come to have
+abbrev pub possible_flags : Chain → ℕ
+possible_flags c = fold (λ flags f. bit_or flags f.enable_flags) c.default_flags c.features.items
+
+-- a subtable substitutes each glyph by itself
+abbrev pub is_noncontextual : SubtableKind → Bool
+is_noncontextual (Rearrangement table) = false
+is_noncontextual (Contextual subtable) = false
+is_noncontextual (Ligature subtable) = false
+is_noncontextual (NonContextual lookup) = true
+is_noncontextual (Insertion subtable) = false
+
+-- in texts of a direction, under these flags, it does so, or it is not for them, or nothing switches it on
+abbrev pub keeps_apart : Direction → ℕ → Subtable → Bool
+keeps_apart d flags s =
+    is_noncontextual s.kind || not (is_for d s.coverage) || not (meets flags s.feature_flags)
+
+-- each subtable of the font's extended glyph metamorphosis table does
+abbrev pub substitutes_apart : hb_font_t → Direction → Bool
+substitutes_apart face d =
+    list_all (λ c. list_all (keeps_apart d (possible_flags c)) c.subtables.items) (chains_in (tables_of face).morx)
+
+-- a subtable of kerning is not for texts of a direction, or kerns pairs along the line
+abbrev pub kerns_pairs_along : Direction → Kerning → Bool
+kerns_pairs_along d k = not (is_for_direction k d) || (k.is_pairs && not k.has_cross_stream)
+
+-- the subtables of the kerning table that is in use, under the kern mask 8
+abbrev pub kernings_of : hb_font_t → List Kerning
+kernings_of face =
+    if is_some (tables_of face).kerx
+    then map (kerning_of_kerx_subtable 8 (tables_of face).ankr) (kerx_in (tables_of face).kerx)
+    else map (kerning_of_kern_subtable 8) (kern_in (tables_of face).kern)
+
+-- each of them does so
+abbrev pub kerns_apart : hb_font_t → Direction → Bool
+kerns_apart face d = list_all (kerns_pairs_along d) (kernings_of face)
+
+-- the glyph props that the kerning table in use skips
+abbrev pub skips_of : hb_font_t → ℕ
+skips_of face = if is_some (tables_of face).kerx then kerx_skips else kern_skips
+
+-- what the font has to be like for its texts of a direction to be broken anywhere: all that is for them substitutes
+-- glyph by glyph, and kerns pairs along the line
+abbrev pub shapes_apart : hb_font_t → Direction → Bool
+shapes_apart face d = substitutes_apart face d && kerns_apart face d
+
+-- clusters never fall along a text
+abbrev pub is_rising : List TextGlyph → Bool
+is_rising [] = true
+is_rising (g ∷ []) = true
+is_rising (g ∷ h ∷ text) = not (nat_lt h.cluster g.cluster) && is_rising (h ∷ text)
+
+-- a glyph has the cluster of the one at place i of a line
+abbrev pub shares_cluster : List hb_glyph_info_t → ℕ → hb_glyph_info_t → Bool
+shares_cluster line i g = g.cluster == cluster_at line i
+
+-- the glyphs in a row from place i on that share its cluster
+abbrev pub run_from : List hb_glyph_info_t → ℕ → List hb_glyph_info_t
+run_from line i = take_while (shares_cluster line i) (drop i line)
+
+-- the glyphs in a row up to place i that share its cluster, from the last to the first
+abbrev pub run_up_to : List hb_glyph_info_t → ℕ → List hb_glyph_info_t
+run_up_to line i = take_while (shares_cluster line i) (reverse (take (i + 1) line))
+
+-- of the two clusters that meet before place i, the glyphs of the one that comes later in the text
+abbrev pub later_run : List hb_glyph_info_t → ℕ → List hb_glyph_info_t
+later_run line i =
+    if nat_lt (cluster_at line (i - 1)) (cluster_at line i) then run_from line i else run_up_to line (i - 1)
+
+-- how many glyphs before place i are not deleted
+abbrev pub kept_before : List hb_glyph_info_t → ℕ → ℕ
+kept_before line i = length (filter (λ g. not (is_deleted g)) (take i line))
+
+-- a glyph is marked UNSAFE_TO_BREAK (1)
+abbrev pub is_unsafe : hb_glyph_info_t → Bool
+is_unsafe g = not (bit_and g.mask 1 == 0)
+
+-- A line in drawing order, as it stands before deleted glyphs are removed, may be broken before place i: some glyph is
+-- kept before it, it starts a cluster, kerning does not skip its glyph, no glyph of the later cluster is marked, and
+-- the features ask for the same on both sides.
+abbrev pub may_break_at : ℕ → List Feature → List hb_glyph_info_t → ℕ → Bool
+may_break_at skips features line i =
+    nat_lt 0 (kept_before line i)
+    && not (cluster_at line i == cluster_at line (i - 1))
+    && is_solid skips (glyph_at line i)
+    && not (list_any is_unsafe (later_run line i))
+    && ask_alike features (cluster_at line (i - 1)) (cluster_at line i)

@@ -1,0 +1,4 @@
+pub mod Breaks
+pub mod Parts
+pub mod ShapedText
+pub mod TextFeatures

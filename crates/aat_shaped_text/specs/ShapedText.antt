@@ -1,0 +1,156 @@
+-- A text that is shaped: its glyphs as a line, what the layer's calls leave of it, and what is drawn. (How a text is
+-- handed in and out is the shaper's own. Apple's TrueType Reference Manual, "The 'morx' table", "The 'kerx' table" and
+-- "The 'kern' table".)
+use Rattle.std.specs.Prelude.{◌≡◌, ◌⊎◌, ℕ, is_some, ◌<◌, ◌≤◌, ◌*◌, ◌^◌, ◌&&◌, not, Bool, pos, int_lt, List, AllPairs, Option, Some, None, length, filter, map, max, min, zip, slice_index_or, if◌then◌else◌}
+use Rattle.std.specs.Bool.{MatchBool}
+use Rattle.std.specs.List.{range_with_len}
+use Rattle.aat_attachment.specs.Attachments.{added_up, parent}
+use Rattle.aat_buffer.specs.Buffer.{Buffer, empty_buffer, glyph_at, position_list, with_direction, with_line, zero_position}
+use Rattle.aat_buffer.specs.Marks.{cluster_at}
+use Rattle.aat_buffer.specs.Removal.{is_deleted, removed}
+use Rattle.aat_glyph.specs.Directions.{is_backward}
+use Rattle.aat_glyph.specs.declared.glyph.Direction.{Direction}
+use Rattle.aat_glyph.specs.declared.glyph.GlyphPosition.{GlyphPosition}
+use Rattle.aat_glyph.specs.declared.glyph.hb_glyph_info_t.{hb_glyph_info_t}
+use Rattle.aat_font.specs.Face.{advance_of, chains_in, kern_in, kerx_in, props_of, tables_of}
+use Rattle.aat_font.specs.declared.face.hb_font_t.{hb_font_t}
+use Rattle.aat_font.specs.declared.plan.Feature.{Feature}
+use Rattle.aat_run.specs.Budget.{has_operations}
+use Rattle.aat_run.specs.Outcome.{Outcome}
+use Rattle.aat_run.specs.declared.error.AatError.{AatError}
+use Rattle.aat_run.specs.declared.error.AatError.TheVariants.{AaltValue, TooLong, OutOfMemory, BufferFailed}
+use Rattle.aat_map.specs.Adding.{first_too_large_among}
+use Rattle.aat_map.specs.Requests.{requests_of}
+use Rattle.aat_map.specs.SwitchedChains.{by_requests}
+use Rattle.aat_morx.specs.Substitution.{substituted}
+use Rattle.aat_kinds.specs.Kinds.{sizes_for}
+use Rattle.aat_kerning.specs.Positioning.{in_processing_order, kern_positioning, kerx_positioning}
+use Rattle.aat_kerning.specs.Zeroing.{zeroed}
+use Rattle.aat_shaping.specs.Shaping.{with_advances}
+use Rattle.aat_shaped_text.specs.Breaks.{is_rising, kept_before, may_break_at, shapes_apart, skips_of}
+use Rattle.aat_shaped_text.specs.TextFeatures.{is_kerned_at, requests_kerning}
+use Rattle.aat_shaped_text.specs.declared.text.ShapedGlyph.{ShapedGlyph}
+use Rattle.aat_shaped_text.specs.declared.text.TextGlyph.{TextGlyph}
+
+-- the longest text
+abbrev pub most_text : ℕ
+most_text = 2 ^ 24
+
+-- the most glyphs that the line of a text of n glyphs may have, as HarfBuzz has it
+abbrev pub most_glyphs : ℕ → ℕ
+most_glyphs n = min (max (n * 64) 16384) 0x3FFFFFFF
+
+-- its budget of operations, at most the greatest of 32 bits
+abbrev pub most_operations : ℕ → ℕ
+most_operations n = min (max (n * 1024) 16384) 0x7FFFFFFF
+
+-- a glyph of a text as one of a line: its properties are those of its class in the font, and where it is kerned it has
+-- the bit 8
+abbrev pub line_glyph : hb_font_t → List Feature → TextGlyph → hb_glyph_info_t
+line_glyph face features g = record {
+  glyph_id = g.glyph_id;
+  mask = if is_kerned_at features g.cluster then 8 else 0;
+  cluster = g.cluster;
+  glyph_props = props_of face g.glyph_id;
+  unicode_props = if g.is_ignorable then 0x20 else 0;
+}
+
+-- the buffer of a text
+abbrev pub text_buffer : hb_font_t → Direction → List Feature → List TextGlyph → Buffer
+text_buffer face d features text =
+    with_line (with_direction
+    (empty_buffer (most_glyphs (length text)) (pos (most_operations (length text)))) d)
+    (map (line_glyph face features) text)
+
+-- substitution by the features
+abbrev pub text_substitution : hb_font_t → List Feature → Buffer → Outcome
+text_substitution face features b =
+    substituted (sizes_for face)
+    (by_requests (requests_of (tables_of face).feat features) (chains_in (tables_of face).morx)) b
+
+-- kerning by the extended kerning table where the font has it, and else by the kerning table
+abbrev pub text_kerning : hb_font_t → List Feature → Buffer → Outcome
+text_kerning face features b =
+    if is_some (tables_of face).kerx
+    then kerx_positioning (requests_kerning features) 8 (tables_of face).ankr (kerx_in (tables_of face).kerx) b
+    else kern_positioning (requests_kerning features) 8 (kern_in (tables_of face).kern) b
+
+-- what substitution, advances and kerning leave of a text
+abbrev pub kerned_text : hb_font_t → Direction → List Feature → List TextGlyph → Buffer
+kerned_text face d features text =
+    let substituted = (text_substitution face features (text_buffer face d features text)).buffer in
+    (text_kerning face features (with_advances (advance_of face) substituted)).buffer
+
+-- the same as it is drawn, from left to right or from top to bottom: deleted glyphs take no room
+abbrev pub drawn_text : hb_font_t → Direction → List Feature → List TextGlyph → Buffer
+drawn_text face d features text = in_processing_order (zeroed (kerned_text face d features text))
+
+-- whether substitution and kerning used the budget up
+abbrev pub uses_up_budget : hb_font_t → Direction → List Feature → List TextGlyph → Bool
+uses_up_budget face d features text = not (has_operations (drawn_text face d features text))
+
+-- the position of a glyph of a line that is drawn, to whose offset that of what it is attached to is added
+abbrev pub drawn_position : Buffer → ℕ → GlyphPosition
+drawn_position b i = slice_index_or (added_up b.direction (position_list b)) i zero_position
+
+-- a place of a line as one among the glyphs that are kept, none where its glyph is deleted
+abbrev pub kept_place : List hb_glyph_info_t → Option ℕ → Option ℕ
+kept_place line None = None
+kept_place line (Some j) = if is_deleted (glyph_at line j) then None else Some (kept_before line j)
+
+-- the glyph at a place of a line that is drawn, where the line may be broken before some places
+abbrev pub drawn_glyph : (ℕ → Bool) → Buffer → ℕ → ShapedGlyph
+drawn_glyph may_break b i = record {
+  glyph_id = (glyph_at b.line i).glyph_id;
+  cluster = cluster_at b.line i;
+  x_advance = (drawn_position b i).x_advance;
+  y_advance = (drawn_position b i).y_advance;
+  x_offset = (drawn_position b i).x_offset;
+  y_offset = (drawn_position b i).y_offset;
+  attached_to = kept_place b.line (parent b.direction (position_list b) i);
+  may_break_before = may_break i;
+}
+
+-- the places of a line whose glyphs are not deleted
+abbrev pub kept_places : List hb_glyph_info_t → List ℕ
+kept_places line = filter (λ i. not (is_deleted (glyph_at line i))) (range_with_len 0 (length line))
+
+-- glyphs, with the clusters of those of a line
+abbrev pub with_clusters_of : List hb_glyph_info_t → List ShapedGlyph → List ShapedGlyph
+with_clusters_of line glyphs = map (λ p. record p.1 { cluster = p.0.cluster }) (zip line glyphs)
+
+-- what is drawn of a line: the glyphs that are kept, with the clusters that the removal of the others leaves
+abbrev pub drawn_glyphs : (ℕ → Bool) → Buffer → List ShapedGlyph
+drawn_glyphs may_break b =
+    with_clusters_of (removed is_deleted b).line (map (drawn_glyph may_break b) (kept_places b.line))
+
+-- whether a text that is drawn may be broken before a place of its line: its clusters never fall, and font and place
+-- allow it
+abbrev pub may_break_text : hb_font_t → Direction → List Feature → List TextGlyph → ℕ → Bool
+may_break_text face d features text i =
+    shapes_apart face d && is_rising text
+    && may_break_at (skips_of face) features (drawn_text face d features text).line i
+
+-- what is drawn of a text
+abbrev pub shaped_text : hb_font_t → Direction → List Feature → List TextGlyph → List ShapedGlyph
+shaped_text face d features text =
+    drawn_glyphs (may_break_text face d features text) (drawn_text face d features text)
+
+-- clusters never fall along what is drawn of a forward text, and never rise along what is drawn of a backward one
+abbrev pub AreInOrder : Direction → List ShapedGlyph → Type 0
+AreInOrder d glyphs =
+    MatchBool (is_backward d) (AllPairs (λ g h. h.cluster ≤ g.cluster) glyphs)
+    (AllPairs (λ g h. g.cluster ≤ h.cluster) glyphs)
+
+-- why a text is not shaped: a value of alternates is no setting; the text is too long, or substitution would make its
+-- line too long; or memory is wanting
+abbrev pub RefusesText : hb_font_t → Direction → List Feature → List TextGlyph → AatError → Type 0
+RefusesText face d features text (AaltValue value) =
+    (length text ≤ most_text) × (first_too_large_among (tables_of face).feat features ≡ Some value)
+RefusesText face d features text TooLong =
+    (most_text < length text)
+    ⊎ ((first_too_large_among (tables_of face).feat features ≡ None)
+    × (most_glyphs (length text)
+    < length (text_substitution face features (text_buffer face d features text)).buffer.line))
+RefusesText face d features text OutOfMemory = Unit {0}
+RefusesText face d features text BufferFailed = ⊥

@@ -1,0 +1,10 @@
+//! What a text is that is shaped, and what is handed out of it: the types, and the definitions that the shaper's
+//! contracts cite. A program takes `aat_shaper`.
+#![tactic(auto)]
+
+/// The law of the breaks of a text, as a theorem.
+#[doc(hidden)]
+pub mod laws;
+mod text;
+
+pub use text::{ShapedGlyph, TextGlyph};

@@ -1,0 +1,64 @@
+//! The glyphs of a text, and those that are drawn.
+ghost use Rattle.std.specs.Prelude.{◌≡◌, false, true};
+
+/// A glyph of a text, and the character that it stands for.
+#[derive(Clone, Copy, PartialEq, Eq, Debug)]
+pub struct TextGlyph {
+    /// The number of the glyph in the font.
+    pub glyph_id: u16,
+    /// The place of its character in the text.
+    pub cluster: u32,
+    /// Whether the character is ignorable by default, as Unicode has it (`Default_Ignorable_Code_Point`): kerning
+    /// by pairs passes over its glyph.
+    pub is_ignorable: bool,
+}
+
+impl TextGlyph {
+    /// A glyph that stands for the character `cluster`, which is not ignorable.
+    pub fn new(glyph_id: u16, cluster: u32) -> TextGlyph
+        ensures { result ≡ record { glyph_id = glyph_id; cluster = cluster; is_ignorable = false } }
+    {
+        TextGlyph {
+            glyph_id,
+            cluster,
+            is_ignorable: false,
+        }
+    }
+
+    /// A glyph that stands for the ignorable character `cluster`.
+    pub fn ignorable(glyph_id: u16, cluster: u32) -> TextGlyph
+        ensures { result ≡ record { glyph_id = glyph_id; cluster = cluster; is_ignorable = true } }
+    {
+        TextGlyph {
+            glyph_id,
+            cluster,
+            is_ignorable: true,
+        }
+    }
+}
+
+/// A glyph that is to be drawn. Lengths are in units of the font: to the right, and up.
+///
+/// A pen stands at the origin of the first glyph. Each glyph is drawn at the pen, moved by its offset, and then the pen
+/// moves by its advance.
+#[derive(Clone, Copy, PartialEq, Eq, Debug)]
+pub struct ShapedGlyph {
+    /// The number of the glyph in the font.
+    pub glyph_id: u16,
+    /// The character that it came from, or the first of several.
+    pub cluster: u32,
+    /// How far the pen moves to the right.
+    pub x_advance: i32,
+    /// How far the pen moves up: in vertical text it is usually below 0.
+    pub y_advance: i32,
+    /// How far to the right of the pen it is drawn. What it is attached to is counted in.
+    pub x_offset: i32,
+    /// How far above the pen it is drawn. What it is attached to is counted in.
+    pub y_offset: i32,
+    /// The place, among the glyphs that are drawn, of the glyph that it is attached to, if any. That one stands before
+    /// it. There is none where that glyph was deleted.
+    pub attached_to: Option<usize>,
+    /// Whether the text may be broken between the glyph that is drawn before it and this one. It is `false` at the
+    /// first glyph.
+    pub may_break_before: bool,
+}

@@ -1,0 +1,48 @@
+-- What is drawn of a text, from what the calls leave.
+use Rattle.std.proofs.Common.{◌≡◌, ◌∙◌, ap, ℕ, ◌&&◌, Bool, List}
+use Rattle.aat_buffer.specs.Buffer.{Buffer}
+use Rattle.aat_font.specs.Face.{advance_of}
+use Rattle.aat_font.specs.declared.face.hb_font_t.{hb_font_t}
+use Rattle.aat_font.specs.declared.plan.Feature.{Feature}
+use Rattle.aat_font.specs.declared.plan.hb_ot_shape_plan_t.{hb_ot_shape_plan_t}
+use Rattle.aat_glyph.specs.declared.glyph.Direction.{Direction}
+use Rattle.aat_kerning.specs.Positioning.{in_processing_order}
+use Rattle.aat_kerning.specs.Zeroing.{zeroed}
+use Rattle.aat_run.specs.Outcome.{Outcome}
+use Rattle.aat_shaping.specs.Shaping.{shaping_with_deleted, with_advances}
+use Rattle.aat_shaped_text.specs.Breaks.{is_rising, may_break_at, shapes_apart, skips_of}
+use Rattle.aat_shaped_text.specs.ShapedText.{drawn_glyphs, drawn_text, shaped_text, text_buffer, text_kerning, text_substitution}
+use Rattle.aat_shaped_text.specs.declared.text.TextGlyph.{TextGlyph}
+use Rattle.aat_shaper.proofs.Planned.{planned_shaping}
+use Rattle.aat_shaper.specs.inside.TextPlan.{IsPlanOf}
+
+module _ (face : hb_font_t) (d : Direction) (features : List Feature) (text : List TextGlyph) where
+  -- the line, turned
+  pub drawn_text_so :
+      (plan : hb_ot_shape_plan_t) → IsPlanOf features plan
+      → (asked : List Feature) (made left turned : Buffer) (turns : ℕ)
+      → asked ≡ features → made ≡ text_buffer face d asked text
+      → record { buffer = left; turns = turns } ≡ shaping_with_deleted plan face made → turned ≡ in_processing_order left
+      → turned ≡ drawn_text face d features text
+  drawn_text_so plan planned asked made left turned turns same built shaped after =
+      let kerned : Buffer → Buffer = λ b.
+      zeroed (text_kerning face features (with_advances (advance_of face) (text_substitution face features b).buffer)).buffer in
+      after
+      ∙ ap in_processing_order
+      (ap (λ (o : Outcome). o.buffer) shaped
+      ∙ (planned_shaping face features plan planned made
+      ∙ (ap kerned built ∙ ap (λ (fs : List Feature). kerned (text_buffer face d fs text)) same)))
+
+  -- what is drawn of it
+  pub drawn_so :
+      (allowed : Bool) (skips : ℕ) (asked : List Feature) (b : Buffer)
+      → allowed ≡ (shapes_apart face d && is_rising text) → skips ≡ skips_of face → asked ≡ features
+      → b ≡ drawn_text face d features text
+      → drawn_glyphs (λ i. allowed && may_break_at skips asked b.line i) b ≡ shaped_text face d features text
+  drawn_so allowed skips asked b may skipped same drawn =
+      ap (λ (a : Bool). drawn_glyphs (λ i. a && may_break_at skips asked b.line i) b) may
+      ∙ (ap (λ (n : ℕ). drawn_glyphs (λ i. (shapes_apart face d && is_rising text) && may_break_at n asked b.line i) b) skipped
+      ∙ (ap (λ (fs : List Feature).
+      drawn_glyphs (λ i. (shapes_apart face d && is_rising text) && may_break_at (skips_of face) fs b.line i) b) same
+      ∙ (ap (λ (c : Buffer).
+      drawn_glyphs (λ i. (shapes_apart face d && is_rising text) && may_break_at (skips_of face) features c.line i) c) drawn)))

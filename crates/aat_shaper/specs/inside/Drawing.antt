@@ -1,0 +1,24 @@
+-- What is known of a line while it is drawn.
+use Rattle.std.specs.Prelude.{◌≡◌, ℕ, ◌&&◌, Bool, List, length, map}
+use Rattle.std.specs.List.{range_with_len}
+use Rattle.aat_attachment.specs.Attachments.{added_up}
+use Rattle.aat_buffer.specs.Buffer.{Buffer, position_list}
+use Rattle.aat_glyph.specs.declared.glyph.hb_glyph_info_t.{hb_glyph_info_t}
+use Rattle.aat_shaped_text.specs.Breaks.{kept_before, may_break_at}
+use Rattle.aat_shaped_text.specs.declared.text.ShapedGlyph.{ShapedGlyph}
+use Rattle.aat_shaper.specs.declared.drawn.Breaks.{Breaks}
+use Rattle.aat_shaper.specs.declared.drawn.Drawn.{Drawn}
+
+-- a line may be broken before a place, as far as this allows it
+abbrev pub may_break : Breaks → List hb_glyph_info_t → ℕ → Bool
+may_break breaks line i = breaks.is_allowed && may_break_at breaks.skips breaks.features.now line i
+
+-- this is known of a line that is drawn
+pub record IsDrawn (b : Buffer) (drawn : Drawn) : Type 0 where
+  pub positions : drawn.positions.now ≡ position_list b
+  pub added : drawn.added.now ≡ added_up b.direction (position_list b)
+  pub kept : drawn.kept.now ≡ map (kept_before b.line) (range_with_len 0 (length b.line))
+
+-- the clusters of glyphs that are drawn
+abbrev pub clusters_of : List ShapedGlyph → List ℕ
+clusters_of glyphs = map (λ g. g.cluster) glyphs

@@ -1,0 +1,141 @@
+//! Whether texts of a font can be broken.
+ghost use Rattle.std.specs.Prelude.{◌≡◌, None};
+ghost use Rattle.std.specs.List.{list_all};
+ghost use Rattle.aat_font.specs.Face.{kern_in, kerx_in, tables_of};
+ghost use Rattle.aat_kinds.specs.Kinds.{is_for};
+ghost use Rattle.aat_kerning.specs.Positioning.{kerning_of_kern_subtable, kerning_of_kerx_subtable};
+ghost use Rattle.aat_shaped_text.specs.Breaks.{is_noncontextual, keeps_apart, kerns_apart, kerns_pairs_along, possible_flags, shapes_apart, skips_of, substitutes_apart};
+
+use aat_layout::buffer::{Direction, hb_mask_t};
+use aat_layout::font::{
+    Chain, Coverage, KernKind, KernSubtable, KerxFormat, KerxSubtable, Subtable, SubtableKind,
+    hb_font_t,
+};
+use aat_layout::{KERN_SKIPS, KERX_SKIPS};
+
+/// All flags that a chain can come to have.
+fn possible_flags(chain: &Chain) -> hb_mask_t
+    ensures { result ≡ possible_flags chain.now }
+{
+    let mut flags = chain.default_flags;
+    for feature in &chain.features {
+        flags |= feature.enable_flags;
+    }
+    flags
+}
+
+/// Whether a subtable is for texts of a direction.
+fn is_for(direction: Direction, coverage: Coverage) -> bool
+    ensures { result ≡ is_for direction coverage }
+{
+    coverage.is_all_directions() || coverage.is_vertical() == direction.is_vertical()
+}
+
+/// Whether a subtable substitutes each glyph by itself.
+fn is_noncontextual(kind: &SubtableKind) -> bool
+    ensures { result ≡ is_noncontextual kind.now }
+{
+    matches!(kind, SubtableKind::NonContextual(_))
+}
+
+/// Whether a subtable keeps texts of a direction apart, under these flags.
+fn keeps_apart(direction: Direction, flags: hb_mask_t, subtable: &Subtable) -> bool
+    ensures { result ≡ keeps_apart direction flags subtable.now }
+{
+    is_noncontextual(&subtable.kind)
+        || !is_for(direction, subtable.coverage)
+        || flags & subtable.feature_flags == 0
+}
+
+/// Whether each subtable of a chain does.
+fn chain_keeps_apart(direction: Direction, chain: &Chain) -> bool
+    ensures { result ≡ list_all (keeps_apart direction (possible_flags chain.now)) chain.now.subtables.items }
+{
+    let flags = possible_flags(chain);
+    chain
+        .subtables
+        .iter()
+        .all(|subtable| keeps_apart(direction, flags, subtable))
+}
+
+/// Whether each subtable of the extended glyph metamorphosis table does.
+fn substitutes_apart(face: &hb_font_t, direction: Direction) -> bool
+    ensures { result ≡ substitutes_apart face.now direction }
+{
+    face.chains()
+        .iter()
+        .all(|chain| chain_keeps_apart(direction, chain))
+}
+
+/// Whether a subtable of the extended kerning table is not for texts of a direction, or kerns pairs along the line.
+fn kerx_pairs_along(direction: Direction, subtable: &KerxSubtable) -> bool
+    ensures { result ≡ kerns_pairs_along direction (kerning_of_kerx_subtable 8 None subtable.now) }
+{
+    let is_pairs = match &subtable.format {
+        KerxFormat::Format0(_) | KerxFormat::Format2(_) | KerxFormat::Format6(_) => true,
+        KerxFormat::Format1(_) | KerxFormat::Format4(_) => false,
+    };
+    let is_for_direction = !subtable.variable && subtable.horizontal == direction.is_horizontal();
+    !is_for_direction || (is_pairs && !subtable.has_cross_stream)
+}
+
+/// The same of a subtable of the kerning table.
+fn kern_pairs_along(direction: Direction, subtable: &KernSubtable) -> bool
+    ensures { result ≡ kerns_pairs_along direction (kerning_of_kern_subtable 8 subtable.now) }
+{
+    let is_pairs = match &subtable.kind {
+        KernKind::Pairs(_) => true,
+        KernKind::Machine(_) => false,
+    };
+    let is_for_direction = !subtable.variable && subtable.horizontal == direction.is_horizontal();
+    !is_for_direction || (is_pairs && !subtable.has_cross_stream)
+}
+
+/// Whether each subtable of the extended kerning table does so.
+fn kerx_apart(face: &hb_font_t, direction: Direction) -> bool
+    ensures { result ≡ list_all (λ s. kerns_pairs_along direction (kerning_of_kerx_subtable 8 None s))
+        (kerx_in (tables_of face.now).kerx) }
+{
+    face.kerx_subtables()
+        .iter()
+        .all(|subtable| kerx_pairs_along(direction, subtable))
+}
+
+/// Whether each subtable of the kerning table does so.
+fn kern_apart(face: &hb_font_t, direction: Direction) -> bool
+    ensures { result ≡ list_all (λ s. kerns_pairs_along direction (kerning_of_kern_subtable 8 s))
+        (kern_in (tables_of face.now).kern) }
+{
+    face.kern_subtables()
+        .iter()
+        .all(|subtable| kern_pairs_along(direction, subtable))
+}
+
+/// Whether each subtable of the kerning table that is in use does so.
+fn kerns_apart(face: &hb_font_t, direction: Direction) -> bool
+    ensures { result ≡ kerns_apart face.now direction }
+{
+    if face.tables().kerx.is_some() {
+        kerx_apart(face, direction)
+    } else {
+        kern_apart(face, direction)
+    }
+}
+
+/// Whether all that is for texts of a direction substitutes glyph by glyph, and kerns pairs along the line.
+pub(crate) fn shapes_apart(face: &hb_font_t, direction: Direction) -> bool
+    ensures { result ≡ shapes_apart face.now direction }
+{
+    substitutes_apart(face, direction) && kerns_apart(face, direction)
+}
+
+/// The glyph properties that the kerning table in use skips.
+pub(crate) fn skips_of(face: &hb_font_t) -> u16
+    ensures { result ≡ skips_of face.now }
+{
+    if face.tables().kerx.is_some() {
+        KERX_SKIPS
+    } else {
+        KERN_SKIPS
+    }
+}

@@ -1,0 +1,276 @@
+//! The shaper: a text goes in, and what is drawn comes out.
+ghost use Rattle.std.specs.Prelude.{◌≡◌, ◌≢◌, ◌≤◌, ◌<◌, ◌&&◌, [], All, Err, IfErr, IfOk, None, OnErr, OnOk, false, length, not, true};
+ghost use Rattle.aat_buffer.specs.Removal.{deleted_glyph};
+ghost use Rattle.aat_font.specs.Face.{tables_of};
+ghost use Rattle.aat_map.specs.Adding.{first_too_large_among};
+ghost use Rattle.aat_run.specs.Budget.{has_operations};
+ghost use Rattle.aat_shaped_text.specs.Breaks.{is_rising, shapes_apart};
+ghost use Rattle.aat_shaped_text.specs.Parts.{BreaksHold};
+ghost use Rattle.aat_shaped_text.specs.ShapedText.{AreInOrder, RefusesText, most_glyphs, most_text, shaped_text, uses_up_budget};
+ghost use Rattle.aat_shaper.specs.Named.{has_feature};
+ghost use Rattle.aat_shaper.specs.inside.TextPlan.{IsPlanOf};
+
+use crate::drawn::{Breaks, draw, turn};
+use crate::features::requests_kerning;
+use crate::font::{shapes_apart, skips_of};
+use crate::line::{KERNED, LONGEST_TEXT, buffer_of, is_rising};
+use crate::names::has_feature;
+use aat_layout::AatError;
+use aat_layout::buffer::{Direction, hb_buffer_t};
+use aat_layout::font::{Feature, hb_font_t, hb_ot_shape_plan_t, hb_tag_t};
+use aat_shaped_text::laws::texts_are_drawn_in_parts;
+use aat_shaped_text::{ShapedGlyph, TextGlyph};
+use aat_shaping::shape_with_deleted;
+use bumpalo::Bump;
+use std::alloc::{AllocError, Allocator, Global};
+use std::marker::Model;
+
+/// A shaper of texts of a font. It is made once for a font, shapes many texts, and keeps what it needs again.
+#[derive(Drop)]
+pub struct Shaper<'f, A: Allocator + Copy = Global> {
+    font: &'f hb_font_t,
+    alloc: A,
+    plan: hb_ot_shape_plan_t,
+    workspace: Bump<A>,
+    glyphs: Vec<ShapedGlyph, A>,
+    is_budget_used_up: bool,
+}
+
+impl<'f, A: Allocator + Copy> Model for Shaper<'f, A> {
+    ghost use Rattle.aat_shaper.specs.Shaper.{ShaperValue};
+    ghost use Rattle.aat_shaper.specs.inside.Inside.{HasPlan, shaper_of};
+
+    ghost Value = { ShaperValue };
+
+    ghost view = { shaper_of };
+
+    ghost invariant = { HasPlan };
+}
+
+impl<'f> Shaper<'f> {
+    /// A shaper of texts of a font. It takes no memory before the first text.
+    pub fn new(alloc: Global, font: &'f hb_font_t) -> Shaper<'f>
+        ensures { result ≡ record { font = font.now; glyphs = []; is_budget_used_up = false } }
+    {
+        Shaper::new_in(alloc, alloc, font)
+    }
+}
+
+impl<'f, A: Allocator + Copy> Shaper<'f, A> {
+    /// A shaper of texts of a font that takes its memory from `alloc`, but that for the features, which it takes from
+    /// `global`. It takes no memory before the first text.
+    pub fn new_in(global: Global, alloc: A, font: &'f hb_font_t) -> Shaper<'f, A>
+        ensures { result ≡ record { font = font.now; glyphs = []; is_budget_used_up = false } }
+    {
+        let plan = hb_ot_shape_plan_t {
+            kern_mask: KERNED,
+            ..hb_ot_shape_plan_t::new(Vec::new(global))
+        };
+        Shaper {
+            font,
+            alloc,
+            plan,
+            workspace: Bump::new(alloc),
+            glyphs: Vec::new(alloc),
+            is_budget_used_up: false,
+        }
+    }
+
+    /// The glyphs of the text that was shaped last, in drawing order: from left to right, or from top to bottom. There
+    /// are none before the first text, and where the last one was refused.
+    pub fn glyphs(&self) -> &[ShapedGlyph]
+        ensures { result.now ≡ self.now.glyphs }
+    {
+        &self.glyphs
+    }
+
+    /// Whether the text that was shaped last used up its budget of operations. A machine without a budget inserts no
+    /// more, and moves on where it would stay. It is `false` before the first text, and where the last one was refused.
+    pub fn is_budget_used_up(&self) -> bool
+        ensures { result ≡ self.now.is_budget_used_up }
+    {
+        self.is_budget_used_up
+    }
+
+    /// The font.
+    pub fn font(&self) -> &'f hb_font_t
+        ensures { result.now ≡ self.now.font }
+    {
+        self.font
+    }
+
+    /// Whether the font has a feature. It has `kern` where it has a table of kerning, `aalt` where its names have
+    /// character alternatives with settings, and any other one that is known here where they have its feature type with
+    /// settings; small capitals of lower case letters also by the older type of letter case. A feature that the font
+    /// does not have may be asked for, and changes no glyph.
+    ///
+    /// Apple's TrueType Reference Manual, "The 'feat' table".
+    pub fn has_feature(&self, tag: hb_tag_t) -> bool
+        ensures { result ≡ has_feature self.now.font tag }
+    {
+        has_feature(self.font, tag)
+    }
+
+    /// Shapes a text, of which [`Shaper::glyphs`] then has what is drawn.
+    ///
+    /// The text goes in in reading order, whatever its direction is. The features hold over their ranges of clusters,
+    /// and the last of several that hold a cluster decides. `kern` with the value 0 turns kerning by pairs, and the
+    /// values of machines along the line, off over its range. Features that the font does not have change no glyph. The
+    /// glyphs have the properties of their classes in the font. They are shaped at the cluster level 0, in a line of at
+    /// most 64 glyphs for each one of the text, or 16384 if that is more, but never more than 0x3FFFFFFF, and with a
+    /// budget of 1024 operations for each, or 16384 if that is more, but never more than 0x7FFFFFFF;
+    /// [`Shaper::is_budget_used_up`] tells whether there were not enough.
+    ///
+    /// What comes out is in drawing order, from left to right or from top to bottom, so a backward text begins with its
+    /// end. No glyph is 0xFFFF: deleted glyphs take no room, and go when the line has been turned. Offsets are added up
+    /// along attachments. Where clusters never fall along the text, they never fall along a forward line, and never
+    /// rise along a backward one.
+    ///
+    /// The text may be broken before each glyph that says so: cut at the later one of the two clusters that meet there,
+    /// and its two parts shaped by themselves with the same features, what is drawn before the glyph looks as the one
+    /// part does, and what is drawn from it on as the other one: ids, clusters, advances and offsets. In a backward
+    /// text the later part is drawn first. A glyph says so where clusters never fall along the text; all subtables of
+    /// `morx` that are for its direction and can be switched on are noncontextual; those of the kerning table in use
+    /// that are for it are of pairs, along the line; kerning does not skip the glyph, which starts a cluster; no glyph
+    /// of the later cluster is marked `UNSAFE_TO_BREAK`, deleted ones included; and the same features hold both
+    /// clusters.
+    ///
+    /// A text that is no longer than the one before it, with no more features, is mostly shaped without a request for
+    /// memory. It takes as many steps as its line is long for each subtable, as many as there are features for each
+    /// glyph, and those of the budget.
+    ///
+    /// Refused first as 2, `TooLong`, where the text has more than 2^24 glyphs. Then as 1, `AaltValue`, with the first
+    /// value above 65535 that a feature `aalt` asks for, where the font has settings of character alternatives; as 2,
+    /// `TooLong`, where substitution would make the line too long; and as 3, `OutOfMemory`, where memory is wanting,
+    /// which may come before either. It is never refused as 4, `BufferFailed`. Where it is refused there are no glyphs.
+    ///
+    /// Apple's TrueType Reference Manual, "The 'morx' table", "The 'kerx' table" and "The 'kern' table".
+    pub fn shape(
+        &mut self,
+        direction: Direction,
+        text: &[TextGlyph],
+        features: &[Feature],
+    ) -> Result<(), AatError>
+        ensures font { self.new.font ≡ self.old.font }
+        ensures shaped { OnOk result (self.new.glyphs ≡ shaped_text self.old.font direction features.now text.now) }
+        ensures budget { OnOk result
+            (self.new.is_budget_used_up ≡ uses_up_budget self.old.font direction features.now text.now) }
+        ensures long { most_text < length text.now → result ≡ Err AatError.TooLong }
+        ensures refused { IfErr result (RefusesText self.old.font direction features.now text.now) }
+        ensures fits { OnOk result (first_too_large_among (tables_of self.old.font).feat features.now ≡ None) }
+        ensures empty { OnErr result
+            (self.new ≡ record { font = self.old.font; glyphs = []; is_budget_used_up = false }) }
+        ensures breaks { OnOk result
+            (BreaksHold self.old.font direction features.now text.now self.new.glyphs) }
+        ensures undeleted { OnOk result (All (λ g. g.glyph_id ≢ deleted_glyph) self.new.glyphs) }
+        ensures order { is_rising text.now ≡ true → OnOk result (AreInOrder direction self.new.glyphs) }
+        ensures bounded { OnOk result (length self.new.glyphs ≤ most_glyphs (length text.now)) }
+    {
+        self.glyphs.clear();
+        self.is_budget_used_up = false;
+        if text.len() > LONGEST_TEXT {
+            return Err(AatError::TooLong);
+        }
+        take_features(&mut self.plan, features)?;
+        make_room(self.alloc, &mut self.workspace, room_of(text, features))?;
+        let font = self.font;
+        let shaped = shape_over(
+            &self.workspace,
+            &self.plan,
+            font,
+            direction,
+            text,
+            &mut self.glyphs,
+        );
+        match shaped {
+            Ok(is_used_up) => self.is_budget_used_up = is_used_up,
+            Err(error) => {
+                self.glyphs.clear();
+                return Err(error);
+            }
+        }
+        texts_are_drawn_in_parts();
+        let used = self.workspace.allocated_bytes();
+        let _kept = make_room(self.alloc, &mut self.workspace, used);
+        Ok(())
+    }
+}
+
+/// Lets a plan apply these features, and request kerning as they do.
+fn take_features(plan: &mut hb_ot_shape_plan_t, features: &[Feature]) -> Result<(), AllocError>
+    ensures ok { plan.old.apply_morx ≡ true → plan.old.kern_mask ≡ 8 → OnOk result (IsPlanOf features.now plan.new) }
+    ensures mask { plan.new.kern_mask ≡ plan.old.kern_mask }
+    ensures applied { plan.new.apply_morx ≡ plan.old.apply_morx }
+{
+    plan.user_features.clear();
+    plan.user_features.extend_from_slice(features)?;
+    plan.requested_kerning = requests_kerning(features);
+    Ok(())
+}
+
+/// How many bytes a text is given to be shaped in.
+fn room_of(text: &[TextGlyph], features: &[Feature]) -> usize {
+    let glyphs = text.len().min(LONGEST_TEXT);
+    let features = features.len().min(LONGEST_TEXT);
+    4096 + 160 * glyphs + 512 * features
+}
+
+/// Empties a workspace, and lets it have so many bytes in a row.
+fn make_room<A: Allocator + Copy>(
+    alloc: A,
+    workspace: &mut Bump<A>,
+    room: usize,
+) -> Result<(), AllocError> {
+    if workspace.reset().is_err() || workspace.chunk_capacity() < room {
+        *workspace = Bump::try_with_capacity(alloc, room)?;
+    }
+    Ok(())
+}
+
+/// Whether the font and the text allow a break anywhere.
+fn may_break_anywhere(face: &hb_font_t, direction: Direction, text: &[TextGlyph]) -> bool
+    ensures { result ≡ (shapes_apart face.now direction && is_rising text.now) }
+{
+    shapes_apart(face, direction) && is_rising(text)
+}
+
+/// Whether nothing is left of a buffer's budget.
+fn uses_up<H: Allocator + Copy>(buffer: &hb_buffer_t<H>) -> bool
+    ensures { result ≡ not (has_operations buffer.now) }
+{
+    !buffer.max_ops().is_positive()
+}
+
+/// Shapes a text in a workspace, puts what is drawn into `glyphs`, and answers whether the budget was used up.
+fn shape_over<H: Allocator + Copy, A: Allocator>(
+    workspace: H,
+    plan: &hb_ot_shape_plan_t,
+    face: &hb_font_t,
+    direction: Direction,
+    text: &[TextGlyph],
+    glyphs: &mut Vec<ShapedGlyph, A>,
+) -> Result<bool, AatError>
+    requires short { length text.now ≤ most_text }
+    requires planned { IsPlanOf plan.now.user_features.items plan.now }
+    requires empty { glyphs.old.items ≡ [] }
+    ensures ok { OnOk result (glyphs.new.items ≡ shaped_text face.now direction plan.now.user_features.items text.now) }
+    ensures used { IfOk result
+        (λ used. used ≡ uses_up_budget face.now direction plan.now.user_features.items text.now) }
+    ensures refused { IfErr result (RefusesText face.now direction plan.now.user_features.items text.now) }
+    ensures fits { OnOk result (first_too_large_among (tables_of face.now).feat plan.now.user_features.items ≡ None) }
+    ensures order { is_rising text.now ≡ true → OnOk result (AreInOrder direction glyphs.new.items) }
+    ensures bounded { OnOk result (length glyphs.new.items ≤ most_glyphs (length text.now)) }
+{
+    let features = plan.user_features.as_slice();
+    let mut buffer = buffer_of(workspace, face, direction, features, text)?;
+    shape_with_deleted(workspace, plan, face, &mut buffer)?;
+    turn(&mut buffer);
+    let is_used_up = uses_up(&buffer);
+    let breaks = Breaks {
+        is_allowed: may_break_anywhere(face, direction, text),
+        skips: skips_of(face),
+        features,
+    };
+    draw(workspace, breaks, &mut buffer, glyphs)?;
+    Ok(is_used_up)
+}
