@@ -1,0 +1,67 @@
+//! Reads a font file by its path, and prints its tables as text, with their faults. Each word behind the path is a text
+//! whose characters are listed with their glyphs.
+#![tactic(auto)]
+
+use aat_face::Face;
+use aat_font::GlyphId;
+use anyhow::{Result, bail};
+use std::io::{BufWriter, Write};
+use std::{env, fs, io};
+
+/// Prints what the font has as a whole, and the faults of its tables.
+fn write_font<W: Write>(out: &mut W, face: &Face<'_>) -> Result<()> {
+    writeln!(out, "glyphs {}", face.glyph_count())?;
+    writeln!(out, "units per em {}", face.units_per_em())?;
+    for fault in face.faults() {
+        writeln!(out, "fault {fault}")?;
+    }
+    Ok(())
+}
+
+/// Prints the advance and the properties of each glyph.
+fn write_glyphs<W: Write>(out: &mut W, face: &Face<'_>) -> Result<()> {
+    let font = face.font();
+    for glyph in 0..face.glyph_count() {
+        let advance = font.glyph_advance(GlyphId(glyph));
+        let properties = font.glyph_props(GlyphId(glyph));
+        writeln!(
+            out,
+            "glyph {glyph} advance {advance} properties {properties:#06x}"
+        )?;
+    }
+    Ok(())
+}
+
+/// Prints the glyph of each character of a text.
+fn write_characters<W: Write>(out: &mut W, face: &Face<'_>, text: &str) -> Result<()> {
+    for character in text.chars() {
+        let code = character as u32;
+        match face.glyph_of(character) {
+            Some(glyph) => writeln!(out, "character U+{code:04X} glyph {}", glyph.0)?,
+            None => writeln!(out, "character U+{code:04X} has no glyph")?,
+        }
+    }
+    Ok(())
+}
+
+fn main(rt: HostRuntime) -> Result<()> {
+    let alloc = rt.alloc();
+    let mut words = env::args(&rt)?.skip(1);
+    let Some(path) = words.next() else {
+        bail!("give the path of a font");
+    };
+    let file = fs::read(&rt, path.as_str())?;
+    let mut out = BufWriter::new(alloc, io::writer(&rt))?;
+    match Face::read(alloc, &file, 0) {
+        Ok(face) => {
+            write_font(&mut out, &face)?;
+            write_glyphs(&mut out, &face)?;
+            for text in words {
+                write_characters(&mut out, &face, text.as_str())?;
+            }
+        }
+        Err(error) => writeln!(out, "{error}")?,
+    }
+    out.flush()?;
+    Ok(())
+}

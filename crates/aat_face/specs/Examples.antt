@@ -1,0 +1,90 @@
+-- Worked examples of faces.
+use Rattle.std.specs.Prelude.{◌≡◌, ℕ, List, [], ◌∷◌, Some, None, Ok, Err}
+use Rattle.aat_bytes.specs.Faults.{fault_at}
+use Rattle.aat_bytes.specs.declared.error.FaultKind.TheVariants.{PastEnd, Missing}
+use Rattle.aat_lookup_reader.specs.FeatureExamples.{example_feat}
+use Rattle.aat_sfnt.specs.Examples.{example_file, example_metrics}
+use Rattle.aat_sfnt.specs.Metrics.{metrics_of}
+use Rattle.aat_sfnt.specs.declared.class_definition.ClassDefinition.TheVariants.{Array, Ranges}
+use Rattle.aat_sfnt.specs.declared.gdef.GlyphClasses.{GlyphClasses}
+use Rattle.aat_sfnt.specs.declared.tags.TheConstants.{HEAD, SFNT}
+use Rattle.aat_face.specs.English.{english_text, text_in}
+use Rattle.aat_face.specs.Faces.{FaceValue, FontValue, face_of, feature_text, setting_text}
+use Rattle.aat_face.specs.Lists.{advance_pairs, property_pairs}
+use Rattle.aat_face.specs.declared.encoding.NameEncoding.TheVariants.{Utf16, MacRoman}
+
+-- a font without tables
+abbrev pub empty_font : FontValue
+empty_font =
+    record { morx = None; kerx = None; kern = None; feat = None; ankr = None; properties = None; advances = None }
+
+-- the file has `maxp` with 7 glyphs, and `head` that reaches past the end: that is listed, and what is missing is not
+abbrev pub FaultsAreListed : Type 0
+FaultsAreListed =
+    (face_of example_file 0 ≡ Ok (record {
+      glyph_count = 7;
+      units_per_em = 1000;
+      characters = None;
+      names = None;
+      features = None;
+      font = empty_font;
+      faults = fault_at HEAD PastEnd 0 ∷ [];
+    }))
+    × (face_of example_file 1 ≡ Err (fault_at SFNT Missing 0))
+    × (face_of [] 0 ≡ Err (fault_at SFNT PastEnd 0))
+
+-- marks of class 3 from glyph 1 to 2, of which glyph 2 has the class 9 among marks
+abbrev pub example_classes : GlyphClasses
+example_classes = record {
+  classes = Ranges (0 ∷ 2 ∷ 0 ∷ 1 ∷ 0 ∷ 1 ∷ 0 ∷ 2 ∷ 0 ∷ 3 ∷ []);
+  mark_classes = Array (0 ∷ 1 ∷ 0 ∷ 2 ∷ 0 ∷ 1 ∷ 0 ∷ 9 ∷ []);
+}
+
+-- each glyph has its advance and its properties, and a mark its class in the high byte
+abbrev pub GlyphsHaveValues : Type 0
+GlyphsHaveValues =
+    (advance_pairs (metrics_of example_metrics 2 3) 3 ≡ (0, 500) ∷ (1, 600) ∷ (2, 600) ∷ [])
+    × (advance_pairs (metrics_of example_metrics 0 2) 2 ≡ (0, 0) ∷ (1, 0) ∷ [])
+    × (property_pairs example_classes 3 ≡ (0, 0) ∷ (1, 8) ∷ (2, 2312) ∷ [])
+
+-- names 1 and 2 of the Macintosh, and name 2 of Windows
+abbrev pub example_names : List ℕ
+example_names =
+    0 ∷ 0 ∷ 0 ∷ 3 ∷ 0 ∷ 42
+    ∷ 0 ∷ 1 ∷ 0 ∷ 0 ∷ 0 ∷ 0 ∷ 0 ∷ 1 ∷ 0 ∷ 1 ∷ 0 ∷ 0
+    ∷ 0 ∷ 1 ∷ 0 ∷ 0 ∷ 0 ∷ 0 ∷ 0 ∷ 2 ∷ 0 ∷ 1 ∷ 0 ∷ 1
+    ∷ 0 ∷ 3 ∷ 0 ∷ 1 ∷ 4 ∷ 9 ∷ 0 ∷ 2 ∷ 0 ∷ 2 ∷ 0 ∷ 2 ∷ 65 ∷ 66 ∷ 0 ∷ 67 ∷ []
+
+-- the text of Windows goes before that of the Macintosh
+abbrev pub WindowsGoesFirst : Type 0
+WindowsGoesFirst =
+    (english_text example_names 1 ≡ Some (text_in MacRoman (65 ∷ [])))
+    × (english_text example_names 2 ≡ Some (text_in Utf16 (0 ∷ 67 ∷ [])))
+    × (english_text example_names 3 ≡ None)
+
+-- names 256 and 257 of the Macintosh
+abbrev pub example_feature_names : List ℕ
+example_feature_names =
+    0 ∷ 0 ∷ 0 ∷ 2 ∷ 0 ∷ 30
+    ∷ 0 ∷ 1 ∷ 0 ∷ 0 ∷ 0 ∷ 0 ∷ 1 ∷ 0 ∷ 0 ∷ 1 ∷ 0 ∷ 0
+    ∷ 0 ∷ 1 ∷ 0 ∷ 0 ∷ 0 ∷ 0 ∷ 1 ∷ 1 ∷ 0 ∷ 1 ∷ 0 ∷ 1 ∷ 76 ∷ 77 ∷ []
+
+-- a face of these names, and of the features 1, of the name 256, with the setting 2, of the name 257, and 3, of 260
+abbrev pub example_face : FaceValue
+example_face = record {
+  glyph_count = 0;
+  units_per_em = 1000;
+  characters = None;
+  names = Some example_feature_names;
+  features = Some example_feat;
+  font = empty_font;
+  faults = [];
+}
+
+-- a feature and a setting have the texts of their names, where these are there
+abbrev pub FeaturesHaveTexts : Type 0
+FeaturesHaveTexts =
+    (feature_text example_face 1 ≡ Some (text_in MacRoman (76 ∷ [])))
+    × (setting_text example_face 1 2 ≡ Some (text_in MacRoman (77 ∷ [])))
+    × (setting_text example_face 1 3 ≡ None)
+    × (feature_text example_face 3 ≡ None)

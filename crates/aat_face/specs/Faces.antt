@@ -1,0 +1,129 @@
+-- A font from the bytes of its file, with the list of its faults.
+use Rattle.std.specs.Prelude.{ℕ, List, [], ◌∷◌, Option, None, Result, Ok, option_map, option_and_then, unwrap_or}
+use Rattle.std.specs.List.{filter_map}
+use Rattle.aat_bytes.specs.Faults.{after}
+use Rattle.aat_bytes.specs.declared.error.Fault.{Fault}
+use Rattle.aat_font.specs.AnchorPoints.{Points}
+use Rattle.aat_font.specs.Face.{advances_of, glyph_classes_of, tables_of}
+use Rattle.aat_font.specs.declared.face.hb_font_t.{hb_font_t}
+use Rattle.aat_font.specs.declared.feat.FeatureName.{FeatureName}
+use Rattle.aat_font.specs.declared.kern.KernSubtable.{KernSubtable}
+use Rattle.aat_font.specs.declared.kerx.KerxSubtable.{KerxSubtable}
+use Rattle.aat_font.specs.declared.morx.Morx.{Morx}
+use Rattle.aat_font.specs.declared.plan.GlyphId.{GlyphId}
+use Rattle.aat_lookup_reader.specs.Features.{feature_name_id, setting_name_id}
+use Rattle.aat_sfnt.specs.Characters.{glyph_of}
+use Rattle.aat_sfnt.specs.Directory.{Directory, directory_of}
+use Rattle.aat_sfnt.specs.declared.cmap.Cmap.{Cmap}
+use Rattle.aat_face.specs.English.{Text, english_text}
+use Rattle.aat_face.specs.Features.{feature_bytes, features_in, layer_tables}
+use Rattle.aat_face.specs.Lists.{advance_pairs, property_pairs}
+use Rattle.aat_face.specs.Tables.{characters_in, classes_in, fault_in, found_in, glyph_count_in, long_metric_count_in, metrics_in, names_in, number_in, units_per_em_in}
+use Rattle.aat_face.specs.declared.tables.Tables.{Tables}
+
+-- the tables of a file as they are read: metrics need the number of long ones and that of glyphs, 0 where it is missing
+abbrev pub tables_in : Directory → Tables
+tables_in file = record {
+  maxp = glyph_count_in file;
+  head = units_per_em_in file;
+  hhea = long_metric_count_in file;
+  hmtx = metrics_in file (number_in (long_metric_count_in file)) (number_in (glyph_count_in file));
+  cmap = characters_in file;
+  gdef = classes_in file;
+  name = names_in file;
+  feat = features_in file;
+}
+
+-- the faults of tables in their order
+abbrev pub faults_of : Tables → List Fault
+faults_of tables = filter_map (λ fault. fault)
+    (fault_in tables.maxp ∷ fault_in tables.head ∷ fault_in tables.hhea ∷ fault_in tables.hmtx
+    ∷ fault_in tables.cmap ∷ fault_in tables.gdef ∷ fault_in tables.name ∷ fault_in tables.feat ∷ [])
+
+-- what a font has for the layer: the tables, and the properties and the advances of its glyphs
+pub record FontValue : Type 0 where
+  pub morx : Option Morx
+  pub kerx : Option (List KerxSubtable)
+  pub kern : Option (List KernSubtable)
+  pub feat : Option (List FeatureName)
+  pub ankr : Option Points
+  pub properties : Option (List (ℕ × ℕ))
+  pub advances : Option (List (ℕ × ℕ))
+
+-- what a made font has
+abbrev pub font_value : hb_font_t → FontValue
+font_value font = record {
+  morx = (tables_of font).morx;
+  kerx = (tables_of font).kerx;
+  kern = (tables_of font).kern;
+  feat = (tables_of font).feat;
+  ankr = (tables_of font).ankr;
+  properties = glyph_classes_of font;
+  advances = advances_of font;
+}
+
+-- a face, whose names and features are the bytes of their tables
+pub record FaceValue : Type 0 where
+  pub glyph_count : ℕ
+  pub units_per_em : ℕ
+  pub characters : Option Cmap
+  pub names : Option (List ℕ)
+  pub features : Option (List ℕ)
+  pub font : FontValue
+  pub faults : List Fault
+
+-- the advances of glyphs, if the font has metrics
+abbrev pub advances_in : Tables → ℕ → Option (List (ℕ × ℕ))
+advances_in tables glyph_count = option_map (λ metrics. advance_pairs metrics glyph_count) (found_in tables.hmtx)
+
+-- the properties of glyphs, if the font has classes
+abbrev pub properties_in : Tables → ℕ → Option (List (ℕ × ℕ))
+properties_in tables glyph_count = option_map (λ classes. property_pairs classes glyph_count) (found_in tables.gdef)
+
+-- the font of tables: of those for the layer, `feat` alone is read
+abbrev pub font_of : Tables → FontValue
+font_of tables = record {
+  morx = None;
+  kerx = None;
+  kern = None;
+  feat = (layer_tables tables.feat).feat;
+  ankr = None;
+  advances = advances_in tables (number_in tables.maxp);
+  properties = properties_in tables (number_in tables.maxp);
+}
+
+-- the face of tables. Units of the em are 1,000 where they are missing, as HarfBuzz has it
+abbrev pub face_of_tables : Tables → FaceValue
+face_of_tables tables = record {
+  glyph_count = number_in tables.maxp;
+  units_per_em = unwrap_or (found_in tables.head) 1000;
+  characters = found_in tables.cmap;
+  names = found_in tables.name;
+  features = feature_bytes tables.feat;
+  font = font_of tables;
+  faults = faults_of tables;
+}
+
+-- the glyph of a character, if the font has one that is not 0
+abbrev pub glyph_of_character : FaceValue → ℕ → Option GlyphId
+glyph_of_character face character =
+    option_map (λ glyph. record { 0 = glyph })
+    (option_and_then (λ characters. glyph_of characters character) face.characters)
+
+-- the English text of a name, if the font has names
+abbrev pub name_of : FaceValue → ℕ → Option Text
+name_of face name = option_and_then (λ names. english_text names name) face.names
+
+-- the English text of the name of a feature type
+abbrev pub feature_text : FaceValue → ℕ → Option Text
+feature_text face kind =
+    option_and_then (name_of face) (option_and_then (λ bytes. feature_name_id bytes kind) face.features)
+
+-- the English text of the name of a setting of a feature type
+abbrev pub setting_text : FaceValue → ℕ → ℕ → Option Text
+setting_text face kind setting =
+    option_and_then (name_of face) (option_and_then (λ bytes. setting_name_id bytes kind setting) face.features)
+
+-- the face of the font at an index of a file
+abbrev pub face_of : List ℕ → ℕ → Result FaceValue Fault
+face_of file index = after (directory_of file index) (λ directory. Ok (face_of_tables (tables_in directory)))

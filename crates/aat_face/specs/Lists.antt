@@ -1,0 +1,18 @@
+-- Values of all glyphs of a font. Apple's TrueType Reference Manual, "The 'hmtx' table".
+use Rattle.std.specs.Prelude.{ℕ, List, map, unwrap_or}
+use Rattle.std.specs.List.{range_with_len}
+use Rattle.aat_sfnt.specs.GlyphClasses.{properties_of}
+use Rattle.aat_sfnt.specs.Metrics.{LongMetrics, advance_of}
+use Rattle.aat_sfnt.specs.declared.gdef.GlyphClasses.{GlyphClasses}
+
+-- each of so many glyphs with its value
+abbrev pub pairs_over : ℕ → (ℕ → ℕ) → List (ℕ × ℕ)
+pairs_over glyph_count value = map (λ glyph. (glyph, value glyph)) (range_with_len 0 glyph_count)
+
+-- the advances of glyphs in units of the font, 0 where a glyph has none
+abbrev pub advance_pairs : LongMetrics → ℕ → List (ℕ × ℕ)
+advance_pairs metrics glyph_count = pairs_over glyph_count (λ glyph. unwrap_or (advance_of metrics glyph) 0)
+
+-- the properties of glyphs
+abbrev pub property_pairs : GlyphClasses → ℕ → List (ℕ × ℕ)
+property_pairs classes glyph_count = pairs_over glyph_count (properties_of classes)

@@ -1,0 +1,238 @@
+//! A font with the list of its faults.
+ghost use Rattle.std.specs.Prelude.{◌≡◌, IfOk, IfErr};
+ghost use Rattle.aat_bytes.specs.declared.error.ReadError.TheVariants as errors;
+ghost use Rattle.aat_lookup_reader.specs.Lookups.{Gives};
+ghost use Rattle.aat_face.specs.Faces.{advances_in, face_of, face_of_tables, faults_of, feature_text, font_value, glyph_of_character, name_of, properties_in, setting_text, tables_in};
+
+use crate::features::{feature_bytes, features_in, layer_tables};
+use crate::lists::{advance_lookup, property_lookup};
+use crate::tables::{
+    Tables, characters_in, classes_in, fault_in, found_in, glyph_count_in, long_metric_count_in,
+    metrics_in, names_in, number_in, units_per_em_in,
+};
+use crate::text::{NameText, english_text};
+use aat_bytes::{Fault, ReadError};
+use aat_font::{GlyphId, Lookup, hb_font_t};
+use aat_lookup_reader::{feature_name_id, setting_name_id};
+use aat_sfnt::{Cmap, FontFile, Names};
+use std::alloc::{AllocError, Global};
+use std::marker::Model;
+
+/// A font of a file, with the list of its faults. A contract sees it as the record `FaceValue`.
+///
+/// Apple's TrueType Reference Manual, "The font directory".
+#[derive(Drop)]
+pub struct Face<'a> {
+    glyph_count: u16,
+    units_per_em: u16,
+    characters: Option<Cmap<'a>>,
+    names: Option<Names<'a>>,
+    features: Option<&'a [u8]>,
+    font: hb_font_t,
+    faults: Vec<Fault>,
+}
+
+impl<'a> Model for Face<'a> {
+    ghost use Rattle.std.specs.Prelude.{option_copied};
+    ghost use Rattle.aat_face.specs.Faces.{FaceValue, font_value};
+
+    ghost Value = { FaceValue };
+
+    ghost view = { λ m. record {
+      glyph_count = m.glyph_count;
+      units_per_em = m.units_per_em;
+      characters = m.characters;
+      names = m.names;
+      features = option_copied m.features;
+      font = font_value m.font;
+      faults = m.faults.items;
+    } };
+}
+
+/// The tables of a file.
+fn tables_in<'a>(alloc: Global, file: &FontFile<'a>) -> Result<Tables<'a>, AllocError>
+    ensures { IfOk result (λ tables. tables ≡ tables_in file.now) }
+{
+    let feat = features_in(alloc, file)?;
+    let maxp = glyph_count_in(file);
+    let hhea = long_metric_count_in(file);
+    Ok(Tables {
+        hmtx: metrics_in(file, number_in(&hhea), number_in(&maxp)),
+        maxp,
+        head: units_per_em_in(file),
+        hhea,
+        cmap: characters_in(file),
+        gdef: classes_in(file),
+        name: names_in(file),
+        feat,
+    })
+}
+
+/// The faults of tables in their order.
+fn faults_of(alloc: Global, tables: &Tables<'_>) -> Result<Vec<Fault>, AllocError>
+    ensures { IfOk result (λ faults. faults.items ≡ faults_of tables.now) }
+{
+    let faults = [
+        fault_in(&tables.maxp),
+        fault_in(&tables.head),
+        fault_in(&tables.hhea),
+        fault_in(&tables.hmtx),
+        fault_in(&tables.cmap),
+        fault_in(&tables.gdef),
+        fault_in(&tables.name),
+        fault_in(&tables.feat),
+    ];
+    faults.iter().filter_map(|fault| *fault).collect(alloc)
+}
+
+/// The advances of glyphs, if the font has metrics.
+fn advances_of(
+    alloc: Global,
+    tables: &Tables<'_>,
+    glyph_count: u16,
+) -> Result<Option<Lookup>, ReadError>
+    ensures ok { IfOk result (λ advances. advances ≡ advances_in tables.now glyph_count) }
+    ensures refused { IfErr result (λ error. error ≡ errors.OutOfMemory) }
+{
+    match &tables.hmtx {
+        Ok(Some(metrics)) => Ok(Some(advance_lookup(alloc, metrics, glyph_count)?)),
+        _ => Ok(None),
+    }
+}
+
+/// The properties of glyphs, if the font has classes.
+fn properties_of(
+    alloc: Global,
+    tables: &Tables<'_>,
+    glyph_count: u16,
+) -> Result<Option<Lookup>, ReadError>
+    ensures ok { IfOk result (λ properties. properties ≡ properties_in tables.now glyph_count) }
+    ensures refused { IfErr result (λ error. error ≡ errors.OutOfMemory) }
+{
+    match &tables.gdef {
+        Ok(Some(classes)) => Ok(Some(property_lookup(alloc, classes, glyph_count)?)),
+        _ => Ok(None),
+    }
+}
+
+impl<'a> Face<'a> {
+    /// The font of a directory.
+    fn of_file(alloc: Global, file: &FontFile<'a>) -> Result<Face<'a>, ReadError>
+        ensures ok { IfOk result (λ face. face ≡ face_of_tables (tables_in file.now)) }
+        ensures refused { IfErr result (λ error. error ≡ errors.OutOfMemory) }
+    {
+        let tables = tables_in(alloc, file)?;
+        let faults = faults_of(alloc, &tables)?;
+        let glyph_count = number_in(&tables.maxp);
+        let advances = advances_of(alloc, &tables, glyph_count)?;
+        let properties = properties_of(alloc, &tables, glyph_count)?;
+        Ok(Face {
+            glyph_count,
+            units_per_em: found_in(tables.head).unwrap_or(1000),
+            characters: found_in(tables.cmap),
+            names: found_in(tables.name),
+            features: feature_bytes(&tables.feat),
+            font: hb_font_t::new(layer_tables(tables.feat), properties, advances),
+            faults,
+        })
+    }
+
+    /// The font at an index of a file. A file that is no collection has one font, at index 0.
+    ///
+    /// A table that has a fault is not read, and the face lists its first fault; the other tables stand. A table that
+    /// is missing is no fault: without `maxp` the font has no glyphs, without `head` 1,000 units of the em, without
+    /// `hmtx` no advances, without `hhea` advances of 0, without `cmap` no characters, without `GDEF` no properties,
+    /// and without `feat` or `name` no names of features.
+    ///
+    /// Refused as the fault of the directory that `FontFile::read` tells, and as `OutOfMemory` only where the
+    /// directory has no fault.
+    pub fn read(alloc: Global, file: &'a [u8], index: u32) -> Result<Face<'a>, ReadError>
+        ensures { Gives result (face_of file.now index) }
+    {
+        let directory = FontFile::read(file, index)?;
+        Face::of_file(alloc, &directory)
+    }
+
+    /// The number of glyphs, 0 where the table `maxp` is missing or has a fault.
+    pub fn glyph_count(&self) -> u16
+        ensures { result ≡ self.now.glyph_count }
+    {
+        self.glyph_count
+    }
+
+    /// The units of the em, from 16 to 16,384: 1,000 where the table `head` is missing or has a fault.
+    pub fn units_per_em(&self) -> u16
+        ensures { result ≡ self.now.units_per_em }
+    {
+        self.units_per_em
+    }
+
+    /// The glyph of a character, if the font has one that is not 0.
+    pub fn glyph_of(&self, character: char) -> Option<GlyphId>
+        ensures { result ≡ glyph_of_character self.now character }
+    {
+        match &self.characters {
+            Some(characters) => match characters.glyph(character) {
+                Some(glyph) => Some(GlyphId(glyph)),
+                None => None,
+            },
+            None => None,
+        }
+    }
+
+    /// The English text of a name by its number, as the table `feat` has it of a feature or a setting. The text of
+    /// platform 3, encoding 1 and language 0x409 is taken, else that of platform 1, encoding 0 and language 0.
+    pub fn name(&self, name: u16) -> Option<NameText<'a>>
+        ensures { result ≡ name_of self.now name }
+    {
+        match &self.names {
+            Some(names) => english_text(names, name),
+            None => None,
+        }
+    }
+
+    /// The English text of the name of a feature type, if the font has one.
+    pub fn feature_name(&self, kind: u16) -> Option<NameText<'a>>
+        ensures { result ≡ feature_text self.now kind }
+    {
+        let bytes = self.features?;
+        match feature_name_id(bytes, kind) {
+            Some(name) => self.name(name),
+            None => None,
+        }
+    }
+
+    /// The English text of the name of a setting of a feature type, if the font has one.
+    pub fn setting_name(&self, kind: u16, setting: u16) -> Option<NameText<'a>>
+        ensures { result ≡ setting_text self.now kind setting }
+    {
+        let bytes = self.features?;
+        match setting_name_id(bytes, kind, setting) {
+            Some(name) => self.name(name),
+            None => None,
+        }
+    }
+
+    /// The font for the layer, with the advances of its glyphs in units of the font, and the properties of their
+    /// classes.
+    pub fn font(&self) -> &hb_font_t
+        ensures { font_value result.now ≡ self.now.font }
+    {
+        &self.font
+    }
+
+    /// The font for the layer, without what it was read from.
+    pub fn into_font(self) -> hb_font_t
+        ensures { font_value result ≡ self.entry.font }
+    {
+        self.font
+    }
+
+    /// The faults of tables, at most one of each, in the order `maxp`, `head`, `hhea`, `hmtx`, `cmap`, `GDEF`, `name`,
+    /// `feat`.
+    pub fn faults(&self) -> &[Fault]
+        ensures { result.now ≡ self.now.faults }
+    {
+        &self.faults
+    }
+}

@@ -1,0 +1,15 @@
+//! A font from the bytes of its file, with the list of its faults.
+#![tactic(auto)]
+
+mod encoding;
+mod face;
+mod features;
+mod lists;
+mod tables;
+mod text;
+#[doc(hidden)]
+pub mod worked;
+
+pub use encoding::NameEncoding;
+pub use face::Face;
+pub use text::NameText;

@@ -1,0 +1,74 @@
+//! Values of all glyphs of a font.
+ghost use Rattle.std.specs.Prelude.{◌≡◌, IfOk, IfErr, None};
+ghost use Rattle.aat_bytes.specs.declared.error.ReadError.TheVariants as errors;
+ghost use Rattle.aat_font.specs.Keys.{first, first_fall};
+ghost use Rattle.aat_face.specs.Lists.{advance_pairs, property_pairs};
+
+use aat_bytes::ReadError;
+use aat_font::{Lookup, TableError};
+use aat_sfnt::{GlyphClasses, Metrics};
+use std::alloc::{AllocError, Global};
+
+/// The lookup of pairs that rise strictly by glyph.
+fn rising_lookup(alloc: Global, pairs: &[(u16, u16)]) -> Result<Lookup, ReadError>
+    requires { first_fall first pairs.now ≡ None }
+    ensures ok { IfOk result (λ lookup. lookup ≡ pairs.now) }
+    ensures refused { IfErr result (λ error. error ≡ errors.OutOfMemory) }
+{
+    match Lookup::new(alloc, pairs) {
+        Ok(lookup) => Ok(lookup),
+        Err(_) => Err(ReadError::OutOfMemory),
+    }
+}
+
+/// The pairs of so many glyphs and their advances.
+fn advance_pairs(
+    alloc: Global,
+    metrics: &Metrics<'_>,
+    glyph_count: u16,
+) -> Result<Vec<(u16, u16)>, AllocError>
+    ensures { IfOk result (λ pairs. pairs.items ≡ advance_pairs metrics.now glyph_count) }
+{
+    (0..glyph_count)
+        .map(|glyph| (glyph, metrics.advance(glyph).unwrap_or(0)))
+        .collect(alloc)
+}
+
+/// The advances of so many glyphs, in units of the font, 0 where a glyph has none.
+pub fn advance_lookup(
+    alloc: Global,
+    metrics: &Metrics<'_>,
+    glyph_count: u16,
+) -> Result<Lookup, ReadError>
+    ensures ok { IfOk result (λ lookup. lookup ≡ advance_pairs metrics.now glyph_count) }
+    ensures refused { IfErr result (λ error. error ≡ errors.OutOfMemory) }
+{
+    let pairs = advance_pairs(alloc, metrics, glyph_count)?;
+    rising_lookup(alloc, &pairs)
+}
+
+/// The pairs of so many glyphs and their properties.
+fn property_pairs(
+    alloc: Global,
+    classes: &GlyphClasses<'_>,
+    glyph_count: u16,
+) -> Result<Vec<(u16, u16)>, AllocError>
+    ensures { IfOk result (λ pairs. pairs.items ≡ property_pairs classes.now glyph_count) }
+{
+    (0..glyph_count)
+        .map(|glyph| (glyph, classes.properties(glyph)))
+        .collect(alloc)
+}
+
+/// The properties of so many glyphs.
+pub fn property_lookup(
+    alloc: Global,
+    classes: &GlyphClasses<'_>,
+    glyph_count: u16,
+) -> Result<Lookup, ReadError>
+    ensures ok { IfOk result (λ lookup. lookup ≡ property_pairs classes.now glyph_count) }
+    ensures refused { IfErr result (λ error. error ≡ errors.OutOfMemory) }
+{
+    let pairs = property_pairs(alloc, classes, glyph_count)?;
+    rising_lookup(alloc, &pairs)
+}

@@ -1,0 +1,21 @@
+//! Worked examples of faces as theorems. These calls do nothing: what is proved is their contracts.
+ghost use Rattle.aat_face.specs.Examples.{FaultsAreListed, FeaturesHaveTexts, GlyphsHaveValues, WindowsGoesFirst};
+
+/// The definition of a face computes to the examples.
+#[tactic(auto, unfolding(aat_bytes::specs::Numbers::slice, aat_sfnt::specs::Directory::place_in_collection, aat_sfnt::specs::Directory::directory_place, aat_sfnt::specs::Directory::directory_at, aat_sfnt::specs::Header::glyph_count, aat_sfnt::specs::Header::units_per_em))]
+pub fn faces()
+    ensures faults { FaultsAreListed }
+{}
+
+/// The definitions of the values of glyphs and of English names compute to the examples.
+#[tactic(auto, unfolding(aat_bytes::specs::Numbers::slice, aat_sfnt::specs::Names::has_pair, aat_sfnt::specs::Names::has_key))]
+pub fn lists()
+    ensures values { GlyphsHaveValues }
+    ensures names { WindowsGoesFirst }
+{}
+
+/// The definitions of the names of features compute to the examples.
+#[tactic(auto, unfolding(aat_bytes::specs::Numbers::slice, aat_bytes::specs::Numbers::u16_at, aat_lookup_reader::specs::Features::feature_count, aat_sfnt::specs::Names::has_pair, aat_sfnt::specs::Names::has_key))]
+pub fn features()
+    ensures { FeaturesHaveTexts }
+{}

@@ -1,0 +1,5 @@
+pub mod Appended
+pub mod Faultless
+pub mod UnitPlaces
+pub mod Values
+pub mod NameFalls

@@ -1,0 +1,9 @@
+pub mod FeatureExamples
+pub mod Features
+pub mod Layouts
+pub mod LookupExamples
+pub mod LookupLaws
+pub mod Lookups
+pub mod Segments
+pub mod facts
+pub mod inside

@@ -1,0 +1,5 @@
+pub mod Counting
+pub mod Entries
+pub mod Folded
+pub mod Listed
+pub mod Ranges

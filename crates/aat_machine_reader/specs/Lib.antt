@@ -1,0 +1,11 @@
+pub mod Contextual
+pub mod Entries
+pub mod Kinds
+pub mod Lists
+pub mod Lookups
+pub mod Machine
+pub mod MachineExamples
+pub mod MachineLaws
+pub mod StateArray
+pub mod SubtableKinds
+pub mod Within

@@ -1,0 +1,20 @@
+//! State tables and the kinds of subtables of `morx`, read from bytes.
+#![tactic(auto)]
+
+mod contextual;
+mod entry_read;
+mod kinds;
+#[doc(hidden)]
+pub mod laws;
+mod lists;
+mod machine;
+mod state_array;
+mod subtable_kind;
+#[doc(hidden)]
+pub mod worked;
+
+pub use contextual::read_contextual;
+pub use entry_read::EntryRead;
+pub use kinds::{MORX, read_insertion, read_ligature};
+pub use machine::read_machine;
+pub use subtable_kind::read_subtable_kind;

@@ -1,0 +1,4 @@
+pub mod FeatAgain
+pub mod NoFall
+pub mod ReadAgain
+pub mod WordPlaces

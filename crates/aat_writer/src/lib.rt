@@ -1,0 +1,14 @@
+//! Writers of the tables of an Apple font, which the readers read again.
+#![tactic(auto)]
+
+mod error;
+mod feat;
+#[doc(hidden)]
+pub mod laws;
+mod lookup;
+mod rising;
+mod words;
+
+pub use error::WriteError;
+pub use feat::write_feat;
+pub use lookup::write_lookup;

@@ -1,0 +1,18 @@
+//! Numbers of 16 bits, one behind the other.
+ghost use Rattle.std.specs.Prelude.{◌≡◌, ◌++◌, OnOk};
+ghost use Rattle.aat_writer.specs.Words.{word_bytes};
+
+use std::alloc::{AllocError, Allocator};
+
+/// Appends numbers of 16 bits, big-endian.
+pub(crate) fn append_words<A: Allocator>(
+    out: &mut Vec<u8, A>,
+    words: &[u16],
+) -> Result<(), AllocError>
+    ensures { OnOk result (out.new.items ≡ out.old.items ++ word_bytes words.now) }
+{
+    for word in words {
+        out.extend_from_slice(&word.to_be_bytes())?;
+    }
+    Ok(())
+}
