@@ -6,10 +6,10 @@ use aat_glyph::{Direction, GlyphPosition};
 
 /// How a glyph is attached to another, in `GlyphPosition::attach_type`. Any other number is no attachment.
 pub mod attach_type {
-    /// As a mark: it is drawn beside the other glyph, so that two anchor points meet.
+    /// As a mark: its offsets are counted from where the other glyph is drawn, so that two anchor points meet.
     pub const MARK: u8 = 1;
 
-    /// As a cursive glyph: it is drawn as far across the line as the other glyph.
+    /// As a cursive glyph: its offset across the line is counted from where the other glyph is drawn.
     pub const CURSIVE: u8 = 2;
 }
 
@@ -20,6 +20,8 @@ pub mod attach_type {
 /// the other way round, and that of a cursive glyph in the order of the text. One that leaves the line, or leads to the
 /// glyph itself or to one that is drawn after it, counts as none. Kerning across the stream makes such a chain at the
 /// first glyph, and the removal of glyphs may leave one.
+///
+/// `i` has to be a place of the line. It takes no memory and cannot be refused.
 pub fn parent_of(direction: Direction, positions: &[GlyphPosition], i: usize) -> Option<usize>
     requires { i < length positions.now }
     ensures value { result ≡ parent direction positions.now i }

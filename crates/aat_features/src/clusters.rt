@@ -35,7 +35,8 @@ fn end_of(bound: Bound<&u32>) -> u32
 }
 
 /// A request of a feature's value over a range of clusters: `3..5`, `3..`, `..5`, `..`, or one with its end included. A
-/// range with no end goes to the end of the text, whose number is `u32::MAX`.
+/// range with no end goes to the end of the text, whose number is `u32::MAX`. So an end of that number, included or
+/// not, is no end.
 ///
 /// Nothing is asked of its ends: over a range that ends before it starts the feature is nowhere on. The range has to
 /// have bounds, as each of std's has but one `a..=b` that was iterated to its end.

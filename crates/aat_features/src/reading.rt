@@ -15,8 +15,8 @@ use aat_font::Feature;
 /// - The tag has one to four letters, digits or underscores, and is filled up with spaces. In single or double quotes
 ///   it has four.
 /// - Clusters stand in brackets: a start and an end that is not included, parted by `:`, `;` or `..`. With no start
-///   they begin at 0, and with no end they have none, which is `u32::MAX`. A number alone is its one cluster. Empty or
-///   missing brackets are all clusters.
+///   they begin at 0, and with no end they have none, which is `u32::MAX`. A number alone is its one cluster, up to
+///   4294967293: above, its end would be `u32::MAX`. Empty or missing brackets are all clusters.
 /// - The value is a number, `on`, which is 1, or `off`, which is 0, in letters of either case. An equals sign may stand
 ///   before it, and with one it is demanded. It comes before that of the sign.
 ///

@@ -62,8 +62,8 @@ kerns_apart face d = list_all (kerns_pairs_along d) (kernings_of face)
 abbrev pub skips_of : hb_font_t → ℕ
 skips_of face = if is_some (tables_of face).kerx then kerx_skips else kern_skips
 
--- what the font has to be like for its texts of a direction to be broken anywhere: all that is for them substitutes
--- glyph by glyph, and kerns pairs along the line
+-- what the font has to be like for its texts of a direction to be broken anywhere: of the subtables that are for them,
+-- those of `morx` that can be switched on substitute glyph by glyph, and those of kerning kern pairs along the line
 abbrev pub shapes_apart : hb_font_t → Direction → Bool
 shapes_apart face d = substitutes_apart face d && kerns_apart face d
 

@@ -9,7 +9,7 @@ use Rattle.aat_shaped_text.specs.ShapedText.{most_text, shaped_text}
 use Rattle.aat_shaped_text.specs.declared.text.ShapedGlyph.{ShapedGlyph}
 use Rattle.aat_shaped_text.specs.declared.text.TextGlyph.{TextGlyph}
 
--- no glyph of a font is drawn so: all is 0
+-- what is read past the last glyph that is drawn: all is 0
 abbrev pub no_shaped_glyph : ShapedGlyph
 no_shaped_glyph = record {
   glyph_id = 0;
@@ -67,7 +67,7 @@ BreaksHold face d features text glyphs =
     (k : ℕ) → k < length glyphs → (shaped_at glyphs k).may_break_before ≡ true
     → IsDrawnInParts face d features text glyphs k
 
--- so it is with each text
+-- so it is with each text of at most 2^24 glyphs
 abbrev pub TextsAreDrawnInParts : Type 0
 TextsAreDrawnInParts =
     (face : hb_font_t) (d : Direction) (features : List Feature) (text : List TextGlyph)

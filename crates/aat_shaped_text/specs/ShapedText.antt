@@ -1,7 +1,7 @@
 -- A text that is shaped: its glyphs as a line, what the layer's calls leave of it, and what is drawn. (How a text is
 -- handed in and out is the shaper's own. Apple's TrueType Reference Manual, "The 'morx' table", "The 'kerx' table" and
 -- "The 'kern' table".)
-use Rattle.std.specs.Prelude.{◌≡◌, ◌⊎◌, ℕ, is_some, ◌<◌, ◌≤◌, ◌*◌, ◌^◌, ◌&&◌, not, Bool, pos, int_lt, List, AllPairs, Option, Some, None, length, filter, map, max, min, zip, slice_index_or, if◌then◌else◌}
+use Rattle.std.specs.Prelude.{◌≡◌, ◌⊎◌, ℕ, is_some, ◌<◌, ◌≤◌, ◌*◌, ◌^◌, ◌&&◌, not, Bool, pos, List, AllPairs, Option, Some, None, length, filter, map, max, min, zip, slice_index_or, if◌then◌else◌}
 use Rattle.std.specs.Bool.{MatchBool}
 use Rattle.std.specs.List.{range_with_len}
 use Rattle.aat_attachment.specs.Attachments.{added_up, parent}
@@ -142,8 +142,8 @@ AreInOrder d glyphs =
     MatchBool (is_backward d) (AllPairs (λ g h. h.cluster ≤ g.cluster) glyphs)
     (AllPairs (λ g h. g.cluster ≤ h.cluster) glyphs)
 
--- why a text is not shaped: a value of alternates is no setting; the text is too long, or substitution would make its
--- line too long; or memory is wanting
+-- why a text is not shaped: a value of alternates is no setting; or the text is too long, or substitution would make
+-- its line too long. Of `OutOfMemory` nothing is said, and `BufferFailed` never comes.
 abbrev pub RefusesText : hb_font_t → Direction → List Feature → List TextGlyph → AatError → Type 0
 RefusesText face d features text (AaltValue value) =
     (length text ≤ most_text) × (first_too_large_among (tables_of face).feat features ≡ Some value)

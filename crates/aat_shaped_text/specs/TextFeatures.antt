@@ -1,6 +1,7 @@
 -- What the features of a text ask at each of its characters. (No chapter of the manual: features are the caller's.)
-use Rattle.std.specs.Prelude.{ℕ, ◌==◌, ◌&&◌, ◌||◌, not, Bool, true, nat_lt, List, fold, if◌then◌else◌}
+use Rattle.std.specs.Prelude.{ℕ, ◌==◌, ◌&&◌, ◌||◌, not, Bool, true, nat_lt, List, find, reverse}
 use Rattle.std.specs.List.{list_all}
+use Rattle.std.specs.Option.{option_map_or}
 use Rattle.aat_font.specs.declared.plan.Feature.{Feature}
 use Rattle.aat_run.specs.Truth.{is_alike}
 
@@ -16,22 +17,22 @@ is_everywhere f = f.start == 0 && f.end == 0xFFFFFFFF
 abbrev pub is_kern : Feature → Bool
 is_kern f = f.tag.0 == 0x6B65726E
 
--- whether kerning is on at a cluster, behind a feature
-abbrev pub kerned_behind : ℕ → Bool → Feature → Bool
-kerned_behind c on f = if is_kern f && holds c f then not (f.value == 0) else on
+-- a feature has a value other than 0
+abbrev pub is_on : Feature → Bool
+is_on f = not (f.value == 0)
 
--- whether kerning is on at a cluster: as the last feature `kern` says that holds it, and else it is on
+-- the last feature that passes a test is on, or none passes
+abbrev pub is_last_on : (Feature → Bool) → List Feature → Bool
+is_last_on test features = option_map_or is_on (find test (reverse features)) true
+
+-- kerning is on at a cluster: the last feature `kern` that holds it is on, or none holds it
 abbrev pub is_kerned_at : List Feature → ℕ → Bool
-is_kerned_at features c = fold (kerned_behind c) true features
+is_kerned_at features c = is_last_on (λ f. is_kern f && holds c f) features
 
--- whether kerning is requested, behind a feature: `kern` with the value 0 everywhere takes the request back, and any
--- other value makes it
-abbrev pub requested_behind : Bool → Feature → Bool
-requested_behind on f = if is_kern f then not (f.value == 0) || (on && not (is_everywhere f)) else on
-
--- whether kerning is requested anywhere, as it is without a feature `kern`
+-- kerning is requested: the last feature `kern` that turns it on anywhere, or off everywhere, turns it on, or there is
+-- none
 abbrev pub requests_kerning : List Feature → Bool
-requests_kerning features = fold requested_behind true features
+requests_kerning features = is_last_on (λ f. is_kern f && (is_on f || is_everywhere f)) features
 
 -- the features ask for the same at two clusters: those that hold one hold the other
 abbrev pub ask_alike : List Feature → ℕ → ℕ → Bool

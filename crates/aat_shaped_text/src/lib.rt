@@ -6,5 +6,8 @@
 #[doc(hidden)]
 pub mod laws;
 mod text;
+/// Worked examples of a text that is shaped, as theorems.
+#[doc(hidden)]
+pub mod worked;
 
 pub use text::{ShapedGlyph, TextGlyph};

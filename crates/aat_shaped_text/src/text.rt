@@ -4,12 +4,13 @@ ghost use Rattle.std.specs.Prelude.{◌≡◌, false, true};
 /// A glyph of a text, and the character that it stands for.
 #[derive(Clone, Copy, PartialEq, Eq, Debug)]
 pub struct TextGlyph {
-    /// The number of the glyph in the font.
+    /// The number of the glyph in the font. 0xFFFF is a deleted glyph, which is not drawn.
     pub glyph_id: u16,
     /// The place of its character in the text.
     pub cluster: u32,
-    /// Whether the character is ignorable by default, as Unicode has it (`Default_Ignorable_Code_Point`): kerning
-    /// by pairs passes over its glyph.
+    /// Whether the character is ignorable by default, as Unicode has it (`Default_Ignorable_Code_Point`). Kerning by
+    /// pairs then skips its glyph, unless the class of the glyph has the property 0x10: it is the right one of no pair,
+    /// and the left one only at the start of the line, or behind a glyph for which kerning is turned off.
     pub is_ignorable: bool,
 }
 
@@ -58,7 +59,7 @@ pub struct ShapedGlyph {
     /// The place, among the glyphs that are drawn, of the glyph that it is attached to, if any. That one stands before
     /// it. There is none where that glyph was deleted.
     pub attached_to: Option<usize>,
-    /// Whether the text may be broken between the glyph that is drawn before it and this one. It is `false` at the
-    /// first glyph.
+    /// Whether the text may be broken between the glyph that is drawn before it and this one: its two parts then look
+    /// by themselves as they do here. Where it is `false` nothing is said. It is `false` at the first glyph.
     pub may_break_before: bool,
 }

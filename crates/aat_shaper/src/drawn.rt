@@ -13,7 +13,7 @@ ghost use Rattle.aat_shaped_text.specs.ShapedText.{drawn_glyph, drawn_glyphs, ke
 
 use crate::breaks::may_break_at;
 use aat_attachment::{add_up_attachments, parent_of};
-use aat_layout::buffer::{DELETED_GLYPH, Direction, GlyphPosition, hb_buffer_t, hb_glyph_info_t};
+use aat_layout::buffer::{DELETED_GLYPH, GlyphPosition, hb_buffer_t, hb_glyph_info_t};
 use aat_layout::font::Feature;
 use aat_layout::{AatError, hb_aat_layout_remove_deleted_glyphs};
 use aat_shaped_text::ShapedGlyph;

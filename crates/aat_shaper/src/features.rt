@@ -1,6 +1,6 @@
 //! What the features of a text ask at its characters.
 ghost use Rattle.std.specs.Prelude.{◌≡◌};
-ghost use Rattle.aat_shaped_text.specs.TextFeatures.{ask_alike, holds, is_everywhere, is_kern, is_kerned_at, kerned_behind, requested_behind, requests_kerning};
+ghost use Rattle.aat_shaped_text.specs.TextFeatures.{ask_alike, holds, is_everywhere, is_kern, is_kerned_at, is_on, requests_kerning};
 
 use aat_layout::font::Feature;
 
@@ -28,46 +28,35 @@ fn is_kern(feature: &Feature) -> bool
     feature.tag.0 == KERN
 }
 
-/// Whether kerning is on at a cluster behind a feature, where it was so before.
-fn kerned_behind(cluster: u32, on: bool, feature: &Feature) -> bool
-    ensures { result ≡ kerned_behind cluster on feature.now }
+/// Whether a feature has a value other than 0.
+fn is_on(feature: &Feature) -> bool
+    ensures { result ≡ is_on feature.now }
 {
-    if is_kern(feature) && holds(feature, cluster) {
-        feature.value != 0
-    } else {
-        on
-    }
+    feature.value != 0
 }
 
-/// Whether kerning is on at a cluster.
+/// Whether kerning is on at a cluster: as the last feature `kern` says that holds it.
 pub(crate) fn is_kerned_at(features: &[Feature], cluster: u32) -> bool
     ensures { result ≡ is_kerned_at features.now cluster }
 {
     let mut on = true;
     for feature in features {
-        on = kerned_behind(cluster, on, feature);
+        if is_kern(feature) && holds(feature, cluster) {
+            on = is_on(feature);
+        }
     }
     on
 }
 
-/// Whether kerning is requested behind a feature, where it was so before.
-fn requested_behind(on: bool, feature: &Feature) -> bool
-    ensures { result ≡ requested_behind on feature.now }
-{
-    if is_kern(feature) {
-        feature.value != 0 || (on && !is_everywhere(feature))
-    } else {
-        on
-    }
-}
-
-/// Whether kerning is requested anywhere.
+/// Whether kerning is requested: as the last feature `kern` says that turns it on anywhere, or off everywhere.
 pub(crate) fn requests_kerning(features: &[Feature]) -> bool
     ensures { result ≡ requests_kerning features.now }
 {
     let mut on = true;
     for feature in features {
-        on = requested_behind(on, feature);
+        if is_kern(feature) && (is_on(feature) || is_everywhere(feature)) {
+            on = is_on(feature);
+        }
     }
     on
 }

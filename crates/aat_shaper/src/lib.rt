@@ -10,6 +10,9 @@ mod font;
 mod line;
 mod names;
 mod shaper;
+/// Worked examples of whether a font has a feature, as a theorem.
+#[doc(hidden)]
+pub mod worked;
 
 pub use aat_shaped_text::{ShapedGlyph, TextGlyph};
 pub use shaper::Shaper;

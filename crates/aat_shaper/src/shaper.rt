@@ -25,7 +25,7 @@ use bumpalo::Bump;
 use std::alloc::{AllocError, Allocator, Global};
 use std::marker::Model;
 
-/// A shaper of texts of a font. It is made once for a font, shapes many texts, and keeps what it needs again.
+/// A shaper of texts of a font. It is made once for a font, shapes many texts, and keeps its memory between them.
 #[derive(Drop)]
 pub struct Shaper<'f, A: Allocator + Copy = Global> {
     font: &'f hb_font_t,
@@ -102,7 +102,7 @@ impl<'f, A: Allocator + Copy> Shaper<'f, A> {
     /// Whether the font has a feature. It has `kern` where it has a table of kerning, `aalt` where its names have
     /// character alternatives with settings, and any other one that is known here where they have its feature type with
     /// settings; small capitals of lower case letters also by the older type of letter case. A feature that the font
-    /// does not have may be asked for, and changes no glyph.
+    /// does not have may be asked for, and changes nothing but where the text may be broken.
     ///
     /// Apple's TrueType Reference Manual, "The 'feat' table".
     pub fn has_feature(&self, tag: hb_tag_t) -> bool
@@ -113,13 +113,18 @@ impl<'f, A: Allocator + Copy> Shaper<'f, A> {
 
     /// Shapes a text, of which [`Shaper::glyphs`] then has what is drawn.
     ///
-    /// The text goes in in reading order, whatever its direction is. The features hold over their ranges of clusters,
-    /// and the last of several that hold a cluster decides. `kern` with the value 0 turns kerning by pairs, and the
-    /// values of machines along the line, off over its range. Features that the font does not have change no glyph. The
-    /// glyphs have the properties of their classes in the font. They are shaped at the cluster level 0, in a line of at
-    /// most 64 glyphs for each one of the text, or 16384 if that is more, but never more than 0x3FFFFFFF, and with a
-    /// budget of 1024 operations for each, or 16384 if that is more, but never more than 0x7FFFFFFF;
-    /// [`Shaper::is_budget_used_up`] tells whether there were not enough.
+    /// The text goes in in reading order, whatever its direction is. The features hold over their ranges of clusters.
+    /// Of several `kern` that hold a cluster the last in the list decides. Of others that exclude each other the first
+    /// to start does, and of those that start together the first in the list, where for each that has ended the first
+    /// that is equal to it is left out. `kern` with the value 0 turns kerning by pairs, and the values of machines
+    /// along the line, off over its range: no glyph there is one of a pair. Features that the font does not have change
+    /// nothing but where the text may be broken.
+    ///
+    /// The glyphs have the properties of their classes in the font. So pairs of `kerx` skip the font's bases, ligatures
+    /// and marks, and those of `kern` its marks. The glyphs are shaped at the cluster level 0, in a line of at most 64
+    /// glyphs for each one of the text, or 16384 if that is more, but never more than 0x3FFFFFFF, and with a budget of
+    /// 1024 operations for each, or 16384 if that is more, but never more than 0x7FFFFFFF;
+    /// [`Shaper::is_budget_used_up`] tells whether none of it is left.
     ///
     /// What comes out is in drawing order, from left to right or from top to bottom, so a backward text begins with its
     /// end. No glyph is 0xFFFF: deleted glyphs take no room, and go when the line has been turned. Offsets are added up
@@ -129,19 +134,20 @@ impl<'f, A: Allocator + Copy> Shaper<'f, A> {
     /// The text may be broken before each glyph that says so: cut at the later one of the two clusters that meet there,
     /// and its two parts shaped by themselves with the same features, what is drawn before the glyph looks as the one
     /// part does, and what is drawn from it on as the other one: ids, clusters, advances and offsets. In a backward
-    /// text the later part is drawn first. A glyph says so where clusters never fall along the text; all subtables of
-    /// `morx` that are for its direction and can be switched on are noncontextual; those of the kerning table in use
-    /// that are for it are of pairs, along the line; kerning does not skip the glyph, which starts a cluster; no glyph
-    /// of the later cluster is marked `UNSAFE_TO_BREAK`, deleted ones included; and the same features hold both
-    /// clusters.
+    /// text the later part is drawn first. No glyph says so unless clusters never fall along the text; all subtables
+    /// of `morx` that are for its direction and can be switched on are noncontextual; and those of the kerning table in
+    /// use that are for it are of pairs, along the line. Then a glyph says so exactly where some glyph is drawn before
+    /// it; kerning does not skip it; its cluster is not that of the glyph before it, which may be a deleted one; no
+    /// glyph of the later of these two clusters is marked `UNSAFE_TO_BREAK`, deleted ones included; and the same
+    /// features hold both.
     ///
     /// A text that is no longer than the one before it, with no more features, is mostly shaped without a request for
     /// memory. It takes as many steps as its line is long for each subtable, as many as there are features for each
-    /// glyph, and those of the budget.
+    /// glyph, those of compiling the features, and those of the budget.
     ///
     /// Refused first as 2, `TooLong`, where the text has more than 2^24 glyphs. Then as 1, `AaltValue`, with the first
     /// value above 65535 that a feature `aalt` asks for, where the font has settings of character alternatives; as 2,
-    /// `TooLong`, where substitution would make the line too long; and as 3, `OutOfMemory`, where memory is wanting,
+    /// `TooLong`, only where substitution makes the line too long; and as 3, `OutOfMemory`, where memory is wanting,
     /// which may come before either. It is never refused as 4, `BufferFailed`. Where it is refused there are no glyphs.
     ///
     /// Apple's TrueType Reference Manual, "The 'morx' table", "The 'kerx' table" and "The 'kern' table".

@@ -1,6 +1,7 @@
-use Rattle.std.proofs.Common.{◌≡◌, fold, take, true}
-use Rattle.aat_shaped_text.specs.TextFeatures.{kerned_behind}
+use Rattle.std.proofs.Common.{◌≡◌, ◌&&◌, take}
+use Rattle.aat_shaped_text.specs.TextFeatures.{holds, is_kern, is_last_on}
 use Rattle.aat_shaper.proofs.features.is_kerned_at.Given as goal
 
 abbrev pub invariant-loop-feature : goal.invariant-loop-feature
-invariant-loop-feature l = l.on ≡ fold (kerned_behind l.fn.cluster) true (take l.feature-index l.fn.features)
+invariant-loop-feature l =
+    l.on ≡ is_last_on (λ f. is_kern f && holds l.fn.cluster f) (take l.feature-index l.fn.features)
