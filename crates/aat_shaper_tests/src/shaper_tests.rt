@@ -1,10 +1,8 @@
 //! The shaper on short texts, and on a long one.
 use crate::fonts::{across, anchors, pair_font, rearranging, staying, two_machines};
-use aat_layout::AatError;
 use aat_layout::buffer::Direction;
 use aat_layout::font::{Feature, hb_font_t, hb_tag_t};
 use aat_shaper::{ShapedGlyph, Shaper, TextGlyph};
-use linked_list_allocator::LocalHeap;
 use std::process::Abort;
 use std::test::Fail;
 
@@ -32,7 +30,7 @@ fn assert_seen(rt: &impl Abort, shaper: &Shaper, wanted: &[Seen]) {
 }
 
 /// Asserts before which of the glyphs that were drawn last the text may be broken.
-fn assert_breaks(rt: &impl Abort, shaper: &Shaper, wanted: &[bool]) {
+pub fn assert_breaks(rt: &impl Abort, shaper: &Shaper, wanted: &[bool]) {
     let glyphs = shaper.glyphs();
     assert_eq!(rt; glyphs.len(), wanted.len());
     for i in 0..wanted.len() {
@@ -50,7 +48,7 @@ fn assert_attached(rt: &impl Abort, shaper: &Shaper, wanted: &[Option<usize>]) {
 }
 
 /// The glyphs 6, 5 and 7, of a cluster each.
-const THREE: [TextGlyph; 3] = [
+pub const THREE: [TextGlyph; 3] = [
     TextGlyph {
         glyph_id: 6,
         cluster: 0,
@@ -69,12 +67,12 @@ const THREE: [TextGlyph; 3] = [
 ];
 
 /// A glyph of a text.
-fn glyph(glyph_id: u16, cluster: u32) -> TextGlyph {
+pub fn glyph(glyph_id: u16, cluster: u32) -> TextGlyph {
     TextGlyph::new(glyph_id, cluster)
 }
 
 /// A feature over clusters.
-fn feature(tag: &[u8; 4], value: u32, start: u32, end: u32) -> Feature {
+pub fn feature(tag: &[u8; 4], value: u32, start: u32, end: u32) -> Feature {
     Feature::new(hb_tag_t::from_bytes(tag), value, start..end)
 }
 
@@ -246,7 +244,7 @@ fn kerning_is_turned_off_over_a_range(rt: HostRuntime) -> Result<(), Fail> {
 
 #[test]
 fn a_mark_is_drawn_at_its_anchor(rt: HostRuntime) -> Result<(), Fail> {
-    let font = anchors(rt.alloc())?;
+    let font = anchors(rt.alloc(), true)?;
     let mut shaper = Shaper::new(rt.alloc(), &font);
     shaper.shape(Direction::LeftToRight, &[glyph(6, 0), glyph(7, 1)], &[])?;
     assert_seen(&rt, &shaper, &[(6, 0, 100, 0, 0), (7, 1, 100, -60, 350)]);
@@ -309,38 +307,5 @@ fn a_budget_that_is_used_up_is_told(rt: HostRuntime) -> Result<(), Fail> {
     assert!(&rt; shaper.is_budget_used_up());
     shaper.shape(Direction::TopToBottom, &THREE, &[])?;
     assert!(&rt; !shaper.is_budget_used_up());
-    Ok(())
-}
-
-#[test]
-fn a_second_text_asks_for_no_memory(rt: HostRuntime) -> Result<(), Fail> {
-    let font = pair_font(rt.alloc(), &[(5, 8)], false, &[(6, 8, -40)])?;
-    let heap = LocalHeap::new(rt.alloc(), 1 << 20)?;
-    let mut shaper = Shaper::new_in(rt.alloc(), &heap, &font);
-    let features = [feature(b"smcp", 1, 0, 2), feature(b"kern", 0, 2, 3)];
-    shaper.shape(Direction::LeftToRight, &THREE, &features)?;
-    let room = (1usize << 20).saturating_sub(heap.used());
-    let filled = vec![in &heap; 0u8; room.saturating_sub(4096)]?;
-    let used = heap.used();
-    for _ in 0..3u32 {
-        shaper.shape(Direction::LeftToRight, &THREE, &features)?;
-    }
-    assert_eq!(&rt; heap.used(), used);
-    assert!(&rt; filled.len() > 0);
-    assert_eq!(&rt; shaper.glyphs().len(), 3);
-    Ok(())
-}
-
-#[test]
-fn a_refused_text_leaves_no_glyph(rt: HostRuntime) -> Result<(), Fail> {
-    let font = pair_font(rt.alloc(), &[], true, &[])?;
-    let mut shaper = Shaper::new(rt.alloc(), &font);
-    shaper.shape(Direction::LeftToRight, &THREE, &[feature(b"aalt", 1, 0, 3)])?;
-    assert_eq!(&rt; shaper.glyphs().len(), 3);
-    let heap = LocalHeap::new(rt.alloc(), 1024)?;
-    let mut poor = Shaper::new_in(rt.alloc(), &heap, &font);
-    let refused = poor.shape(Direction::LeftToRight, &THREE, &[]);
-    assert_eq!(&rt; refused, Err(AatError::OutOfMemory));
-    assert_eq!(&rt; poor.glyphs().len(), 0);
     Ok(())
 }
