@@ -1,0 +1,6 @@
+pub mod ChainFeatures
+pub mod Chains
+pub mod ChainSubtables
+pub mod GivesAs
+pub mod InTurn
+pub mod MorxExamples

@@ -1,0 +1,11 @@
+//! Whole tables of the layer, read from bytes: the chains of `morx`.
+#![tactic(auto)]
+
+mod chain_features;
+mod chain_subtables;
+mod in_turn;
+mod morx;
+#[doc(hidden)]
+pub mod worked;
+
+pub use morx::read_morx;
