@@ -3,8 +3,9 @@
 #![tactic(auto)]
 
 use aat_face::Face;
-use aat_font::GlyphId;
+use aat_font::{Chain, GlyphId, SubtableKind, hb_font_t};
 use anyhow::{Result, bail};
+use bitflags::Flags;
 use std::io::{BufWriter, Write};
 use std::{env, fs, io};
 
@@ -28,6 +29,41 @@ fn write_glyphs<W: Write>(out: &mut W, face: &Face<'_>) -> Result<()> {
             out,
             "glyph {glyph} advance {advance} properties {properties:#06x}"
         )?;
+    }
+    Ok(())
+}
+
+/// The name of what a subtable does.
+fn kind_name(kind: &SubtableKind) -> &'static str {
+    match kind {
+        SubtableKind::Rearrangement(_) => "rearrangement",
+        SubtableKind::Contextual(_) => "contextual",
+        SubtableKind::Ligature(_) => "ligature",
+        SubtableKind::NonContextual(_) => "noncontextual",
+        SubtableKind::Insertion(_) => "insertion",
+    }
+}
+
+/// Prints the subtables of a chain of `morx`.
+fn write_subtables<W: Write>(out: &mut W, chain: &Chain) -> Result<()> {
+    for subtable in &chain.subtables {
+        let kind = kind_name(&subtable.kind);
+        let coverage = subtable.coverage.bits();
+        let flags = subtable.feature_flags;
+        writeln!(
+            out,
+            "subtable {kind} coverage {coverage:#04x} flags {flags:#010x}"
+        )?;
+    }
+    Ok(())
+}
+
+/// Prints the chains of `morx`.
+fn write_chains<W: Write>(out: &mut W, font: &hb_font_t) -> Result<()> {
+    for chain in font.chains() {
+        let flags = chain.default_flags;
+        writeln!(out, "chain flags {flags:#010x}")?;
+        write_subtables(out, chain)?;
     }
     Ok(())
 }
@@ -56,6 +92,7 @@ fn main(rt: HostRuntime) -> Result<()> {
         Ok(face) => {
             write_font(&mut out, &face)?;
             write_glyphs(&mut out, &face)?;
+            write_chains(&mut out, face.font())?;
             for text in words {
                 write_characters(&mut out, &face, text.as_str())?;
             }

@@ -9,19 +9,21 @@ use Rattle.aat_font.specs.declared.face.hb_font_t.{hb_font_t}
 use Rattle.aat_font.specs.declared.feat.FeatureName.{FeatureName}
 use Rattle.aat_font.specs.declared.kern.KernSubtable.{KernSubtable}
 use Rattle.aat_font.specs.declared.kerx.KerxSubtable.{KerxSubtable}
-use Rattle.aat_font.specs.declared.morx.Morx.{Morx}
 use Rattle.aat_font.specs.declared.plan.GlyphId.{GlyphId}
 use Rattle.aat_lookup_reader.specs.Features.{feature_name_id, setting_name_id}
+use Rattle.aat_reader.specs.Chains.{ChainValue, values_of_morx}
 use Rattle.aat_sfnt.specs.Characters.{glyph_of}
 use Rattle.aat_sfnt.specs.Directory.{Directory, directory_of}
 use Rattle.aat_sfnt.specs.declared.cmap.Cmap.{Cmap}
+use Rattle.aat_face.specs.Chains.{chains_in}
 use Rattle.aat_face.specs.English.{Text, english_text}
-use Rattle.aat_face.specs.Features.{feature_bytes, features_in, layer_tables}
+use Rattle.aat_face.specs.Features.{feature_bytes, feature_tables, features_in}
 use Rattle.aat_face.specs.Lists.{advance_pairs, property_pairs}
 use Rattle.aat_face.specs.Tables.{characters_in, classes_in, fault_in, found_in, glyph_count_in, long_metric_count_in, metrics_in, names_in, number_in, units_per_em_in}
 use Rattle.aat_face.specs.declared.tables.Tables.{Tables}
 
--- the tables of a file as they are read: metrics need the number of long ones and that of glyphs, 0 where it is missing
+-- the tables of a file as they are read: metrics need the number of long ones and that of glyphs, 0 where it is
+-- missing, and chains that of glyphs
 abbrev pub tables_in : Directory → Tables
 tables_in file = record {
   maxp = glyph_count_in file;
@@ -32,17 +34,19 @@ tables_in file = record {
   gdef = classes_in file;
   name = names_in file;
   feat = features_in file;
+  morx = chains_in file (number_in (glyph_count_in file));
 }
 
 -- the faults of tables in their order
 abbrev pub faults_of : Tables → List Fault
 faults_of tables = filter_map (λ fault. fault)
     (fault_in tables.maxp ∷ fault_in tables.head ∷ fault_in tables.hhea ∷ fault_in tables.hmtx
-    ∷ fault_in tables.cmap ∷ fault_in tables.gdef ∷ fault_in tables.name ∷ fault_in tables.feat ∷ [])
+    ∷ fault_in tables.cmap ∷ fault_in tables.gdef ∷ fault_in tables.name ∷ fault_in tables.feat
+    ∷ fault_in tables.morx ∷ [])
 
--- what a font has for the layer: the tables, and the properties and the advances of its glyphs
+-- what a font has for the layer: what its tables hold, and the properties and the advances of its glyphs
 pub record FontValue : Type 0 where
-  pub morx : Option Morx
+  pub morx : Option (List ChainValue)
   pub kerx : Option (List KerxSubtable)
   pub kern : Option (List KernSubtable)
   pub feat : Option (List FeatureName)
@@ -53,7 +57,7 @@ pub record FontValue : Type 0 where
 -- what a made font has
 abbrev pub font_value : hb_font_t → FontValue
 font_value font = record {
-  morx = (tables_of font).morx;
+  morx = option_map values_of_morx (tables_of font).morx;
   kerx = (tables_of font).kerx;
   kern = (tables_of font).kern;
   feat = (tables_of font).feat;
@@ -80,13 +84,13 @@ advances_in tables glyph_count = option_map (λ metrics. advance_pairs metrics g
 abbrev pub properties_in : Tables → ℕ → Option (List (ℕ × ℕ))
 properties_in tables glyph_count = option_map (λ classes. property_pairs classes glyph_count) (found_in tables.gdef)
 
--- the font of tables: of those for the layer, `feat` alone is read
+-- the font of tables: of those for the layer, `morx` and `feat` are read
 abbrev pub font_of : Tables → FontValue
 font_of tables = record {
-  morx = None;
+  morx = found_in tables.morx;
   kerx = None;
   kern = None;
-  feat = (layer_tables tables.feat).feat;
+  feat = (feature_tables tables.feat).feat;
   ankr = None;
   advances = advances_in tables (number_in tables.maxp);
   properties = properties_in tables (number_in tables.maxp);

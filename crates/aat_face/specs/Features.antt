@@ -30,6 +30,6 @@ feature_bytes reading = option_map (λ table. table.bytes) (found_in reading)
 abbrev pub tables_with : Option (List FeatureName) → FaceTables
 tables_with feat = record { morx = None; kerx = None; kern = None; feat = feat; ankr = None }
 
--- the tables for the layer
-abbrev pub layer_tables : Result (Option FeatureTable) Fault → FaceTables
-layer_tables reading = tables_with (option_map (λ table. table.names) (found_in reading))
+-- the tables for the layer with the features alone
+abbrev pub feature_tables : Result (Option FeatureTable) Fault → FaceTables
+feature_tables reading = tables_with (option_map (λ table. table.names) (found_in reading))

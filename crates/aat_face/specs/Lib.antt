@@ -1,3 +1,4 @@
+pub mod Chains
 pub mod English
 pub mod Examples
 pub mod Faces

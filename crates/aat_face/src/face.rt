@@ -4,7 +4,8 @@ ghost use Rattle.aat_bytes.specs.declared.error.ReadError.TheVariants as errors;
 ghost use Rattle.aat_lookup_reader.specs.Lookups.{Gives};
 ghost use Rattle.aat_face.specs.Faces.{advances_in, face_of, face_of_tables, faults_of, feature_text, font_value, glyph_of_character, name_of, properties_in, setting_text, tables_in};
 
-use crate::features::{feature_bytes, features_in, layer_tables};
+use crate::chains::{chains_in, layer_tables};
+use crate::features::{feature_bytes, features_in};
 use crate::lists::{advance_lookup, property_lookup};
 use crate::tables::{
     Tables, characters_in, classes_in, fault_in, found_in, glyph_count_in, long_metric_count_in,
@@ -55,9 +56,11 @@ fn tables_in<'a>(alloc: Global, file: &FontFile<'a>) -> Result<Tables<'a>, Alloc
 {
     let feat = features_in(alloc, file)?;
     let maxp = glyph_count_in(file);
+    let glyph_count = number_in(&maxp);
+    let morx = chains_in(alloc, file, glyph_count)?;
     let hhea = long_metric_count_in(file);
     Ok(Tables {
-        hmtx: metrics_in(file, number_in(&hhea), number_in(&maxp)),
+        hmtx: metrics_in(file, number_in(&hhea), glyph_count),
         maxp,
         head: units_per_em_in(file),
         hhea,
@@ -65,6 +68,7 @@ fn tables_in<'a>(alloc: Global, file: &FontFile<'a>) -> Result<Tables<'a>, Alloc
         gdef: classes_in(file),
         name: names_in(file),
         feat,
+        morx,
     })
 }
 
@@ -81,6 +85,7 @@ fn faults_of(alloc: Global, tables: &Tables<'_>) -> Result<Vec<Fault>, AllocErro
         fault_in(&tables.gdef),
         fault_in(&tables.name),
         fault_in(&tables.feat),
+        fault_in(&tables.morx),
     ];
     faults.iter().filter_map(|fault| *fault).collect(alloc)
 }
@@ -132,7 +137,7 @@ impl<'a> Face<'a> {
             characters: found_in(tables.cmap),
             names: found_in(tables.name),
             features: feature_bytes(&tables.feat),
-            font: hb_font_t::new(layer_tables(tables.feat), properties, advances),
+            font: hb_font_t::new(layer_tables(tables.morx, tables.feat), properties, advances),
             faults,
         })
     }
@@ -142,10 +147,11 @@ impl<'a> Face<'a> {
     /// A table that has a fault is not read, and the face lists its first fault; the other tables stand. A table that
     /// is missing is no fault: without `maxp` the font has no glyphs, without `head` 1,000 units of the em, without
     /// `hmtx` no advances, without `hhea` advances of 0, without `cmap` no characters, without `GDEF` no properties,
-    /// and without `feat` or `name` no names of features.
+    /// without `feat` or `name` no names of features, and without `morx` no chains. `morx` is read as that of a font of
+    /// so many glyphs as `maxp` has, and its lists reach to the end of the table.
     ///
     /// Refused as the fault of the directory that `FontFile::read` tells, and as `OutOfMemory` only where the
-    /// directory has no fault.
+    /// directory has no fault; `OutOfMemory` says nothing of the faults of tables.
     pub fn read(alloc: Global, file: &'a [u8], index: u32) -> Result<Face<'a>, ReadError>
         ensures { Gives result (face_of file.now index) }
     {
@@ -213,8 +219,8 @@ impl<'a> Face<'a> {
         }
     }
 
-    /// The font for the layer, with the advances of its glyphs in units of the font, and the properties of their
-    /// classes.
+    /// The font for the layer, with the tables `morx` and `feat` where they are read, the advances of its glyphs in
+    /// units of the font, and the properties of their classes. It has no `kerx`, `kern` and `ankr`.
     pub fn font(&self) -> &hb_font_t
         ensures { font_value result.now ≡ self.now.font }
     {
@@ -229,7 +235,7 @@ impl<'a> Face<'a> {
     }
 
     /// The faults of tables, at most one of each, in the order `maxp`, `head`, `hhea`, `hmtx`, `cmap`, `GDEF`, `name`,
-    /// `feat`.
+    /// `feat`, `morx`.
     pub fn faults(&self) -> &[Fault]
         ensures { result.now ≡ self.now.faults }
     {

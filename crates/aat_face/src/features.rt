@@ -1,6 +1,6 @@
 //! The table `feat` with its bytes, where the numbers of names stand.
 ghost use Rattle.std.specs.Prelude.{◌≡◌, Some, IfOk, option_copied};
-ghost use Rattle.aat_face.specs.Features.{feature_bytes, feature_table_of, features_in, layer_tables, tables_with};
+ghost use Rattle.aat_face.specs.Features.{feature_bytes, feature_table_of, feature_tables, features_in, tables_with};
 ghost use Rattle.aat_face.specs.Tables.{read_if_found};
 
 use crate::tables::{found_in, optional_table};
@@ -82,9 +82,9 @@ pub fn feature_bytes<'a>(reading: &Result<Option<Features<'a>>, Fault>) -> Optio
     }
 }
 
-/// The tables for the layer: the features that are read, and no other.
-pub fn layer_tables(reading: Result<Option<Features<'_>>, Fault>) -> FaceTables
-    ensures { result ≡ layer_tables reading.entry }
+/// The tables for the layer with the features that are read alone.
+pub fn feature_tables(reading: Result<Option<Features<'_>>, Fault>) -> FaceTables
+    ensures { result ≡ feature_tables reading.entry }
 {
     match found_in(reading) {
         Some(features) => features.into_tables(),

@@ -1,6 +1,7 @@
 //! A font from the bytes of its file, with the list of its faults.
 #![tactic(auto)]
 
+mod chains;
 mod encoding;
 mod face;
 mod features;

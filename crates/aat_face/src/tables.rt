@@ -3,6 +3,7 @@ ghost use Rattle.std.specs.Prelude.{◌≡◌, MatchResult, option_copied};
 ghost use Rattle.aat_sfnt.specs.Directory.{table_of};
 ghost use Rattle.aat_face.specs.Tables.{characters_in, classes_in, fault_in, found_in, glyph_count_in, long_metric_count_in, metrics_in, names_in, number_in, unless_missing, units_per_em_in};
 
+use crate::chains::Chains;
 use crate::features::Features;
 use aat_bytes::{Fault, FaultKind, Tag};
 use aat_sfnt::tags::{CMAP, GDEF, HEAD, HHEA, HMTX, MAXP, NAME};
@@ -137,4 +138,5 @@ pub struct Tables<'a> {
     pub gdef: Result<Option<GlyphClasses<'a>>, Fault>,
     pub name: Result<Option<Names<'a>>, Fault>,
     pub feat: Result<Option<Features<'a>>, Fault>,
+    pub morx: Result<Option<Chains>, Fault>,
 }

@@ -4,3 +4,4 @@ pub mod ChainSubtables
 pub mod GivesAs
 pub mod InTurn
 pub mod MorxExamples
+pub mod MorxLaws

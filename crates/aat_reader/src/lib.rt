@@ -4,6 +4,8 @@
 mod chain_features;
 mod chain_subtables;
 mod in_turn;
+#[doc(hidden)]
+pub mod laws;
 mod morx;
 #[doc(hidden)]
 pub mod worked;

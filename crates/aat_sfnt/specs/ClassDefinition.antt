@@ -5,7 +5,8 @@ use Rattle.std.specs.Option.{option_map_or}
 use Rattle.aat_bytes.specs.Faults.{after, fault_at}
 use Rattle.aat_bytes.specs.Numbers.{be16, slice_from}
 use Rattle.aat_bytes.specs.declared.error.Fault.{Fault}
-use Rattle.aat_bytes.specs.declared.error.FaultKind.TheVariants.{PastEnd, UnknownFormat}
+use Rattle.aat_bytes.specs.declared.error.FaultKind.TheVariants.{PastEnd, UnknownFormat, NotRising}
+use Rattle.aat_sfnt.specs.RisingRanges.{falling_range}
 use Rattle.aat_sfnt.specs.declared.class_definition.ClassDefinition.{ClassDefinition}
 use Rattle.aat_sfnt.specs.declared.class_definition.ClassDefinition.TheVariants.{Empty, Array, Ranges}
 use Rattle.aat_sfnt.specs.declared.tags.TheConstants.{GDEF}
@@ -22,11 +23,13 @@ class_in_array bytes glyph =
     if nat_lt glyph (be16 bytes 2) || nat_le (be16 bytes 2 + be16 bytes 4) glyph then 0 else
     be16 bytes (6 + 2 * (glyph - be16 bytes 2))
 
--- format 2: a header of 4 bytes with the number of ranges, and 6 bytes for each: first glyph, last glyph and class
+-- format 2: a header of 4 bytes with the number of ranges, and 6 bytes for each: first glyph, last glyph and class.
+-- HarfBuzz believes that they rise, and finds one by bisection; here one that falls is a fault
 unfoldable pub class_ranges_at : List ℕ → ℕ → Result (List ℕ) Fault
 class_ranges_at bytes place =
     if nat_lt (length bytes) 4 then Err (fault_at GDEF PastEnd place) else
-    if nat_lt (length bytes) (4 + 6 * be16 bytes 2) then Err (fault_at GDEF PastEnd (place + 4)) else Ok bytes
+    if nat_lt (length bytes) (4 + 6 * be16 bytes 2) then Err (fault_at GDEF PastEnd (place + 4)) else
+    elim (falling_range bytes) [ Some i ↦ Err (fault_at GDEF NotRising (place + 4 + 6 * i)) | None ↦ Ok bytes ]
 
 -- the range of a glyph: the first that has it, in the order of the file
 abbrev pub range_of : List ℕ → ℕ → Option ℕ

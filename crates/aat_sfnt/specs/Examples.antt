@@ -1,14 +1,14 @@
 -- Worked examples of a font's bytes.
 use Rattle.std.specs.Prelude.{◌≡◌, ℕ, List, [], ◌∷◌, Some, None, Ok, Err, replicate}
 use Rattle.aat_bytes.specs.Faults.{fault_at}
-use Rattle.aat_bytes.specs.declared.error.FaultKind.TheVariants.{PastEnd, ShortLength, Missing}
-use Rattle.aat_sfnt.specs.ClassDefinition.{class_in_ranges}
+use Rattle.aat_bytes.specs.declared.error.FaultKind.TheVariants.{PastEnd, ShortLength, Missing, NotRising}
+use Rattle.aat_sfnt.specs.ClassDefinition.{class_in_ranges, class_ranges_at}
 use Rattle.aat_sfnt.specs.Directory.{Directory, directory_of, table_of}
 use Rattle.aat_sfnt.specs.Header.{glyph_count}
 use Rattle.aat_sfnt.specs.Metrics.{advance_of, metrics_of}
 use Rattle.aat_sfnt.specs.SegmentMapping.{segment_glyph, segments_at}
 use Rattle.aat_sfnt.specs.SegmentedCoverage.{group_glyph}
-use Rattle.aat_sfnt.specs.declared.tags.TheConstants.{CMAP, HEAD, MAXP, SFNT, TTCF}
+use Rattle.aat_sfnt.specs.declared.tags.TheConstants.{CMAP, GDEF, HEAD, MAXP, SFNT, TTCF}
 
 -- a profile of version 0.5 and 7 glyphs
 abbrev pub example_profile : List ℕ
@@ -110,3 +110,11 @@ RangesHaveTheirEnds =
     × (class_in_ranges example_ranges 5 ≡ 3)
     × (class_in_ranges example_ranges 7 ≡ 3)
     × (class_in_ranges example_ranges 8 ≡ 0)
+
+-- two ranges, of which the second begins at the last glyph of the first, and a range from 7 to 5
+abbrev pub FallingRangesAreAFault : Type 0
+FallingRangesAreAFault =
+    (class_ranges_at example_ranges 12 ≡ Ok example_ranges)
+    × (class_ranges_at (0 ∷ 2 ∷ 0 ∷ 2 ∷ 0 ∷ 5 ∷ 0 ∷ 7 ∷ 0 ∷ 3 ∷ 0 ∷ 7 ∷ 0 ∷ 9 ∷ 0 ∷ 1 ∷ []) 12
+    ≡ Err (fault_at GDEF NotRising 22))
+    × (class_ranges_at (0 ∷ 2 ∷ 0 ∷ 1 ∷ 0 ∷ 7 ∷ 0 ∷ 5 ∷ 0 ∷ 3 ∷ []) 12 ≡ Err (fault_at GDEF NotRising 16))

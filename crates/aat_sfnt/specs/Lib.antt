@@ -6,6 +6,7 @@ pub mod GlyphClasses
 pub mod Header
 pub mod Metrics
 pub mod Names
+pub mod RisingRanges
 pub mod SegmentMapping
 pub mod SegmentedCoverage
 pub mod ShortTables

@@ -31,8 +31,10 @@ impl<'a> GlyphClasses<'a> {
     /// The classes of the table `GDEF`.
     ///
     /// The first fault in this order: 1, `PastEnd`, a header of 12 bytes that is not there; 2, `UnknownFormat`, a
-    /// version that is not 1; then of the classes, and then of the classes of marks, 1, a field that is not there,
-    /// and 2, another format than 1 and 2.
+    /// version that is not 1; then of the classes, and then of the classes of marks, 1, a field that is not there, 2,
+    /// another format than 1 and 2, and 5, `NotRising`, at the first range of format 2 whose last glyph is below its
+    /// first one, or whose first glyph is not above the last one of the range before. HarfBuzz bisects ranges and
+    /// believes that they rise.
     #[tactic(auto, unfolding(crate::specs::GlyphClasses::glyph_classes_of))]
     pub fn read(gdef: &'a [u8]) -> Result<GlyphClasses<'a>, Fault>
         ensures { result ≡ glyph_classes_of gdef.now }

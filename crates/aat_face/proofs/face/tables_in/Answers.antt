@@ -1,0 +1,19 @@
+use Rattle.std.proofs.Common.{refl}
+use Rattle.aat_face.proofs.face.tables_in.Goals as goal
+
+pub returns : goal.returns
+returns c =
+    rw (
+      c.in_ok-morx.ensures,
+      c.in_ok-feat.ensures,
+      c.metrics_in.ensures,
+      c.number_in.ensures,
+      c.number_in-glyph_count.ensures,
+      c.glyph_count_in-maxp.ensures,
+      c.long_metric_count_in-hhea.ensures,
+      c.units_per_em_in.ensures,
+      c.characters_in.ensures,
+      c.classes_in.ensures,
+      c.names_in.ensures,
+    )
+    refl

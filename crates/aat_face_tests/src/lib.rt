@@ -1,0 +1,13 @@
+//! The tests of a face that is read of the bytes of a file, and of changed copies of such a file.
+#![tactic(auto)]
+
+#[cfg(test)]
+mod answers;
+#[cfg(test)]
+mod changed_tests;
+#[cfg(test)]
+mod face_tests;
+#[cfg(test)]
+mod files;
+#[cfg(test)]
+mod numbers;
