@@ -65,11 +65,11 @@ few_cells count width few narrow =
     let product : count * width ≤ 65536 * 65536 = mul-le-mul few narrow_le in omega (arith, product)
 
 module _ (m : StateArray) where
-  count_least : Least (is_closed m) 65534 2 (state_count m)
-  count_least = is_least (is_closed m) 65534 2
+  count_least : Least (is_closed m) 65535 1 (state_count m)
+  count_least = is_least (is_closed m) 65535 1
 
-  -- there are 2 states to 65,536
-  pub count_low : 2 ≤ state_count m
+  -- there are 1 to 65,536 states
+  pub count_low : 1 ≤ state_count m
   count_low = count_least.low
 
   pub count_high : state_count m ≤ 65536
@@ -103,7 +103,7 @@ module _ (m : StateArray) where
 
   -- a number of states that is no higher and whose cells name no other state is the number of states
   pub count_is :
-      (count : ℕ) → 2 ≤ count → count ≤ state_count m
+      (count : ℕ) → 1 ≤ count → count ≤ state_count m
       → ((cell : ℕ) → cell < count * m.class_count → states_named m cell ≤ count) → count ≡ state_count m
   count_is count low high named =
       let closed : is_closed m count ≡ true = all_pass _ 0 (count * m.class_count) (λ cell from below. le-leb _ _ (named cell (rw zero-add at below))) in
@@ -130,7 +130,7 @@ module _ (m : StateArray) where
 
   -- states whose indexes are all there, and whose cells name no other state, are the states
   pub all_indexed :
-      (count : ℕ) → 2 ≤ count → count ≤ state_count m
+      (count : ℕ) → 1 ≤ count → count ≤ state_count m
       → ((cell : ℕ) → cell < count * m.class_count → states_named m cell ≤ count)
       → ((cell : ℕ) → cell < count * m.class_count → has_index m cell ≡ true)
       → states_of m ≡ Ok count

@@ -55,6 +55,15 @@ StatesAreNamed = read_example example_machine ≡ Ok (record {
       ∷ idle 2 0 ∷ idle 2 1 ∷ idle 2 2 ∷ idle 2 3 ∷ [];
 })
 
+-- a font may have the row of state 0 alone: where no entry names state 1, there is none
+abbrev pub StateOneIsNotAsked : Type 0
+StateOneIsNotAsked = read_example (example_header 4 32 40 ++ example_classes ++ take 6 example_rows ++ 0 ∷ 0 ∷ []
+    ++ take 4 example_entries) ≡ Ok (record {
+      class_count = 4;
+      classes = (5, 3) ∷ [];
+      rules = idle 0 0 ∷ idle 0 1 ∷ idle 0 2 ∷ idle 0 3 ∷ [];
+    })
+
 -- each fault at its place: a header that is cut, too few classes, a row and an entry that are not there
 abbrev pub MachineFaultsHaveTheirPlaces : Type 0
 MachineFaultsHaveTheirPlaces =

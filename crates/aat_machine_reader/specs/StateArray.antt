@@ -81,10 +81,10 @@ unfoldable pub least : (ℕ → Bool) → ℕ → ℕ → ℕ
 least passes zero from = from
 least passes (suc more) from = elim (passes from) [ true ↦ from | false ↦ least passes more (from + 1) ]
 
--- the number of states is not stored: it is the least one, of 2 or more, whose rows name no other state. A state has
+-- the number of states is not stored: it is the least one, of 1 or more, whose rows name no other state. A state has
 -- 16 bits
 abbrev pub state_count : StateArray → ℕ
-state_count m = least (is_closed m) 65534 2
+state_count m = least (is_closed m) 65535 1
 
 -- the first of so many cells whose index reaches past the end
 abbrev pub missing_index : StateArray → ℕ → Option ℕ

@@ -43,8 +43,8 @@ pub(crate) fn with_classes<T: EntryRead, A: Allocator + Copy>(
 /// The first fault in this order, of `table`, with its place from the start of the table: 1, `PastEnd`, a header of 16
 /// bytes that is not there, at `place`; 3, `ShortLength`, fewer than 4 classes, and 1, more than 65,535, both at
 /// `place`; 1, the first row that reaches past the end; 1, the first entry, by states and then classes, that does; and
-/// the faults of the class table, as `read_lookup` has them. The rows are those of states 0 and 1 and of every state
-/// that entries of rows name.
+/// the faults of the class table, as `read_lookup` has them. The rows are those of state 0, in which a machine starts,
+/// and of every state up to the highest that entries of rows name, so that a font may lack the row of state 1.
 ///
 /// `OutOfMemory` comes only if the bytes have no fault. A fault is found before memory is asked for.
 ///

@@ -186,7 +186,7 @@ impl<'a> StateArray<'a> {
         ensures indexed { IfOk result (λ count. AreIndexed self.now (count * self.now.class_count)) }
     {
         let width = self.class_count as usize;
-        let mut count = 2;
+        let mut count = 1;
         let mut cell = 0;
         while cell < count * width {
             if !self.has_index(cell) {

@@ -4,7 +4,7 @@ use Rattle.aat_machine_reader.proofs.state_array.StateArray.states.Given as goal
 
 abbrev pub invariant-loop-cell : goal.invariant-loop-cell
 invariant-loop-cell l = record {
-  low : 2 ≤ l.count;
+  low : 1 ≤ l.count;
   high : l.count ≤ state_count l.self;
   within : l.cell ≤ l.count * l.self.class_count;
   indexed : (cell : ℕ) → cell < l.cell → has_index l.self cell ≡ true;
