@@ -7,4 +7,6 @@ pub mod PageAnswers
 pub mod Rising
 pub mod RuleFaults
 pub mod Search
+pub mod SegmentFalls
+pub mod SegmentValues
 pub mod Walks

@@ -50,6 +50,17 @@ module _ {X : Type 0} (key : X → ℕ) where
         let high : i ≤ j → k < key (get_or xs j d) = λ above. ranked _ k _ (sym (sides.1 j d above lt)) in
         grind (arith, low, high))
 
+    -- where a binary search by key comes to: to the key, or between those below it and those above it
+    pub search_sides :
+        (r : Result ℕ ℕ)
+        → IsSearchInRange r (length xs) → IsBinarySearchResult (λ y. nat_cmp (key y) k) xs r
+        → MatchResult r (λ i. (i < length xs) × ((d : X) → key (get_or xs i d) ≡ k))
+        (λ i. (j : ℕ) (d : X) → j < length xs → (j < i → key (get_or xs j d) < k) × (i ≤ j → k < key (get_or xs j d)))
+    search_sides (Ok i) within equal = (within, λ d. ranked _ k _ (sym (equal d)))
+    search_sides (Err i) within parted = λ j d lt.
+        let sides = parted comparisons_rise in
+        (λ below. ranked _ k _ (sym (sides.0 j d (omega arith) below)), λ above. ranked _ k _ (sym (sides.1 j d above lt)))
+
     -- an element with the key, at whatever place, is the one that is found
     pub found_there : (i : ℕ) (x : X) → i < length xs → x ≡ get_or xs i x → key x ≡ k → Some x ≡ at_key key xs k
     found_there i x within read has =

@@ -8,6 +8,7 @@ pub mod KerningTables
 pub mod Keys
 pub mod Morx
 pub mod Pairs
+pub mod Segments
 pub mod Subtables
 pub mod Table
 pub mod TableErrors

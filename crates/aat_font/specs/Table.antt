@@ -53,6 +53,10 @@ earlier_fault (Some fall) (Some place) =
 abbrev pub rules_fault : {E : Type 0} → ℕ → List (Rule E) → Option TableError
 rules_fault count rules = earlier_fault (first_fall rule_key rules) (first_out_of_range count rules)
 
+-- the first fault of a number of classes and rules, where the classes are a lookup: too few classes, then the rules
+abbrev pub count_and_rules_fault : {E : Type 0} → ℕ → List (Rule E) → Option TableError
+count_and_rules_fault count rules = if nat_lt count 4 then Some FewClasses else rules_fault count rules
+
 -- the first fault of what is to be a state table: too few classes, then a fall of the glyphs, then the rules
 abbrev pub table_fault : {E : Type 0} → ℕ → List (ℕ × ℕ) → List (Rule E) → Option TableError
 table_fault count classes rules =

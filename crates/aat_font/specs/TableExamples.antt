@@ -3,8 +3,10 @@ use Rattle.std.specs.Prelude.{◌≡◌, ℕ, List, [], ◌∷◌, ℤ, pos, neg
 use Rattle.aat_font.specs.AnchorPoints.{Points, listed_point, point_of}
 use Rattle.aat_font.specs.Keys.{first, first_fall}
 use Rattle.aat_font.specs.Pairs.{key_of_pair, kerning_of}
+use Rattle.aat_font.specs.Segments.{first_segment_fall, pairs_of_segments}
 use Rattle.aat_font.specs.Table.{Rule, TableValue, class_of, entry_of, table_fault}
 use Rattle.aat_font.specs.declared.entries.Point.{Point}
+use Rattle.aat_font.specs.declared.segments.LookupSegment.{LookupSegment}
 use Rattle.aat_font.specs.declared.error.TableError.TheVariants.{NotRising, FewClasses, ClassOutOfRange}
 
 -- entries that are told apart by a number
@@ -81,3 +83,16 @@ PointsAreListed =
     × (listed_point example_points 65535 0 ≡ None)
     × (listed_point example_points 8 0 ≡ None)
     × (point_of example_points 8 0 ≡ record { x = pos 0; y = pos 0 })
+
+-- the segment of two glyphs and a value
+abbrev pub segment_of : ℕ → ℕ → ℕ → LookupSegment
+segment_of first_glyph last_glyph value =
+    record { first_glyph = first_glyph; last_glyph = last_glyph; value = value }
+
+-- a segment lists each of its glyphs, and the next one begins behind it
+abbrev pub SegmentsAreListed : Type 0
+SegmentsAreListed =
+    (pairs_of_segments (segment_of 3 5 7 ∷ segment_of 6 6 8 ∷ []) ≡ (3, 7) ∷ (4, 7) ∷ (5, 7) ∷ (6, 8) ∷ [])
+    × (first_segment_fall (segment_of 3 5 7 ∷ segment_of 6 6 8 ∷ []) ≡ None)
+    × (first_segment_fall (segment_of 3 5 7 ∷ segment_of 5 6 8 ∷ []) ≡ Some 1)
+    × (first_segment_fall (segment_of 3 2 7 ∷ []) ≡ Some 0)

@@ -1,4 +1,5 @@
 pub mod Dense
 pub mod GlyphSpans
 pub mod Lefts
+pub mod Ordered
 pub mod Walks

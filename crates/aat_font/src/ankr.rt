@@ -47,6 +47,13 @@ impl Ankr {
         Ok(Ankr { rows })
     }
 
+    /// The rows of a glyph and its points, strictly rising by glyph.
+    pub fn rows(&self) -> &[(u16, Vec<Point>)]
+        ensures { points_in_rows result.now ≡ self.now }
+    {
+        &self.rows
+    }
+
     /// The point that is listed for a glyph at an index, if there is one. The glyph is looked for where it stands if
     /// all glyphs from the first one up to it have rows, and else found by bisection.
     pub fn point(&self, glyph: GlyphId, index: u16) -> Option<Point>

@@ -72,6 +72,13 @@ impl<A: Allocator> Feat<A> {
         })
     }
 
+    /// The names, strictly rising by type.
+    pub fn names(&self) -> &[FeatureName]
+        ensures { result.now ≡ self.now }
+    {
+        &self.names
+    }
+
     /// The name of a feature type, if there is one, found by bisection.
     pub fn find(&self, kind: u16) -> Option<FeatureName>
         ensures { result ≡ name_of self.now kind }

@@ -1,12 +1,14 @@
 //! Lookups: values of glyphs.
 ghost use Rattle.std.specs.Prelude.{◌≡◌, IfOk, IfErr, OnOk, None};
 ghost use Rattle.aat_font.specs.Keys.{first, first_fall, value_in, IsRising};
+ghost use Rattle.aat_font.specs.Segments.{first_segment_fall, pairs_of_segments};
 ghost use Rattle.aat_font.specs.TableErrors.{RefusesRising};
 
 use crate::dense::Dense;
 use crate::error::TableError;
 use crate::keys::first_fall;
 use crate::plan::GlyphId;
+use crate::segments::{LookupSegment, first_segment_fall, value_in_segments};
 use std::alloc::{AllocError, Allocator, Global};
 use std::marker::Model;
 
@@ -15,20 +17,27 @@ use std::marker::Model;
 /// Apple's TrueType Reference Manual, "Font Tables", section on lookup tables.
 #[derive(Drop)]
 pub struct Lookup<A: Allocator = Global> {
-    pairs: Vec<(u16, u16), A>,
-    dense: Dense<A>,
+    values: Values<A>,
+}
+
+/// How the values of a lookup are kept.
+#[derive(Drop)]
+pub(crate) enum Values<A: Allocator> {
+    /// Pairs of a glyph and its value, and how they are found.
+    Listed(Vec<(u16, u16), A>, Dense<A>),
+    /// Segments, which are searched.
+    Segments(Vec<LookupSegment, A>),
 }
 
 impl<A: Allocator> Model for Lookup<A> {
     ghost use Rattle.std.specs.Prelude.{List, ℕ};
-    ghost use Rattle.aat_font.specs.Keys.{IsRising, first};
-    ghost use Rattle.aat_font.specs.inside.Dense.{AnswersAsPairs};
+    ghost use Rattle.aat_font.specs.inside.Ordered.{AreFound, pairs_of_values};
 
     ghost Value = { List (ℕ × ℕ) };
 
-    ghost view = { λ m. m.pairs.items };
+    ghost view = { λ m. pairs_of_values m.values };
 
-    ghost invariant = { λ m. IsRising first m.pairs.items × AnswersAsPairs m.dense m.pairs.items };
+    ghost invariant = { λ m. AreFound m.values };
 }
 
 impl<A: Allocator + Copy> Lookup<A> {
@@ -52,19 +61,43 @@ impl<A: Allocator + Copy> Lookup<A> {
         requires { IsRising first pairs.now }
         ensures { IfOk result (λ lookup. lookup ≡ pairs.now) }
     {
+        let copy = Vec::from_slice(alloc, pairs)?;
+        let dense = Dense::over(alloc, pairs)?;
         Ok(Lookup {
-            pairs: Vec::from_slice(alloc, pairs)?,
-            dense: Dense::over(alloc, pairs)?,
+            values: Values::Listed(copy, dense),
+        })
+    }
+
+    /// Makes a lookup of segments, which have to rise: each has a glyph, and begins behind the end of the one before it.
+    /// It takes the memory of the segments, however many glyphs these have.
+    ///
+    /// Refused as 1, `NotRising`, with the place of the first segment whose last glyph is below its first one, or whose
+    /// first glyph is not above the last one of the segment before it, and else as 5, `OutOfMemory`, where the copy
+    /// gets no memory.
+    pub fn from_segments(alloc: A, segments: &[LookupSegment]) -> Result<Lookup<A>, TableError>
+        ensures ok { IfOk result (λ lookup. lookup ≡ pairs_of_segments segments.now) }
+        ensures rising { OnOk result (first_segment_fall segments.now ≡ None) }
+        ensures refused { IfErr result (RefusesRising (first_segment_fall segments.now)) }
+    {
+        if let Some(place) = first_segment_fall(segments) {
+            return Err(TableError::NotRising(place));
+        }
+        Ok(Lookup {
+            values: Values::Segments(Vec::from_slice(alloc, segments)?),
         })
     }
 }
 
 impl<A: Allocator> Lookup<A> {
-    /// The value of a glyph, if it has one, found in an array over the span of the glyphs where these lie close, else
-    /// on pages of 256 glyphs where these hold enough of them, and else by bisection.
+    /// The value of a glyph, if it has one. Among pairs it is found in an array over the span of the glyphs where these
+    /// lie close, else on pages of 256 glyphs where these hold enough of them, and else by bisection; among segments by
+    /// bisection.
     pub fn value(&self, glyph: GlyphId) -> Option<u16>
         ensures { result ≡ value_in self.now glyph.0 }
     {
-        self.dense.value(&self.pairs, glyph.0)
+        match &self.values {
+            Values::Listed(pairs, dense) => dense.value(pairs, glyph.0),
+            Values::Segments(segments) => value_in_segments(segments, glyph.0),
+        }
     }
 }

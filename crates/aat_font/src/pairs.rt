@@ -57,6 +57,13 @@ impl<A: Allocator + Copy> Pairs<A> {
 }
 
 impl<A: Allocator> Pairs<A> {
+    /// The pairs of a left glyph, a right glyph and their value, strictly rising by left, then by right glyph.
+    pub fn pairs(&self) -> &[(u16, u16, i16)]
+        ensures { result.now ≡ self.now }
+    {
+        &self.pairs
+    }
+
     /// The value of a left and a right glyph, if they have one, found by bisection among the pairs of the left glyph,
     /// or among all where the left glyphs do not lie close.
     pub fn glyphs_kerning(&self, left: GlyphId, right: GlyphId) -> Option<i16>

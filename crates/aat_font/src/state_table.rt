@@ -3,7 +3,7 @@ ghost use Rattle.std.specs.Prelude.{◌≡◌, ◌+◌, ◌*◌, ◌/◌, ◌%�
 ghost use Rattle.aat_font.specs.Entries.{has_flag, goes_on};
 ghost use Rattle.aat_font.specs.Keys.{IsRising};
 ghost use Rattle.aat_font.specs.Table.{class_of, entry_of, known_class, rule_key, table_value};
-ghost use Rattle.aat_font.specs.Table.{first_out_of_range, earlier_fault, rules_fault, table_fault};
+ghost use Rattle.aat_font.specs.Table.{first_out_of_range, count_and_rules_fault, earlier_fault, rules_fault, table_fault};
 ghost use Rattle.aat_font.specs.TableErrors.{RefusesFault};
 ghost use Rattle.aat_font.specs.inside.Dense.{ruled_entry, state_count, AnswersAsRules, RulesBelow};
 ghost use Rattle.aat_font.specs.inside.Walks.{AreBelow, AreNotBelow};
@@ -135,9 +135,62 @@ impl<T: Copy, A: Allocator + Copy> ExtendedStateTable<T, A> {
             grid: grid_over(alloc, class_count, rules)?,
         })
     }
+
+    /// Makes a table of the number of its classes, a lookup of the classes of glyphs, and rules as for
+    /// [`ExtendedStateTable::new`]. The lookup and the rules are kept as they are handed in.
+    ///
+    /// Refused as 2, `FewClasses`, where the number is below 4; else at the first rule that is not above the one before
+    /// it, as 1, `NotRising`, or whose class is not below the number, as 3, `ClassOutOfRange`, with its place, 1 before
+    /// 3 at one place; and else as 5, `OutOfMemory`, where a grid beside the rules gets no memory. The lookup and the
+    /// rules are then dropped.
+    pub fn with_classes(
+        alloc: A,
+        class_count: u16,
+        classes: Lookup<A>,
+        rules: Vec<(u16, u16, GenericStateEntry<T>), A>,
+    ) -> Result<ExtendedStateTable<T, A>, TableError>
+        ensures ok { IfOk result (λ table. table ≡ table_value class_count classes rules.items) }
+        ensures sound { OnOk result (count_and_rules_fault class_count rules.items ≡ None) }
+        ensures refused { IfErr result (RefusesFault (count_and_rules_fault class_count rules.items)) }
+    {
+        if class_count < MIN_CLASSES {
+            return Err(TableError::FewClasses);
+        }
+        if let Some(fault) = faulty_rule(class_count, &rules) {
+            return Err(fault);
+        }
+        let grid = grid_over(alloc, class_count, &rules)?;
+        Ok(ExtendedStateTable {
+            class_count,
+            classes,
+            rules,
+            grid,
+        })
+    }
 }
 
 impl<T: Copy, A: Allocator> ExtendedStateTable<T, A> {
+    /// The number of classes, of which the first four are those of the manual.
+    pub fn class_count(&self) -> u16
+        ensures { result ≡ self.now.class_count }
+    {
+        self.class_count
+    }
+
+    /// The classes of glyphs, as they were handed in.
+    pub fn classes(&self) -> &Lookup<A>
+        ensures { result.now ≡ self.now.classes }
+    {
+        &self.classes
+    }
+
+    /// The rules: state, class and entry, strictly rising by state, then by class.
+    pub fn rules(&self) -> &[(u16, u16, GenericStateEntry<T>)]
+        ensures { result.now ≡ self.now.rules }
+    {
+        &self.rules
+    }
+
     /// The class of a glyph, if it has one, found as the value of a lookup. The class of the deleted glyph,
     /// 0xFFFF, is always 2.
     pub fn class(&self, glyph: GlyphId) -> Option<u16>

@@ -1,5 +1,5 @@
 //! Worked examples of the tables as theorems. This call does nothing: what is proved is its contract.
-ghost use Rattle.aat_font.specs.TableExamples.{ClassesAreAsListed, EntriesAreByRule, FaultsComeInOrder, EqualKeysFall, PairsAreOrdered, PointsAreListed};
+ghost use Rattle.aat_font.specs.TableExamples.{ClassesAreAsListed, EntriesAreByRule, FaultsComeInOrder, EqualKeysFall, PairsAreOrdered, PointsAreListed, SegmentsAreListed};
 
 /// The definitions of tables compute to the examples.
 pub fn examples()
@@ -9,4 +9,5 @@ pub fn examples()
     ensures falls { EqualKeysFall }
     ensures pairs { PairsAreOrdered }
     ensures points { PointsAreListed }
+    ensures segments { SegmentsAreListed }
 {}

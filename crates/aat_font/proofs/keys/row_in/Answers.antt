@@ -7,7 +7,7 @@ pub returns-in-Ok : goal.returns-in-Ok
 returns-in-Ok g c =
     let key = g.R.Keyed.key_of in
     let facts = c.binary_search_by_key.ensures in
-    let by_key = facts.position key (answers_always _ _ _ (λ f a r h called. search rules)) in
+    let by_key = facts.position key (search (rules, answers_always)) in
     let found = rw c.in-Ok.is at (searched key c.args.rows.now c.requires c.args.key _ facts.bound by_key) in
     rw (found c.index-rows-at.result) (ap Some c.index-rows-at.is)
 
@@ -15,6 +15,6 @@ pub returns-in-Err : goal.returns-in-Err
 returns-in-Err g c =
     let key = g.R.Keyed.key_of in
     let facts = c.binary_search_by_key.ensures in
-    let by_key = facts.position key (answers_always _ _ _ (λ f a r h called. search rules)) in
+    let by_key = facts.position key (search (rules, answers_always)) in
     let found = rw c.in-Err.is at (searched key c.args.rows.now c.requires c.args.key _ facts.bound by_key) in
     rw found refl

@@ -1,0 +1,77 @@
+//! Segments of glyphs that have one value, and how the value of a glyph is found among them.
+ghost use Rattle.std.specs.Prelude.{◌≡◌};
+ghost use Rattle.aat_font.specs.Keys.{value_in};
+ghost use Rattle.aat_font.specs.Segments.{first_segment_fall, last_of, pairs_of_segments};
+ghost use Rattle.aat_font.specs.inside.Ordered.{AreInOrder};
+
+use crate::keys::Keyed;
+
+/// Glyphs next to one another that have one value.
+///
+/// Apple's TrueType Reference Manual, "Font Tables", section on lookup tables, segment single format.
+#[derive(Clone, Copy, PartialEq, Eq, Debug)]
+pub struct LookupSegment {
+    /// The first glyph.
+    pub first_glyph: u16,
+    /// The last glyph.
+    pub last_glyph: u16,
+    /// The value of each of them.
+    pub value: u16,
+}
+
+impl LookupSegment {
+    /// The segment of the glyphs from a first to a last one, with their value.
+    pub fn new(first_glyph: u16, last_glyph: u16, value: u16) -> LookupSegment
+        ensures { result ≡ record { first_glyph = first_glyph; last_glyph = last_glyph; value = value } }
+    {
+        LookupSegment {
+            first_glyph,
+            last_glyph,
+            value,
+        }
+    }
+}
+
+impl Keyed for LookupSegment {
+    ghost use Rattle.aat_font.specs.Segments.{last_of};
+
+    ghost key_of = { last_of };
+
+    fn key(&self) -> u32 {
+        self.last_glyph as u32
+    }
+}
+
+/// The place of the first segment that has no glyph, or begins no higher than the one before it ends.
+pub(crate) fn first_segment_fall(segments: &[LookupSegment]) -> Option<usize>
+    ensures { result ≡ first_segment_fall segments.now }
+{
+    let mut lowest = 0;
+    for i in 0..segments.len() {
+        let segment = segments[i];
+        if (segment.first_glyph as u32) < lowest || segment.last_glyph < segment.first_glyph {
+            return Some(i);
+        }
+        lowest = segment.last_glyph as u32 + 1;
+    }
+    None
+}
+
+/// The value that segments have for a glyph, found by bisection.
+pub(crate) fn value_in_segments(segments: &[LookupSegment], glyph: u16) -> Option<u16>
+    requires { AreInOrder segments.now }
+    ensures { result ≡ value_in (pairs_of_segments segments.now) glyph }
+{
+    match segments.binary_search_by_key(&(glyph as u32), |segment| segment.key()) {
+        Ok(place) => Some(segments[place].value),
+        Err(place) => {
+            let Some(segment) = segments.get(place) else {
+                return None;
+            };
+            if glyph < segment.first_glyph {
+                return None;
+            }
+            Some(segment.value)
+        }
+    }
+}
