@@ -8,5 +8,6 @@ pub mod Rising
 pub mod RuleFaults
 pub mod Search
 pub mod SegmentFalls
+pub mod SegmentsAppended
 pub mod SegmentValues
 pub mod Walks

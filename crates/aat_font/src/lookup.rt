@@ -8,7 +8,7 @@ use crate::dense::Dense;
 use crate::error::TableError;
 use crate::keys::first_fall;
 use crate::plan::GlyphId;
-use crate::segments::{LookupSegment, first_segment_fall, value_in_segments};
+use crate::segments::{LookupSegment, append_segments, first_segment_fall, value_in_segments};
 use std::alloc::{AllocError, Allocator, Global};
 use std::marker::Model;
 
@@ -89,6 +89,21 @@ impl<A: Allocator + Copy> Lookup<A> {
 }
 
 impl<A: Allocator> Lookup<A> {
+    /// The pairs of a glyph and its value, strictly rising by glyph, as a list of its own. Fails where it gets no
+    /// memory.
+    pub fn to_pairs<B: Allocator>(&self, alloc: B) -> Result<Vec<(u16, u16), B>, AllocError>
+        ensures { IfOk result (λ pairs. pairs.items ≡ self.now) }
+    {
+        match &self.values {
+            Values::Listed(pairs, _) => Vec::from_slice(alloc, pairs),
+            Values::Segments(segments) => {
+                let mut pairs = Vec::new(alloc);
+                append_segments(segments, &mut pairs)?;
+                Ok(pairs)
+            }
+        }
+    }
+
     /// The value of a glyph, if it has one. Among pairs it is found in an array over the span of the glyphs where these
     /// lie close, else on pages of 256 glyphs where these hold enough of them, and else by bisection; among segments by
     /// bisection.

@@ -1,10 +1,11 @@
 //! Segments of glyphs that have one value, and how the value of a glyph is found among them.
-ghost use Rattle.std.specs.Prelude.{◌≡◌};
+ghost use Rattle.std.specs.Prelude.{◌≡◌, ◌≤◌, ◌++◌, OnOk};
 ghost use Rattle.aat_font.specs.Keys.{value_in};
-ghost use Rattle.aat_font.specs.Segments.{first_segment_fall, last_of, pairs_of_segments};
+ghost use Rattle.aat_font.specs.Segments.{first_segment_fall, last_of, pairs_of_segment, pairs_of_segments};
 ghost use Rattle.aat_font.specs.inside.Ordered.{AreInOrder};
 
 use crate::keys::Keyed;
+use std::alloc::{AllocError, Allocator};
 
 /// Glyphs next to one another that have one value.
 ///
@@ -74,4 +75,33 @@ pub(crate) fn value_in_segments(segments: &[LookupSegment], glyph: u16) -> Optio
             Some(segment.value)
         }
     }
+}
+
+/// Appends the pairs of a segment.
+fn append_segment<A: Allocator>(
+    segment: LookupSegment,
+    pairs: &mut Vec<(u16, u16), A>,
+) -> Result<(), AllocError>
+    requires { segment.first_glyph ≤ segment.last_glyph }
+    ensures { OnOk result (pairs.new.items ≡ pairs.old.items ++ pairs_of_segment segment) }
+{
+    let count = segment.last_glyph as usize + 1 - segment.first_glyph as usize;
+    for k in 0..count {
+        pairs.push((segment.first_glyph + k as u16, segment.value))?;
+    }
+    Ok(())
+}
+
+/// Appends the pairs of segments.
+pub(crate) fn append_segments<A: Allocator>(
+    segments: &[LookupSegment],
+    pairs: &mut Vec<(u16, u16), A>,
+) -> Result<(), AllocError>
+    requires { AreInOrder segments.now }
+    ensures { OnOk result (pairs.new.items ≡ pairs.old.items ++ pairs_of_segments segments.now) }
+{
+    for i in 0..segments.len() {
+        append_segment(segments[i], pairs)?;
+    }
+    Ok(())
 }
