@@ -2,6 +2,7 @@ pub mod Changed
 pub mod Examples
 pub mod Filled
 pub mod Gap
+pub mod Lent
 pub mod Lowering
 pub mod Pairs
 pub mod Pending

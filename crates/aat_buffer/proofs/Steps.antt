@@ -14,6 +14,18 @@ use Rattle.aat_buffer.proofs.Reaching.{reaches_some, shown_length, shown_read, s
 
 -- The kept glyphs get a lower cluster
 
+-- the record that the last of them gets
+pub made_like : (g h y : hb_glyph_info_t) (gs : List hb_glyph_info_t) (j : ℕ) → h ≡ glyph_at gs j → y ≡ with_cluster_and_flags g h → y ≡ with_cluster_and_flags g (glyph_at gs j)
+made_like g h y gs j read made = made ∙ ap (with_cluster_and_flags g) read
+
+-- it is written, and the run behind it
+pub set_and_run : (old b new : Buffer) (q j : ℕ) (y : hb_glyph_info_t) → b ≡ with_line old (set old.line j y) → new ≡ with_line b (run_written q j b.line) → new ≡ with_line old (run_written q j (set old.line j y))
+set_and_run old b new q j y one wrote = wrote ∙ ap (λ (t : Buffer). with_line t (run_written q j t.line)) one
+
+-- it is written, and the places of the run
+pub set_and_places : (old b d new : Buffer) (q m i j : ℕ) (y : hb_glyph_info_t) → b ≡ with_line old (set old.line j y) → d ≡ with_line b (with_place b.line i q) → new ≡ with_line d (with_place d.line q m) → new ≡ with_line old (with_place (with_place (set old.line j y) i q) q m)
+set_and_places old b d new q m i j y one two wrote = wrote ∙ ap (λ (t : Buffer). with_line t (with_place t.line q m)) (two ∙ ap (λ (t : Buffer). with_line t (with_place t.line i q)) one)
+
 pub lower_written : (old new : Buffer) (k l q b m j : ℕ) (g y : hb_glyph_info_t)
     → 0 < old.cursor → j ≡ old.cursor - 1 → IsPending old k l
     → IsReached old.line k l (cluster_at old.line (old.cursor - 1)) old.cursor q b m

@@ -8,11 +8,6 @@ use Rattle.aat_run.specs.Laws.{IsBounded, SameSettings}
 use Rattle.aat_run.specs.Outcome.{Outcome}
 use Rattle.aat_run.specs.declared.error.AatError.{AatError}
 
--- a fact of an answer that follows from another one
-pub ok_map : (answer : Result ℕ AatError) (P Q : ℕ → Type 0) → ((turns : ℕ) → P turns → Q turns) → IfOk answer P → IfOk answer Q
-ok_map (Ok turns) P Q f p = f turns p
-ok_map (Err error) P Q f p = tt
-
 -- a fact of a refusal by a buffer that is another one
 pub err_map : (answer : Result ℕ AatError) (P : Outcome → AatError → Type 0) (o q : Outcome) → o ≡ q → IfErr answer (P o) → IfErr answer (P q)
 err_map (Ok turns) P o q e p = tt

@@ -1,10 +1,13 @@
+pub mod Acted
 pub mod Ends
 pub mod KindsKeep
 pub mod LaterDeleted
 pub mod LawsHold
 pub mod Ligating
+pub mod Moves
 pub mod OrderOfKinds
 pub mod Parts
 pub mod Passed
 pub mod Putting
+pub mod Ran
 pub mod Refusals

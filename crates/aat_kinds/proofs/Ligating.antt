@@ -1,11 +1,14 @@
 -- One step of the loops of a ligature machine.
-use Rattle.std.proofs.Common.{◌≡◌, zero, suc, ℕ, ◌+◌, List, set, refl, ap, ◌∙◌, arith}
+use Rattle.std.proofs.Common.{◌≡◌, zero, suc, ℕ, ◌+◌, List, set, refl, ap, sym, ◌∙◌, arith}
 use Rattle.std.specs.Prelude.{slice_get}
-use Rattle.aat_buffer.specs.Buffer.{Is16Bit, glyph_at}
+use Rattle.aat_buffer.specs.Buffer.{Buffer, Is16Bit, glyph_at, with_line}
 use Rattle.aat_glyph.specs.declared.glyph.hb_glyph_info_t.{hb_glyph_info_t}
 use Rattle.aat_font.specs.declared.plan.GlyphId.{GlyphId}
+use Rattle.aat_font.specs.Subtables.{LigatureTables}
 use Rattle.aat_run.specs.Context.{Moved}
+use Rattle.aat_run.specs.inside.Places.{left_with}
 use Rattle.aat_kinds.specs.Ligature.{Registers, component, component_step, deleted, deleted_at, later_deleted, ligated, Stops, GoesOn}
+use Rattle.aat_kinds.specs.inside.Taken.{all_taken, step_of}
 
 -- one more of the later components is deleted
 pub later_more : (r : Registers) (c n m : ℕ) (line : List hb_glyph_info_t) → n ≡ m + 1 → later_deleted r c n line ≡ later_deleted r c m (deleted_at (component r (c + n)) line)
@@ -22,6 +25,17 @@ later_none r c (suc n) line none = absurd (omega arith)
 -- the glyph at a place is written as a deleted one
 pub deleted_there : (line : List hb_glyph_info_t) (i j : ℕ) (g h : hb_glyph_info_t) → i ≡ j → g ≡ glyph_at line i → h ≡ deleted g → set line i h ≡ deleted_at j line
 deleted_there line i j g h place read wrote = ap (set line i) (wrote ∙ ap deleted read) ∙ ap (λ x. deleted_at x line) place
+
+-- deleting goes on, and comes to the same line
+pub later_goes_on : (r : Registers) (c n m place most : ℕ) (line first : List hb_glyph_info_t) (g h : hb_glyph_info_t) → n ≡ m + 1 → place ≡ component r (c + n)
+    → g ≡ glyph_at line place → h ≡ deleted g → later_deleted r c n line ≡ later_deleted r c most first
+    → later_deleted r c m (set line place h) ≡ later_deleted r c most first
+later_goes_on r c n m place most line first g h next is read wrote was =
+    ap (later_deleted r c m) (deleted_there line place (component r (c + n)) g h is read wrote) ∙ (sym (later_more r c n m line next) ∙ was)
+
+-- a buffer that differs by its line alone, with another line
+pub line_put : (b d : Buffer) (gs : List hb_glyph_info_t) → d ≡ with_line b d.line → with_line d gs ≡ with_line b gs
+line_put b d gs same = ap (λ (x : Buffer). with_line x gs) same
 
 -- a deleted glyph has 16 bits
 pub deleted_is_small : (g h : hb_glyph_info_t) → h ≡ deleted g → Is16Bit h
@@ -50,3 +64,24 @@ module _ (actions values : List ℕ) (ligatures : List GlyphId) where
   unfolding ligated
   ligated_none zero a sum n none = refl
   ligated_none (suc left) a sum n none = absurd (omega arith)
+
+-- over the act that takes all of the components of r in
+module _ (t : LigatureTables) (first : ℕ) (r : Registers) (b : Buffer) where
+  -- what is left to take, from so many components, by the action at place a
+  abbrev left_to_take : ℕ → ℕ → ℕ → Registers → Buffer → Moved Registers
+  left_to_take left a sum s d = ligated t.actions t.components t.ligatures left a sum (left_with s d)
+
+  pub taken_more : (left rest a sum more : ℕ) (s v : Registers) (d e : Buffer) → left ≡ rest + 1 → step_of t a rest sum s d ≡ GoesOn more (left_with v e)
+      → left_to_take left a sum s d ≡ all_taken t first r b → left_to_take rest (a + 1) more v e ≡ all_taken t first r b
+  taken_more left rest a sum more s v d e next goes was =
+      sym (ligated_goes_on t.actions t.components t.ligatures left rest a sum more (left_with s d) (left_with v e) next goes) ∙ was
+
+  pub taken_stops : (left rest a sum : ℕ) (s v : Registers) (d e : Buffer) → left ≡ rest + 1 → step_of t a rest sum s d ≡ Stops (left_with v e)
+      → left_to_take left a sum s d ≡ all_taken t first r b → left_with v e ≡ all_taken t first r b
+  taken_stops left rest a sum s v d e next stops was =
+      sym (ligated_stops t.actions t.components t.ligatures left rest a sum (left_with s d) (left_with v e) next stops) ∙ was
+
+  pub taken_none : (left a sum : ℕ) (s v : Registers) (d : Buffer) → left ≡ 0 → v ≡ record s { count = 0 }
+      → left_to_take left a sum s d ≡ all_taken t first r b → left_with v d ≡ all_taken t first r b
+  taken_none left a sum s v d none is was =
+      ap (λ (x : Registers). left_with x d) is ∙ (sym (ligated_none t.actions t.components t.ligatures left a sum (left_with s d) none) ∙ was)

@@ -108,13 +108,15 @@ range_of_range xs s e a b some low =
 pub parts_moved : (v : Verb) (b one two three : Buffer) (front back : List hb_glyph_info_t) (s m k e left right : ℕ)
     → left ≡ size_of v.front → right ≡ size_of v.back → m ≡ s + right → k ≡ e - left
     → size_of v.front + size_of v.back ≤ e - s → s ≤ e → e ≤ length b.line
-    → front ≡ slice_range b.line s (s + size_of v.front) → back ≡ slice_range b.line (e - size_of v.back) e
+    → front ≡ slice_range b.line s (s + left) → back ≡ slice_range b.line (e - right) e
     → one ≡ with_line b (covered b.line m k (slice_range b.line (s + left) (e - right)))
     → two ≡ with_line one (covered one.line s m (in_its_order v.back back))
     → three ≡ with_line two (covered two.line k e (in_its_order v.front front))
     → three ≡ with_line b (covered b.line s e (rearranged v (slice_range b.line s e)))
 unfolding rearranged
-parts_moved v b one two three front back s m k e left right from to behind before room low within is_front is_back first second third =
+parts_moved v b one two three front back s m k e left right from to behind before room low within front_read back_read first second third =
+    let is_front : front ≡ slice_range b.line s (s + size_of v.front) = front_read ∙ ap (λ n. slice_range b.line s (s + n)) from in
+    let is_back : back ≡ slice_range b.line (e - size_of v.back) e = back_read ∙ ap (λ n. slice_range b.line (e - n) e) to in
     let span : List hb_glyph_info_t = slice_range b.line s e in
     let long : length span ≡ e - s = length_slice s e b.line low within in
     let cut : ℕ = length span - size_of v.back in

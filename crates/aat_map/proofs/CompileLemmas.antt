@@ -1,14 +1,15 @@
 -- Ranges put behind those of each chain.
-use Rattle.std.proofs.Common.{◌≡◌, ap, refl, ℕ, zero, suc, ◌<◌, ◌≤◌, List, [], ◌∷◌, ◌++◌, map, take, length, arith, Result, Ok, Err}
+use Rattle.std.proofs.Common.{◌≡◌, ◌∙◌, ap, sym, refl, ℕ, zero, suc, ◌+◌, ◌<◌, ◌≤◌, List, [], ◌∷◌, ◌++◌, map, take, length, get_or, arith, Result, Ok, Err}
 use Rattle.std.proofs.lemmas.Grind.{common_steps}
 use Rattle.std.specs.Result.{OnOk}
-use Rattle.std.proofs.lemmas.List.{length-replicate}
+use Rattle.std.proofs.lemmas.List.{length-replicate, map_push, take_more}
 use Rattle.std.proofs.lemmas.Result.{on_ok_weaker}
 use Rattle.aat_font.specs.declared.morx.Chain.{Chain}
 use Rattle.aat_map.specs.declared.feature.feature_range_t.{feature_range_t}
 use Rattle.aat_map.specs.Builder.{Builder}
 use Rattle.aat_map.specs.inside.CompiledSpans.{IsCompiled}
 use Rattle.aat_run.specs.declared.ranges.range_flags_t.{range_flags_t}
+use Rattle.aat_run.specs.Ranges.{next_start}
 use Rattle.aat_map.specs.Map.{list_at, resized, with_ranges}
 use Rattle.aat_map.specs.inside.MapLists.{with_range_at}
 
@@ -44,6 +45,35 @@ list_at-resized n m k lt = grind (arith, common_steps)
 
 pub length_taken : {X Y : Type 0} (f : X → Y) (xs : List X) (i : ℕ) → i < length xs → length (map f (take i xs)) ≡ i
 length_taken f xs i below = grind (arith, common_steps)
+
+-- the next list gets its range
+pub pushed_more :
+    {X : Type 0} (f : X → range_flags_t) (xs : List X) (m ls new : List (List range_flags_t)) (i : ℕ) (x : X) (r : range_flags_t)
+    → i < length xs → length m ≡ length xs → x ≡ get_or xs i x
+    → ls ≡ with_ranges (map f (take i xs)) m → r ≡ f x → new ≡ with_range_at ls i r
+    → new ≡ with_ranges (map f (take (i + 1) xs)) m
+pushed_more {X} f xs m ls new i x r lt many read so_far is wrote =
+    let taken = map f (take i xs) in
+    let same : length taken ≡ i = length_taken f xs i lt in
+    let below : length taken < length m = omega (arith, many, same) in
+    wrote
+    ∙ ap (λ ks. with_range_at ks i r) so_far
+    ∙ ap (with_range_at (with_ranges taken m) i) is
+    ∙ ap (λ k. with_range_at (with_ranges taken m) k (f x)) (sym same)
+    ∙ with_ranges_more taken m (f x) below
+    ∙ ap (λ rs. with_ranges rs m) (sym (map_push f (take i xs) x))
+    ∙ ap (λ ys. with_ranges (map f ys) m) (ap (λ (y : X). take i xs ++ (y ∷ [])) read ∙ sym (take_more xs i x lt))
+
+-- where the range of the next list follows that list, it follows what stands there when it is put in
+pub pushed_follows :
+    {X : Type 0} (f : X → range_flags_t) (xs : List X) (m ls : List (List range_flags_t)) (i : ℕ) (x : X) (r : range_flags_t)
+    → i < length xs → ls ≡ with_ranges (map f (take i xs)) m → r ≡ f x
+    → next_start (list_at m i) ≡ (f x).cluster_first → next_start (list_at ls i) ≡ r.cluster_first
+pushed_follows f xs m ls i x r lt so_far is follows =
+    let short : length (map f (take i xs)) ≤ i = omega (arith, length_taken f xs i lt) in
+    ap next_start (ap (λ ks. list_at ks i) so_far ∙ list_at-with_ranges (map f (take i xs)) m i short)
+    ∙ follows
+    ∙ sym (ap (λ (q : range_flags_t). q.cluster_first) is)
 
 -- what an answer and its map say, where both were handed on
 pub compiled_kept :

@@ -218,13 +218,13 @@ ended_not_put gs was now i n gone e le =
 -- the same of what the code reads and writes
 pub begun_set :
     (gs was now : List feature_info_t) (firsts : List (Option feature_info_t)) (i d : feature_info_t) (n : ℕ)
-    (o f : Option feature_info_t)
+    (o f : Option feature_info_t) (fs : List (Option feature_info_t))
     → firsts ≡ firsts_of gs was → AreApart gs → now ≡ was ++ i ∷ []
     → n ≡ length (take_while (λ g. not (in_group i g)) gs) → n < length gs
-    → o ≡ get_or firsts n o → f ≡ option_or o (Some i) → set firsts n f ≡ firsts_of gs now
-begun_set gs was now firsts i d n o f are apart more e lt read is =
+    → o ≡ get_or firsts n o → f ≡ option_or o (Some i) → fs ≡ set firsts n f → fs ≡ firsts_of gs now
+begun_set gs was now firsts i d n o f fs are apart more e lt read is wrote =
     let there : o ≡ first_of was (get_or gs n d) = read ∙ ap (λ os. get_or os n o) are ∙ get_or-map (first_of was) gs n d o lt in
-    ap (λ os. set os n f) are ∙ begun_put gs was i d n o f apart e lt there is ∙ ap (firsts_of gs) (sym more)
+    wrote ∙ ap (λ os. set os n f) are ∙ begun_put gs was i d n o f apart e lt there is ∙ ap (firsts_of gs) (sym more)
 
 pub begun_kept :
     (gs was now : List feature_info_t) (firsts : List (Option feature_info_t)) (i : feature_info_t) (n : ℕ)
@@ -234,12 +234,12 @@ begun_kept gs was now firsts i n are more e le = are ∙ begun_not_put gs was i 
 
 pub ended_set :
     (gs was now : List feature_info_t) (firsts : List (Option feature_info_t)) (i g : feature_info_t) (n : ℕ)
-    (f : Option feature_info_t)
+    (f : Option feature_info_t) (fs : List (Option feature_info_t))
     → firsts ≡ firsts_of gs was → AreApart gs → now ≡ without_earliest was i
     → n ≡ length (take_while (λ h. not (in_group i h)) gs)
-    → g ≡ get_or gs n g → f ≡ first_of now g → set firsts n f ≡ firsts_of gs now
-ended_set gs was now firsts i g n f are apart gone e read is =
-    ap (λ os. set os n f) are ∙ ended_put gs was now i g n f apart gone e (is ∙ ap (first_of now) read)
+    → g ≡ get_or gs n g → f ≡ first_of now g → fs ≡ set firsts n f → fs ≡ firsts_of gs now
+ended_set gs was now firsts i g n f fs are apart gone e read is wrote =
+    wrote ∙ ap (λ os. set os n f) are ∙ ended_put gs was now i g n f apart gone e (is ∙ ap (first_of now) read)
 
 -- there are as many as groups
 pub length_firsts :

@@ -11,7 +11,7 @@ use Rattle.aat_run.specs.declared.error.AatError.{AatError}
 use Rattle.aat_run.specs.declared.error.AatError.TheVariants.{AaltValue, TooLong, OutOfMemory, BufferFailed}
 use Rattle.aat_map.specs.declared.feature.feature_range_t.{feature_range_t}
 use Rattle.aat_map.specs.declared.feature.feature_info_t.{feature_info_t}
-use Rattle.aat_map.specs.Builder.{builder_with, with_request}
+use Rattle.aat_map.specs.Builder.{Builder, builder_with, with_request}
 use Rattle.aat_map.specs.Requests.{is_too_large, request_of, requests_of, addition}
 use Rattle.aat_map.specs.Adding.{RefusesFeature, RefusesFeatures, before_too_large}
 
@@ -41,6 +41,11 @@ requests_more names xs i d below =
     ∙ ap (λ fs. builder_with (requests_of names (take i xs) ++ fs)) (sym (one_request names (get_or xs i d)))
     ∙ ap builder_with (sym (filter_map-append (request_of names) (take i xs) (get_or xs i d ∷ [])))
     ∙ ap (λ fs. builder_with (requests_of names fs)) (sym (take_more xs i d below))
+
+-- and the builder that it was added to
+pub added_more : (b new : Builder) (names : Option (List FeatureName)) (xs : List Feature) (i : ℕ) (d : Feature) → i < length xs → b ≡ builder_with (requests_of names (take i xs)) → new ≡ with_request b (request_of names (get_or xs i d)) → new ≡ builder_with (requests_of names (take (i + 1) xs))
+added_more b new names xs i d below so_far added =
+    added ∙ ap (λ (t : Builder). with_request t (request_of names (get_or xs i d))) so_far ∙ requests_more names xs i d below
 
 asks : (names : Option (List FeatureName)) (f : Feature) (o : Option feature_info_t) → (addition names f).appended ≡ o → IsSome o → is_some (request_of names f) ≡ true
 asks names f None e h = cc

@@ -1,5 +1,6 @@
 pub mod Alike
 pub mod BestBounds
+pub mod Chained
 pub mod ComingClusters
 pub mod Isolated
 pub mod LawsHold

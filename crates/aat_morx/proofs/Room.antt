@@ -1,5 +1,5 @@
 -- How many glyphs substitution leaves, and so why it is refused.
-use Rattle.std.proofs.Common.{subst, ◌≡◌, ◌∙◌, ap, refl, ℕ, ◌<◌, ◌≤◌, Bool, false, List, [], ◌∷◌, length, arith, None}
+use Rattle.std.proofs.Common.{subst, ◌≡◌, ◌∙◌, ap, sym, refl, ℕ, ◌<◌, ◌≤◌, Bool, false, List, [], ◌∷◌, length, arith, None}
 use Rattle.std.proofs.lemmas.List.{length-reverse}
 use Rattle.std.specs.Prelude.{fold}
 use Rattle.aat_buffer.specs.Buffer.{Buffer, reversed, without_positions}
@@ -17,11 +17,13 @@ use Rattle.aat_kinds.specs.Rearrangement as r
 use Rattle.aat_map.proofs.Truth.{or_false}
 use Rattle.aat_map.specs.SwitchedChains.{SwitchedChain, switched_by, with_switch}
 use Rattle.aat_morx.proofs.LawsHold.{substitution_is_bounded}
+use Rattle.aat_morx.proofs.OrderOfRuns.{clusters_keep_their_order}
 use Rattle.aat_morx.specs.Kept.{inserts, has_insertion}
 use Rattle.aat_morx.specs.Substitution.{is_skipped, subtable_run, chain_run, substituted, prepared}
 use Rattle.aat_run.specs.Budget.{extent}
 use Rattle.aat_run.specs.Driven.{IsRefusal}
-use Rattle.aat_run.specs.Outcome.{Outcome, untouched, then_run, in_order}
+use Rattle.aat_run.specs.Laws.{HasOrderOf}
+use Rattle.aat_run.specs.Outcome.{IsOutcome, Outcome, untouched, then_run, in_order}
 use Rattle.aat_run.specs.Ranges.{switch_for}
 use Rattle.aat_run.specs.Switches.{Switch}
 use Rattle.aat_run.specs.declared.error.AatError.{AatError}
@@ -101,3 +103,20 @@ none_refused z cs ls b d e some none within ready h =
     by_error TooLong h same long most = omega (arith, h, same, most, within)
     by_error OutOfMemory h same long most = omega (arith, h.0, same, long)
     by_error BufferFailed h same long most = h
+
+-- what was run over what is prepared leaves the clusters in their order, and where no subtable inserts, as many glyphs
+module _ (z : Sizes) (cs : List Chain) (ls : List (List range_flags_t)) (b d v : Buffer) (turns : ℕ) (some : 0 < z.slots) (ready : d ≡ prepared b)
+    (ran : IsOutcome (in_order (chain_run z) (switched_by cs ls) d) v turns)
+  where
+    left : v ≡ (substituted z (switched_by cs ls) b).buffer
+    left = ap (λ (o : Outcome). o.buffer) ran ∙ whole_of z (switched_by cs ls) b d ready
+
+    pub order_of_ran : HasOrderOf b v
+    order_of_ran = subst (HasOrderOf b) (sym left) (clusters_keep_their_order z (switched_by cs ls) b some)
+
+    pub number_of_ran : has_insertion cs ≡ false → length v.line ≡ length b.line
+    number_of_ran none = ap (λ (x : Buffer). length x.line) left ∙ number_without_insertion z cs ls b some none
+
+-- so does what is prepared alone
+pub order_of_prepared : (z : Sizes) (b d : Buffer) → 0 < z.slots → d ≡ prepared b → HasOrderOf b d
+order_of_prepared z b d some ready = subst (HasOrderOf b) (sym ready) (clusters_keep_their_order z [] b some)

@@ -1,6 +1,7 @@
 -- What is drawn of a text, from what the calls leave.
-use Rattle.std.proofs.Common.{◌≡◌, ◌∙◌, ap, ℕ, ◌&&◌, Bool, List}
+use Rattle.std.proofs.Common.{◌≡◌, ◌∙◌, ap, ℕ, ◌&&◌, ◌≢◌, Bool, true, not, List, sym, true≢false}
 use Rattle.aat_buffer.specs.Buffer.{Buffer}
+use Rattle.aat_buffer.specs.Marks.{clusters_stay_apart}
 use Rattle.aat_font.specs.Face.{advance_of}
 use Rattle.aat_font.specs.declared.face.hb_font_t.{hb_font_t}
 use Rattle.aat_font.specs.declared.plan.Feature.{Feature}
@@ -8,10 +9,12 @@ use Rattle.aat_font.specs.declared.plan.hb_ot_shape_plan_t.{hb_ot_shape_plan_t}
 use Rattle.aat_glyph.specs.declared.glyph.Direction.{Direction}
 use Rattle.aat_kerning.specs.Positioning.{in_processing_order}
 use Rattle.aat_kerning.specs.Zeroing.{zeroed}
+use Rattle.aat_run.specs.Budget.{has_operations}
 use Rattle.aat_run.specs.Outcome.{Outcome}
 use Rattle.aat_shaping.specs.Shaping.{shaping_with_deleted, with_advances}
 use Rattle.aat_shaped_text.specs.Breaks.{is_rising, may_break_at, shapes_apart, skips_of}
 use Rattle.aat_shaped_text.specs.ShapedText.{drawn_glyphs, drawn_text, shaped_text, text_buffer, text_kerning, text_substitution}
+use Rattle.aat_shaped_text.specs.declared.text.ShapedGlyph.{ShapedGlyph}
 use Rattle.aat_shaped_text.specs.declared.text.TextGlyph.{TextGlyph}
 use Rattle.aat_shaper.proofs.Planned.{planned_shaping}
 use Rattle.aat_shaper.specs.inside.TextPlan.{IsPlanOf}
@@ -35,14 +38,35 @@ module _ (face : hb_font_t) (d : Direction) (features : List Feature) (text : Li
 
   -- what is drawn of it
   pub drawn_so :
-      (allowed : Bool) (skips : ℕ) (asked : List Feature) (b : Buffer)
+      (glyphs : List ShapedGlyph) (allowed : Bool) (skips : ℕ) (asked : List Feature) (b : Buffer)
+      → glyphs ≡ drawn_glyphs (λ i. allowed && may_break_at skips asked b.line i) b
       → allowed ≡ (shapes_apart face d && is_rising text) → skips ≡ skips_of face → asked ≡ features
       → b ≡ drawn_text face d features text
-      → drawn_glyphs (λ i. allowed && may_break_at skips asked b.line i) b ≡ shaped_text face d features text
-  drawn_so allowed skips asked b may skipped same drawn =
-      ap (λ (a : Bool). drawn_glyphs (λ i. a && may_break_at skips asked b.line i) b) may
+      → glyphs ≡ shaped_text face d features text
+  drawn_so glyphs allowed skips asked b put may skipped same drawn =
+      put
+      ∙ (ap (λ (a : Bool). drawn_glyphs (λ i. a && may_break_at skips asked b.line i) b) may
       ∙ (ap (λ (n : ℕ). drawn_glyphs (λ i. (shapes_apart face d && is_rising text) && may_break_at n asked b.line i) b) skipped
       ∙ (ap (λ (fs : List Feature).
       drawn_glyphs (λ i. (shapes_apart face d && is_rising text) && may_break_at (skips_of face) fs b.line i) b) same
       ∙ (ap (λ (c : Buffer).
-      drawn_glyphs (λ i. (shapes_apart face d && is_rising text) && may_break_at (skips_of face) features c.line i) c) drawn)))
+      drawn_glyphs (λ i. (shapes_apart face d && is_rising text) && may_break_at (skips_of face) features c.line i) c) drawn))))
+
+  -- the clusters of the line of a text do not stay apart
+  pub text_merges :
+      (asked : List Feature) (made : Buffer) → made ≡ text_buffer face d asked text
+      → clusters_stay_apart made.cluster_level ≢ true
+  text_merges asked made built apart =
+      true≢false (sym apart ∙ ap (λ (b : Buffer). clusters_stay_apart b.cluster_level) built)
+
+  -- what keeps the direction of the line of a text has that of the text
+  pub text_direction :
+      (asked : List Feature) (made left : Buffer) → made ≡ text_buffer face d asked text
+      → left.direction ≡ made.direction → left.direction ≡ d
+  text_direction asked made left built kept = kept ∙ ap (λ (b : Buffer). b.direction) built
+
+  -- whether it used the budget up
+  pub used_so :
+      (used : Bool) (b : Buffer) → used ≡ not (has_operations b) → b ≡ drawn_text face d features text
+      → used ≡ not (has_operations (drawn_text face d features text))
+  used_so used b left drawn = left ∙ ap (λ (c : Buffer). not (has_operations c)) drawn

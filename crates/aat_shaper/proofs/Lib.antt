@@ -1,9 +1,12 @@
+pub mod DrawnPlaces
 pub mod DrawnText
 pub mod Exposed
 pub mod Kept
 pub mod KernsApart
+pub mod LineMade
 pub mod Ordered
 pub mod Planned
 pub mod Rising
 pub mod Runs
 pub mod Taken
+pub mod Unsafe

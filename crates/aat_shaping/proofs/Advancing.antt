@@ -1,5 +1,5 @@
 -- One step of the advances.
-use Rattle.std.proofs.Common.{◌≡◌, ◌∙◌, ap, sym, refl, ℕ, zero, suc, ◌<◌, ◌+◌, List, [], ◌∷◌, ◌++◌, map, take, drop, length, get_or, set, replicate, arith}
+use Rattle.std.proofs.Common.{◌≡◌, ◌∙◌, ap, sym, refl, Bool, ℕ, zero, suc, ◌<◌, ◌+◌, List, [], ◌∷◌, ◌++◌, map, take, drop, length, get_or, set, replicate, arith}
 use Rattle.std.proofs.lemmas.List.{take_all, drop_all, append-nil, length-replicate}
 use Rattle.aat_glyph.specs.Directions.{is_horizontal}
 use Rattle.aat_glyph.specs.declared.glyph.hb_glyph_info_t.{hb_glyph_info_t}
@@ -50,16 +50,16 @@ advancing_none advance start now is = record {
 }
 
 -- one turn
-pub advancing_more : (advance : ℕ → ℕ) (start now : Buffer) (i : ℕ) (g : hb_glyph_info_t) (r : GlyphPosition) → i < length start.line
-    → IsAdvancing advance start now i → g ≡ glyph_at now.line i → r ≡ place_of advance start g
+pub advancing_more : (advance : ℕ → ℕ) (start now : Buffer) (across : Bool) (i : ℕ) (g : hb_glyph_info_t) (r : GlyphPosition) → across ≡ is_horizontal start.direction
+    → i < length start.line → IsAdvancing advance start now i → g ≡ glyph_at now.line i → r ≡ advanced across (advance g.glyph_id)
     → IsAdvancing advance start (with_position now i r) (i + 1)
-advancing_more advance start now i g r low was glyph wrote =
+advancing_more advance start now across i g r same_way low was glyph wrote =
     let place = place_of advance start in
     let qs : List GlyphPosition = zeros start in
     let long : length qs ≡ length start.line = length-replicate (length start.line) zero_position in
     let next : suc i ≡ i + 1 = omega arith in
     let read : r ≡ place (get_or start.line i no_glyph) =
-    wrote ∙ ap place (glyph ∙ ap (λ (line : List hb_glyph_info_t). glyph_at line i) was.same) in
+    wrote ∙ ap (λ h. advanced h (advance g.glyph_id)) same_way ∙ ap place (glyph ∙ ap (λ (line : List hb_glyph_info_t). glyph_at line i) was.same) in
     let done : with_position now i r ≡ with_positions start (advanced_first place (i + 1) start.line qs) =
     ap (λ (b : Buffer). with_position b i r) was.done
     ∙ ap (λ x. with_positions start (set (advanced_first place i start.line qs) i x)) read

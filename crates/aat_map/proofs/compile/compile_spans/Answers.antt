@@ -103,7 +103,7 @@ returns-clause-lists g c =
     let ss = spans c.args.starts.now in
     let n : length ss ≡ length c.args.starts.now = length-spans c.args.starts.now in
     let all : length ss ≤ c.loop-i.i = omega (arith, n, c.loop-i-test.false) in
-    c.loop-i.invariant.lists ∙ ap (λ xs. compiled_lists c.args.builder.now.features c.args.chains.now xs) (take_all c.loop-i.i ss all)
+    rw (take_all c.loop-i.i ss all) at c.loop-i.invariant.lists
 
 pub returns-clause-kept : goal.returns-clause-kept
 returns-clause-kept g c =

@@ -15,5 +15,5 @@ returns-clause-ok g c =
 pub returns-clause-rising : goal.returns-clause-rising
 returns-clause-rising g c =
     let moved = rw c.in_ok-groups.ensures.ok at c.sort_unstable_by.ensures.permutation in
-    let sorted = c.sort_unstable_by.ensures.sorted (λ a b. is_lt (group_order a b)) (ranks_by group_total (λ (i : feature_info_t). i)) (answers_always _ _ _ (λ f a r h called. search rules)) in
+    let sorted = c.sort_unstable_by.ensures.sorted (λ a b. is_lt (group_order a b)) (ranks_by group_total (λ (i : feature_info_t). i)) (search (rules, answers_always)) in
     kept_rising (infos c.args.requests.now) c.sort_unstable_by.new.self.items moved sorted

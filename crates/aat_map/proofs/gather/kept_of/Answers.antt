@@ -9,5 +9,5 @@ use Rattle.aat_map.proofs.gather.kept_of.Goals as goal
 pub returns-clause-rising : goal.returns-clause-rising
 returns-clause-rising g c xs whole =
     let moved = rw c.in_ok-list.ensures.ok at c.sort_unstable_by.ensures.permutation in
-    let sorted = c.sort_unstable_by.ensures.sorted (λ a b. is_lt (group_order a b)) (ranks_by group_total (λ (i : feature_info_t). i)) (answers_always _ _ _ (λ f a r h called. search rules)) in
+    let sorted = c.sort_unstable_by.ensures.sorted (λ a b. is_lt (group_order a b)) (ranks_by group_total (λ (i : feature_info_t). i)) (search (rules, answers_always)) in
     kept_rising xs c.sort_unstable_by.new.self.items (IsPermutation-trans _ _ _ whole moved) sorted

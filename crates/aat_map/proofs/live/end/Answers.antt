@@ -11,10 +11,9 @@ pub returns-then-place-len-clause-firsts : goal.returns-then-place-len-clause-fi
 returns-then-place-len-clause-firsts g c =
     let live = c.args.live.now in
     rw (c.set_first.ensures.groups, c.set_first.ensures.active)
-    (c.set_first.ensures.firsts
-    ∙ ended_set live.groups.items live.active.items c.take_out.new.list.items live.firsts.items c.args.info.now c.index.result.now c.place_of-place.result c.first_of-first.result
+    (ended_set live.groups.items live.active.items c.take_out.new.list.items live.firsts.items c.args.info.now c.index.result.now c.place_of-place.result c.first_of-first.result c.set_first.new.live.firsts.items
     c.requires.firsts c.requires.apart c.take_out.ensures (rw c.deref.ensures.value at c.place_of-place.ensures.count)
-    c.index.ensures c.first_of-first.ensures)
+    c.index.ensures c.first_of-first.ensures c.set_first.ensures.firsts)
 
 pub returns-else-place-len-clause-firsts : goal.returns-else-place-len-clause-firsts
 returns-else-place-len-clause-firsts g c =

@@ -1,4 +1,4 @@
-use Rattle.std.proofs.Common.{subst, ◌≡◌, ◌∙◌, ◌<◌, ◌≤◌, ap, sym, false, [], length, arith, rules}
+use Rattle.std.proofs.Common.{◌≡◌, ◌∙◌, ◌<◌, ◌≤◌, ap, sym, false, length, arith, rules}
 use Rattle.std.proofs.lemmas.Grind.{common_steps}
 use Rattle.std.proofs.lemmas.Result.{err_from_is_err_and}
 use Rattle.aat_buffer.specs.Buffer.{Buffer}
@@ -6,12 +6,8 @@ use Rattle.aat_font.specs.Chains.{subtable_count}
 use Rattle.aat_font.specs.Face.{chains_in, tables_of}
 use Rattle.aat_kinds.specs.Kinds.{sizes_of}
 use Rattle.aat_map.specs.SwitchedChains.{switched_by}
-use Rattle.aat_morx.proofs.OrderOfRuns.{clusters_keep_their_order}
-use Rattle.aat_morx.proofs.Room.{number_without_insertion, none_refused, too_long_by_extent}
+use Rattle.aat_morx.proofs.Room.{none_refused, number_of_ran, order_of_prepared, order_of_ran, too_long_by_extent}
 use Rattle.aat_morx.specs.Kept.{has_insertion}
-use Rattle.aat_morx.specs.Substitution.{chain_run, substituted}
-use Rattle.aat_run.specs.Laws.{HasOrderOf}
-use Rattle.aat_run.specs.Outcome.{Outcome, in_order}
 use Rattle.aat_run.specs.declared.error.AatError.TheVariants.{TooLong}
 use Rattle.aat_run.specs.Budget.{operations_left}
 use Rattle.aat_run.proofs.FewTurns.{few_operations, few_turns}
@@ -34,27 +30,18 @@ returns-in-None-clause-within g c = rw c.prepare.ensures (prepared_within c.args
 
 pub returns-in-None-clause-order : goal.returns-in-None-clause-order
 returns-in-None-clause-order g c =
-    let b = c.args.buffer.now in
-    subst (HasOrderOf b) (sym c.prepare.ensures) (clusters_keep_their_order (sizes_of g.row.SLOTS g.row.LONGEST c.args.face.now) [] b c.requires.slots)
+    order_of_prepared (sizes_of g.row.SLOTS g.row.LONGEST c.args.face.now) c.args.buffer.now c.prepare.new.buffer c.requires.slots c.prepare.ensures
 
 pub returns-in_ok-run_chains-in-Some-clause-order : goal.returns-in_ok-run_chains-in-Some-clause-order
 returns-in_ok-run_chains-in-Some-clause-order g c =
-    let b = c.args.buffer.now in
-    let z = sizes_of g.row.SLOTS g.row.LONGEST c.args.face.now in
-    let chains = switched_by c.chains.result.now c.args.map.now in
-    let ran : c.run_chains.new.buffer ≡ (substituted z chains b).buffer =
-    ap (λ (o : Outcome). o.buffer) c.in_ok-run_chains-in-Some.ensures.run ∙ ap (λ (d : Buffer). (in_order (chain_run z) chains d).buffer) c.prepare.ensures in
-    subst (HasOrderOf b) (sym ran) (clusters_keep_their_order z chains b c.requires.slots)
+    order_of_ran (sizes_of g.row.SLOTS g.row.LONGEST c.args.face.now) c.chains.result.now c.args.map.now c.args.buffer.now c.prepare.new.buffer c.run_chains.new.buffer
+    c.in_ok-run_chains-in-Some.field-0 c.requires.slots c.prepare.ensures c.in_ok-run_chains-in-Some.ensures.run
 
 pub returns-in_ok-run_chains-in-Some-clause-number : goal.returns-in_ok-run_chains-in-Some-clause-number
 returns-in_ok-run_chains-in-Some-clause-number g c = λ none.
-    let b = c.args.buffer.now in
-    let z = sizes_of g.row.SLOTS g.row.LONGEST c.args.face.now in
     let same : c.chains.result.now ≡ chains_in (tables_of c.args.face.now).morx = search rules in
-    let few : has_insertion c.chains.result.now ≡ false = ap has_insertion same ∙ none in
-    ap (λ (o : Outcome). length o.buffer.line) c.in_ok-run_chains-in-Some.ensures.run
-    ∙ (ap (λ (d : Buffer). length (in_order (chain_run z) (switched_by c.chains.result.now c.args.map.now) d).buffer.line) c.prepare.ensures
-    ∙ number_without_insertion z c.chains.result.now c.args.map.now b c.requires.slots few)
+    number_of_ran (sizes_of g.row.SLOTS g.row.LONGEST c.args.face.now) c.chains.result.now c.args.map.now c.args.buffer.now c.prepare.new.buffer c.run_chains.new.buffer
+    c.in_ok-run_chains-in-Some.field-0 c.requires.slots c.prepare.ensures c.in_ok-run_chains-in-Some.ensures.run (ap has_insertion same ∙ none)
 
 pub returns-in_err-run_chains-in-Some-clause-room : goal.returns-in_err-run_chains-in-Some-clause-room
 returns-in_err-run_chains-in-Some-clause-room g c = λ too_long.

@@ -1,21 +1,13 @@
-use Rattle.std.proofs.Common.{ap, arith, length, List}
-use Rattle.std.proofs.lemmas.List.FromFn.{length-map-range_with_len}
-use Rattle.aat_attachment.specs.Attachments.{drawn}
+use Rattle.std.proofs.Common.{arith}
 use Rattle.aat_buffer.specs.Buffer.{position_list}
-use Rattle.aat_glyph.specs.declared.glyph.GlyphPosition.{GlyphPosition}
+use Rattle.aat_shaper.proofs.DrawnPlaces.{length_of_added}
 use Rattle.aat_shaper.proofs.Kept.{counted_at, length_counts}
 use Rattle.aat_shaper.proofs.drawn.drawn_glyph.Goals as goal
 
 pub bounds-drawn-i : goal.bounds-drawn-i
 bounds-drawn-i g c =
     let b = c.args.buffer.now in
-    omega (
-      arith,
-      c.requires.in_line,
-      c.requires.placed,
-      ap (λ (qs : List GlyphPosition). length qs) c.requires.drawn.added,
-      length-map-range_with_len (drawn b.direction (position_list b)) 0 (length (position_list b)),
-    )
+    omega (arith, c.requires.in_line, c.requires.placed, length_of_added b.direction (position_list b) c.args.drawn.added.now c.requires.drawn.added)
 
 pub bounds-drawn-i-2 : goal.bounds-drawn-i-2
 bounds-drawn-i-2 g c =

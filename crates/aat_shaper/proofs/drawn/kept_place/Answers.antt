@@ -1,7 +1,6 @@
-use Rattle.std.proofs.Common.{◌∙◌, ◌<◌, ap, arith, length, not, sym, Option, ℕ}
-use Rattle.aat_buffer.specs.Removal.{is_deleted}
-use Rattle.aat_shaped_text.specs.ShapedText.{kept_place}
-use Rattle.aat_shaper.proofs.Kept.{counted_at, length_counts, place_of_kept}
+use Rattle.std.proofs.Common.{◌<◌, arith, length}
+use Rattle.aat_shaper.proofs.DrawnPlaces.{place_kept}
+use Rattle.aat_shaper.proofs.Kept.{length_counts}
 use Rattle.aat_shaper.proofs.drawn.kept_place.Goals as goal
 
 pub bounds-kept-j : goal.bounds-kept-j
@@ -14,14 +13,9 @@ pub offset_bounds-kept-j : goal.offset_bounds-kept-j
 offset_bounds-kept-j g c =
     let line = c.args.buffer.now.line in
     let low : c.in-Some.j < length line = rw c.in-Some.is at c.requires.in_line in
-    omega (arith, low, length_counts line c.args.kept.now c.requires.kept, c.type_inv.kept)
+    omega (arith, low, length_counts line c.args.kept.now c.requires.kept)
 
 pub returns-in-Some : goal.returns-in-Some
 returns-in-Some g c =
-    let line = c.args.buffer.now.line in
-    let j = c.in-Some.j in
-    let low : j < length line = rw c.in-Some.is at c.requires.in_line in
-    place_of_kept line j _
-    (ap (λ h. not (is_deleted h)) (sym c.info.ensures.read) ∙ (sym c.is_kept.ensures ∙ c.if-is_kept.true))
-    (counted_at line c.args.kept.now j c.requires.kept low)
-    ∙ ap (λ (place : Option ℕ). kept_place line place) (sym c.in-Some.is)
+    place_kept c.args.buffer.now.line c.in-Some.j c.info.result.now c.info.ensures.read c.is_kept.result c.is_kept.ensures c.args.kept.now c.args.place
+    c.requires.in_line c.in-Some.is c.requires.kept c.if-is_kept.true

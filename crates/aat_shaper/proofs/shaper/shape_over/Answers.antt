@@ -1,13 +1,10 @@
-use Rattle.std.proofs.Common.{◌≡◌, ◌∙◌, ap, not, subst, sym, true≢false}
-use Rattle.aat_run.specs.Budget.{has_operations}
-use Rattle.aat_buffer.specs.Buffer.{Buffer}
+use Rattle.std.proofs.Common.{◌≡◌, subst}
 use Rattle.aat_buffer.specs.Clusters.{IsRisingLine}
-use Rattle.aat_buffer.specs.Marks.{clusters_stay_apart}
 use Rattle.aat_glyph.specs.Directions.{is_backward}
 use Rattle.aat_kerning.specs.Positioning.{in_processing_order}
 use Rattle.aat_glyph.specs.declared.glyph.Direction.{Direction}
 use Rattle.aat_shaped_text.specs.ShapedText.{drawn_text}
-use Rattle.aat_shaper.proofs.DrawnText.{drawn_so, drawn_text_so}
+use Rattle.aat_shaper.proofs.DrawnText.{drawn_so, drawn_text_so, text_direction, text_merges, used_so}
 use Rattle.aat_shaper.proofs.Ordered.{IsTurnedLine, drawn_glyphs_ordered, drawn_kept, drawn_line, rising_line}
 use Rattle.aat_shaper.proofs.shaper.shape_over.Goals as goal
 
@@ -21,9 +18,8 @@ returns-clause-ok g c =
     drawn_text_so face c.args.direction features text plan c.requires.planned c.as_slice-features.result.now c.in_ok-buffer.buffer
     c.shape_with_deleted.new.buffer c.turn.new.buffer c.in_ok-shape_with_deleted.field-0
     c.as_slice-features.ensures.value c.in_ok-buffer.ensures.ok c.in_ok-shape_with_deleted.ensures.shaped c.turn.ensures.after in
-    c.in_ok-draw.ensures.ok
-    ∙ drawn_so face c.args.direction features text c.may_break_anywhere.result c.skips_of.result c.as_slice-features.result.now c.turn.new.buffer
-    c.may_break_anywhere.ensures c.skips_of.ensures c.as_slice-features.ensures.value drawn
+    drawn_so face c.args.direction features text c.draw.new.glyphs.items c.may_break_anywhere.result c.skips_of.result c.as_slice-features.result.now c.turn.new.buffer
+    c.in_ok-draw.ensures.ok c.may_break_anywhere.ensures c.skips_of.ensures c.as_slice-features.ensures.value drawn
 
 pub returns-clause-order : goal.returns-clause-order
 returns-clause-order g c = λ up.
@@ -37,8 +33,8 @@ returns-clause-order g c = λ up.
     let built = c.in_ok-buffer.ensures.ok in
     let order = c.in_ok-shape_with_deleted.ensures.order in
     let first : IsRisingLine made.line = rw built (rising_line face features text up) in
-    let shaped : IsRisingLine left.line = order.rising (λ _ apart. true≢false (sym apart ∙ ap clusters_stay_apart (ap (λ (b : Buffer). b.cluster_level) built))) first in
-    let way : left.direction ≡ d = c.in_ok-shape_with_deleted.ensures.settings.direction ∙ ap (λ (b : Buffer). b.direction) built in
+    let shaped : IsRisingLine left.line = order.rising (λ _. text_merges face d features text features made built) first in
+    let way : left.direction ≡ d = text_direction face d features text features made left built c.in_ok-shape_with_deleted.ensures.settings.direction in
     let turned : IsTurnedLine back c.turn.new.buffer.line =
     rw c.turn.ensures.after (subst (λ (e : Direction). IsTurnedLine (is_backward e) (in_processing_order left).line) way (drawn_line left shaped)) in
     drawn_glyphs_ordered c.draw.new.glyphs.items c.draw.new.buffer.line c.in_ok-draw.ensures.clusters back
@@ -54,4 +50,4 @@ returns-clause-used g c =
     drawn_text_so face c.args.direction features text plan c.requires.planned c.as_slice-features.result.now c.in_ok-buffer.buffer
     c.shape_with_deleted.new.buffer c.turn.new.buffer c.in_ok-shape_with_deleted.field-0
     c.as_slice-features.ensures.value c.in_ok-buffer.ensures.ok c.in_ok-shape_with_deleted.ensures.shaped c.turn.ensures.after in
-    c.uses_up-is_used_up.ensures ∙ ap (λ (b : Buffer). not (has_operations b)) drawn
+    used_so face c.args.direction features text c.uses_up-is_used_up.result c.turn.new.buffer c.uses_up-is_used_up.ensures drawn

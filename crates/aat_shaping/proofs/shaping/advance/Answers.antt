@@ -3,7 +3,6 @@ use Rattle.aat_font.specs.Face.{advance_of}
 use Rattle.aat_buffer.specs.Buffer.{Buffer}
 use Rattle.aat_glyph.specs.Directions.{is_horizontal}
 use Rattle.aat_shaping.proofs.Advancing.{advancing_more}
-use Rattle.aat_shaping.specs.Shaping.{advanced}
 use Rattle.aat_shaping.proofs.shaping.advance.Goals as goal
 
 pub loop-i-preserved : goal.loop-i-preserved
@@ -15,8 +14,7 @@ loop-i-preserved g c =
     c.is_horizontal-is_horizontal.ensures ∙ ap is_horizontal (c.direction.ensures ∙ ap (λ (d : Buffer). d.direction) c.in_ok-clear_positions.ensures.ok) in
     record {
       advancing =
-          advancing_more (advance_of c.args.face.now) b c.loop-i.buffer c.loop-i.i c.info-glyph.result.now c.advanced.result
-          (omega (arith, long)) was c.info-glyph.ensures.read
-          (c.advanced.ensures ∙ ap (λ h. advanced h (advance_of c.args.face.now c.info-glyph.result.now.glyph_id)) across);
+          advancing_more (advance_of c.args.face.now) b c.loop-i.buffer c.is_horizontal-is_horizontal.result c.loop-i.i c.info-glyph.result.now c.advanced.result
+          across (omega (arith, long)) was c.info-glyph.ensures.read c.advanced.ensures;
       ids = c.loop-i.invariant.ids;
     }

@@ -1,4 +1,4 @@
-use Rattle.std.proofs.Common.{◌≡◌, ◌≤◌, ◌==◌, not, length, arith}
+use Rattle.std.proofs.Common.{◌==◌, not, arith}
 use Rattle.aat_font.specs.Face.{advance_of}
 use Rattle.aat_shaping.proofs.Shaped.{placed_by_test, removed_so, settings_of_removed, standing_of_removed}
 use Rattle.aat_shaping.proofs.ShapedLines.{length_of_others, order_behind, small_filtered}

@@ -1,4 +1,4 @@
-use Rattle.std.proofs.Common.{◌≡◌, ◌≤◌, ap, refl, length, arith}
+use Rattle.std.proofs.Common.{◌≡◌, ap, refl, length, arith}
 use Rattle.aat_font.specs.Face.{advance_of}
 use Rattle.aat_buffer.specs.Buffer.{Buffer}
 use Rattle.aat_shaping.proofs.Shaped.{placed_by_test, settings_of_shaped, shaped_so, standing_of_shaped}

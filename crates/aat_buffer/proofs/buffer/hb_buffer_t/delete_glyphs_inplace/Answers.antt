@@ -47,9 +47,9 @@ returns-in-Some-clause-after g c = λ test by.
     let n : ℕ = c.len-len.result in
     let start = with_cursor c.args.self.now 0 in
     let done : Buffer = shown c.loop-i.runs.count c.loop-i.runs.last c.loop-i.self in
-    let after : c.sync-2.new.self ≡ with_cursor done 0 = c.sync-2.ensures ∙ ap (λ (b : Buffer). with_cursor b 0) c.write_runs.ensures.after in
+    let after : c.sync-2.new.self ≡ with_cursor done 0 = cc in
     let line : length c.sync-2.new.self.line ≡ length c.loop-i.self.line = ap (λ (b : Buffer). length b.line) c.sync-2.ensures ∙ c.write_runs.ensures.count in
-    let wrote : c.put_positions.new.self ≡ with_positions (with_cursor done 0) (take c.len.result c.in-Some.positions.items) = c.put_positions.ensures ∙ ap (with_positions c.sync-2.new.self) c.truncate.ensures.items ∙ ap (λ (b : Buffer). with_positions b (take c.len.result c.in-Some.positions.items)) after in
+    let wrote : c.put_positions.new.self ≡ with_positions (with_cursor done 0) (take c.len.result c.in-Some.positions.items) = cc in
     finished_some (AnswersBy g.F.Fn c.args.filter) start c.loop-i.self c.put_positions.new.self c.loop-i.positions c.in-Some.positions c.loop-i.i n c.loop-i.runs.count c.loop-i.runs.last c.len.result (omega arith) (omega (arith, line, c.loop-i.invariant.rest)) c.in-Some.is c.loop-i.invariant wrote test by
     ∙ ap (λ k. with_cursor (removal k test start) 0) c.len-len.ensures.count
 
@@ -57,7 +57,7 @@ pub returns-clause-after : goal.returns-clause-after
 returns-clause-after g c = λ test by.
     let start = with_cursor c.args.self.now 0 in
     let done : Buffer = shown c.loop-i.runs.count c.loop-i.runs.last c.loop-i.self in
-    let after : c.sync-2.new.self ≡ with_cursor done 0 = c.sync-2.ensures ∙ ap (λ (b : Buffer). with_cursor b 0) c.write_runs.ensures.after in
+    let after : c.sync-2.new.self ≡ with_cursor done 0 = cc in
     finished_none (AnswersBy g.F.Fn c.args.filter) start c.loop-i.self c.sync-2.new.self c.loop-i.positions c.loop-i.i c.len-len.result c.loop-i.runs.count c.loop-i.runs.last (omega arith) c.in_default.is c.loop-i.invariant after test by
     ∙ ap (λ k. with_cursor (removal k test start) 0) c.len-len.ensures.count
 

@@ -1,22 +1,24 @@
-use Rattle.std.proofs.Common.{◌≡◌, ◌≤◌, ◌-◌, ◌∙◌, ap, refl, sym, true, arith, length, drop}
-use Rattle.std.proofs.lemmas.List.{length-drop}
-use Rattle.aat_buffer.proofs.Filled.{filled, from_place, shown_stand}
+use Rattle.std.proofs.Common.{◌≡◌, ◌≤◌, ◌-◌, ◌∙◌, rules, sym, true, arith, length}
+use Rattle.std.specs.Prelude.{vec_len}
+use Rattle.aat_buffer.specs.inside.Inside.{buffer_of}
+use Rattle.aat_buffer.proofs.Filled.{drop_count, from_count, positions_left, positions_lent, shown_stand}
 use Rattle.aat_buffer.proofs.buffer.hb_buffer_t.positions_from_cursor_mut.Goals as goal
 
 pub returns : goal.returns
 returns g c =
     let a = c.self.inside in
+    let p = c.cursor-cursor.result in
+    let n = vec_len a.positions in
     let stand : a.have_positions ≡ true = shown_stand a.have_positions a.positions.items (rw (← c.self.view_is) at c.requires) in
     let count : length a.positions.items ≡ length a.line.glyphs = sym a.positions.ok.0 ∙ c.self.invariant.placed stand in
-    let within : a.line.cursor ≤ length a.positions.items = omega (arith, count, c.self.invariant.in_line) in
-    let read = c.slice_mut.ensures.value ∙ from_place a.positions.items c.cursor-cursor.result _ a.positions.ok.0 in
-    let many : length c.slice_mut.result.now ≡ length a.positions.items - c.cursor-cursor.result = ap length read ∙ length-drop c.cursor-cursor.result a.positions.items in
-    let glyphs : length c.rest.result.now ≡ length a.line.glyphs - a.line.cursor = ap length c.rest.ensures ∙ length-drop a.line.cursor a.line.glyphs in (
-      (refl, λ w. rw (← c.self.view_is, stand, c.cursor-cursor.ensures.place, filled a.positions.items w a.line.cursor _ a.positions.ok.0 within) refl),
+    let within : p ≤ length a.positions.items = omega (arith, count, c.self.invariant.in_line, c.cursor-cursor.ensures.place) in
+    let many : length c.slice_mut.result.now ≡ length a.positions.items - p = from_count a.positions.items c.slice_mut.result.now p n a.positions.ok.0 c.slice_mut.ensures.value in
+    let glyphs : length c.rest.result.now ≡ length a.line.glyphs - a.line.cursor = drop_count a.line.glyphs c.rest.result.now a.line.cursor c.rest.ensures in (
+      (search rules, λ w. positions_left c.args.self.now (buffer_of a) a.have_positions a.positions.items w p n c.self.view_is stand c.cursor-cursor.ensures.place a.positions.ok.0 within),
       record {
         writes_back = tt;
         glyphs = rw (← c.self.view_is) c.rest.ensures;
-        positions = rw (← c.self.view_is, stand) (read ∙ ap (λ p. drop p a.positions.items) c.cursor-cursor.ensures.place);
+        positions = positions_lent c.args.self.now (buffer_of a) a.have_positions a.positions.items c.slice_mut.result.now p n c.self.view_is stand c.cursor-cursor.ensures.place a.positions.ok.0 c.slice_mut.ensures.value;
         placed = omega (arith, many, glyphs, count, c.cursor-cursor.ensures.place);
       },
     )

@@ -47,7 +47,7 @@ loop-first-preserved-then-last-first g c =
     let j = at.first - 1 in
     let has : cluster_at gs j ≡ d = ap (λ h. h.cluster) (sym c.glyph.ensures) ∙ c.if-glyph-cluster.true in
     let first : run_first gs at.last ≡ c.place_at-first.result = sym c.place_at-first.ensures in
-    let next : cluster_at gs c.place_at-first.result ≡ c.place_at-last.result = sym c.place_at-last.ensures in
+    let next : cluster_at gs c.place_at-first.result ≡ c.place_at-last.result = cc in
     let more = reaches_run gs k l d p at.first at.count at.last j are (omega arith) at.invariant (omega (arith, c.loop-first-test.true)) has c.if-count-gt0.true c.if-last-first.true in
     subst (λ m. IsReached gs k l d p c.place_at-first.result (at.count - 1) m) next (subst (λ i. IsReached gs k l d p i (at.count - 1) (cluster_at gs i)) first more)
 
@@ -77,7 +77,7 @@ returns-else-glyph-cluster-clause-ends g c =
     let are = subst (λ p. AreRuns k l gs p) (sym c.backtrack_len-p.ensures.place) c.requires.pending.apart in
     let other : cluster_at gs (at.first - 1) ≢ c.glyph-cluster.result.cluster = λ e. c.if-glyph-cluster.false (ap (λ h. h.cluster) c.glyph.ensures ∙ e) in
     let none = reaches_end gs k l c.glyph-cluster.result.cluster p at.first at.count at.last (at.first - 1) are (omega arith) at.invariant (omega (arith, c.loop-first-test.true)) other in
-    let label : c.glyph-cluster.result.cluster ≡ cluster_at gs (c.args.self.now.cursor - 1) = ap (λ h. h.cluster) c.glyph-cluster.ensures ∙ ap (λ i. cluster_at gs (i - 1)) c.backtrack_len-p.ensures.place in
+    let label : c.glyph-cluster.result.cluster ≡ cluster_at gs (c.args.self.now.cursor - 1) = cc in
     subst (λ d. run_before (shown_line k l gs) 0 at.first d ≡ 0) label none
 
 pub returns-else-glyph-cluster-clause-few : goal.returns-else-glyph-cluster-clause-few

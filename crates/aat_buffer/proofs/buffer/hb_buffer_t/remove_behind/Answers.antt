@@ -10,8 +10,8 @@ lower-requires-clause-pending g c = subst (λ (b : Buffer). IsPending b c.args.r
 pub returns-then-lowers-clause-after : goal.returns-then-lowers-clause-after
 returns-then-lowers-clause-after g c =
     let old : Buffer = c.args.self.now in
-    let is : lowers old.line old.cursor ≡ true = sym c.lowers-lowers.ensures ∙ c.if-lowers.true in
-    let read : c.glyph-glyph.result ≡ glyph_at old.line old.cursor = c.glyph-glyph.ensures ∙ ap (glyph_at old.line) c.backtrack_len.ensures.place in
+    let is : lowers old.line old.cursor ≡ true = cc in
+    let read : c.glyph-glyph.result ≡ glyph_at old.line old.cursor = cc in
     behind_lowers old c.skip_glyph.new.self c.lower.new.self c.args.runs.count c.args.runs.last c.lower.result.count c.lower.result.last c.glyph-glyph.result c.requires.kept c.requires.some c.requires.pending is read c.skip_glyph.ensures c.lower.ensures.after
 
 pub returns-then-lowers-clause-count : goal.returns-then-lowers-clause-count
@@ -22,7 +22,7 @@ returns-then-lowers-clause-count g c =
 pub returns-else-lowers-clause-after : goal.returns-else-lowers-clause-after
 returns-else-lowers-clause-after g c =
     let old : Buffer = c.args.self.now in
-    let is : lowers old.line old.cursor ≡ false = sym c.lowers-lowers.ensures ∙ c.if-lowers.false in
+    let is : lowers old.line old.cursor ≡ false = cc in
     behind_stays old c.skip_glyph.new.self c.args.runs.count c.args.runs.last c.requires.kept c.requires.some c.requires.pending is c.skip_glyph.ensures
 
 pub returns-else-lowers-clause-pending : goal.returns-else-lowers-clause-pending

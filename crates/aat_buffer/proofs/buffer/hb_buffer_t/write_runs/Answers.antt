@@ -37,7 +37,7 @@ pub loop-count-preserved : goal.loop-count-preserved
 loop-count-preserved g c =
     let at = c.loop-count in
     let more = write_more at.self c.write_run.new.self at.count at.last c.place_at-first.result c.place_at-below.result c.loop-count-test.true at.invariant.1.0 c.place_at-first.ensures c.place_at-below.ensures c.write_run.ensures.after in
-    (more.0 ∙ at.invariant.0, (more.1, c.write_run.ensures.count ∙ at.invariant.1.1))
+    ((cc), (more.1, c.write_run.ensures.count ∙ at.invariant.1.1))
 
 pub returns-clause-after : goal.returns-clause-after
 returns-clause-after g c = sym (shown_none c.loop-count.self c.loop-count.count c.loop-count.last (omega arith)) ∙ c.loop-count.invariant.0

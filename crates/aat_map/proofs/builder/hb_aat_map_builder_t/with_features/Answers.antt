@@ -1,9 +1,8 @@
 use Rattle.std.proofs.Common.{◌∙◌, ap, sym, cond, Some, find, drop, get_or, ◌+◌, Bool}
 use Rattle.std.proofs.lemmas.Result.{err_from_is_err_and}
-use Rattle.aat_map.specs.Builder.{Builder, with_request}
 use Rattle.aat_font.specs.Face.{tables_of}
-use Rattle.aat_map.specs.Requests.{is_too_large, request_of}
-use Rattle.aat_map.proofs.RequestLemmas.{find_step, requests_more, refused_lifted, passed_more, no_feature}
+use Rattle.aat_map.specs.Requests.{is_too_large}
+use Rattle.aat_map.proofs.RequestLemmas.{find_step, added_more, refused_lifted, passed_more, no_feature}
 use Rattle.aat_map.proofs.builder.hb_aat_map_builder_t.with_features.Goals as goal
 
 pub returns-in_err-add_feature-clause-refused : goal.returns-in_err-add_feature-clause-refused
@@ -17,7 +16,7 @@ loop-feature-preserved g c =
     let features = c.args.features.now in
     let i = c.loop-feature.feature-index in
     record {
-      added = c.in_ok-add_feature.ensures.ok ∙ ap (λ (b : Builder). with_request b (request_of names (get_or features i no_feature))) c.loop-feature.invariant.added ∙ requests_more names features i no_feature c.loop-feature-test.true;
+      added = added_more c.loop-feature.builder c.add_feature.new.self names features i no_feature c.loop-feature-test.true c.loop-feature.invariant.added c.in_ok-add_feature.ensures.ok;
       same =
           sym (ap (λ (b : Bool). cond b (Some (get_or features i no_feature)) (find (is_too_large names) (drop (i + 1) features))) c.in_ok-add_feature.ensures.fits)
           ∙ sym (find_step (is_too_large names) features i no_feature c.loop-feature-test.true)
