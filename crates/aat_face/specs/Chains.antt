@@ -1,14 +1,14 @@
 -- The chains of a font file. Apple's TrueType Reference Manual, "The 'morx' table".
-use Rattle.std.specs.Prelude.{ℕ, List, length, Option, Result}
+use Rattle.std.specs.Prelude.{ℕ, List, Option, Result}
 use Rattle.aat_bytes.specs.declared.error.Fault.{Fault}
 use Rattle.aat_machine_reader.specs.declared.kinds.TheConstants.{MORX}
 use Rattle.aat_reader.specs.Chains.{ChainValue, morx_of}
 use Rattle.aat_sfnt.specs.Directory.{Directory}
 use Rattle.aat_face.specs.Tables.{table_in}
 
--- the chains of these bytes. Of a list no more elements are read than the table has bytes, and no list has more
+-- the chains of these bytes
 abbrev pub chain_values_of : ℕ → List ℕ → Result (List ChainValue) Fault
-chain_values_of glyph_count bytes = morx_of bytes glyph_count (length bytes)
+chain_values_of glyph_count bytes = morx_of bytes glyph_count
 
 -- the chains of a file whose font has so many glyphs
 abbrev pub chains_in : Directory → ℕ → Result (Option (List ChainValue)) Fault

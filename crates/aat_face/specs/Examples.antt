@@ -1,9 +1,12 @@
 -- Worked examples of faces.
-use Rattle.std.specs.Prelude.{◌≡◌, ℕ, List, [], ◌∷◌, Some, None, Ok, Err}
+use Rattle.std.specs.Prelude.{◌≡◌, ℕ, List, [], ◌∷◌, ◌++◌, Some, None, Ok, Err}
 use Rattle.aat_bytes.specs.Faults.{fault_at}
 use Rattle.aat_bytes.specs.declared.error.FaultKind.TheVariants.{PastEnd, Missing}
+use Rattle.aat_font.specs.declared.morx.Subtable.{Subtable}
+use Rattle.aat_font.specs.declared.morx.SubtableKind.TheVariants.{NonContextual}
 use Rattle.aat_lookup_reader.specs.FeatureExamples.{example_feat}
-use Rattle.aat_sfnt.specs.Examples.{example_file, example_metrics}
+use Rattle.aat_reader.specs.MorxExamples.{example_chain, example_table}
+use Rattle.aat_sfnt.specs.Examples.{example_file, example_metrics, example_profile}
 use Rattle.aat_sfnt.specs.Metrics.{metrics_of}
 use Rattle.aat_sfnt.specs.declared.class_definition.ClassDefinition.TheVariants.{Array, Ranges}
 use Rattle.aat_sfnt.specs.declared.gdef.GlyphClasses.{GlyphClasses}
@@ -32,6 +35,43 @@ FaultsAreListed =
     }))
     × (face_of example_file 1 ≡ Err (fault_at SFNT Missing 0))
     × (face_of [] 0 ≡ Err (fault_at SFNT PastEnd 0))
+
+-- a table `morx` of one chain, whose subtable has a value for each of 7 glyphs, by format 0
+abbrev pub example_chains : List ℕ
+example_chains =
+    example_table 2 1 ++ example_chain 44 0 0 1
+    ++ 0 ∷ 0 ∷ 0 ∷ 28 ∷ 128 ∷ 0 ∷ 0 ∷ 4 ∷ 0 ∷ 0 ∷ 0 ∷ 1
+    ∷ 0 ∷ 0 ∷ 0 ∷ 1 ∷ 0 ∷ 2 ∷ 0 ∷ 3 ∷ 0 ∷ 4 ∷ 0 ∷ 5 ∷ 0 ∷ 6 ∷ 0 ∷ 9 ∷ []
+
+-- a file of two tables: `maxp` at 44, which has 7 glyphs, and `morx` at 50
+abbrev pub example_chains_file : List ℕ
+example_chains_file =
+    0 ∷ 1 ∷ 0 ∷ 0 ∷ 0 ∷ 2 ∷ 0 ∷ 0 ∷ 0 ∷ 0 ∷ 0 ∷ 0
+    ∷ 109 ∷ 97 ∷ 120 ∷ 112 ∷ 0 ∷ 0 ∷ 0 ∷ 0 ∷ 0 ∷ 0 ∷ 0 ∷ 44 ∷ 0 ∷ 0 ∷ 0 ∷ 6
+    ∷ 109 ∷ 111 ∷ 114 ∷ 120 ∷ 0 ∷ 0 ∷ 0 ∷ 0 ∷ 0 ∷ 0 ∷ 0 ∷ 50 ∷ 0 ∷ 0 ∷ 0 ∷ 52 ∷ []
+    ++ example_profile ++ example_chains
+
+-- the subtable of the chain
+abbrev pub example_subtable_of_chain : Subtable
+example_subtable_of_chain = record {
+  kind = NonContextual ((0, 1) ∷ (1, 2) ∷ (2, 3) ∷ (3, 4) ∷ (4, 5) ∷ (5, 6) ∷ (6, 9) ∷ []);
+  coverage = record { 0 = 128 };
+  feature_flags = 1;
+}
+
+-- the font has the chain, with a value for as many glyphs as `maxp` has
+abbrev pub ChainsAreOfTheFont : Type 0
+ChainsAreOfTheFont = face_of example_chains_file 0 ≡ Ok (record {
+  glyph_count = 7;
+  units_per_em = 1000;
+  characters = None;
+  names = None;
+  features = None;
+  font = record empty_font {
+    morx = Some (record { default_flags = 1; features = []; subtables = example_subtable_of_chain ∷ [] } ∷ []);
+  };
+  faults = [];
+})
 
 -- marks of class 3 from glyph 1 to 2, of which glyph 2 has the class 9 among marks
 abbrev pub example_classes : GlyphClasses

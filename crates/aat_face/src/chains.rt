@@ -49,7 +49,7 @@ fn read_chains(
 ) -> Result<Result<Option<Chains>, Fault>, AllocError>
     ensures { IfOk result (λ chains. chains ≡ read_if_found (chain_values_of glyph_count) (Some bytes.now)) }
 {
-    match read_morx(alloc, bytes, glyph_count, bytes.len()) {
+    match read_morx(alloc, bytes, glyph_count) {
         Ok(table) => Ok(Ok(Some(Chains { table }))),
         Err(ReadError::Fault(fault)) => Ok(Err(fault)),
         Err(ReadError::OutOfMemory) => Err(AllocError),

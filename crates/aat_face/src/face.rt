@@ -148,7 +148,7 @@ impl<'a> Face<'a> {
     /// is missing is no fault: without `maxp` the font has no glyphs, without `head` 1,000 units of the em, without
     /// `hmtx` no advances, without `hhea` advances of 0, without `cmap` no characters, without `GDEF` no properties,
     /// without `feat` or `name` no names of features, and without `morx` no chains. `morx` is read as that of a font of
-    /// so many glyphs as `maxp` has, and its lists reach to the end of the table.
+    /// so many glyphs as `maxp` has, and its subtables reach as far as `read_morx` says.
     ///
     /// Refused as the fault of the directory that `FontFile::read` tells, and as `OutOfMemory` only where the
     /// directory has no fault; `OutOfMemory` says nothing of the faults of tables.

@@ -1,10 +1,16 @@
 //! Worked examples of faces as theorems. These calls do nothing: what is proved is their contracts.
-ghost use Rattle.aat_face.specs.Examples.{FaultsAreListed, FeaturesHaveTexts, GlyphsHaveValues, WindowsGoesFirst};
+ghost use Rattle.aat_face.specs.Examples.{ChainsAreOfTheFont, FaultsAreListed, FeaturesHaveTexts, GlyphsHaveValues, WindowsGoesFirst};
 
 /// The definition of a face computes to the examples.
 #[tactic(auto, unfolding(aat_bytes::specs::Numbers::slice, aat_sfnt::specs::Directory::place_in_collection, aat_sfnt::specs::Directory::directory_place, aat_sfnt::specs::Directory::directory_at, aat_sfnt::specs::Header::glyph_count, aat_sfnt::specs::Header::units_per_em))]
 pub fn faces()
     ensures faults { FaultsAreListed }
+{}
+
+/// The definition of a face computes to the example of a font with chains.
+#[tactic(auto, unfolding(aat_bytes::specs::Numbers::slice, aat_sfnt::specs::Directory::place_in_collection, aat_sfnt::specs::Directory::directory_place, aat_sfnt::specs::Directory::directory_at, aat_sfnt::specs::Header::glyph_count, aat_sfnt::specs::Header::units_per_em, aat_reader::specs::Chains::morx_of, aat_reader::specs::Chains::chain_at, aat_reader::specs::Chains::chain_value_at, aat_reader::specs::ChainFeatures::whole_features, aat_reader::specs::ChainSubtables::subtable_at, aat_reader::specs::InTurn::end_at, aat_reader::specs::Reaches::allowance, aat_machine_reader::specs::SubtableKinds::subtable_kind_at, aat_lookup_reader::specs::Layouts::layout_at, aat_lookup_reader::specs::Layouts::array_of))]
+pub fn chains()
+    ensures { ChainsAreOfTheFont }
 {}
 
 /// The definitions of the values of glyphs and of English names compute to the examples.

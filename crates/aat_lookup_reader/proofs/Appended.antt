@@ -1,7 +1,7 @@
 -- Lists that a loop appends to, one element of a range after the other.
 use Rattle.std.proofs.Common.{◌≡◌, ℕ, ◌+◌, List, [], ◌∷◌, ◌++◌, map, sym, ap, ◌∙◌, append_assoc, zero-add}
 use Rattle.std.specs.List.{flat_map, range_with_len}
-use Rattle.std.proofs.lemmas.List.{append-nil}
+use Rattle.std.proofs.lemmas.List.{append-nil, map-append}
 use Rattle.std.proofs.lemmas.List.Concat.{flat_map-append}
 use Rattle.std.proofs.lemmas.List.FromFn.{map-range_with_len_more}
 
@@ -39,3 +39,18 @@ list_more h f before now after k x same so_far pushed =
 -- pairs of a glyph and the same value
 pub same_glyph : (glyph v w : ℕ) → v ≡ w → ◌≡◌ {A = ℕ × ℕ} (glyph, v) (glyph, w)
 same_glyph glyph v w same = let pair : ℕ → ℕ × ℕ = λ x. (glyph, x) in ap pair same
+
+-- one element more of a list of elements
+pub kept_more :
+    {X Y : Type 0} (g : X → Y) (f : ℕ → X) (before now after : List Y) (k : ℕ) (y : Y)
+    → y ≡ g (f k)
+    → now ≡ before ++ map g (map f (range_with_len 0 k))
+    → after ≡ now ++ y ∷ []
+    → after ≡ before ++ map g (map f (range_with_len 0 (k + 1)))
+kept_more g f before now after k y same so_far pushed =
+    pushed
+    ∙ ap (λ z. now ++ z ∷ []) same
+    ∙ ap (λ ys. ys ++ g (f k) ∷ []) so_far
+    ∙ append_assoc before (map g (map f (range_with_len 0 k))) (g (f k) ∷ [])
+    ∙ ap (λ ys. before ++ ys) (sym (map-append g (map f (range_with_len 0 k)) (f k ∷ [])))
+    ∙ ap (λ xs. before ++ map g xs) (sym (map-range_with_len_more f 0 k k (zero-add k)))

@@ -1,5 +1,5 @@
 -- The first fault of units, as a loop looks for it, and what is known where there is none.
-use Rattle.std.proofs.Common.{◌≡◌, ℕ, zero, suc, ◌+◌, ◌-◌, ◌<◌, ◌≤◌, List, [], ◌∷◌, length, map, Option, Some, None, Bool, true, false, refl, sym, ap, ◌∙◌, subst, inl, inr, arith}
+use Rattle.std.proofs.Common.{◌≡◌, ℕ, zero, suc, ◌+◌, ◌-◌, ◌<◌, ◌≤◌, List, ◌∷◌, length, map, Option, Some, None, refl, ap, ◌∙◌, subst, inl, inr, arith}
 use Rattle.std.specs.List.{range_with_len}
 use Rattle.std.proofs.lemmas.Bool.{cases_eq}
 use Rattle.std.proofs.lemmas.Grind.{common_steps}
@@ -69,3 +69,17 @@ pub values_inside :
     → segment_fault table bytes place lowest segment ≡ None
     → values_end segment ≤ length bytes
 values_inside table bytes place lowest segment none = grind (arith, common_steps)
+
+-- a segment without a fault has a glyph
+pub glyphs_some :
+    (table : Tag) (bytes : List ℕ) (place lowest : ℕ) (segment : Segment)
+    → segment_fault table bytes place lowest segment ≡ None
+    → 0 < segment.count
+glyphs_some table bytes place lowest segment none = grind (arith, common_steps)
+
+-- a segment without a fault begins behind the one before
+pub begins_behind :
+    (table : Tag) (bytes : List ℕ) (place lowest : ℕ) (segment : Segment)
+    → segment_fault table bytes place lowest segment ≡ None
+    → lowest ≤ segment.first
+begins_behind table bytes place lowest segment none = grind (arith, common_steps)

@@ -1,5 +1,14 @@
 pub mod Appended
+pub mod Extents
 pub mod Faultless
 pub mod UnitPlaces
 pub mod Values
 pub mod NameFalls
+pub mod Rises
+pub mod SegmentLists
+pub mod LayoutsRise
+pub mod Spans
+pub mod SoundUnits
+pub mod ReadLayouts
+pub mod SizeBounds
+pub mod KeptCounts

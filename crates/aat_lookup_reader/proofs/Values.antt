@@ -1,5 +1,5 @@
 -- The value of a glyph among the pairs of segments is that of the segment that has the glyph.
-use Rattle.std.proofs.Common.{◌≡◌, ℕ, zero, suc, ◌+◌, ◌-◌, ◌<◌, ◌≤◌, ◌⊎◌, inl, inr, List, [], ◌∷◌, ◌++◌, map, Option, Some, None, Bool, true, false, cond, Result, Ok, Err, find, refl, sym, ap, ◌∙◌, arith}
+use Rattle.std.proofs.Common.{◌≡◌, ℕ, zero, suc, ◌+◌, ◌-◌, ◌<◌, ◌≤◌, ◌⊎◌, inl, inr, List, [], ◌∷◌, ◌++◌, map, Option, Some, None, Bool, false, cond, Result, Ok, Err, find, refl, sym, ap, ◌∙◌, arith}
 use Rattle.std.specs.Prelude.{option_map, nat_eq, nat_le, nat_lt, ◌&&◌}
 use Rattle.std.specs.List.{flat_map, range_with_len}
 use Rattle.std.specs.Option.{option_or}
@@ -7,11 +7,10 @@ use Rattle.std.proofs.lemmas.Bool.{cases_eq, cases_lt, eq-eqb, ne_eqb, le-leb, l
 use Rattle.std.proofs.lemmas.List.Folds.{find-append}
 use Rattle.aat_bytes.specs.Faults.{after}
 use Rattle.aat_bytes.specs.declared.error.Fault.{Fault}
-use Rattle.aat_bytes.specs.declared.tag.Tag.{Tag}
 use Rattle.aat_font.specs.Keys.{at_key, first, value_in}
 use Rattle.aat_lookup_reader.specs.Layouts.{layout_at, segments_of}
 use Rattle.aat_lookup_reader.specs.LookupLaws.{ValuesAreThoseOfSegments}
-use Rattle.aat_lookup_reader.specs.Lookups.{lookup_at, pairs_of, value_of_glyph}
+use Rattle.aat_lookup_reader.specs.Lookups.{pairs_of}
 use Rattle.aat_lookup_reader.specs.Segments.{end_of, has_glyph, segment_pairs, value_at, value_in_segments}
 use Rattle.aat_lookup_reader.specs.declared.layout.Layout.{Layout}
 use Rattle.aat_lookup_reader.specs.declared.segment.Segment.{Segment}

@@ -1,7 +1,7 @@
 -- How the values of a lookup stand in the table, and its first fault. Apple's TrueType Reference Manual, "Font Tables",
 -- section on lookup tables.
-use Rattle.std.specs.Prelude.{ℕ, ◌+◌, ◌*◌, ◌-◌, ◌/◌, List, [], ◌∷◌, length, map, Bool, Option, Some, None, Result, Ok, Err, if◌then◌else◌, nat_lt, ◌==◌, ◌||◌, ◌&&◌, min}
-use Rattle.std.specs.List.{range_with_len}
+use Rattle.std.specs.Prelude.{ℕ, ◌+◌, ◌*◌, ◌-◌, ◌/◌, List, [], ◌∷◌, length, map, Bool, true, false, Option, Some, None, Result, Ok, Err, if◌then◌else◌, nat_lt, ◌==◌, ◌||◌, ◌&&◌, min}
+use Rattle.std.specs.List.{range_with_len, sum_by}
 use Rattle.aat_bytes.specs.Faults.{after, fault_at}
 use Rattle.aat_bytes.specs.Numbers.{be16}
 use Rattle.aat_bytes.specs.declared.error.Fault.{Fault}
@@ -41,6 +41,14 @@ unit_place units i = units.start + 12 + units.size * i
 -- the segment of a unit
 abbrev pub segment_of : List ℕ → Units → ℕ → Segment
 segment_of bytes units i = segment_at bytes units.kind units.start (unit_place units i)
+
+-- the segments of units, in the order of the file
+abbrev pub unit_segments : List ℕ → Units → List Segment
+unit_segments bytes units = map (segment_of bytes units) (range_with_len 0 units.count)
+
+-- the number of glyphs of units
+abbrev pub glyphs_of : List ℕ → Units → ℕ
+glyphs_of bytes units = sum_by (λ segment. segment.count) (unit_segments bytes units)
 
 -- whether the terminator stands at a place: 0xFFFF twice in formats 2 and 4, once in format 6, as HarfBuzz takes it
 abbrev pub is_terminator : List ℕ → UnitKind → ℕ → Bool
@@ -104,9 +112,28 @@ unfoldable pub checked_units : Tag → List ℕ → ℕ → UnitKind → Result 
 checked_units table bytes place kind =
     after (units_at table bytes place kind) (λ units. unless_fault (units_fault table bytes units) units)
 
--- a lookup of format 2, 4 or 6
+-- whether a unit has the offset of its values, which other units may have too: in format 4
+abbrev pub has_offset : UnitKind → Bool
+has_offset SegmentSingle = false
+has_offset SegmentArray = true
+has_offset Single = false
+
+-- how many bytes units are read from: their records, without what fills them up, and the values of format 4; those that
+-- units share count for each unit
+abbrev pub unit_bytes : List ℕ → Units → ℕ
+unit_bytes bytes units =
+    record_size units.kind * units.count + (if has_offset units.kind then 2 * glyphs_of bytes units else 0)
+
+-- whether units of format 4 share so many values that their bytes are more than those from the start of the lookup to
+-- the end of the table
+abbrev pub are_crowded : List ℕ → Units → Bool
+are_crowded bytes units = has_offset units.kind && nat_lt (length bytes - units.start) (unit_bytes bytes units)
+
+-- a lookup of format 2, 4 or 6. HarfBuzz takes units that share values as often as they like; here too many are a fault
 unfoldable pub searched_at : Tag → List ℕ → ℕ → UnitKind → Result Layout Fault
-searched_at table bytes place kind = after (checked_units table bytes place kind) (λ units. Ok (Searched units))
+searched_at table bytes place kind =
+    after (checked_units table bytes place kind) (λ units.
+    if are_crowded bytes units then Err (fault_at table PastEnd place) else Ok (Searched units))
 
 -- an array whose values stand inside. HarfBuzz finds no glyph above 0xFFFF, and values of such glyphs are left out
 unfoldable pub array_of : Tag → List ℕ → Segment → Result Layout Fault
@@ -149,4 +176,4 @@ layout_at table bytes place glyph_count =
 -- the segments of a lookup
 abbrev pub segments_of : List ℕ → Layout → List Segment
 segments_of bytes (Array segment) = segment ∷ []
-segments_of bytes (Searched units) = map (segment_of bytes units) (range_with_len 0 units.count)
+segments_of bytes (Searched units) = unit_segments bytes units

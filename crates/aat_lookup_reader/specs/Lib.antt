@@ -1,9 +1,13 @@
 pub mod FeatureExamples
 pub mod Features
+pub mod Kept
 pub mod Layouts
 pub mod LookupExamples
 pub mod LookupLaws
 pub mod Lookups
 pub mod Segments
+pub mod SizeExamples
+pub mod SizeLaws
+pub mod Sizes
 pub mod facts
 pub mod inside

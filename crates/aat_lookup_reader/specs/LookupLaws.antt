@@ -1,7 +1,7 @@
 -- What a lookup that is read says of a glyph, in the words of its bytes.
-use Rattle.std.specs.Prelude.{◌≡◌, ℕ, List, Ok, None}
+use Rattle.std.specs.Prelude.{◌≡◌, ℕ, List, Ok}
 use Rattle.aat_bytes.specs.declared.tag.Tag.{Tag}
-use Rattle.aat_font.specs.Keys.{first, first_fall, value_in}
+use Rattle.aat_font.specs.Keys.{value_in}
 use Rattle.aat_lookup_reader.specs.Lookups.{lookup_at, value_of_glyph}
 
 -- the value of a glyph is that of the segment that has the glyph

@@ -1,7 +1,7 @@
 -- Segments: glyphs that follow one another, with their values. Apple's TrueType Reference Manual, "Font Tables",
 -- section on lookup tables.
 use Rattle.std.specs.Prelude.{ℕ, ◌+◌, ◌*◌, ◌-◌, List, Bool, Option, map, find, option_map, nat_le, nat_lt, ◌&&◌, slice_index}
-use Rattle.std.specs.List.{flat_map, range_with_len}
+use Rattle.std.specs.List.{range_with_len}
 use Rattle.aat_bytes.specs.Numbers.{be16}
 use Rattle.aat_lookup_reader.specs.declared.segment.Segment.{Segment}
 use Rattle.aat_lookup_reader.specs.declared.segment.Values.{Values}

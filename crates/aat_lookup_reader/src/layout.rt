@@ -95,7 +95,11 @@ fn searched_at(table: Tag, bytes: &[u8], place: usize, kind: UnitKind) -> Result
     ensures is { result ≡ searched_at table bytes.now place kind }
     ensures sound { IfOk result (λ layout. IsSound bytes.now layout) }
 {
-    Ok(Layout::Searched(Units::checked(table, bytes, place, kind)?))
+    let units = Units::checked(table, bytes, place, kind)?;
+    if units.are_crowded(bytes) {
+        return Err(Fault::new(table, FaultKind::PastEnd, place));
+    }
+    Ok(Layout::Searched(units))
 }
 
 impl Layout {

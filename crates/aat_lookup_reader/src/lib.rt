@@ -1,17 +1,22 @@
 //! Readers of lookups and of the feature name table.
 //!
-//! A lookup is checked before any memory is asked for. It has at most 65,536 pairs, whatever its bytes say.
+//! A lookup is checked before any memory is asked for. Whatever its bytes say, it has at most 65,536 glyphs, and takes
+//! at most 7 bytes of memory for each byte that it is read from.
 #![tactic(auto)]
 
 mod feat;
+mod glyphs;
+mod kept;
 #[doc(hidden)]
 pub mod laws;
 mod layout;
 mod lookup;
 mod segment;
+mod size;
 mod units;
 #[doc(hidden)]
 pub mod worked;
 
 pub use feat::{FEAT, feature_name_id, read_feat, setting_name_id};
 pub use lookup::{read_lookup, read_pairs};
+pub use size::{lookup_bytes, lookup_size};

@@ -1,9 +1,11 @@
 //! Segments: glyphs that follow one another, with their values.
 ghost use Rattle.std.specs.Prelude.{◌≡◌, ◌+◌, ◌<◌, ◌≤◌, ◌++◌, ◌^◌, length, nat_lt, OnOk};
-ghost use Rattle.aat_lookup_reader.specs.Segments.{segment_pairs, value_at, values_end, values_place};
+ghost use Rattle.aat_lookup_reader.specs.Segments.{segment_pairs, value_at, values_end, values_place, values_size};
+ghost use Rattle.aat_lookup_reader.specs.Kept.{lookup_segment};
 ghost use Rattle.aat_lookup_reader.specs.inside.Sound.{Fits};
 
 use aat_bytes::be16;
+use aat_font::LookupSegment;
 use std::alloc::{AllocError, Allocator};
 
 /// Where the values of a segment stand in the table.
@@ -26,6 +28,18 @@ impl Values {
             Values::Shared(at) => at,
             Values::Words(at) => at,
             Values::Bytes(at) => at,
+        }
+    }
+
+    /// How many bytes the values of so many glyphs take.
+    pub(crate) fn size(self, count: usize) -> usize
+        requires { count ≤ 65536 }
+        ensures { result ≡ values_size self count }
+    {
+        match self {
+            Values::Shared(_) => 2,
+            Values::Words(_) => 2 * count,
+            Values::Bytes(_) => count,
         }
     }
 }
@@ -56,7 +70,7 @@ impl Segment {
     }
 
     /// The value of the glyph that stands so many glyphs behind the first.
-    fn value(self, bytes: &[u8], k: usize) -> u16
+    pub(crate) fn value(self, bytes: &[u8], k: usize) -> u16
         requires fits { Fits bytes.now self }
         requires below { k < self.count }
         ensures { result ≡ value_at bytes.now self.values k }
@@ -66,6 +80,16 @@ impl Segment {
             Values::Words(at) => be16(bytes, at + 2 * k),
             Values::Bytes(at) => bytes[at + k] as u16,
         }
+    }
+
+    /// The segment as a lookup keeps it, if its glyphs have one value.
+    pub(crate) fn lookup_segment(self, bytes: &[u8]) -> LookupSegment
+        requires fits { Fits bytes.now self }
+        requires some { 0 < self.count }
+        ensures { result ≡ lookup_segment bytes.now self }
+    {
+        let last = self.first as usize + self.count - 1;
+        LookupSegment::new(self.first, last as u16, self.value(bytes, 0))
     }
 
     /// Appends the pairs of the segment.

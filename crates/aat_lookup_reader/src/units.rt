@@ -20,7 +20,7 @@ pub(crate) enum UnitKind {
 
 impl UnitKind {
     /// How many bytes the record of a unit has.
-    fn record_size(self) -> u16
+    pub(crate) fn record_size(self) -> u16
         ensures { result ≡ record_size self }
     {
         match self {

@@ -1,5 +1,6 @@
 //! Worked examples of lookups and features as theorems. These calls do nothing: what is proved is their contracts.
 ghost use Rattle.aat_lookup_reader.specs.FeatureExamples.{FeatFaultsHaveTheirPlaces, FeaturesHaveNames};
+ghost use Rattle.aat_lookup_reader.specs.SizeExamples.{BytesAreOfRecordsAndValues, SharedValuesAreAFault, SizesAreOfWhatIsKept};
 ghost use Rattle.aat_lookup_reader.specs.LookupExamples.{ArraysHaveAValueForEachGlyph, FaultsHaveTheirPlaces, UnitsHaveTheirGlyphs};
 
 /// The definitions of lookups compute to the examples.
@@ -8,6 +9,14 @@ pub fn lookups()
     ensures arrays { ArraysHaveAValueForEachGlyph }
     ensures units { UnitsHaveTheirGlyphs }
     ensures faults { FaultsHaveTheirPlaces }
+{}
+
+/// The definitions of sizes compute to the examples.
+#[tactic(auto, unfolding(crate::specs::Layouts::units_at, crate::specs::Layouts::checked_units, crate::specs::Layouts::searched_at, crate::specs::Layouts::array_of, crate::specs::Layouts::sized_array_at, crate::specs::Layouts::layout_at))]
+pub fn sizes()
+    ensures kept { SizesAreOfWhatIsKept }
+    ensures shared { SharedValuesAreAFault }
+    ensures bytes { BytesAreOfRecordsAndValues }
 {}
 
 /// The definitions of the feature name table compute to the examples.

@@ -6,7 +6,7 @@ use Rattle.std.proofs.lemmas.Bool.{cases_lt, leb-true, le-leb}
 use Rattle.aat_machine_reader.specs.StateArray.{StateArray, has_entry, has_index, is_closed, least, missing_entry, missing_index, row_fault, state_count, states_named, states_of}
 use Rattle.aat_machine_reader.proofs.Ranges.{all_pass, each_passes, find_first, find_none, none_found}
 
-not_false : (b : Bool) → not b ≡ false → b ≡ true
+pub not_false : (b : Bool) → not b ≡ false → b ≡ true
 not_false true is = refl
 not_false false is = cc
 

@@ -1,5 +1,5 @@
 -- Contextual glyph substitution. Apple's TrueType Reference Manual, "The 'morx' table".
-use Rattle.std.specs.Prelude.{ℕ, ◌+◌, ◌*◌, List, [], ◌∷◌, length, map, Result, Ok, Err, if◌then◌else◌, nat_lt, ◌==◌}
+use Rattle.std.specs.Prelude.{ℕ, ◌+◌, ◌*◌, List, [], ◌∷◌, length, map, None, Some, Result, Ok, Err, if◌then◌else◌, nat_lt, ◌==◌}
 use Rattle.std.specs.List.{range_with_len}
 use Rattle.aat_bytes.specs.Faults.{after, fault_at}
 use Rattle.aat_bytes.specs.Numbers.{be32}
@@ -11,6 +11,7 @@ use Rattle.aat_machine_reader.specs.Entries.{contextual_at}
 use Rattle.aat_machine_reader.specs.Kinds.{list_place}
 use Rattle.aat_machine_reader.specs.Lookups.{lookup_count}
 use Rattle.aat_machine_reader.specs.Machine.{with_classes}
+use Rattle.aat_machine_reader.specs.Room.{lookup_past_room, room_left}
 use Rattle.aat_machine_reader.specs.StateArray.{StateArray, cells_of, class_place, state_array_at}
 use Rattle.aat_machine_reader.specs.declared.kinds.TheConstants.{MORX}
 
@@ -31,11 +32,18 @@ listed_lookup bytes list glyph_count i =
 abbrev pub lookups_at : List ℕ → ℕ → ℕ → ℕ → Result (List (List (ℕ × ℕ))) Fault
 lookups_at bytes list glyph_count count = each_of (map (listed_lookup bytes list glyph_count) (range_with_len 0 count))
 
+-- the lookups of a list, if all of them have room, or the first fault
+unfoldable pub lookups_within : List ℕ → ℕ → ℕ → ℕ → ℕ → Result (List (List (ℕ × ℕ))) Fault
+lookups_within bytes list glyph_count room count = elim (lookup_past_room bytes list glyph_count room count) [
+  | None ↦ lookups_at bytes list glyph_count count
+  | Some i ↦ Err (fault_at MORX PastEnd (list + 4 * i))
+]
+
 -- the tables of a machine whose cells are there, and whose list of lookups starts at a place
 unfoldable pub contextual_tables : List ℕ → ℕ → ℕ → StateArray → ℕ → Result ContextualTables Fault
 contextual_tables bytes list glyph_count m cells =
     after (with_classes contextual_at m cells (lookup_at MORX bytes (class_place m) glyph_count)) (λ state.
-    after (lookups_at bytes list glyph_count (lookup_count m cells)) (λ lookups.
+    after (lookups_within bytes list glyph_count (room_left m cells) (lookup_count m cells)) (λ lookups.
     Ok (record { state = state; lookups = lookups })))
 
 -- the machine, and behind its header the offset of the list of lookups

@@ -16,21 +16,21 @@ list_place bytes place at = place + be32 bytes (place + at)
 
 -- ligature substitution: the machine, whose entries have the place of their first action, and lists of actions,
 -- components and ligatures
-unfoldable pub ligature_at : List ℕ → ℕ → ℕ → ℕ → Result LigatureTables Fault
-ligature_at bytes place glyph_count most =
+unfoldable pub ligature_at : List ℕ → ℕ → ℕ → Result LigatureTables Fault
+ligature_at bytes place glyph_count =
     if nat_lt (length bytes) (place + 28) then Err (fault_at MORX PastEnd place) else
     after (machine_at 2 be16 MORX bytes place glyph_count) (λ state. Ok (record {
       state = state;
-      actions = numbers32 bytes (list_place bytes place 16) most;
-      components = numbers16 bytes (list_place bytes place 20) most;
-      ligatures = glyphs_from bytes (list_place bytes place 24) most;
+      actions = numbers32 bytes (list_place bytes place 16);
+      components = numbers16 bytes (list_place bytes place 20);
+      ligatures = glyphs_from bytes (list_place bytes place 24);
     }))
 
 -- glyph insertion: the machine, and a list of glyphs
-unfoldable pub insertion_tables_at : List ℕ → ℕ → ℕ → ℕ → Result InsertionTables Fault
-insertion_tables_at bytes place glyph_count most =
+unfoldable pub insertion_tables_at : List ℕ → ℕ → ℕ → Result InsertionTables Fault
+insertion_tables_at bytes place glyph_count =
     if nat_lt (length bytes) (place + 20) then Err (fault_at MORX PastEnd place) else
     after (machine_at 4 insertion_at MORX bytes place glyph_count) (λ state. Ok (record {
       state = state;
-      glyphs = glyphs_from bytes (list_place bytes place 16) most;
+      glyphs = glyphs_from bytes (list_place bytes place 16);
     }))

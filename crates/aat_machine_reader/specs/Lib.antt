@@ -6,6 +6,9 @@ pub mod Lookups
 pub mod Machine
 pub mod MachineExamples
 pub mod MachineLaws
+pub mod Room
+pub mod RoomExamples
 pub mod StateArray
 pub mod SubtableKinds
+pub mod Weights
 pub mod Within

@@ -15,11 +15,11 @@ abbrev pub as_kind : {X : Type 0} → (X → SubtableKind) → Result X Fault �
 as_kind kind tables = after tables (λ x. Ok (kind x))
 
 -- the subtable of a kind behind its header at a place. One of another kind does nothing: it has no values
-unfoldable pub subtable_kind_at : List ℕ → ℕ → ℕ → ℕ → ℕ → Result SubtableKind Fault
-subtable_kind_at bytes place kind glyph_count most =
+unfoldable pub subtable_kind_at : List ℕ → ℕ → ℕ → ℕ → Result SubtableKind Fault
+subtable_kind_at bytes place kind glyph_count =
     if kind == 0 then as_kind Rearrangement (machine_at 0 (λ _ _. tt) MORX bytes place glyph_count) else
     if kind == 1 then as_kind Contextual (contextual_tables_at bytes place glyph_count) else
-    if kind == 2 then as_kind Ligature (ligature_at bytes place glyph_count most) else
+    if kind == 2 then as_kind Ligature (ligature_at bytes place glyph_count) else
     if kind == 4 then as_kind NonContextual (lookup_at MORX bytes place glyph_count) else
-    if kind == 5 then as_kind Insertion (insertion_tables_at bytes place glyph_count most) else
+    if kind == 5 then as_kind Insertion (insertion_tables_at bytes place glyph_count) else
     Ok (NonContextual [])

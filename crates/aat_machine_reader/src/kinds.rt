@@ -22,11 +22,11 @@ pub(crate) fn list_place(bytes: &[u8], place: usize, at: u8) -> usize
 }
 
 /// Reads a subtable of ligature substitution, whose state table starts at a place of the table `morx`. `bytes` is the
-/// whole table. Of each of its lists no more than `most` elements are read.
+/// table from its start, up to where the lists of the subtable may reach.
 ///
 /// The first fault in this order, of `morx`, with its place from the start of the table: 1, `PastEnd`, a header of 28
-/// bytes that is not there, at `place`; then those of `read_machine`. The lists reach to the end of the table, and one
-/// that starts past it is empty. `OutOfMemory` comes only if the bytes have no fault.
+/// bytes that is not there, at `place`; then those of `read_machine`. The lists reach to the end of `bytes`, and one that
+/// starts past it is empty. `OutOfMemory` comes only if the bytes have no fault.
 ///
 /// Apple's TrueType Reference Manual, "The 'morx' table", ligature substitution.
 #[tactic(auto, unfolding(crate::specs::Kinds::ligature_at))]
@@ -35,17 +35,16 @@ pub fn read_ligature(
     bytes: &[u8],
     place: usize,
     glyph_count: u16,
-    most: usize,
 ) -> Result<LigatureSubtable, ReadError>
-    ensures { Gives result (ligature_at bytes.now place glyph_count most) }
+    ensures { Gives result (ligature_at bytes.now place glyph_count) }
 {
     if bytes.len() < 28 || place > bytes.len() - 28 {
         return Err(ReadError::Fault(Fault::new(MORX, FaultKind::PastEnd, place)));
     }
     let state = read_machine::<u16, Global>(alloc, MORX, bytes, place, glyph_count)?;
-    let ligature_actions = numbers32(alloc, bytes, list_place(bytes, place, 16), most)?;
-    let components = numbers16(alloc, bytes, list_place(bytes, place, 20), most)?;
-    let ligatures = glyphs_from(alloc, bytes, list_place(bytes, place, 24), most)?;
+    let ligature_actions = numbers32(alloc, bytes, list_place(bytes, place, 16))?;
+    let components = numbers16(alloc, bytes, list_place(bytes, place, 20))?;
+    let ligatures = glyphs_from(alloc, bytes, list_place(bytes, place, 24))?;
     Ok(LigatureSubtable {
         state,
         ligature_actions,
@@ -54,12 +53,12 @@ pub fn read_ligature(
     })
 }
 
-/// Reads a subtable of glyph insertion, whose state table starts at a place of the table `morx`. `bytes` is the whole
-/// table. Of its list no more than `most` glyphs are read.
+/// Reads a subtable of glyph insertion, whose state table starts at a place of the table `morx`. `bytes` is the table from
+/// its start, up to where the list of the subtable may reach.
 ///
 /// The first fault in this order, of `morx`, with its place from the start of the table: 1, `PastEnd`, a header of 20
-/// bytes that is not there, at `place`; then those of `read_machine`. The list reaches to the end of the table, and one
-/// that starts past it is empty. `OutOfMemory` comes only if the bytes have no fault.
+/// bytes that is not there, at `place`; then those of `read_machine`. The list reaches to the end of `bytes`, and one that
+/// starts past it is empty. `OutOfMemory` comes only if the bytes have no fault.
 ///
 /// Apple's TrueType Reference Manual, "The 'morx' table", glyph insertion.
 #[tactic(auto, unfolding(crate::specs::Kinds::insertion_tables_at))]
@@ -68,14 +67,13 @@ pub fn read_insertion(
     bytes: &[u8],
     place: usize,
     glyph_count: u16,
-    most: usize,
 ) -> Result<InsertionSubtable, ReadError>
-    ensures { Gives result (insertion_tables_at bytes.now place glyph_count most) }
+    ensures { Gives result (insertion_tables_at bytes.now place glyph_count) }
 {
     if bytes.len() < 20 || place > bytes.len() - 20 {
         return Err(ReadError::Fault(Fault::new(MORX, FaultKind::PastEnd, place)));
     }
     let state = read_machine::<InsertionEntryData, Global>(alloc, MORX, bytes, place, glyph_count)?;
-    let glyphs = glyphs_from(alloc, bytes, list_place(bytes, place, 16), most)?;
+    let glyphs = glyphs_from(alloc, bytes, list_place(bytes, place, 16))?;
     Ok(InsertionSubtable { state, glyphs })
 }

@@ -1,9 +1,15 @@
-//! A law of machines that are read, as a theorem. This call does nothing: what is proved is its contract.
-ghost use Rattle.aat_machine_reader.specs.MachineLaws.{HasEntriesOfBytes};
+//! Laws of machines and subtables that are read, as theorems. These calls do nothing: what is proved is their contracts.
+ghost use Rattle.aat_machine_reader.specs.MachineLaws.{HasEntriesOfBytes, SubtablesAreBounded};
 
 use crate::entry_read::EntryRead;
 
 /// A machine that is read has, at each state with a row and each class, the entry that the bytes have there.
 pub fn entries_are_those_of_bytes<T: EntryRead>()
     ensures { HasEntriesOfBytes T.extra_at }
+{}
+
+/// A subtable that is read takes less than 19 bytes of memory for each byte from its place on: its machine, its lists,
+/// its classes and its lookups together. What a `Vec` has room for beyond what it holds does not count.
+pub fn subtables_are_bounded()
+    ensures { SubtablesAreBounded }
 {}

@@ -8,8 +8,10 @@ mod kinds;
 pub mod laws;
 mod lists;
 mod machine;
+mod room;
 mod state_array;
 mod subtable_kind;
+pub mod weights;
 #[doc(hidden)]
 pub mod worked;
 

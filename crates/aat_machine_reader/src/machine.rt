@@ -8,7 +8,7 @@ use crate::entry_read::EntryRead;
 use crate::state_array::StateArray;
 use aat_bytes::{ReadError, Tag};
 use aat_font::ExtendedStateTable;
-use aat_lookup_reader::read_pairs;
+use aat_lookup_reader::read_lookup;
 use std::alloc::Allocator;
 
 /// The machine of a state table whose cells are there.
@@ -28,16 +28,16 @@ pub(crate) fn with_classes<T: EntryRead, A: Allocator + Copy>(
     ensures { Gives result
         (with_classes T.extra_at array.now cells (lookup_at table bytes.now (class_place array.now) glyph_count)) }
 {
-    let classes = read_pairs(alloc, table, bytes, array.class_place(), glyph_count)?;
+    let classes = read_lookup(alloc, table, bytes, array.class_place(), glyph_count)?;
     let rules = array.rules::<T, A>(alloc, cells)?;
-    match ExtendedStateTable::new(alloc, array.class_count(), &classes, &rules) {
+    match ExtendedStateTable::with_classes(alloc, array.class_count(), classes, rules) {
         Ok(machine) => Ok(machine),
         Err(_) => Err(ReadError::OutOfMemory),
     }
 }
 
-/// Reads the state table that starts at a place of a table, in bytes from the start of the table. `bytes` is the whole
-/// table: rows, entries and classes may reach to its end. It has the header of `morx` and `kerx`. `glyph_count` is the
+/// Reads the state table that starts at a place of a table, in bytes from the start of the table. `bytes` is the
+/// table, up to where rows, entries and classes may reach. It has the header of `morx` and `kerx`. `glyph_count` is the
 /// number of glyphs of `maxp`, for classes of format 0. The rules of the machine are one for each state and class.
 ///
 /// The first fault in this order, of `table`, with its place from the start of the table: 1, `PastEnd`, a header of 16

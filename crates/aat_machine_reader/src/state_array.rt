@@ -1,6 +1,7 @@
 //! The state array and the entries of a state table.
 ghost use Rattle.std.specs.Prelude.{◌≡◌, ◌+◌, ◌*◌, ◌^◌, ◌<◌, ◌≤◌, ℕ, true, IfOk, IfSome, length};
 ghost use Rattle.aat_machine_reader.specs.Lookups.{lookup_count, lookups_named, lookups_to};
+ghost use Rattle.aat_machine_reader.specs.Room.{room_left};
 ghost use Rattle.aat_machine_reader.specs.StateArray.{AreIndexed, AreWhole, cells_of, class_place, entry_place, has_entry, has_index, header_at, index_place, missing_entry, past_end, row_fault, rule_of, rules_of, state_array_at, states_named, states_of};
 
 use crate::entry_read::EntryRead;
@@ -106,6 +107,15 @@ impl<'a> StateArray<'a> {
         ensures { result ≡ self.now.class_count }
     {
         self.class_count
+    }
+
+    /// The room for lookups that so many cells leave.
+    pub(crate) fn room_left(&self, cells: usize) -> usize
+        requires { cells < 2 ^ 33 }
+        ensures room { result ≡ room_left self.now cells }
+        ensures small { result < 2 ^ 63 }
+    {
+        self.bytes.len().saturating_sub(2 * cells)
     }
 
     /// The place of the index of a cell.

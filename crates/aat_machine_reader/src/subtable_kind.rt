@@ -25,8 +25,8 @@ fn nothing(alloc: Global) -> Result<SubtableKind, ReadError>
 
 /// Reads what a subtable of `morx` does, by its kind: 0 rearrangement, 1 contextual, 2 ligature, 4 noncontextual and 5
 /// insertion. A subtable of another kind does nothing: it is a noncontextual one without values. `place` is where the
-/// subtable goes on behind its header of 12 bytes. `bytes` is the whole table. Of each list of actions, components,
-/// ligatures and glyphs no more than `most` elements are read.
+/// subtable goes on behind its header of 12 bytes. `bytes` is the table from its start, up to where
+/// the parts of the subtable may reach: what is behind is not there.
 ///
 /// The faults are those of the kind: of `read_machine`, `read_contextual`, `read_ligature`, `read_lookup` and
 /// `read_insertion`. `OutOfMemory` may come before a fault of a lookup of a contextual subtable is met, and else only
@@ -40,16 +40,15 @@ pub fn read_subtable_kind(
     place: usize,
     kind: u8,
     glyph_count: u16,
-    most: usize,
 ) -> Result<SubtableKind, ReadError>
-    ensures { GivesWithin result (subtable_kind_at bytes.now place kind glyph_count most) }
+    ensures { GivesWithin result (subtable_kind_at bytes.now place kind glyph_count) }
 {
     match kind {
         0 => Ok(SubtableKind::Rearrangement(read_machine(alloc, MORX, bytes, place, glyph_count)?)),
         1 => Ok(SubtableKind::Contextual(read_contextual(alloc, bytes, place, glyph_count)?)),
-        2 => Ok(SubtableKind::Ligature(read_ligature(alloc, bytes, place, glyph_count, most)?)),
+        2 => Ok(SubtableKind::Ligature(read_ligature(alloc, bytes, place, glyph_count)?)),
         4 => Ok(SubtableKind::NonContextual(read_lookup(alloc, MORX, bytes, place, glyph_count)?)),
-        5 => Ok(SubtableKind::Insertion(read_insertion(alloc, bytes, place, glyph_count, most)?)),
+        5 => Ok(SubtableKind::Insertion(read_insertion(alloc, bytes, place, glyph_count)?)),
         _ => nothing(alloc),
     }
 }

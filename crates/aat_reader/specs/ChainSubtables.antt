@@ -1,5 +1,5 @@
 -- The subtables of a chain. Apple's TrueType Reference Manual, "The 'morx' table", metamorphosis subtables.
-use Rattle.std.specs.Prelude.{ℕ, ◌+◌, ◌/◌, ◌%◌, List, Bool, Result, Ok, if◌then◌else◌, ◌==◌, ◌||◌, bit_and}
+use Rattle.std.specs.Prelude.{ℕ, ◌+◌, ◌/◌, ◌%◌, List, take, Bool, Result, Ok, if◌then◌else◌, ◌==◌, ◌||◌, bit_and}
 use Rattle.aat_bytes.specs.Faults.{after}
 use Rattle.aat_bytes.specs.Numbers.{be32}
 use Rattle.aat_bytes.specs.declared.error.Fault.{Fault}
@@ -7,6 +7,7 @@ use Rattle.aat_font.specs.declared.morx.Coverage.{Coverage}
 use Rattle.aat_font.specs.declared.morx.Subtable.{Subtable}
 use Rattle.aat_machine_reader.specs.SubtableKinds.{subtable_kind_at}
 use Rattle.aat_reader.specs.InTurn.{end_at, in_turn}
+use Rattle.aat_reader.specs.declared.reach.Reach.{Reach}
 
 -- the kind is the lowest byte of the coverage
 abbrev pub kind_at : List ℕ → ℕ → ℕ
@@ -25,13 +26,14 @@ abbrev pub flags_at : List ℕ → ℕ → ℕ
 flags_at bytes place = if is_known (kind_at bytes place) then be32 bytes (place + 8) else 0
 
 -- the subtable at a place, for a font of so many glyphs, and where it ends: a header of 12 bytes, with its length,
--- coverage and feature flags, then what it does
-unfoldable pub subtable_at : List ℕ → ℕ → ℕ → ℕ → Result (Subtable × ℕ) Fault
-subtable_at bytes glyph_count most place =
-    after (end_at bytes place 12 0) (λ end.
-    after (subtable_kind_at bytes (place + 12) (kind_at bytes place) glyph_count most) (λ kind.
+-- coverage and feature flags, then what it does. It ends in its chain, and what it does may reach behind its end
+unfoldable pub subtable_at : List ℕ → ℕ → Reach → ℕ → Result (Subtable × ℕ) Fault
+subtable_at bytes glyph_count reach place =
+    after (end_at (take reach.end bytes) place 12 0) (λ end.
+    let used = take (end + reach.allowance) bytes in
+    after (subtable_kind_at used (place + 12) (kind_at bytes place) glyph_count) (λ kind.
     Ok (record { kind = kind; coverage = coverage_at bytes place; feature_flags = flags_at bytes place }, end)))
 
 -- so many subtables, of which the first starts at a place
-abbrev pub subtables_at : List ℕ → ℕ → ℕ → ℕ → ℕ → Result (List Subtable) Fault
-subtables_at bytes glyph_count most count start = in_turn (subtable_at bytes glyph_count most) count start
+abbrev pub subtables_at : List ℕ → ℕ → Reach → ℕ → ℕ → Result (List Subtable) Fault
+subtables_at bytes glyph_count reach count start = in_turn (subtable_at bytes glyph_count reach) count start

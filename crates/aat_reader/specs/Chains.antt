@@ -1,5 +1,5 @@
 -- The chains of an extended glyph metamorphosis table. Apple's TrueType Reference Manual, "The 'morx' table".
-use Rattle.std.specs.Prelude.{ℕ, ◌+◌, ◌*◌, ◌-◌, List, length, map, Result, Ok, Err, if◌then◌else◌, nat_lt, ◌==◌, ◌||◌}
+use Rattle.std.specs.Prelude.{ℕ, ◌+◌, ◌*◌, ◌-◌, List, length, map, take, Result, Ok, Err, if◌then◌else◌, nat_lt, ◌==◌, ◌||◌}
 use Rattle.aat_bytes.specs.Faults.{after, fault_at}
 use Rattle.aat_bytes.specs.Numbers.{be16, be32}
 use Rattle.aat_bytes.specs.declared.error.Fault.{Fault}
@@ -13,6 +13,8 @@ use Rattle.aat_machine_reader.specs.declared.kinds.TheConstants.{MORX}
 use Rattle.aat_reader.specs.ChainFeatures.{whole_features}
 use Rattle.aat_reader.specs.ChainSubtables.{subtables_at}
 use Rattle.aat_reader.specs.InTurn.{end_at, in_turn}
+use Rattle.aat_reader.specs.Reaches.{allowance}
+use Rattle.aat_reader.specs.declared.reach.Reach.{Reach}
 
 -- what a chain holds
 pub record ChainValue : Type 0 where
@@ -38,15 +40,16 @@ pub record ChainStart : Type 0 where
 abbrev pub first_chain : ChainStart
 first_chain = record { place = 8; most_subtables = 65535 }
 
--- the chain of a header at a place: default flags, its length, then the numbers of its features and of its subtables,
--- which stand behind it in this order
-unfoldable pub chain_value_at : List ℕ → ℕ → ℕ → ChainStart → Result ChainValue Fault
-chain_value_at bytes glyph_count most start =
+-- the chain of a header at a place, up to its end: default flags, its length, then the numbers of its features and of
+-- its subtables, which stand behind it in this order
+unfoldable pub chain_value_at : List ℕ → ℕ → ChainStart → ℕ → Result ChainValue Fault
+chain_value_at bytes glyph_count start end =
     let feature_count = be32 bytes (start.place + 8) in
     let subtable_count = be32 bytes (start.place + 12) in
+    let reach : Reach = record { end = end; allowance = allowance (end - start.place) subtable_count } in
     if nat_lt start.most_subtables subtable_count then Err (fault_at MORX PastEnd (start.place + 12)) else
-    after (whole_features bytes (start.place + 16) feature_count) (λ features.
-    after (subtables_at bytes glyph_count most subtable_count (start.place + 16 + 12 * feature_count)) (λ subtables.
+    after (whole_features (take end bytes) (start.place + 16) feature_count) (λ features.
+    after (subtables_at bytes glyph_count reach subtable_count (start.place + 16 + 12 * feature_count)) (λ subtables.
     Ok (record { default_flags = be32 bytes start.place; features = features; subtables = subtables })))
 
 -- where the chain behind a chain starts
@@ -60,16 +63,16 @@ value_and_next most_subtables read =
     (value_of_chain read.0, start_behind most_subtables (value_of_chain read.0) read.1)
 
 -- the chain that starts there, and where the next one starts
-unfoldable pub chain_at : List ℕ → ℕ → ℕ → ChainStart → Result (ChainValue × ChainStart) Fault
-chain_at bytes glyph_count most start =
+unfoldable pub chain_at : List ℕ → ℕ → ChainStart → Result (ChainValue × ChainStart) Fault
+chain_at bytes glyph_count start =
     after (end_at bytes start.place 16 4) (λ end.
-    after (chain_value_at bytes glyph_count most start) (λ chain.
+    after (chain_value_at bytes glyph_count start end) (λ chain.
     Ok (chain, start_behind start.most_subtables chain end)))
 
 -- the chains of the table, or its first fault: version 2 or 3, and behind it the number of chains
-unfoldable pub morx_of : List ℕ → ℕ → ℕ → Result (List ChainValue) Fault
-morx_of bytes glyph_count most =
+unfoldable pub morx_of : List ℕ → ℕ → Result (List ChainValue) Fault
+morx_of bytes glyph_count =
     if nat_lt (length bytes) 8 then Err (fault_at MORX PastEnd 0) else
     if (be16 bytes 0 == 2) || (be16 bytes 0 == 3) then
-    in_turn (chain_at bytes glyph_count most) (be32 bytes 4) first_chain
+    in_turn (chain_at bytes glyph_count) (be32 bytes 4) first_chain
     else Err (fault_at MORX UnknownFormat 0)

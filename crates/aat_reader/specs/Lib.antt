@@ -5,3 +5,5 @@ pub mod GivesAs
 pub mod InTurn
 pub mod MorxExamples
 pub mod MorxLaws
+pub mod Reaches
+pub mod Weights

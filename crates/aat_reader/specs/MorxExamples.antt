@@ -37,7 +37,7 @@ one_chain chain_size subtable_size kind =
 
 -- what an example says
 abbrev pub read_chains : List ℕ → Result (List ChainValue) Fault
-read_chains bytes = morx_of bytes 10 100
+read_chains bytes = morx_of bytes 10
 
 -- what the feature says
 abbrev pub first_feature : ChainFeature
@@ -72,8 +72,18 @@ ChainsStartWhereLengthsEnd =
     ∷ record { default_flags = 1; features = []; subtables = [] }
     ∷ [])
 
+-- what a subtable does may reach behind its length by a fourth of its chain's length, here by 14 of 56 bytes. Its
+-- lookup starts at 48, and its only unit stands at 60.
+abbrev pub SubtableMayReachBehindItsEnd : Type 0
+SubtableMayReachBehindItsEnd =
+    (read_chains (one_chain 56 14 4) ≡ Ok (
+    with_subtable (record { kind = NonContextual ((5, 3) ∷ []); coverage = record { 0 = 128 }; feature_flags = 1 })
+    ∷ []))
+    × (read_chains (one_chain 56 13 4) ≡ Err (fault_at MORX PastEnd 60))
+
 -- each fault at its place: a header that is cut, another version, a length of a chain and of a subtable below its
--- header or past the end, 65,536 subtables, and features that are not there
+-- header or past the end, of a subtable also past the end of its chain, 65,536 subtables, and features that are not
+-- there or not in the chain
 abbrev pub MorxFaultsHaveTheirPlaces : Type 0
 MorxFaultsHaveTheirPlaces =
     (read_chains (take 7 (example_table 2 1)) ≡ Err (fault_at MORX PastEnd 0))
@@ -84,4 +94,6 @@ MorxFaultsHaveTheirPlaces =
     × (read_chains (one_chain 56 11 4) ≡ Err (fault_at MORX ShortLength 36))
     × (read_chains (one_chain 56 29 4) ≡ Err (fault_at MORX PastEnd 36))
     × (read_chains (example_table 2 1 ++ example_chain 16 0 1 0) ≡ Err (fault_at MORX PastEnd 20))
-    × (read_chains (example_table 2 1 ++ example_chain 16 2 0 0 ++ example_feature) ≡ Err (fault_at MORX PastEnd 36))
+    × (read_chains (one_chain 55 28 4) ≡ Err (fault_at MORX PastEnd 36))
+    × (read_chains (example_table 2 1 ++ example_chain 28 2 0 0 ++ example_feature) ≡ Err (fault_at MORX PastEnd 36))
+    × (read_chains (example_table 2 1 ++ example_chain 16 1 0 0 ++ example_feature) ≡ Err (fault_at MORX PastEnd 24))

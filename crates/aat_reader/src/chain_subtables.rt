@@ -5,6 +5,7 @@ ghost use Rattle.aat_reader.specs.ChainSubtables.{coverage_at, flags_at, kind_at
 ghost use Rattle.aat_reader.specs.GivesAs.{GivesAs};
 
 use crate::in_turn::end_at;
+use crate::reach::{Reach, up_to};
 use aat_bytes::{ReadError, be32};
 use aat_font::{Coverage, Subtable};
 use aat_machine_reader::read_subtable_kind;
@@ -45,16 +46,19 @@ fn subtable_at(
     alloc: Global,
     bytes: &[u8],
     glyph_count: u16,
-    most: usize,
+    reach: Reach,
     place: usize,
 ) -> Result<(Subtable, usize), ReadError>
-    requires { place ≤ length bytes.now }
-    ensures gives { GivesWithin result (subtable_at bytes.now glyph_count most place) }
-    ensures inside { IfOk result (λ r. r.1 ≤ length bytes.now) }
+    requires place { place ≤ reach.end }
+    requires end { reach.end ≤ length bytes.now }
+    requires allowance { reach.allowance ≤ length bytes.now }
+    ensures gives { GivesWithin result (subtable_at bytes.now glyph_count reach place) }
+    ensures inside { IfOk result (λ r. r.1 ≤ reach.end) }
 {
-    let end = end_at(bytes, place, 12, 0)?;
+    let end = end_at(&bytes[..reach.end], place, 12, 0)?;
     let kind = kind_at(bytes, place);
-    let does = read_subtable_kind(alloc, bytes, place + 12, kind, glyph_count, most)?;
+    let used = up_to(bytes, end + reach.allowance);
+    let does = read_subtable_kind(alloc, used, place + 12, kind, glyph_count)?;
     let subtable = Subtable::new(does, coverage_at(bytes, place), flags_at(bytes, place));
     Ok((subtable, end))
 }
@@ -64,19 +68,22 @@ pub(crate) fn subtables(
     alloc: Global,
     bytes: &[u8],
     glyph_count: u16,
-    most: usize,
+    reach: Reach,
     count: u32,
     start: usize,
 ) -> Result<Vec<Subtable>, ReadError>
-    requires { start ≤ length bytes.now }
-    ensures gives { let read = subtables_at bytes.now glyph_count most count start in
+    requires start { start ≤ reach.end }
+    requires end { reach.end ≤ length bytes.now }
+    requires allowance { reach.allowance ≤ length bytes.now }
+    ensures gives { let read = subtables_at bytes.now glyph_count reach count start in
         GivesAs (λ subtables. subtables.items) result read }
     ensures count { IfOk result (λ subtables. vec_len subtables ≡ count) }
 {
-    let mut subtables = Vec::new(alloc);
+    let room = (reach.end - start) / 12;
+    let mut subtables = Vec::with_capacity(alloc, room.min(count as usize))?;
     let mut place = start;
     for _ in 0..count {
-        let (subtable, end) = subtable_at(alloc, bytes, glyph_count, most, place)?;
+        let (subtable, end) = subtable_at(alloc, bytes, glyph_count, reach, place)?;
         subtables.push(subtable)?;
         place = end;
     }

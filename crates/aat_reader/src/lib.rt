@@ -7,6 +7,8 @@ mod in_turn;
 #[doc(hidden)]
 pub mod laws;
 mod morx;
+mod reach;
+pub mod weights;
 #[doc(hidden)]
 pub mod worked;
 

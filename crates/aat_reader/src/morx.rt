@@ -8,6 +8,7 @@ ghost use Rattle.aat_reader.specs.InTurn.{in_turn};
 use crate::chain_features::whole_features;
 use crate::chain_subtables::subtables;
 use crate::in_turn::end_at;
+use crate::reach::{Reach, allowance};
 use aat_bytes::{Fault, FaultKind, ReadError, be16, be32};
 use aat_font::{Chain, Morx};
 use aat_machine_reader::MORX;
@@ -22,13 +23,14 @@ fn chain_value_at(
     alloc: Global,
     bytes: &[u8],
     glyph_count: u16,
-    most: usize,
     place: usize,
+    end: usize,
     most_subtables: usize,
 ) -> Result<Chain, ReadError>
-    requires { place + 16 ≤ length bytes.now }
+    requires header { place + 16 ≤ end }
+    requires end { end ≤ length bytes.now }
     ensures gives { let start : ChainStart = record { place = place; most_subtables = most_subtables } in
-        GivesAs value_of_chain result (chain_value_at bytes.now glyph_count most start) }
+        GivesAs value_of_chain result (chain_value_at bytes.now glyph_count start end) }
     ensures few { IfOk result (λ chain. vec_len chain.subtables ≤ most_subtables) }
 {
     let feature_count = be32(bytes, place + 8);
@@ -36,9 +38,13 @@ fn chain_value_at(
     if most_subtables < subtable_count as usize {
         return Err(ReadError::Fault(Fault::new(MORX, FaultKind::PastEnd, place + 12)));
     }
-    let features = whole_features(alloc, bytes, place + 16, feature_count)?;
+    let features = whole_features(alloc, &bytes[..end], place + 16, feature_count)?;
     let start = place + 16 + 12 * feature_count as usize;
-    let subtables = subtables(alloc, bytes, glyph_count, most, subtable_count, start)?;
+    let reach = Reach {
+        end,
+        allowance: allowance(end - place, subtable_count),
+    };
+    let subtables = subtables(alloc, bytes, glyph_count, reach, subtable_count, start)?;
     Ok(Chain::new(be32(bytes, place), features, subtables))
 }
 
@@ -48,18 +54,17 @@ fn chain_at(
     alloc: Global,
     bytes: &[u8],
     glyph_count: u16,
-    most: usize,
     place: usize,
     most_subtables: usize,
 ) -> Result<(Chain, usize), ReadError>
     requires { place ≤ length bytes.now }
     ensures gives { let start : ChainStart = record { place = place; most_subtables = most_subtables } in
-        GivesAs (value_and_next most_subtables) result (chain_at bytes.now glyph_count most start) }
+        GivesAs (value_and_next most_subtables) result (chain_at bytes.now glyph_count start) }
     ensures inside { IfOk result (λ r. r.1 ≤ length bytes.now) }
     ensures few { IfOk result (λ r. vec_len r.0.subtables ≤ most_subtables) }
 {
     let end = end_at(bytes, place, 16, 4)?;
-    let chain = chain_value_at(alloc, bytes, glyph_count, most, place, most_subtables)?;
+    let chain = chain_value_at(alloc, bytes, glyph_count, place, end, most_subtables)?;
     Ok((chain, end))
 }
 
@@ -68,19 +73,19 @@ fn chains(
     alloc: Global,
     bytes: &[u8],
     glyph_count: u16,
-    most: usize,
     count: u32,
 ) -> Result<Vec<Chain>, ReadError>
     requires { 8 ≤ length bytes.now }
-    ensures gives { let read = in_turn (chain_at bytes.now glyph_count most) count first_chain in
+    ensures gives { let read = in_turn (chain_at bytes.now glyph_count) count first_chain in
         GivesAs (λ chains. map value_of_chain chains.items) result read }
     ensures few { IfOk result (λ chains. subtable_count chains.items ≤ 65535) }
 {
-    let mut chains = Vec::new(alloc);
+    let room = bytes.len() / 16;
+    let mut chains = Vec::with_capacity(alloc, room.min(count as usize))?;
     let mut place = 8;
     let mut most_subtables = MOST_SUBTABLES;
     for _ in 0..count {
-        let (chain, end) = chain_at(alloc, bytes, glyph_count, most, place, most_subtables)?;
+        let (chain, end) = chain_at(alloc, bytes, glyph_count, place, most_subtables)?;
         place = end;
         most_subtables -= chain.subtables.len();
         chains.push(chain)?;
@@ -88,29 +93,27 @@ fn chains(
     Ok(chains)
 }
 
-/// Reads the extended glyph metamorphosis table of a font of so many glyphs. Its version is 2 or 3. `bytes` is the whole
-/// table. Of each list of actions, components, ligatures and glyphs of a subtable no more than `most` elements are
-/// read. A subtable of an unknown kind does nothing, and no feature flag switches it. Of the coverage the kind and the
-/// four highest bits are read. What version 3 has behind the subtables of a chain, the glyphs that each may touch, is
-/// passed. Features and subtables of a chain may reach past its length, up to the end of the table.
+/// Reads the extended glyph metamorphosis table of a font of so many glyphs. Its version is 2 or 3. `bytes` is the
+/// whole table. A subtable of an unknown kind does nothing, and no feature flag switches it. Of the coverage the kind
+/// and the four highest bits are read. What version 3 has behind the subtables of a chain, the glyphs that each may
+/// touch, is passed.
+///
+/// A chain has its features and subtables inside its length. What a subtable does may reach behind its length, by an
+/// equal share of a fourth of the chain's length, and not past the end of the table. So a table that is read takes at
+/// most 24 bytes of memory for each of its bytes.
 ///
 /// The first fault in this order, of the table `morx`, with its place from the start of the table: 1, `PastEnd`, a
 /// header of 8 bytes that is not there, at 0; 2, `UnknownFormat`, another version, at 0. Then for each chain: 1, its
 /// header of 16 bytes that is not there, at its place; 3, `ShortLength`, a length below that of the header, at the
 /// length; 1, a length that reaches past the end, at the length; 1, more than 65,535 subtables with those of the chains
-/// before, at their number; 1, features of 12 bytes that are not there, at the first of them. Then for each subtable 1,
-/// 3 and 1 in the same way, with a header of 12 bytes, and the faults of `read_subtable_kind`. `OutOfMemory` may come
-/// before a fault is met.
+/// before, at their number; 1, features of 12 bytes that are not in the chain, at the first of them. Then for each
+/// subtable 1, 3 and 1 in the same way, up to the end of the chain, with a header of 12 bytes, and the faults of
+/// `read_subtable_kind`. `OutOfMemory` may come before a fault is met.
 ///
 /// Apple's TrueType Reference Manual, "The 'morx' table".
 #[tactic(auto, unfolding(crate::specs::Chains::morx_of))]
-pub fn read_morx(
-    alloc: Global,
-    bytes: &[u8],
-    glyph_count: u16,
-    most: usize,
-) -> Result<Morx, ReadError>
-    ensures { GivesAs values_of_morx result (morx_of bytes.now glyph_count most) }
+pub fn read_morx(alloc: Global, bytes: &[u8], glyph_count: u16) -> Result<Morx, ReadError>
+    ensures { GivesAs values_of_morx result (morx_of bytes.now glyph_count) }
 {
     if bytes.len() < 8 {
         return Err(ReadError::Fault(Fault::new(MORX, FaultKind::PastEnd, 0)));
@@ -119,7 +122,7 @@ pub fn read_morx(
     if version != 2 && version != 3 {
         return Err(ReadError::Fault(Fault::new(MORX, FaultKind::UnknownFormat, 0)));
     }
-    let chains = chains(alloc, bytes, glyph_count, most, be32(bytes, 4))?;
+    let chains = chains(alloc, bytes, glyph_count, be32(bytes, 4))?;
     match Morx::new(chains) {
         Ok(morx) => Ok(morx),
         Err(_) => unreachable!(),

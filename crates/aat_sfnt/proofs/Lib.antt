@@ -1,1 +1,2 @@
+mod RisingEnds
 mod RisingRanges

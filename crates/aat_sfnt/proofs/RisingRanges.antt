@@ -1,6 +1,5 @@
 -- Ranges of glyphs that rise, as a bisection finds one of them.
-use Rattle.std.proofs.Common.{◌≡◌, ◌∙◌, sym, ap, refl, ℕ, zero, suc, ◌+◌, ◌-◌, ◌*◌, ◌<◌, ◌≤◌, Bool, true, false, List, Some, None, inl, inr, cond, arith}
-use Rattle.std.specs.List.{find, range_with_len}
+use Rattle.std.proofs.Common.{◌≡◌, ◌∙◌, ap, ℕ, zero, suc, ◌+◌, ◌-◌, ◌*◌, ◌<◌, ◌≤◌, Bool, true, false, List, Some, None, inl, inr, arith}
 use Rattle.std.specs.Prelude.{nat_le, ◌&&◌}
 use Rattle.std.proofs.lemmas.Bool.{cases_eq, cases_lt}
 use Rattle.std.proofs.lemmas.Bool.Decides.{nat_tests}
@@ -8,51 +7,7 @@ use Rattle.std.proofs.lemmas.Grind.{common_steps}
 use Rattle.aat_bytes.specs.Numbers.{be16}
 use Rattle.aat_sfnt.specs.ClassDefinition.{range_of}
 use Rattle.aat_sfnt.specs.RisingRanges.{falling_range, range_falls}
-
-module _ (p : ℕ → Bool) where
-  -- where none is found, no number of the range does
-  none_each : (a n : ℕ) → find p (range_with_len a n) ≡ None → (k : ℕ) → a ≤ k → k < a + n → p k ≡ false
-  none_each a zero none k low high = absurd (omega arith)
-  none_each a (suc n) none k low high = elim (cases_eq k a) [
-    | inl here ↦ ap p here ∙ head_false (p a) none
-    | inr other ↦ none_each (a + 1) n (tail_none (p a) none) k (omega arith) (omega arith)
-  ] where
-    head_false : (b : Bool) → cond b (Some a) (find p (range_with_len (a + 1) n)) ≡ None → b ≡ false
-    head_false true found = cc
-    head_false false found = refl
-
-    tail_none :
-        (b : Bool)
-        → cond b (Some a) (find p (range_with_len (a + 1) n)) ≡ None
-        → find p (range_with_len (a + 1) n) ≡ None
-    tail_none true found = cc
-    tail_none false found = found
-
-  -- where no number of the range does, none is found
-  none_found : (a n : ℕ) → ((k : ℕ) → a ≤ k → k < a + n → p k ≡ false) → find p (range_with_len a n) ≡ None
-  none_found a zero each = refl
-  none_found a (suc n) each =
-      let here : p a ≡ false = each a (omega arith) (omega arith) in
-      let rest = none_found (a + 1) n (λ k low high. each k (omega arith) (omega arith)) in
-      ap (λ (b : Bool). cond b (Some a) (find p (range_with_len (a + 1) n))) here ∙ rest
-
-  -- a number that does, behind numbers that do not, is found
-  found_first :
-      (a n k : ℕ)
-      → a ≤ k
-      → k < a + n
-      → ((i : ℕ) → a ≤ i → i < k → p i ≡ false)
-      → p k ≡ true
-      → find p (range_with_len a n) ≡ Some k
-  found_first a zero k low high none has = absurd (omega arith)
-  found_first a (suc n) k low high none has = elim (cases_eq k a) [
-    | inl here ↦
-        ap (λ (b : Bool). cond b (Some a) (find p (range_with_len (a + 1) n))) (sym (ap p here) ∙ has)
-        ∙ ap Some (sym here)
-    | inr other ↦
-        ap (λ (b : Bool). cond b (Some a) (find p (range_with_len (a + 1) n))) (none a (omega arith) (omega arith))
-        ∙ found_first (a + 1) n k (omega arith) (omega arith) (λ i from below. none i (omega arith) below) has
-  ]
+use Rattle.aat_sfnt.specs.facts.Finds.{found_first, none_each, none_found}
 
 -- a range that does not fall
 stands : (bytes : List ℕ) (i : ℕ) → range_falls bytes i ≡ false → be16 bytes (4 + 6 * i) ≤ be16 bytes (6 + 6 * i)

@@ -7,7 +7,7 @@ use Rattle.aat_sfnt.specs.Directory.{Directory, directory_of, table_of}
 use Rattle.aat_sfnt.specs.Header.{glyph_count}
 use Rattle.aat_sfnt.specs.Metrics.{advance_of, metrics_of}
 use Rattle.aat_sfnt.specs.SegmentMapping.{segment_glyph, segments_at}
-use Rattle.aat_sfnt.specs.SegmentedCoverage.{group_glyph}
+use Rattle.aat_sfnt.specs.SegmentedCoverage.{group_glyph, groups_at}
 use Rattle.aat_sfnt.specs.declared.tags.TheConstants.{CMAP, GDEF, HEAD, MAXP, SFNT, TTCF}
 
 -- a profile of version 0.5 and 7 glyphs
@@ -98,6 +98,19 @@ GroupsMapCharacters =
     × (group_glyph example_groups 65536 ≡ Some 5)
     × (group_glyph example_groups 65537 ≡ Some 6)
     × (group_glyph example_groups 65538 ≡ None)
+
+-- two groups that both end at 65537
+abbrev pub falling_groups : List ℕ
+falling_groups =
+    0 ∷ 12 ∷ 0 ∷ 0 ∷ 0 ∷ 0 ∷ 0 ∷ 40 ∷ 0 ∷ 0 ∷ 0 ∷ 0 ∷ 0 ∷ 0 ∷ 0 ∷ 2
+    ∷ 0 ∷ 1 ∷ 0 ∷ 0 ∷ 0 ∷ 1 ∷ 0 ∷ 1 ∷ 0 ∷ 0 ∷ 0 ∷ 5
+    ∷ 0 ∷ 1 ∷ 0 ∷ 0 ∷ 0 ∷ 1 ∷ 0 ∷ 1 ∷ 0 ∷ 0 ∷ 0 ∷ 7 ∷ []
+
+-- the last character of the second one is a fault
+abbrev pub FallingGroupsAreAFault : Type 0
+FallingGroupsAreAFault =
+    (groups_at example_groups 100 ≡ Ok example_groups)
+    × (groups_at falling_groups 100 ≡ Err (fault_at CMAP NotRising 132))
 
 -- a range of class 3 from glyph 5 to 7
 abbrev pub example_ranges : List ℕ

@@ -6,7 +6,9 @@ pub mod GlyphClasses
 pub mod Header
 pub mod Metrics
 pub mod Names
+pub mod RisingEnds
 pub mod RisingRanges
 pub mod SegmentMapping
 pub mod SegmentedCoverage
 pub mod ShortTables
+pub mod facts

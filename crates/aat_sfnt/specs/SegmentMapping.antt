@@ -1,10 +1,11 @@
 -- Format 4 of the character map: segments of 16 bits. Apple's TrueType Reference Manual, "The 'cmap' table", format 4.
-use Rattle.std.specs.Prelude.{ℕ, ◌+◌, ◌*◌, ◌-◌, ◌/◌, ◌%◌, List, length, take, Option, Some, None, Result, Ok, Err, if◌then◌else◌, nat_lt, nat_le, ◌==◌, find, option_and_then}
+use Rattle.std.specs.Prelude.{◌≡◌, ◌≤◌, ℕ, ◌+◌, ◌*◌, ◌-◌, ◌/◌, ◌%◌, List, length, take, Option, Some, None, Result, Ok, Err, if◌then◌else◌, nat_lt, nat_le, ◌==◌, find, option_and_then}
 use Rattle.std.specs.List.{range_with_len}
 use Rattle.aat_bytes.specs.Faults.{fault_at}
 use Rattle.aat_bytes.specs.Numbers.{be16, u16_at}
 use Rattle.aat_bytes.specs.declared.error.Fault.{Fault}
-use Rattle.aat_bytes.specs.declared.error.FaultKind.TheVariants.{PastEnd, ShortLength}
+use Rattle.aat_bytes.specs.declared.error.FaultKind.TheVariants.{PastEnd, ShortLength, NotRising}
+use Rattle.aat_sfnt.specs.RisingEnds.{first_fall}
 use Rattle.aat_sfnt.specs.declared.tags.TheConstants.{CMAP}
 
 -- the number of segments, of which the subtable has twice the number
@@ -27,11 +28,19 @@ id_range_offset_place bytes i = 16 + 2 * (3 * segment_count bytes + i)
 abbrev pub id_range_offset : List ℕ → ℕ → ℕ
 id_range_offset bytes i = be16 bytes (id_range_offset_place bytes i)
 
--- the subtable if its lists stand inside of its length, whose place is the third byte
+-- the first segment whose last character is not above that of the one before it
+abbrev pub falling_segment : List ℕ → Option ℕ
+falling_segment bytes = first_fall (end_code bytes) (segment_count bytes)
+
+-- the lists stand inside, and the segments rise
+abbrev pub AreSegments : List ℕ → Type 0
+AreSegments bytes = (16 + 8 * segment_count bytes ≤ length bytes) × (falling_segment bytes ≡ None)
+
+-- the subtable if its lists stand inside of its length, whose place is the third byte, and its segments rise
 abbrev pub with_lists : List ℕ → ℕ → Result (List ℕ) Fault
 with_lists bytes place =
     if nat_lt (length bytes) (16 + 8 * segment_count bytes) then Err (fault_at CMAP ShortLength (place + 2)) else
-    Ok bytes
+    elim (falling_segment bytes) [ Some i ↦ Err (fault_at CMAP NotRising (place + (14 + 2 * i))) | None ↦ Ok bytes ]
 
 -- the subtable at the start of bytes, which stand at a place of the table. A length that reaches past the end of the
 -- table is cut there, as HarfBuzz does for fonts in use

@@ -1,9 +1,9 @@
 -- A feature name table that is written is read again.
-use Rattle.std.proofs.Common.{◌≡◌, ℕ, suc, ◌+◌, ◌*◌, ◌/◌, ◌%◌, ◌<◌, ◌≤◌, List, [], ◌∷◌, ◌++◌, length, get_or, map, take, Bool, true, false, Option, Some, None, Result, Ok, All, refl, sym, ap, ◌∙◌, subst, arith}
+use Rattle.std.proofs.Common.{◌≡◌, ℕ, suc, ◌+◌, ◌*◌, ◌/◌, ◌<◌, ◌≤◌, List, [], ◌∷◌, ◌++◌, length, get_or, take, Bool, true, false, None, Result, Ok, All, refl, sym, ap, ◌∙◌, subst, arith}
 use Rattle.std.specs.Prelude.{nat_le, nat_lt}
-use Rattle.std.specs.List.{flat_map, range_with_len}
+use Rattle.std.specs.List.{flat_map}
 use Rattle.std.proofs.lemmas.Bool.{le-ltb, ltb-false}
-use Rattle.std.proofs.lemmas.List.{append-nil, get_or-append-add, length-append, length-take-le}
+use Rattle.std.proofs.lemmas.List.{append-nil, get_or-append-add, length-take-le}
 use Rattle.std.proofs.lemmas.List.Concat.{get_or-flat_map}
 use Rattle.std.proofs.lemmas.List.FromFn.{fill_by_all}
 use Rattle.aat_bytes.specs.Faults.{after}
@@ -14,10 +14,10 @@ use Rattle.aat_font.specs.Keys.{first_fall}
 use Rattle.aat_font.specs.declared.feat.FeatureName.{FeatureName}
 use Rattle.aat_lookup_reader.specs.Features.{feat_of, feature_count, feature_name, feature_names, rising_names}
 use Rattle.aat_writer.specs.FeatLaws.{IsName, WrittenFeatsAreRead}
-use Rattle.aat_writer.specs.Features.{feat_words, feat_written, feature_flags, feature_words}
+use Rattle.aat_writer.specs.Features.{feat_words, feature_flags, feature_words}
 use Rattle.aat_writer.specs.Words.{word_bytes}
-use Rattle.aat_writer.proofs.ReadAgain.{written_is}
-use Rattle.aat_writer.proofs.WordPlaces.{AreWords, length_words, word_at, words_joined}
+use Rattle.aat_writer.specs.facts.Written.{written_is}
+use Rattle.aat_writer.specs.facts.WordPlaces.{AreWords, length_words, word_at}
 
 -- a name, where there is none
 abbrev no_name : FeatureName

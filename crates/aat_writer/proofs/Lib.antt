@@ -1,4 +1,3 @@
 pub mod FeatAgain
 pub mod NoFall
 pub mod ReadAgain
-pub mod WordPlaces

@@ -1,20 +1,19 @@
 -- A lookup that is written is read again.
-use Rattle.std.proofs.Common.{◌≡◌, ℕ, zero, suc, ◌+◌, ◌*◌, ◌<◌, ◌≤◌, List, [], ◌∷◌, ◌++◌, length, get_or, Bool, true, false, Option, Some, None, Ok, All, refl, sym, ap, ◌∙◌, subst, arith}
+use Rattle.std.proofs.Common.{◌≡◌, ℕ, zero, suc, ◌+◌, ◌*◌, ◌<◌, ◌≤◌, List, [], ◌∷◌, ◌++◌, length, get_or, false, None, Ok, All, refl, ap, ◌∙◌, subst, arith}
 use Rattle.std.specs.Prelude.{nat_lt}
 use Rattle.std.specs.List.{flat_map}
 use Rattle.std.proofs.lemmas.Bool.{ltb-false}
 use Rattle.std.proofs.lemmas.List.{get_or-append-add, length-append}
 use Rattle.aat_bytes.specs.Numbers.{be16}
-use Rattle.aat_bytes.specs.declared.tag.Tag.{Tag}
 use Rattle.aat_font.specs.Keys.{first, first_fall}
 use Rattle.aat_font.specs.facts.Falls.{rising}
 use Rattle.aat_lookup_reader.specs.Lookups.{lookup_at}
 use Rattle.aat_writer.specs.LookupLaws.{IsPair, WrittenLookupsAreRead}
-use Rattle.aat_writer.specs.Lookups.{lookup_words, lookup_written, pair_words}
+use Rattle.aat_writer.specs.Lookups.{lookup_words, pair_words}
 use Rattle.aat_writer.specs.Words.{word_bytes}
-use Rattle.aat_writer.specs.WriteErrors.{unless_refused}
+use Rattle.aat_writer.specs.facts.Written.{written_is}
 use Rattle.aat_lookup_reader.specs.facts.Singles.{HasSingles, singles_are_read}
-use Rattle.aat_writer.proofs.WordPlaces.{AreWords, length_words, word_at, words_joined}
+use Rattle.aat_writer.specs.facts.WordPlaces.{AreWords, length_words, word_at, words_joined}
 
 -- the words of pairs, each at its place
 glyph_word :
@@ -52,15 +51,6 @@ pairs_are_words [] small = tt
 pairs_are_words (p ∷ pairs) small =
     let here : IsPair p = small 0 p (omega arith) in
     (here.0, (here.1, pairs_are_words pairs (λ k d lt. small (suc k) d (omega arith))))
-
--- what is known where something was written
-pub written_is :
-    (fall : Option ℕ) (many : Bool) (made bytes : List ℕ)
-    → unless_refused fall many made ≡ Ok bytes
-    → (fall ≡ None) × (many ≡ false) × (made ≡ bytes)
-written_is (Some place) many made bytes is = absurd (let wrong : ⊥ = cc in wrong)
-written_is None true made bytes is = absurd (let wrong : ⊥ = cc in wrong)
-written_is None false made bytes is = (refl, refl, cc)
 
 module _ (pairs : List (ℕ × ℕ)) (before after : List ℕ) (small : All IsPair pairs) (few : length pairs ≤ 65534) (rises : first_fall first pairs ≡ None) where
   abbrev words : List ℕ

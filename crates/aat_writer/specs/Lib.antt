@@ -4,3 +4,4 @@ pub mod LookupLaws
 pub mod Lookups
 pub mod Words
 pub mod WriteErrors
+pub mod facts

@@ -1,5 +1,5 @@
 -- A lookup that is written is read again.
-use Rattle.std.specs.Prelude.{◌≡◌, ℕ, ◌+◌, ◌<◌, ◌^◌, List, ◌++◌, length, All, Ok}
+use Rattle.std.specs.Prelude.{◌≡◌, ℕ, ◌<◌, List, ◌++◌, length, All, Ok}
 use Rattle.aat_bytes.specs.declared.tag.Tag.{Tag}
 use Rattle.aat_lookup_reader.specs.Lookups.{lookup_at}
 use Rattle.aat_writer.specs.Lookups.{lookup_written}

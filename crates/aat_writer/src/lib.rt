@@ -11,4 +11,6 @@ mod words;
 
 pub use error::WriteError;
 pub use feat::write_feat;
-pub use lookup::write_lookup;
+pub use lookup::{append_lookup, write_lookup};
+pub use rising::first_fall;
+pub use words::append_words;

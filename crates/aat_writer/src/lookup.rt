@@ -3,7 +3,7 @@ ghost use Rattle.std.specs.Prelude.{◌≡◌, ◌++◌, OnOk};
 ghost use Rattle.std.specs.List.{flat_map};
 ghost use Rattle.aat_writer.specs.Lookups.{lookup_written, pair_words};
 ghost use Rattle.aat_writer.specs.Words.{word_bytes};
-ghost use Rattle.aat_writer.specs.WriteErrors.{Writes};
+ghost use Rattle.aat_writer.specs.WriteErrors.{Appends, Writes};
 
 use crate::error::WriteError;
 use crate::rising::first_fall;
@@ -20,6 +20,27 @@ fn append_pairs<A: Allocator>(out: &mut Vec<u8, A>, pairs: &[(u16, u16)]) -> Res
     Ok(())
 }
 
+/// Appends a lookup of format 6 behind what is there already, as `write_lookup` writes it.
+///
+/// Refused as there, and then nothing is appended. Where memory is wanting, a part may stand behind what was there.
+pub fn append_lookup<A: Allocator>(
+    out: &mut Vec<u8, A>,
+    pairs: &[(u16, u16)],
+) -> Result<(), WriteError>
+    ensures { Appends result out.old.items out.new.items (lookup_written pairs.now) }
+{
+    if let Some(place) = first_fall(pairs) {
+        return Err(WriteError::NotRising(place));
+    }
+    if pairs.len() > 65534 {
+        return Err(WriteError::TooMany);
+    }
+    append_words(out, &[6, 4, pairs.len() as u16 + 1, 0, 0, 0])?;
+    append_pairs(out, pairs)?;
+    append_words(out, &[0xFFFF, 0xFFFF])?;
+    Ok(())
+}
+
 /// Writes pairs of a glyph and its value, which have to rise strictly by glyph, as a lookup of format 6. A terminator
 /// is counted as its last unit. The three numbers for a search are 0.
 ///
@@ -31,15 +52,7 @@ fn append_pairs<A: Allocator>(out: &mut Vec<u8, A>, pairs: &[(u16, u16)]) -> Res
 pub fn write_lookup<A: Allocator>(alloc: A, pairs: &[(u16, u16)]) -> Result<Vec<u8, A>, WriteError>
     ensures { Writes result (lookup_written pairs.now) }
 {
-    if let Some(place) = first_fall(pairs) {
-        return Err(WriteError::NotRising(place));
-    }
-    if pairs.len() > 65534 {
-        return Err(WriteError::TooMany);
-    }
     let mut out = Vec::new(alloc);
-    append_words(&mut out, &[6, 4, pairs.len() as u16 + 1, 0, 0, 0])?;
-    append_pairs(&mut out, pairs)?;
-    append_words(&mut out, &[0xFFFF, 0xFFFF])?;
+    append_lookup(&mut out, pairs)?;
     Ok(out)
 }

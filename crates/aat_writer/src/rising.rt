@@ -5,7 +5,7 @@ ghost use Rattle.aat_font.specs.Keys.{first_fall};
 use aat_font::keys::Keyed;
 
 /// The place of the first row that is not above the one before it.
-pub(crate) fn first_fall<R: Keyed>(rows: &[R]) -> Option<usize>
+pub fn first_fall<R: Keyed>(rows: &[R]) -> Option<usize>
     ensures { result ≡ first_fall R.key_of rows.now }
 {
     for i in 1..rows.len() {

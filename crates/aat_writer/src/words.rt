@@ -5,10 +5,7 @@ ghost use Rattle.aat_writer.specs.Words.{word_bytes};
 use std::alloc::{AllocError, Allocator};
 
 /// Appends numbers of 16 bits, big-endian.
-pub(crate) fn append_words<A: Allocator>(
-    out: &mut Vec<u8, A>,
-    words: &[u16],
-) -> Result<(), AllocError>
+pub fn append_words<A: Allocator>(out: &mut Vec<u8, A>, words: &[u16]) -> Result<(), AllocError>
     ensures { OnOk result (out.new.items ≡ out.old.items ++ word_bytes words.now) }
 {
     for word in words {

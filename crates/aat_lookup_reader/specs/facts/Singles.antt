@@ -1,19 +1,19 @@
 -- What is read where the numbers of a lookup of format 6 stand in the bytes.
-use Rattle.std.proofs.Common.{◌≡◌, ℕ, zero, suc, ◌+◌, ◌-◌, ◌*◌, ◌<◌, ◌≤◌, List, [], ◌∷◌, ◌++◌, length, get_or, map, Option, Some, None, Result, Ok, Err, Bool, true, false, refl, sym, ap, ◌∙◌, arith, add-zero}
-use Rattle.std.specs.Prelude.{nat_lt, nat_eq}
+use Rattle.std.proofs.Common.{◌≡◌, ℕ, zero, suc, ◌+◌, ◌-◌, ◌*◌, ◌<◌, ◌≤◌, List, [], ◌∷◌, ◌++◌, length, get_or, map, Option, None, Result, Ok, Err, false, refl, sym, ap, ◌∙◌, arith, add-zero}
+use Rattle.std.specs.Prelude.{nat_lt, nat_eq, if◌then◌else◌}
 use Rattle.std.specs.List.{flat_map, range_with_len}
 use Rattle.std.proofs.lemmas.Bool.{le-ltb, ne_eqb}
 use Rattle.std.proofs.lemmas.List.FromFn.{fill_by_all}
-use Rattle.aat_bytes.specs.Faults.{after}
+use Rattle.aat_bytes.specs.Faults.{after, fault_at}
 use Rattle.aat_bytes.specs.Numbers.{be16}
 use Rattle.aat_bytes.specs.declared.error.Fault.{Fault}
+use Rattle.aat_bytes.specs.declared.error.FaultKind.TheVariants.{PastEnd}
 use Rattle.aat_bytes.specs.declared.tag.Tag.{Tag}
-use Rattle.aat_lookup_reader.specs.Layouts.{checked_units, end_before, first_fault, layout_at, searched_at, segment_of, unit_fault, units_at, units_fault, unless_fault}
+use Rattle.aat_lookup_reader.specs.Layouts.{are_crowded, checked_units, end_before, first_fault, layout_at, searched_at, segment_of, unit_fault, units_at, units_fault, unless_fault}
 use Rattle.aat_lookup_reader.specs.Lookups.{lookup_at, pairs_of}
 use Rattle.aat_lookup_reader.specs.Segments.{segment_pairs}
 use Rattle.aat_lookup_reader.specs.declared.layout.Layout.{Layout}
 use Rattle.aat_lookup_reader.specs.declared.layout.Layout.TheVariants.{Searched}
-use Rattle.aat_lookup_reader.specs.declared.segment.Segment.{Segment}
 use Rattle.aat_lookup_reader.specs.declared.units.UnitKind.TheVariants.{Single}
 use Rattle.aat_lookup_reader.specs.declared.units.Units.{Units}
 
@@ -89,7 +89,8 @@ module _ (table : Tag) (bytes : List ℕ) (start : ℕ) (pairs : List (ℕ × �
 
   searched : searched_at table bytes start Single ≡ Ok (Searched units)
   unfolding searched_at
-  searched = ap (λ (r : Result Units Fault). after r (λ u. Ok (Searched u))) checked
+  searched =
+      ap (λ (r : Result Units Fault). after r (λ u. if are_crowded bytes u then Err (fault_at table PastEnd start) else Ok (Searched u))) checked
 
   layout : (glyph_count : ℕ) → layout_at table bytes start glyph_count ≡ Ok (Searched units)
   unfolding layout_at

@@ -7,7 +7,7 @@ use Rattle.aat_reader.proofs.chain_subtables.subtables.Goals as goal
 
 pub returns-in_err-subtable-clause-gives : goal.returns-in_err-subtable-clause-gives
 returns-in_err-subtable-clause-gives c =
-    let f = subtable_at c.args.bytes.now c.args.glyph_count c.args.most in
+    let f = subtable_at c.args.bytes.now c.args.glyph_count c.args.reach in
     let all = in_turn f c.args.count c.args.start in
     let refuse : RefusesWithin all c.in_err-subtable.field-0.0 =
     refuses (f c.loop.place) all c.in_err-subtable.field-0.0
@@ -18,7 +18,7 @@ returns-in_err-subtable-clause-gives c =
 
 pub loop-preserved : goal.loop-preserved
 loop-preserved c =
-    let f = subtable_at c.args.bytes.now c.args.glyph_count c.args.most in
+    let f = subtable_at c.args.bytes.now c.args.glyph_count c.args.reach in
     let is : f c.loop.place ≡ Ok (c.in_ok-subtable.subtable, c.in_ok-subtable.end) = c.in_ok-subtable.ensures.gives in
     let next : in_turn f c.args.count c.args.start ≡ behind f c.args.count c.push.new.self.items (c.loop.counter + 1) c.in_ok-subtable.end =
     rw c.in_ok-push.ensures.items

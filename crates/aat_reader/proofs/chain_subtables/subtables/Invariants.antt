@@ -1,4 +1,4 @@
-use Rattle.std.proofs.Common.{◌≡◌, ◌≤◌, length, vec_len}
+use Rattle.std.proofs.Common.{◌≡◌, ◌≤◌, vec_len}
 use Rattle.aat_reader.specs.ChainSubtables.{subtable_at}
 use Rattle.aat_reader.specs.InTurn.{in_turn}
 use Rattle.aat_reader.proofs.Turns.{behind}
@@ -6,7 +6,7 @@ use Rattle.aat_reader.proofs.chain_subtables.subtables.Given as goal
 
 abbrev pub invariant-loop : goal.invariant-loop
 invariant-loop l =
-    (in_turn (subtable_at l.bytes l.glyph_count l.most) l.count l.start
-    ≡ behind (subtable_at l.bytes l.glyph_count l.most) l.count l.subtables.items l.counter l.place)
+    (in_turn (subtable_at l.bytes l.glyph_count l.reach) l.count l.start
+    ≡ behind (subtable_at l.bytes l.glyph_count l.reach) l.count l.subtables.items l.counter l.place)
     × (vec_len l.subtables ≡ l.counter)
-    × (l.place ≤ length l.bytes)
+    × (l.place ≤ l.reach.end)

@@ -11,7 +11,7 @@ use Rattle.aat_reader.proofs.morx.chains.Goals as goal
 
 pub returns-in_err-chain-clause-gives : goal.returns-in_err-chain-clause-gives
 returns-in_err-chain-clause-gives c =
-    let f = chain_at c.args.bytes.now c.args.glyph_count c.args.most in
+    let f = chain_at c.args.bytes.now c.args.glyph_count in
     let here : ChainStart = record { place = c.loop.place; most_subtables = c.loop.most_subtables } in
     let all = in_turn f c.args.count first_chain in
     let refuse : RefusesWithin all c.in_err-chain.field-0.0 =
@@ -23,7 +23,7 @@ returns-in_err-chain-clause-gives c =
 
 pub loop-preserved : goal.loop-preserved
 loop-preserved c =
-    let f = chain_at c.args.bytes.now c.args.glyph_count c.args.most in
+    let f = chain_at c.args.bytes.now c.args.glyph_count in
     let chain = c.in_ok-chain.chain in
     let here : ChainStart = record { place = c.loop.place; most_subtables = c.loop.most_subtables } in
     let behind_chain : ChainStart = start_behind c.loop.most_subtables (value_of_chain chain) c.in_ok-chain.end in

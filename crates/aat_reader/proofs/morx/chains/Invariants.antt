@@ -8,7 +8,7 @@ use Rattle.aat_reader.proofs.morx.chains.Given as goal
 abbrev pub invariant-loop : goal.invariant-loop
 invariant-loop l =
     let start : ChainStart = record { place = l.place; most_subtables = l.most_subtables } in
-    (in_turn (chain_at l.bytes l.glyph_count l.most) l.count first_chain
-    ≡ behind (chain_at l.bytes l.glyph_count l.most) l.count (map value_of_chain l.chains.items) l.counter start)
+    (in_turn (chain_at l.bytes l.glyph_count) l.count first_chain
+    ≡ behind (chain_at l.bytes l.glyph_count) l.count (map value_of_chain l.chains.items) l.counter start)
     × (l.most_subtables + subtable_count l.chains.items ≡ 65535)
     × (l.place ≤ length l.bytes)
