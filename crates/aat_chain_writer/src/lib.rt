@@ -1,0 +1,20 @@
+//! Writers of the extended glyph metamorphosis table, `morx`, which the reader reads again.
+#![tactic(auto)]
+
+mod chain;
+mod error;
+#[doc(hidden)]
+pub mod laws;
+mod morx;
+mod numbers;
+mod sizes;
+mod subtable;
+#[doc(hidden)]
+pub mod worked;
+mod write;
+
+pub use chain::ChainBytes;
+pub use error::ChainWriteError;
+pub use morx::write_morx;
+pub use subtable::SubtableBytes;
+pub use write::write_chains;

@@ -1,0 +1,17 @@
+pub mod ClassTables
+pub mod Counted
+pub mod EntryPlaces
+pub mod Places
+pub mod RowFacts
+pub mod Rows
+pub mod Searches
+pub mod MachineAgain
+pub mod Refused
+pub mod Begins
+pub mod ListsAgain
+pub mod MachineParts
+pub mod Joined
+pub mod Substituted
+pub mod KindsAgain
+pub mod TablePlaces
+pub mod ContextualAgain

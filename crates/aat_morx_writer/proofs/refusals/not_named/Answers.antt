@@ -1,0 +1,29 @@
+use Rattle.std.proofs.Common.{◌≡◌, ◌+◌, ◌-◌, arith, true, false}
+use Rattle.std.specs.Prelude.{nat_lt}
+use Rattle.std.proofs.lemmas.Bool.{le-ltb, lt-ltb}
+use Rattle.aat_morx_writer.specs.MachineRefusals.{highest_named}
+use Rattle.aat_morx_writer.proofs.Rows.{row_is_read}
+use Rattle.aat_morx_writer.proofs.Searches.{met, passed}
+use Rattle.aat_morx_writer.proofs.refusals.not_named.Goals as goal
+
+pub returns-then-highest-state : goal.returns-then-highest-state
+returns-then-highest-state g c =
+    let state = c.loop-state.state in
+    let w = c.args.class_count in
+    let highest : c.highest_from-highest.result ≡ highest_named w c.args.rules.now state =
+    row_is_read w state _ _ c.args.rules.now (omega arith) c.loop-state.invariant.highest c.highest_from-highest.ensures in
+    let passes : nat_lt (highest_named w c.args.rules.now state) state ≡ true = lt-ltb _ _ (omega (arith, highest)) in
+    met (λ s. nat_lt (highest_named w c.args.rules.now s) s) state _ _ c.loop-state.invariant.found c.loop-state-test.true passes
+
+pub loop-state-preserved : goal.loop-state-preserved
+loop-state-preserved g c =
+    let state = c.loop-state.state in
+    let w = c.args.class_count in
+    let highest : c.highest_from-highest.result ≡ highest_named w c.args.rules.now state =
+    row_is_read w state _ _ c.args.rules.now (omega arith) c.loop-state.invariant.highest c.highest_from-highest.ensures in
+    let fails : nat_lt (highest_named w c.args.rules.now state) state ≡ false = le-ltb _ _ (omega (arith, highest)) in
+    let same : state + 1 - 1 ≡ state = omega arith in
+    record {
+      found = passed (λ s. nat_lt (highest_named w c.args.rules.now s) s) state _ _ c.loop-state.invariant.found c.loop-state-test.true fails;
+      highest = rw same highest;
+    }

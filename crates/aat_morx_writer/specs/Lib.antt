@@ -1,0 +1,14 @@
+pub mod Contextual
+pub mod EntryLaws
+pub mod EntryWords
+pub mod KindLaws
+pub mod Kinds
+pub mod Longs
+pub mod MachineExamples
+pub mod MachineLaws
+pub mod MachineRefusals
+pub mod Machines
+pub mod MorxWriteErrors
+pub mod SubtableKindLaws
+pub mod SubtableKinds
+pub mod facts

@@ -1,0 +1,6 @@
+mod Appending
+mod CharactersAgain
+mod FontAgain
+mod NamesAgain
+mod RecordPlaces
+mod TablesAgain

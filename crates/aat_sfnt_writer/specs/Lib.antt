@@ -1,0 +1,11 @@
+pub mod CharacterLaws
+pub mod CharacterMaps
+pub mod FontLaws
+pub mod Fonts
+pub mod GlyphClasses
+pub mod Headers
+pub mod LongMetrics
+pub mod NameLaws
+pub mod NameTables
+pub mod Records
+pub mod TableLaws
