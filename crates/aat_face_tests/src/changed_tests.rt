@@ -25,7 +25,7 @@ enum Outcome {
 }
 
 /// Changes one to four bytes, and cuts every fourth file short.
-fn change(numbers: &mut Numbers, file: &mut Vec<u8>) {
+pub(crate) fn change(numbers: &mut Numbers, file: &mut Vec<u8>) {
     for _ in 0..=numbers.below(4) {
         let place = numbers.below(file.len());
         set_byte(file, place, numbers.byte());

@@ -11,3 +11,7 @@ mod face_tests;
 mod files;
 #[cfg(test)]
 mod numbers;
+#[cfg(test)]
+mod text_tests;
+#[cfg(test)]
+mod texts;

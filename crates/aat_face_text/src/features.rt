@@ -1,0 +1,60 @@
+//! The features of `feat`, with their names.
+use crate::names::text_of;
+use aat_face::Face;
+use aat_font::FeatureName;
+use std::alloc::Global;
+use std::io::{self, Write};
+
+/// The most settings of a feature that are looked at.
+const MOST_SETTINGS: u16 = 64;
+
+/// Writes the named ones of the settings of a feature: those up to the number of its settings doubled, since the
+/// settings of a feature that is not exclusive come in pairs of on and off.
+fn write_settings<W: Write>(
+    alloc: Global,
+    out: &mut W,
+    face: &Face<'_>,
+    feature: FeatureName,
+) -> io::Result<()> {
+    let most = feature.settings.saturating_mul(2).min(MOST_SETTINGS);
+    for setting in 0..most {
+        if let Some(name) = face.setting_name(feature.kind, setting) {
+            let text = text_of(alloc, &name)?;
+            writeln!(out, "  setting {setting} {text:?}")?;
+        }
+    }
+    Ok(())
+}
+
+/// Writes a feature: its type, how many settings it has, whether they exclude one another, and its name.
+fn write_feature<W: Write>(
+    alloc: Global,
+    out: &mut W,
+    face: &Face<'_>,
+    feature: FeatureName,
+) -> io::Result<()> {
+    let kind = feature.kind;
+    let settings = feature.settings;
+    let exclusive = if feature.exclusive { " exclusive" } else { "" };
+    write!(out, "feature {kind} settings {settings}{exclusive}")?;
+    if let Some(name) = face.feature_name(kind) {
+        let text = text_of(alloc, &name)?;
+        write!(out, " {text:?}")?;
+    }
+    writeln!(out)?;
+    write_settings(alloc, out, face, feature)
+}
+
+/// Writes the features of `feat` in their order.
+pub(crate) fn write_features<W: Write>(
+    alloc: Global,
+    out: &mut W,
+    face: &Face<'_>,
+) -> io::Result<()> {
+    if let Some(feat) = &face.font().tables().feat {
+        for feature in feat.names() {
+            write_feature(alloc, out, face, *feature)?;
+        }
+    }
+    Ok(())
+}

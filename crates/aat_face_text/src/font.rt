@@ -1,0 +1,49 @@
+//! What a font has as a whole.
+use aat_face::Face;
+use aat_font::GlyphId;
+use std::io::{self, Write};
+
+/// Writes the number of glyphs, the units of the em, and the faults of tables.
+pub(crate) fn write_font<W: Write>(out: &mut W, face: &Face<'_>) -> io::Result<()> {
+    writeln!(out, "glyphs {}", face.glyph_count())?;
+    writeln!(out, "units per em {}", face.units_per_em())?;
+    for fault in face.faults() {
+        writeln!(out, "fault {fault}")?;
+    }
+    Ok(())
+}
+
+/// The most glyphs of a font that are written.
+const MOST_GLYPHS: u16 = 1000;
+
+/// Writes the advance and the properties of each glyph, up to 1,000 of them.
+pub(crate) fn write_glyphs<W: Write>(out: &mut W, face: &Face<'_>) -> io::Result<()> {
+    let font = face.font();
+    let count = face.glyph_count();
+    for glyph in 0..count.min(MOST_GLYPHS) {
+        let advance = font.glyph_advance(GlyphId(glyph));
+        let properties = font.glyph_props(GlyphId(glyph));
+        writeln!(
+            out,
+            "glyph {glyph} advance {advance} properties {properties:#06x}"
+        )?;
+    }
+    if count > MOST_GLYPHS {
+        writeln!(out, "and {} glyphs more", count - MOST_GLYPHS)?;
+    }
+    Ok(())
+}
+
+/// Writes the glyph of each character of a text.
+///
+/// An error is that of the writer. A part of the text may be written then.
+pub fn write_characters<W: Write>(out: &mut W, face: &Face<'_>, text: &str) -> io::Result<()> {
+    for character in text.chars() {
+        let code = character as u32;
+        match face.glyph_of(character) {
+            Some(glyph) => writeln!(out, "character U+{code:04X} glyph {}", glyph.0)?,
+            None => writeln!(out, "character U+{code:04X} has no glyph")?,
+        }
+    }
+    Ok(())
+}
