@@ -1,0 +1,75 @@
+-- Where the line of a subtable can be cut. (No chapter of the manual: the marks that say where a line can be broken are
+-- the shaper's own.)
+use Rattle.std.specs.Prelude.{◌≡◌, ◌≢◌, ℕ, ◌-◌, ◌<◌, ◌≤◌, Bool, true, nat_le, List, length, take, drop, find, All, Option, Some}
+use Rattle.aat_buffer.specs.Buffer.{Buffer, glyph_at}
+use Rattle.aat_buffer.specs.Marks.{cluster_at}
+use Rattle.aat_font.specs.Table.{TableValue}
+use Rattle.aat_font.specs.declared.plan.GlyphId.{GlyphId}
+use Rattle.aat_glyph.specs.declared.glyph.hb_glyph_info_t.{hb_glyph_info_t}
+use Rattle.aat_run.specs.Budget.{operations_left}
+use Rattle.aat_run.specs.Outcome.{Outcome}
+use Rattle.aat_kinds.specs.Contextual.{Entry}
+use Rattle.aat_kinds.specs.Insertion as insertion
+use Rattle.aat_kinds.specs.Kinds.{contextual_run, insertion_run, noncontextual_run}
+use Rattle.aat_cut_laws.specs.Greater.{IsUnflagged, greater_at}
+use Rattle.aat_cut_laws.specs.Parts.{LeftInParts, back_part, front_part}
+use Rattle.aat_cut_kinds.specs.Settled.{HasEntries, IsPlain, IsSettled}
+
+module _ (run : Buffer → Outcome) (q : ℕ) (b : Buffer) where
+  -- A place q inside the line of b whose glyph starts a cluster, at which the subtable is on. Of the two glyphs at the
+  -- cut, the run leaves the one with the greater cluster without the flag, and it leaves some of the budget.
+  pub record IsUnmarkedCut (on : ℕ → Bool) : Type 0 where
+    pub behind_first : 0 < q
+    pub before_end : q < length b.line
+    pub starts : cluster_at b.line (q - 1) ≢ cluster_at b.line q
+    pub is_on : on (cluster_at b.line q) ≡ true
+    pub unflagged : IsUnflagged (glyph_at (run b).buffer.line (greater_at q b.line))
+    pub budget : 0 < operations_left (run b).buffer.max_ops
+
+  -- the run over the line leaves what the runs over its two parts leave, one behind the other, marks included
+  abbrev pub LeavesParts : Type 0
+  LeavesParts = LeftInParts (run b).buffer (run (front_part q b)).buffer (run (back_part q b)).buffer
+
+-- the clusters before place q are lower than c, and those from there on are not
+pub record IsSplitAt (c q : ℕ) (line : List hb_glyph_info_t) : Type 0 where
+  pub before : All (λ g. g.cluster < c) (take q line)
+  pub behind : All (λ g. c ≤ g.cluster) (drop q line)
+
+-- the first glyph whose cluster is not lower than c, if there is one, is without the flag
+abbrev pub IsUnflaggedFrom : ℕ → List hb_glyph_info_t → Type 0
+IsUnflaggedFrom c line = (g : hb_glyph_info_t) → find (λ h. nat_le c h.cluster) line ≡ Some g → IsUnflagged g
+
+-- A place q inside the line of b, at which the subtable is on and the clusters come to c. The run leaves the first
+-- glyph of those without the flag, and it leaves some of the budget.
+pub record IsUnmarkedRise (run : Buffer → Outcome) (on : ℕ → Bool) (c q : ℕ) (b : Buffer) : Type 0 where
+  pub behind_first : 0 < q
+  pub before_end : q < length b.line
+  pub split : IsSplitAt c q b.line
+  pub is_on : on (cluster_at b.line q) ≡ true
+  pub unflagged : IsUnflaggedFrom c (run b).buffer.line
+  pub budget : 0 < operations_left (run b).buffer.max_ops
+
+-- a settled contextual subtable leaves the parts of each line at an unmarked cut
+abbrev pub ContextualLeavesParts : Type 0
+ContextualLeavesParts =
+    (on : ℕ → Bool) (classes : Option (List (ℕ × ℕ))) (table : TableValue Entry) (lookups : List (List (ℕ × ℕ)))
+    (q : ℕ) (b : Buffer)
+    → IsSettled table lookups
+    → IsUnmarkedCut (contextual_run on classes table lookups) q b on
+    → LeavesParts (contextual_run on classes table lookups) q b
+
+-- a noncontextual subtable leaves the parts of each line at each place
+abbrev pub NoncontextualLeavesParts : Type 0
+NoncontextualLeavesParts =
+    (on : ℕ → Bool) (classes : Option (List (ℕ × ℕ))) (lookup : List (ℕ × ℕ)) (q : ℕ) (b : Buffer)
+    → LeavesParts (noncontextual_run on classes lookup) q b
+
+-- a complete insertion subtable, of whose entries none names a run and puts none in, leaves the parts of each line at
+-- an unmarked rise of the clusters
+abbrev pub InsertionLeavesParts : Type 0
+InsertionLeavesParts =
+    (on : ℕ → Bool) (table : TableValue insertion.Entry) (glyphs : List GlyphId) (reached : ℕ → Bool) (c q : ℕ)
+    (b : Buffer)
+    → HasEntries table reached → IsPlain table
+    → IsUnmarkedRise (insertion_run on table glyphs) on c q b
+    → LeavesParts (insertion_run on table glyphs) q b

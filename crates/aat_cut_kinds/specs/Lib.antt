@@ -1,0 +1,5 @@
+pub mod CutExamples
+pub mod Cuts
+pub mod OtherCutExamples
+pub mod Settled
+pub mod facts

@@ -1,0 +1,28 @@
+//! Examples of cuts as theorems. These calls do nothing: what is proved is their contracts.
+ghost use Rattle.aat_cut_kinds.specs.CutExamples.{CutExamples};
+ghost use Rattle.aat_cut_kinds.specs.OtherCutExamples.{InsertionCutExamples, LigatureCutExamples, RearrangementCutExamples};
+
+/// What a settled contextual subtable leaves of a line and of its parts, and for each premise a line whose parts leave
+/// something else.
+#[tactic(auto, using(crate::proofs::Examples::cut_examples))]
+pub fn cuts_of_lines()
+    ensures { CutExamples }
+{}
+
+/// Lines whose parts leave something else, though no mark says so, in ligature subtables.
+#[tactic(auto, using(crate::proofs::Examples::ligature_cut_examples))]
+pub fn ligatures_over_cuts()
+    ensures { LigatureCutExamples }
+{}
+
+/// The same in rearrangement subtables.
+#[tactic(auto, using(crate::proofs::Examples::rearrangement_cut_examples))]
+pub fn rearrangements_over_cuts()
+    ensures { RearrangementCutExamples }
+{}
+
+/// The same in insertion subtables.
+#[tactic(auto, using(crate::proofs::Examples::insertion_cut_examples))]
+pub fn insertions_over_cuts()
+    ensures { InsertionCutExamples }
+{}

@@ -1,0 +1,58 @@
+-- The cut of a run: where the line that a whole run leaves is that of its parts, one behind the other. (No chapter of
+-- the manual: the marks that say where a line can be broken are the shaper's own.)
+use Rattle.std.specs.Prelude.{◌≡◌, ℕ, ◌<◌, Bool, true, List, length, take, drop}
+use Rattle.aat_buffer.specs.Buffer.{Buffer}
+use Rattle.aat_buffer.specs.Marks.{cluster_at}
+use Rattle.aat_font.specs.Table.{TableValue}
+use Rattle.aat_font.specs.declared.state_table.GenericStateEntry.{GenericStateEntry}
+use Rattle.aat_glyph.specs.declared.glyph.hb_glyph_info_t.{hb_glyph_info_t}
+use Rattle.aat_run.specs.Budget.{operations_left}
+use Rattle.aat_run.specs.Context.{Context, Machine}
+use Rattle.aat_run.specs.Driven.{machine_run}
+use Rattle.aat_cut_laws.specs.CutLaws.{IsCutLawful}
+use Rattle.aat_cut_laws.specs.Parts.{LeftInParts, back_part, front_part}
+
+-- The labels of a cut: the states that a run may reach; whether registers of the whole line are, in a state, those of
+-- the back part, moved on by the glyphs before it, as far as they are live there; what marks the cut of a line; and
+-- which lines the front part may have, and the back part.
+pub record CutLabels (R : Type 0) : Type 0 where
+  pub is_reached : ℕ → Bool
+  pub is_alike : List hb_glyph_info_t → ℕ → R → R → Bool
+  pub is_marked : List hb_glyph_info_t → Bool
+  pub is_left : List hb_glyph_info_t → Bool
+  pub is_right : List hb_glyph_info_t → Bool
+
+-- a machine meets the laws of a cut by these labels
+abbrev pub MeetsCutLaws : {R E : Type 0} → Machine R E → (R → ℕ → ℕ → Type 0) → CutLabels R → Type 0
+MeetsCutLaws m fits labels =
+    IsCutLawful m fits (λ t. labels.is_reached t ≡ true) (λ gs t r s. labels.is_alike gs t r s ≡ true)
+    (λ line. labels.is_marked line ≡ true) (λ line. labels.is_left line ≡ true)
+    (λ line. labels.is_right line ≡ true)
+
+module _ {T R : Type 0} (on : ℕ → Bool) (table : TableValue (GenericStateEntry T))
+    (context : Context R (GenericStateEntry T))
+  where
+    -- the line that a run leaves
+    abbrev pub line_left : Buffer → List hb_glyph_info_t
+    line_left b = (machine_run on table context b).buffer.line
+
+    -- a place q inside the line of b at whose glyph the machine is on. The run over b leaves the cut without a mark,
+    -- and some of the budget
+    pub record IsCutPlace (Marked : List hb_glyph_info_t → Type 0) (q : ℕ) (b : Buffer) : Type 0 where
+      pub behind_first : 0 < q
+      pub before_end : q < length b.line
+      pub is_on : on (cluster_at b.line q) ≡ true
+      pub unmarked : Marked (line_left b) → ⊥
+      pub budget : 0 < operations_left (machine_run on table context b).buffer.max_ops
+
+    -- the same by labels, where the front part is one that they speak of
+    pub record IsLabelledCut (labels : CutLabels R) (q : ℕ) (b : Buffer) : Type 0 where
+      pub place : IsCutPlace (λ line. labels.is_marked line ≡ true) q b
+      pub front : labels.is_left (take q b.line) ≡ true
+      pub back : labels.is_right (drop q b.line) ≡ true
+
+    -- the whole run leaves what the runs over the two parts leave
+    abbrev pub LeavesItsParts : ℕ → Buffer → Type 0
+    LeavesItsParts q b =
+        let run : Buffer → Buffer = λ d. (machine_run on table context d).buffer in
+        LeftInParts (run b) (run (front_part q b)) (run (back_part q b))

@@ -1,0 +1,5 @@
+pub mod Cut
+pub mod CutLaws
+pub mod Greater
+pub mod Parts
+pub mod facts

@@ -1,0 +1,10 @@
+pub mod BackRuns
+pub mod ContextCuts
+pub mod CutRuns
+pub mod CutTurns
+pub mod Flags
+pub mod FrontRuns
+pub mod Inside
+pub mod MarksOnly
+pub mod SafeReads
+pub mod Spans

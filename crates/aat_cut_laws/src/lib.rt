@@ -1,0 +1,5 @@
+//! Where the line of a state machine can be cut: the theorem of the driver, over the laws of a context alone.
+#![tactic(auto)]
+
+#[doc(hidden)]
+pub mod laws;
