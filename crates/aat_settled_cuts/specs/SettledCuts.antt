@@ -1,0 +1,27 @@
+-- A subtable that is settled leaves the parts of a line at an unmarked cut. (No chapter of the manual: the marks that say
+-- where a line can be broken are the shaper's own.)
+use Rattle.std.specs.Prelude.{ℕ, Bool}
+use Rattle.aat_buffer.specs.Buffer.{Buffer}
+use Rattle.aat_font.specs.Subtables.{ContextualTables, InsertionTables}
+use Rattle.aat_font.specs.declared.morx.SubtableKind.TheVariants.{Contextual, Insertion}
+use Rattle.aat_kinds.specs.Kinds.{Sizes, kind_run}
+use Rattle.aat_cuts.specs.Kinds.{IsSettled}
+use Rattle.aat_cut_kinds.specs.Cuts.{IsUnmarkedCut, IsUnmarkedRise, LeavesParts}
+use Rattle.aat_cut_kinds.specs.Settled.{IsPlain}
+
+-- a contextual subtable that is settled leaves the parts of each line at an unmarked cut
+abbrev pub SettledContextualLeavesParts : Type 0
+SettledContextualLeavesParts =
+    (z : Sizes) (on : ℕ → Bool) (tables : ContextualTables) (q : ℕ) (b : Buffer)
+    → IsSettled (Contextual tables)
+    → IsUnmarkedCut (kind_run z on (Contextual tables)) q b on
+    → LeavesParts (kind_run z on (Contextual tables)) q b
+
+-- an insertion subtable that is settled, of whose entries none names a run and puts none in, leaves the parts of each
+-- line at an unmarked rise of the clusters
+abbrev pub SettledInsertionLeavesParts : Type 0
+SettledInsertionLeavesParts =
+    (z : Sizes) (on : ℕ → Bool) (tables : InsertionTables) (c q : ℕ) (b : Buffer)
+    → IsSettled (Insertion tables) → IsPlain tables.state
+    → IsUnmarkedRise (kind_run z on (Insertion tables)) on c q b
+    → LeavesParts (kind_run z on (Insertion tables)) q b

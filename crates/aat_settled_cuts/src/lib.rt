@@ -1,0 +1,6 @@
+//! Where the lines of settled subtables can be cut: the subtables of which `aat_cuts` finds no reason why they are not
+//! settled leave the parts of a line at an unmarked cut.
+#![tactic(auto)]
+
+#[doc(hidden)]
+pub mod laws;
