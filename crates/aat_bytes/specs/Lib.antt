@@ -1,3 +1,4 @@
 pub mod Faults
 pub mod NumberExamples
 pub mod Numbers
+pub mod facts

@@ -9,19 +9,21 @@ use thiserror::Error;
 /// What is wrong with the bytes of a table.
 #[derive(Clone, Copy, PartialEq, Eq, Debug, Error)]
 pub enum FaultKind {
-    /// 1: a field, a list or a slice reaches past the end.
+    /// 1: a header, a record, a list or a value is not there as a whole. Also where a number asks for more than may be
+    /// read: more classes or subtables than 65,535, or more lookups and shared values than the bytes have room for.
     #[error("reaches past the end")]
     PastEnd,
-    /// 2: the version or the format is none that is known.
+    /// 2: a version, a format or the size of a value is none that is read, or the magic number of `head` is another.
     #[error("has an unknown version or format")]
     UnknownFormat,
-    /// 3: a length or the size of a unit is below what it has to hold.
+    /// 3: a length, the size of a unit or the number of classes of a machine is below what it has to hold.
     #[error("has a length below that of its header")]
     ShortLength,
-    /// 4: what is asked for is not there: a table, a subtable, or a font of a collection.
+    /// 4: what is asked for is not listed: a table of a font, a font of a file, or a subtable of `cmap` that is read.
     #[error("is missing")]
     Missing,
-    /// 5: a key is not above the one before it.
+    /// 5: a key is not above the one before it: a unit of a lookup, also one whose last glyph is below its first one, a
+    /// type of `feat`, a character of `cmap`, or a range of `GDEF`.
     #[error("has a key that is not above the one before it")]
     NotRising,
 }
@@ -65,10 +67,10 @@ impl Fault {
 /// Why a call that takes memory reads no table. The state after it is the state before it.
 #[derive(Clone, Copy, PartialEq, Eq, Debug, Error)]
 pub enum ReadError {
-    /// The first fault of the table.
+    /// The first fault of the table, in the order that the call says.
     #[error("{0}")]
     Fault(Fault),
-    /// Memory is wanting.
+    /// Memory is wanting. The call says whether the bytes may have a fault then.
     #[error("out of memory")]
     OutOfMemory,
 }

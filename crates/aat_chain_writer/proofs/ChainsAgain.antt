@@ -17,10 +17,10 @@ use Rattle.aat_reader.specs.Reaches.{allowance}
 use Rattle.aat_chain_writer.specs.ChainBytes.{ChainContent, chain_bytes, chain_header, chain_size, count_subtables, feature_bytes, subtable_bytes, subtable_size}
 use Rattle.aat_morx_writer.specs.MachineLaws.{IsLong}
 use Rattle.aat_chain_writer.specs.ChainLaws.{DoesAsRead, IsChain, IsReadable, IsSameChain, IsSameSubtable}
-use Rattle.aat_morx_writer.specs.Longs.{long_bytes}
+use Rattle.aat_writer.specs.Words.{long_bytes}
 use Rattle.aat_chain_writer.proofs.Appended.{each_takes}
 use Rattle.aat_chain_writer.proofs.FeaturesAgain.{features_are_read, features_long}
-use Rattle.aat_morx_writer.proofs.Places.{length_longs, long_at}
+use Rattle.aat_writer.specs.facts.LongPlaces.{length_longs, long_at}
 use Rattle.aat_chain_writer.proofs.SubtablesAgain.{cut, end_is, in_turn_more, subtables_are_read, subtables_long}
 
 four_longs : (a b c e : ℕ) → IsLong a → IsLong b → IsLong c → IsLong e → All IsLong (a ∷ b ∷ c ∷ e ∷ [])

@@ -7,13 +7,12 @@ use Rattle.std.proofs.lemmas.List.FromFn.{fill_by_all}
 use Rattle.aat_bytes.specs.Numbers.{be16, be32}
 use Rattle.aat_font.specs.declared.morx.ChainFeature.{ChainFeature}
 use Rattle.aat_reader.specs.ChainFeatures.{feature_at, features_at, whole_features}
-use Rattle.aat_writer.specs.Words.{word_bytes}
+use Rattle.aat_writer.specs.Words.{long_bytes, word_bytes}
 use Rattle.aat_writer.specs.facts.WordPlaces.{AreWords, length_words, word_at}
 use Rattle.aat_chain_writer.specs.ChainBytes.{feature_bytes}
 use Rattle.aat_morx_writer.specs.MachineLaws.{IsLong}
 use Rattle.aat_chain_writer.specs.ChainLaws.{IsFeature}
-use Rattle.aat_morx_writer.specs.Longs.{long_bytes}
-use Rattle.aat_morx_writer.proofs.Places.{length_longs, long_at}
+use Rattle.aat_writer.specs.facts.LongPlaces.{length_longs, long_at}
 
 -- a feature, where there is none
 abbrev no_feature : ChainFeature

@@ -1,7 +1,7 @@
 -- A table of chains that is written is read again.
 use Rattle.std.proofs.Common.{◌≡◌, ℕ, ◌<◌, List, true, All, Result, Ok, Err, refl, sym, ◌∙◌, subst, arith}
 use Rattle.std.specs.List.{AllZip}
-use Rattle.aat_bytes.specs.declared.error.Fault.{Fault}
+use Rattle.aat_bytes.specs.facts.Parts.{ok_parts as same_parts}
 use Rattle.aat_font.specs.declared.morx.Subtable.{Subtable}
 use Rattle.aat_font.specs.declared.morx.SubtableKind.{SubtableKind}
 use Rattle.aat_font.specs.declared.morx.SubtableKind.TheVariants.{Rearrangement, Contextual, Ligature, NonContextual, Insertion}
@@ -25,10 +25,6 @@ number_is_known (Ligature t) = (omega arith, refl)
 number_is_known (NonContextual pairs) = (omega arith, refl)
 number_is_known (Insertion t) = (omega arith, refl)
 
--- the same result has the same in it
-same_ok : {X : Type 0} (x y : X) → ◌≡◌ {A = Result X Fault} (Ok x) (Ok y) → x ≡ y
-same_ok x y is = cc
-
 -- what is written of a subtable, and what is read of it
 record Wraps (glyph_count : ℕ) (s : Subtable) (content : SubtableContent) : Type 0 where
   pub small : IsSubtable content
@@ -49,7 +45,7 @@ module _ (law : SubtableKindsAreRead) (glyph_count : ℕ) where
         same = λ read is.
             let at = is.0 in
             let r = read_at at.0 at.1 in
-            let does : r.0 ≡ read.kind = same_ok r.0 read.kind (sym r.1 ∙ at.2) in
+            let does : r.0 ≡ read.kind = same_parts r.0 read.kind (sym r.1 ∙ at.2) in
             (subst (λ (k : SubtableKind). ReadsAs s.kind k) does r.2, is.1, is.2);
       }
 

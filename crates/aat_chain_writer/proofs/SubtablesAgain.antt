@@ -18,8 +18,8 @@ use Rattle.aat_reader.specs.InTurn.{end_at, in_turn}
 use Rattle.aat_chain_writer.specs.ChainBytes.{SubtableContent, coverage_number, subtable_bytes, subtable_header, subtable_size}
 use Rattle.aat_morx_writer.specs.MachineLaws.{IsLong}
 use Rattle.aat_chain_writer.specs.ChainLaws.{DoesAsRead, IsReadable, IsSameSubtable, IsSubtable}
-use Rattle.aat_morx_writer.specs.Longs.{long_bytes}
-use Rattle.aat_morx_writer.proofs.Places.{length_longs, long_at}
+use Rattle.aat_writer.specs.Words.{long_bytes}
+use Rattle.aat_writer.specs.facts.LongPlaces.{length_longs, long_at}
 
 -- a record whose length stands in it ends behind it
 pub end_is :

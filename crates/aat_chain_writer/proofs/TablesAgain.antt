@@ -7,16 +7,15 @@ use Rattle.std.proofs.lemmas.List.{append-nil, length-append}
 use Rattle.aat_bytes.specs.Numbers.{be16, be32}
 use Rattle.aat_reader.specs.Chains.{ChainValue, chain_at, first_chain, morx_of}
 use Rattle.aat_reader.specs.InTurn.{in_turn}
-use Rattle.aat_writer.specs.Words.{word_bytes}
+use Rattle.aat_writer.specs.Words.{long_bytes, word_bytes}
 use Rattle.aat_writer.specs.facts.WordPlaces.{AreWords, length_words, word_at}
 use Rattle.aat_chain_writer.specs.ChainBytes.{ChainContent, chain_bytes, chain_size, count_subtables, table_bytes, table_size}
 use Rattle.aat_morx_writer.specs.MachineLaws.{IsLong}
 use Rattle.aat_chain_writer.specs.ChainLaws.{DoesAsRead, IsChain, IsReadable, IsSameChain, WrittenChainsAreRead}
-use Rattle.aat_morx_writer.specs.Longs.{long_bytes}
 use Rattle.aat_chain_writer.specs.declared.error.ChainWriteError.TheVariants.{TooLong, TooManySubtables}
 use Rattle.aat_chain_writer.proofs.Appended.{each_takes}
 use Rattle.aat_chain_writer.proofs.ChainsAgain.{chains_are_read}
-use Rattle.aat_morx_writer.proofs.Places.{length_longs, long_at}
+use Rattle.aat_writer.specs.facts.LongPlaces.{length_longs, long_at}
 
 -- what is known where chains are written
 made_of :

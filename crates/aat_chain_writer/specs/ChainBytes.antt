@@ -3,8 +3,7 @@ use Rattle.std.specs.Prelude.{ℕ, ◌+◌, ◌*◌, ◌^◌, List, [], ◌∷�
 use Rattle.std.specs.List.{flat_map}
 use Rattle.aat_font.specs.declared.morx.ChainFeature.{ChainFeature}
 use Rattle.aat_font.specs.declared.morx.Coverage.{Coverage}
-use Rattle.aat_writer.specs.Words.{word_bytes}
-use Rattle.aat_morx_writer.specs.Longs.{long_bytes}
+use Rattle.aat_writer.specs.Words.{long_bytes, word_bytes}
 use Rattle.aat_chain_writer.specs.declared.error.ChainWriteError.{ChainWriteError}
 use Rattle.aat_chain_writer.specs.declared.error.ChainWriteError.TheVariants.{TooLong, TooManySubtables}
 

@@ -9,16 +9,17 @@ use thiserror::Error;
 /// Why chains are not written. Nothing is written then.
 #[derive(Clone, Copy, PartialEq, Eq, Debug, Error)]
 pub enum ChainWriteError {
-    /// 1: a subtable is not written.
+    /// 1: a subtable is not written, for this error. It comes from `write_morx` alone.
     #[error("a subtable is not written: {0}")]
     Subtable(MorxWriteError),
     /// 2: the table has more than 4,294,967,295 bytes.
     #[error("the table has more than 4294967295 bytes")]
     TooLong,
-    /// 3: the chains have more than 65,535 subtables together.
+    /// 3: the chains have more than 65,535 subtables together. It comes from `write_chains` alone.
     #[error("the chains have more than 65535 subtables")]
     TooManySubtables,
-    /// 4: memory is wanting.
+    /// 4: memory is wanting. From `write_chains` it comes only where no other error does; from `write_morx` it may come
+    /// before any other is met.
     #[error("out of memory")]
     OutOfMemory,
 }

@@ -6,7 +6,6 @@ mod error;
 #[doc(hidden)]
 pub mod laws;
 mod morx;
-mod numbers;
 mod sizes;
 mod subtable;
 #[doc(hidden)]

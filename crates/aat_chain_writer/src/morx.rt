@@ -74,11 +74,12 @@ fn chain_contents(alloc: Global, chains: &[Chain]) -> Result<Vec<ChainBytes>, Mo
 /// chains by `write_chains`.
 ///
 /// Refused in this order: 1, `Subtable`, with the error of the first subtable that is not written; 2, `TooLong`, a
-/// table of more than 4,294,967,295 bytes. 4, `OutOfMemory`, may come before these are met. 3, `TooManySubtables`, never
-/// comes, since the typed table has no more of them.
+/// table of more than 4,294,967,295 bytes. 4, `OutOfMemory`, may come before any of these is met. 3,
+/// `TooManySubtables`, never comes, since the typed table has no more of them.
 ///
-/// `read_morx` reads the same chains again, if there is memory. The lists of ligature and insertion subtables, which
-/// have no length, begin with those that were written. Apple's TrueType Reference Manual, "The 'morx' table".
+/// `read_morx` reads the same chains again, if there is memory, and if no coverage has other bits than the four that
+/// `Coverage` names. The lists of ligature and insertion subtables, which have no length, begin with those that were
+/// written. Apple's TrueType Reference Manual, "The 'morx' table".
 pub fn write_morx(alloc: Global, morx: &Morx) -> Result<Vec<u8>, ChainWriteError>
     ensures { WritesWithin result (morx_written (values_of_morx morx.now)) }
 {

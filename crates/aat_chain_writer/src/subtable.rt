@@ -8,7 +8,8 @@ use std::marker::Model;
 /// Apple's TrueType Reference Manual, "The 'morx' table", metamorphosis subtables.
 #[derive(Drop)]
 pub struct SubtableBytes {
-    /// The number of the kind: 0 rearrangement, 1 contextual, 2 ligature, 4 noncontextual and 5 insertion.
+    /// The number of the kind: 0 rearrangement, 1 contextual, 2 ligature, 4 noncontextual and 5 insertion. A subtable
+    /// of another kind does nothing.
     pub kind: u8,
     /// For which text it is, and in which order it takes the glyphs.
     pub coverage: Coverage,

@@ -6,11 +6,10 @@ ghost use Rattle.aat_chain_writer.specs.ChainWriteErrors.{Writes};
 
 use crate::chain::ChainBytes;
 use crate::error::ChainWriteError;
-use crate::numbers::append_longs;
 use crate::sizes::{LIMIT, MOST_SUBTABLES, chain_size, count_subtables, table_size};
 use crate::subtable::SubtableBytes;
 use aat_font::ChainFeature;
-use aat_writer::append_words;
+use aat_writer::{append_longs, append_words};
 use bitflags::Flags;
 use std::alloc::{AllocError, Global};
 
@@ -84,7 +83,8 @@ fn append_chains(out: &mut Vec<u8>, chains: &[ChainBytes]) -> Result<(), AllocEr
 /// Refused in this order: 2, `TooLong`, a table of more than 4,294,967,295 bytes; 3, `TooManySubtables`, more than
 /// 65,535 subtables of all chains together. 4, `OutOfMemory`, comes only where neither holds.
 ///
-/// The reader reads the chains again, where it reads each body at any place of a table. Apple's TrueType Reference
+/// The reader reads the chains again, where each kind is one that `SubtableBytes` names, no coverage has other bits
+/// than the four that `Coverage` names, and each body is read at any place of a table. Apple's TrueType Reference
 /// Manual, "The 'morx' table".
 pub fn write_chains(alloc: Global, chains: &[ChainBytes]) -> Result<Vec<u8>, ChainWriteError>
     ensures { Writes result (chains_written chains.now) }

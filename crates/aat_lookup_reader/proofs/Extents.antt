@@ -1,18 +1,18 @@
 -- A lookup is read from no more bytes than its format and its numbers ask for.
-use Rattle.std.proofs.Common.{◌≡◌, ℕ, zero, suc, ◌+◌, ◌-◌, ◌*◌, ◌<◌, ◌≤◌, ◌⊎◌, inl, inr, List, [], ◌∷◌, ◌++◌, length, min, Bool, true, false, cond, Option, None, Some, Result, Ok, Err, refl, sym, ap, ◌∙◌, subst, arith, get_or, take, drop}
+use Rattle.std.proofs.Common.{◌≡◌, ℕ, zero, suc, ◌+◌, ◌-◌, ◌*◌, ◌<◌, ◌≤◌, ◌⊎◌, inl, inr, List, length, min, Bool, true, false, cond, Option, None, Some, Result, Ok, Err, refl, sym, ap, ◌∙◌, subst, arith}
 use Rattle.std.specs.List.{range_with_len}
 use Rattle.std.specs.Prelude.{nat_lt, nat_le, sum_by, unwrap_or, ◌==◌, if◌then◌else◌}
 use Rattle.std.proofs.Math.Nat.{mul-le-mul_left}
 use Rattle.std.proofs.lemmas.Bool.{ltb-false}
 use Rattle.std.proofs.lemmas.Bool.Decides.{nat_tests}
-use Rattle.std.proofs.lemmas.List.{get_or-drop, get_or-take}
 use Rattle.std.proofs.lemmas.List.FromFn.{sum_by-map-range_with_len_more}
-use Rattle.std.proofs.lemmas.List.Sums.{sum_by_push}
 use Rattle.aat_bytes.specs.Faults.{after, fault_at}
-use Rattle.aat_bytes.specs.Numbers.{be16, be32, u16_at}
+use Rattle.aat_bytes.specs.Numbers.{be16, u16_at}
 use Rattle.aat_bytes.specs.declared.error.Fault.{Fault}
 use Rattle.aat_bytes.specs.declared.error.FaultKind.TheVariants.{UnknownFormat}
 use Rattle.aat_bytes.specs.declared.tag.Tag.{Tag}
+use Rattle.aat_bytes.specs.facts.Parts.{ok_parts, parts, passes}
+use Rattle.aat_bytes.specs.facts.Ranges.{sum_more}
 use Rattle.aat_lookup_reader.specs.Layouts.{are_crowded, array_of, checked_units, glyphs_of, is_terminator, layout_at, record_size, searched_at, segment_of, sized_array_at, trimmed_array_at, unit_place, units_at, units_fault, unless_fault, without_terminator}
 use Rattle.aat_lookup_reader.specs.Segments.{values_end, values_size}
 use Rattle.aat_lookup_reader.specs.Sizes.{bytes_of, lookup_bytes_at, lookup_size_at}
@@ -24,21 +24,6 @@ use Rattle.aat_lookup_reader.specs.declared.segment.Values.TheVariants.{Shared, 
 use Rattle.aat_lookup_reader.specs.declared.units.UnitKind.{UnitKind}
 use Rattle.aat_lookup_reader.specs.declared.units.UnitKind.TheVariants.{SegmentSingle, SegmentArray, Single}
 use Rattle.aat_lookup_reader.specs.declared.units.Units.{Units}
-
--- what comes after a result comes of what the result has
-parts : {X Y : Type 0} (r : Result X Fault) (next : X → Result Y Fault) (y : Y)
-    → after r next ≡ Ok y → (x : X) × (r ≡ Ok x) × (next x ≡ Ok y)
-parts (Ok x) next y is = (x, refl, is)
-parts (Err fault) next y is = cc
-
-ok_parts : {X : Type 0} (x y : X) → ◌≡◌ {A = Result X Fault} (Ok x) (Ok y) → x ≡ y
-ok_parts x y is = cc
-
--- a test that is passed
-passes : {X : Type 0} (b : Bool) (fault : Fault) (r : Result X Fault) (x : X)
-    → cond b (Err fault) r ≡ Ok x → (b ≡ false) × (r ≡ Ok x)
-passes true fault r x is = cc
-passes false fault r x is = (refl, is)
 
 -- the number of 16 bits at a place, and 0 where it is not there
 abbrev pub number_at : List ℕ → ℕ → ℕ
@@ -93,20 +78,6 @@ no_zero n zero_is other = grind (arith, nat_tests)
 
 same_number : (a b : ℕ) → (a == b) ≡ true → a ≡ b
 same_number a b same = grind (arith, nat_tests)
-
-range_last : (a n : ℕ) → range_with_len a (suc n) ≡ range_with_len a n ++ (a + n) ∷ []
-range_last a zero = let same : a ≡ a + 0 = omega arith in ap (λ k. k ∷ []) same
-range_last a (suc n) =
-    let same : a + 1 + n ≡ a + suc n = omega arith in
-    ap (λ l. a ∷ l) (range_last (a + 1) n ∙ ap (λ k. range_with_len (a + 1) n ++ k ∷ []) same)
-
--- a sum over the numbers below one, one number more
-sum_more : (f : ℕ → ℕ) (n : ℕ) → sum_by f (range_with_len 0 (n + 1)) ≡ sum_by f (range_with_len 0 n) + f n
-sum_more f n =
-    let more : n + 1 ≡ suc n = omega arith in
-    ap (λ k. sum_by f (range_with_len 0 k)) more
-    ∙ ap (sum_by f) (range_last 0 n) ∙ sum_by_push f (range_with_len 0 n) (0 + n)
-    ∙ ap (λ k. sum_by f (range_with_len 0 n) + f k) (let last : 0 + n ≡ n = omega arith in last)
 
 module _ (table : Tag) (bytes : List ℕ) where
   -- fewer values are no more bytes
@@ -402,21 +373,6 @@ sizes_have_bytes table bytes place glyph_count size is =
     ap (λ (r : Result Layout Fault). after r (λ l. Ok (bytes_of bytes l))) layout.1
     in
     (bytes_of bytes layout.0, read)
-
--- a number of 32 bits is two of 16
-pub long_is : (bytes : List ℕ) (place : ℕ) → be32 bytes place ≡ 65536 * be16 bytes place + be16 bytes (place + 2)
-long_is bytes place = omega (arith, byte 0 (omega arith), byte 1 (omega arith), byte 2 (omega arith), byte 3 (omega arith), high 0 (omega arith), high 1 (omega arith), low 0 (omega arith), low 1 (omega arith)) where
-  byte : (i : ℕ) → i < 4 → get_or (take 4 (drop place bytes)) i 0 ≡ get_or bytes (place + i) 0
-  byte i below = get_or-take 4 (drop place bytes) i 0 below ∙ get_or-drop place bytes i 0
-
-  high : (i : ℕ) → i < 2 → get_or (take 2 (drop place bytes)) i 0 ≡ get_or bytes (place + i) 0
-  high i below = get_or-take 2 (drop place bytes) i 0 below ∙ get_or-drop place bytes i 0
-
-  low : (i : ℕ) → i < 2 → get_or (take 2 (drop (place + 2) bytes)) i 0 ≡ get_or bytes (place + (2 + i)) 0
-  low i below =
-      get_or-take 2 (drop (place + 2) bytes) i 0 below
-      ∙ get_or-drop (place + 2) bytes i 0
-      ∙ ap (λ k. get_or bytes k 0) (omega arith)
 
 -- a lookup of format 0 is read from bytes behind its format
 first_array : (table : Tag) (bytes : List ℕ) (place glyph_count : ℕ) (layout : Layout) → be16 bytes place ≡ 0

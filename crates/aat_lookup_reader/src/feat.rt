@@ -96,7 +96,7 @@ fn feature_names<A: Allocator>(
 /// The first fault in this order, of the table `feat`, with its place from the start of the table: 1, `PastEnd`, a
 /// header of 12 bytes that is not there, at 0; 2, `UnknownFormat`, another version, at 0; 1, records of 12 bytes that
 /// are not there, at the first of them; 5, `NotRising`, at the first record whose type is not above that of the one
-/// before it. `OutOfMemory` comes only if the bytes have no fault. A fault is found before memory is asked for.
+/// before it. `OutOfMemory` comes only if the bytes have no fault.
 ///
 /// Apple's TrueType Reference Manual, "The 'feat' table".
 pub fn read_feat<A: Allocator + Copy>(alloc: A, bytes: &[u8]) -> Result<Feat<A>, ReadError>

@@ -147,10 +147,11 @@ fn lookup_of<A: Allocator + Copy>(
 /// unit, and the records of the units are more bytes than stand from `place` to the end of the table, at `place`. A
 /// unit may be wider than its record. A terminator that is counted as the last unit is none.
 ///
-/// `OutOfMemory` comes only if the bytes have no fault. A fault is found before memory is asked for. There are at most
-/// 65,536 glyphs. They are kept as pairs, and as segments where the pairs and the cells beside them would take more
-/// than 7 bytes for each byte that the lookup is read from: so it takes at most 7 bytes for each. Its list is in memory
-/// twice until it is read. `lookup_size` tells how many bytes it takes, and `lookup_bytes` how many it is read from.
+/// `OutOfMemory` comes only if the bytes have no fault. There are at most 65,536 glyphs. They are kept as pairs, and as
+/// segments where the pairs and the cells beside them would take more than 7 bytes for each byte that the lookup is
+/// read from: so it takes at most 7 bytes for each. Its list is in memory twice until it is read. `lookup_size` tells
+/// how many bytes it takes, and `lookup_bytes` how many it is read from.
+///
 /// Apple's TrueType Reference Manual, "Font Tables", section on lookup tables.
 pub fn read_lookup<A: Allocator + Copy>(
     alloc: A,

@@ -1,5 +1,5 @@
 -- What subtables weigh that are read.
-use Rattle.std.proofs.Common.{◌≡◌, ℕ, zero, suc, ◌+◌, ◌-◌, ◌*◌, ◌/◌, ◌≤◌, List, [], ◌∷◌, length, drop, map, Bool, true, false, cond, not, None, Result, Ok, Err, refl, sym, ap, ◌∙◌, subst, arith}
+use Rattle.std.proofs.Common.{◌≡◌, ℕ, zero, suc, ◌+◌, ◌-◌, ◌*◌, ◌/◌, ◌≤◌, List, [], ◌∷◌, length, map, Bool, true, false, cond, None, Result, Ok, Err, refl, sym, ap, ◌∙◌, subst, arith}
 use Rattle.std.specs.List.{range_with_len}
 use Rattle.std.specs.Prelude.{nat_lt, unwrap_or, ◌==◌}
 use Rattle.std.proofs.Math.Nat.{mul-div-le}
@@ -14,7 +14,7 @@ use Rattle.aat_font.specs.Table.{TableValue, table_value}
 use Rattle.aat_font.specs.declared.morx.SubtableKind.{SubtableKind}
 use Rattle.aat_font.specs.declared.morx.SubtableKind.TheVariants.{Rearrangement, Contextual, Ligature, NonContextual, Insertion}
 use Rattle.aat_font.specs.declared.state_table.GenericStateEntry.{GenericStateEntry}
-use Rattle.aat_lookup_reader.proofs.Extents.{array_within, bytes_within, extent, long_is, sizes_have_bytes}
+use Rattle.aat_lookup_reader.proofs.Extents.{array_within, bytes_within, extent, sizes_have_bytes}
 use Rattle.aat_lookup_reader.proofs.SizeBounds.{bytes_are_inside, lookups_are_bounded}
 use Rattle.aat_lookup_reader.specs.Lookups.{lookup_at}
 use Rattle.aat_lookup_reader.specs.Sizes.{lookup_bytes_at, lookup_size_at}
@@ -26,22 +26,23 @@ use Rattle.aat_machine_reader.specs.Lookups.{lookup_count}
 use Rattle.aat_machine_reader.specs.Machine.{machine_at, with_classes}
 use Rattle.aat_machine_reader.specs.MachineLaws.{SubtablesAreBounded}
 use Rattle.aat_machine_reader.specs.Room.{lookup_cost, lookup_past_room, lookup_size, lookups_cost, room_left}
-use Rattle.aat_machine_reader.specs.StateArray.{StateArray, cells_of, class_place, has_index, header_at, missing_entry, missing_index, rule_of, rules_of, state_array_at, state_count, states_of}
+use Rattle.aat_machine_reader.specs.StateArray.{StateArray, cells_of, class_place, has_index, missing_entry, missing_index, rule_of, rules_of, state_array_at, state_count, states_of}
 use Rattle.aat_machine_reader.specs.SubtableKinds.{as_kind, subtable_kind_at}
 use Rattle.aat_machine_reader.specs.Weights.{all_listed_weight, classes_weight, contextual_weight, insertion_weight, kind_weight, ligature_weight, listed_weight, machine_weight, values_weight}
 use Rattle.aat_machine_reader.specs.declared.weights.TheConstants.{PLAIN_RULE_SIZE}
 use Rattle.aat_machine_reader.specs.declared.kinds.TheConstants.{MORX}
-use Rattle.aat_machine_reader.proofs.Added.{sum_more}
-use Rattle.aat_machine_reader.proofs.Counting.{not_false}
-use Rattle.aat_machine_reader.proofs.Parts.{none_of, ok_parts, parts, passes}
-use Rattle.aat_machine_reader.proofs.Ranges.{none_found}
+use Rattle.aat_machine_reader.proofs.Counting.{none_missing_index}
+use Rattle.aat_machine_reader.proofs.Headers.{header_parts}
+use Rattle.aat_bytes.specs.facts.Parts.{none_of, ok_parts, parts, passes}
+use Rattle.aat_bytes.specs.facts.Ranges.{none_each, sum_more}
+use Rattle.aat_bytes.specs.facts.Longs.{long_is}
 
 -- cells whose indexes are there stand in the bytes
 indexed_fit : (m : StateArray) (n : ℕ) → missing_index m n ≡ None → 2 * n ≤ length m.bytes
 unfolding has_index
 indexed_fit m zero none = omega arith
 indexed_fit m (suc n) none =
-    let last : has_index m n ≡ true = not_false _ (none_found (λ cell. not (has_index m cell)) 0 (suc n) none n (omega arith) (omega arith)) in
+    let last : has_index m n ≡ true = none_missing_index m (suc n) none n (omega arith) in
     let inside : m.states + 2 * n + 2 ≤ length m.bytes = leb-true _ _ last in
     omega (arith, inside)
 
@@ -62,31 +63,11 @@ cells_fit m cells is =
     omega (arith, same, fit)
 
 -- a state table has the bytes from its place on
-header_bytes : (table : Tag) (place size : ℕ) (bytes : List ℕ) (m : StateArray)
-    → header_at table place size bytes ≡ Ok m → m.bytes ≡ bytes
-unfolding header_at
-header_bytes table place size bytes m is =
-    let enough = passes (nat_lt (be32 bytes 0) 4) _ _ m is in
-    let narrow = passes (nat_lt 65535 (be32 bytes 0)) _ _ m enough.1 in
-    let header : StateArray = record {
-      table = table;
-      place = place;
-      bytes = bytes;
-      class_count = be32 bytes 0;
-      classes = be32 bytes 4;
-      states = be32 bytes 8;
-      entries = be32 bytes 12;
-      entry_size = 4 + size;
-    } in
-    let same : header ≡ m = ok_parts header m narrow.1 in
-    sym (ap (λ (a : StateArray). a.bytes) same)
-
 bytes_behind : (table : Tag) (bytes : List ℕ) (place size : ℕ) (m : StateArray)
     → state_array_at table bytes place size ≡ Ok m → length m.bytes ≡ length bytes - place
-unfolding state_array_at
 bytes_behind table bytes place size m is =
-    let whole = passes (nat_lt (length bytes) (place + 16)) _ _ m is in
-    ap length (header_bytes table place size (drop place bytes) m whole.1) ∙ length-drop place bytes
+    let header = header_parts table bytes place size m is in
+    ap (λ (a : StateArray). length a.bytes) (sym header.is) ∙ length-drop place bytes
 
 module _ {T : Type 0} (extra_at : List ℕ → ℕ → T) where
   rules_are_cells : (m : StateArray) (cells : ℕ)
@@ -202,23 +183,13 @@ classes_by bytes place glyph_count zero few =
 classes_by bytes place glyph_count (suc offset) few =
     let light = inside_light bytes (place + suc offset) glyph_count in omega (arith, light)
 
--- the number of classes of a state table that is read
-few_classes : (bytes : List ℕ) (place size : ℕ) (m : StateArray)
-    → state_array_at MORX bytes place size ≡ Ok m → (place + 16 ≤ length bytes) × (be32 bytes place ≤ 65535)
-unfolding state_array_at header_at
-few_classes bytes place size m is =
-    let whole = passes (nat_lt (length bytes) (place + 16)) _ _ m is in
-    let enough = passes (nat_lt (be32 (drop place bytes) 0) 4) _ _ m whole.1 in
-    let narrow = passes (nat_lt 65535 (be32 (drop place bytes) 0)) _ _ m enough.1 in
-    (ltb-false (length bytes) (place + 16) whole.0, ltb-false 65535 (be32 (drop place bytes) 0) narrow.0)
-
 -- the classes of a state table that is read take less than 7 bytes for each byte from its place on
 classes_light : (bytes : List ℕ) (place size glyph_count : ℕ) (m : StateArray)
     → state_array_at MORX bytes place size ≡ Ok m
     → (place + 16 ≤ length bytes) × (classes_weight bytes place glyph_count ≤ 7 * (length bytes - place - 1))
 classes_light bytes place size glyph_count m is =
-    let few = few_classes bytes place size m is in
-    (few.0, classes_by bytes place glyph_count (be32 bytes (place + 4)) few.1)
+    let header = header_parts MORX bytes place size m is in
+    (header.inside, classes_by bytes place glyph_count (be32 bytes (place + 4)) header.narrow)
 
 -- lookups that pass no room have it
 costs_fit : (bytes : List ℕ) (list glyph_count room count : ℕ)
@@ -226,7 +197,7 @@ costs_fit : (bytes : List ℕ) (list glyph_count room count : ℕ)
 costs_fit bytes list glyph_count room zero none = omega arith
 costs_fit bytes list glyph_count room (suc n) none =
     let cost = lookups_cost bytes list glyph_count in
-    let last = none_found (λ i. nat_lt room (cost (i + 1))) 0 (suc n) none n (omega arith) (omega arith) in
+    let last = none_each (λ i. nat_lt room (cost (i + 1))) 0 (suc n) none n (omega arith) (omega arith) in
     let within : cost (n + 1) ≤ room = ltb-false room (cost (n + 1)) last in
     let same : n + 1 ≡ suc n = omega arith in
     subst (λ (k : ℕ). cost k ≤ room) same within

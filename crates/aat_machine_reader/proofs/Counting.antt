@@ -1,57 +1,15 @@
 -- The number of states.
-use Rattle.std.proofs.Common.{◌≡◌, ℕ, zero, suc, ◌+◌, ◌*◌, ◌<◌, ◌≤◌, ◌⊎◌, inl, inr, Bool, true, false, not, Option, Some, None, Ok, Err, refl, sym, ap, ◌∙◌, subst, zero-add, arith}
+use Rattle.std.proofs.Common.{◌≡◌, ℕ, ◌+◌, ◌*◌, ◌<◌, ◌≤◌, ◌⊎◌, inl, inr, Bool, true, false, not, Option, Some, None, Ok, Err, refl, sym, ap, ◌∙◌, subst, zero-add, arith}
 use Rattle.std.proofs.Math.Nat.{le_trans, le_antisymm}
 use Rattle.std.proofs.Math.Nat.{mul-le-mul_right, mul-le-mul}
-use Rattle.std.proofs.lemmas.Bool.{cases_lt, leb-true, le-leb}
-use Rattle.aat_machine_reader.specs.StateArray.{StateArray, has_entry, has_index, is_closed, least, missing_entry, missing_index, row_fault, state_count, states_named, states_of}
-use Rattle.aat_machine_reader.proofs.Ranges.{all_pass, each_passes, find_first, find_none, none_found}
+use Rattle.std.proofs.lemmas.Bool.{leb-true, le-leb}
+use Rattle.aat_machine_reader.specs.StateArray.{StateArray, has_entry, has_index, is_closed, missing_entry, missing_index, row_fault, state_count, states_named, states_of}
+use Rattle.aat_bytes.specs.facts.Ranges.{all_pass, each_passes, found_first, none_each, none_found}
+use Rattle.aat_machine_reader.specs.facts.Least.{Least, is_least}
 
-pub not_false : (b : Bool) → not b ≡ false → b ≡ true
+not_false : (b : Bool) → not b ≡ false → b ≡ true
 not_false true is = refl
 not_false false is = cc
-
--- what holds of the least number that passes
-pub record Least (p : ℕ → Bool) (n a k : ℕ) : Type 0 where
-  pub low : a ≤ k
-  pub high : k ≤ a + n
-  pub holds : (k ≡ a + n) ⊎ (p k ≡ true)
-  pub least : (j : ℕ) → a ≤ j → j ≤ a + n → p j ≡ true → k ≤ j
-
-module _ (p : ℕ → Bool) where
-  after_fall : (a j : ℕ) → p a ≡ false → a ≤ j → p j ≡ true → a + 1 ≤ j
-  after_fall a j fails from passes = elim (cases_lt a j) [
-    | inl lt ↦ omega arith
-    | inr le ↦
-        let same : a ≡ j = omega arith in
-        let fails_there : p j ≡ false = subst (λ (i : ℕ). p i ≡ false) same fails in
-        absurd (let clash : true ≡ false = sym passes ∙ fails_there in cc)
-  ]
-
-  least_by :
-      (n a : ℕ) (b : Bool) → p a ≡ b → Least p n (a + 1) (least p n (a + 1))
-      → Least p (suc n) a (elim b [ true ↦ a | false ↦ least p n (a + 1) ])
-  least_by n a true passes later = record {
-    low = omega arith;
-    high = omega arith;
-    holds = inr passes;
-    least = λ j from to holds. from;
-  }
-  least_by n a false fails later = record {
-    low = omega (arith, later.low);
-    high = omega (arith, later.high);
-    holds = elim later.holds [ inl last ↦ inl (omega (arith, last)) | inr passes ↦ inr passes ];
-    least = λ j from to passes. later.least j (after_fall a j fails from passes) (omega arith) passes;
-  }
-
-  pub is_least : (n a : ℕ) → Least p n a (least p n a)
-  unfolding least
-  is_least zero a = record {
-    low = omega arith;
-    high = omega arith;
-    holds = inl (omega arith);
-    least = λ j from to passes. from;
-  }
-  is_least (suc n) a = least_by n a (p a) refl (is_least n (a + 1))
 
 -- a cell of so many states is one of more states
 pub more_cells : (count more width cell : ℕ) → count ≤ more → cell < count * width → cell < more * width
@@ -125,8 +83,8 @@ module _ (m : StateArray) where
       let within = more_cells count (state_count m) m.class_count cell high below in
       let here : not (has_index m cell) ≡ true = ap not missing in
       states_by (Some cell)
-      (find_first _ 0 (state_count m * m.class_count) cell (omega arith) (rw zero-add within) here
-      (λ earlier from lt. ap not (before earlier lt)))
+      (found_first _ 0 (state_count m * m.class_count) cell (omega arith) (rw zero-add within)
+      (λ earlier from lt. ap not (before earlier lt)) here)
 
   -- states whose indexes are all there, and whose cells name no other state, are the states
   pub all_indexed :
@@ -139,10 +97,15 @@ module _ (m : StateArray) where
       let there : (cell : ℕ) → cell < state_count m * m.class_count → has_index m cell ≡ true =
       subst (λ (n : ℕ). (cell : ℕ) → cell < n * m.class_count → has_index m cell ≡ true) same indexed
       in
-      states_by None (find_none _ 0 (state_count m * m.class_count) (λ cell from below. ap not (there cell (rw zero-add at below))))
+      states_by None (none_found _ 0 (state_count m * m.class_count) (λ cell from below. ap not (there cell (rw zero-add at below))))
       ∙ ap Ok (sym same)
+
+  -- where no index is missing each is there
+  pub none_missing_index : (cells : ℕ) → missing_index m cells ≡ None → (cell : ℕ) → cell < cells → has_index m cell ≡ true
+  none_missing_index cells none cell below =
+      not_false (has_index m cell) (none_each _ 0 cells none cell (omega arith) (rw zero-add below))
 
   -- where no entry is missing each is there
   pub none_missing : (cells : ℕ) → missing_entry m cells ≡ None → (cell : ℕ) → cell < cells → has_entry m cell ≡ true
   none_missing cells none cell below =
-      not_false (has_entry m cell) (none_found _ 0 cells none cell (omega arith) (rw zero-add below))
+      not_false (has_entry m cell) (none_each _ 0 cells none cell (omega arith) (rw zero-add below))

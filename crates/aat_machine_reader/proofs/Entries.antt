@@ -10,7 +10,7 @@ use Rattle.aat_font.specs.Table.{entry_of, known_class, rule_key, table_value}
 use Rattle.aat_machine_reader.specs.Entries.{entry_at}
 use Rattle.aat_machine_reader.specs.MachineLaws.{HasEntriesOfBytes}
 use Rattle.aat_machine_reader.specs.StateArray.{StateArray, entry_place, rule_of, rules_of}
-use Rattle.aat_machine_reader.proofs.Ranges.{find_first}
+use Rattle.aat_bytes.specs.facts.Ranges.{found_first}
 
 map_choice : {X Y : Type 0} (f : X → Y) (b : Bool) (x : X) (o : Option X) → cond b (Some (f x)) (option_map f o) ≡ option_map f (cond b (Some x) o)
 map_choice f true x o = refl
@@ -59,10 +59,11 @@ module _ {T : Type 0} (extra_at : List ℕ → ℕ → T) (m : StateArray) (cell
   rule_found : at_key rule_key (rules_of extra_at m cells) (state * 65536 + class) ≡ Some (rule_of extra_at m (state * m.class_count + class))
   rule_found =
       let mapped = find_mapped (λ r. rule_key r == (state * 65536 + class)) (rule_of extra_at m) (range_with_len 0 cells) in
-      let here = find_first (λ j. rule_key (rule_of extra_at m j) == (state * 65536 + class)) 0 cells (state * m.class_count + class)
-      (omega arith) (rw zero-add within) (same_test _ _ key_here)
+      let here = found_first (λ j. rule_key (rule_of extra_at m j) == (state * 65536 + class)) 0 cells (state * m.class_count + class)
+      (omega arith) (rw zero-add within)
       (λ j from lt. other_test _ _ (λ same.
       let one = same_cell m.class_count j state class (omega arith) narrow below same in omega (arith, one)))
+      (same_test _ _ key_here)
       in
       mapped ∙ ap (option_map (rule_of extra_at m)) here
 

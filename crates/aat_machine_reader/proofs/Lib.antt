@@ -1,8 +1,6 @@
-pub mod Added
 pub mod Bounded
 pub mod Counting
 pub mod Entries
-pub mod Folded
+pub mod Headers
 pub mod Listed
-pub mod Parts
-pub mod Ranges
+pub mod OfBytes

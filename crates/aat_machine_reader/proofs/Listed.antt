@@ -1,18 +1,15 @@
 -- Results that are gathered one after the other, as a loop does.
-use Rattle.std.proofs.Common.{◌≡◌, ℕ, suc, ◌+◌, ◌-◌, ◌<◌, ◌≤◌, List, [], ◌∷◌, ◌++◌, map, Result, Ok, Err, refl, sym, ap, append_assoc, arith}
+use Rattle.std.proofs.Common.{◌≡◌, ℕ, suc, ◌+◌, ◌-◌, ◌<◌, ◌≤◌, List, [], ◌∷◌, ◌++◌, map, Result, Ok, Err, refl, sym, ap, arith}
 use Rattle.std.specs.List.{range_with_len}
 use Rattle.std.proofs.lemmas.List.{append-nil}
 use Rattle.aat_bytes.specs.Faults.{after}
 use Rattle.aat_bytes.specs.declared.error.Fault.{Fault}
 use Rattle.aat_bytes.specs.declared.error.ReadError.{ReadError}
 use Rattle.aat_bytes.specs.declared.error.ReadError.TheVariants as errors
+use Rattle.aat_bytes.specs.facts.Parts.{after_ok, after_one_more}
 use Rattle.aat_lookup_reader.specs.Lookups.{Refuses}
 use Rattle.aat_machine_reader.specs.Contextual.{each_of}
 use Rattle.aat_machine_reader.specs.Within.{RefusesWithin}
-
-after_ok : {X : Type 0} (r : Result X Fault) → after r (λ x. Ok x) ≡ r
-after_ok (Ok x) = refl
-after_ok (Err e) = refl
 
 module _ {X : Type 0} (f : ℕ → Result X Fault) (count : ℕ) where
   -- what is gathered behind some values, from an index on
@@ -24,16 +21,10 @@ module _ {X : Type 0} (f : ℕ → Result X Fault) (count : ℕ) where
       let whole : count - 0 ≡ count = omega arith in
       rw whole (sym (after_ok (each_of (map f (range_with_len 0 count)))))
 
-  one_more :
-      (items : List X) (x : X) (r : Result (List X) Fault)
-      → after (after r (λ xs. Ok (x ∷ xs))) (λ rest. Ok (items ++ rest)) ≡ after r (λ rest. Ok ((items ++ x ∷ []) ++ rest))
-  one_more items x (Ok xs) = ap Ok (sym (append_assoc items (x ∷ []) xs))
-  one_more items x (Err e) = refl
-
   pub goes_on : (items : List X) (i : ℕ) (x : X) → i < count → f i ≡ Ok x → behind items i ≡ behind (items ++ x ∷ []) (i + 1)
   goes_on items i x below is =
       let k : count - i ≡ suc (count - (i + 1)) = omega arith in
-      rw k (rw is (one_more items x (each_of (map f (range_with_len (i + 1) (count - (i + 1)))))))
+      rw k (rw is (after_one_more items x (each_of (map f (range_with_len (i + 1) (count - (i + 1)))))))
 
   pub fails : (items : List X) (i : ℕ) (e : Fault) → i < count → f i ≡ Err e → behind items i ≡ Err e
   fails items i e below is =

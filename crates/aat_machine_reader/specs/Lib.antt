@@ -6,9 +6,11 @@ pub mod Lookups
 pub mod Machine
 pub mod MachineExamples
 pub mod MachineLaws
+pub mod MachinesOfBytes
 pub mod Room
 pub mod RoomExamples
 pub mod StateArray
 pub mod SubtableKinds
 pub mod Weights
 pub mod Within
+pub mod facts

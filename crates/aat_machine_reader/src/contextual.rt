@@ -123,7 +123,7 @@ fn contextual_tables(
 /// The first fault in this order, of `morx`, with its place from the start of the table: 1, `PastEnd`, a header of 20
 /// bytes that is not there, at `place`; those of `read_machine`; 1, at the offset of the first lookup that passes the
 /// room; then for each lookup 1, an offset that is not there, at its place, and those of `read_lookup`. A lookup with
-/// offset 0 is empty. `OutOfMemory` may come before a fault of a lookup is met.
+/// offset 0 is empty. `OutOfMemory` may come before any of these is met.
 ///
 /// The room is the bytes from the state table on. A cell takes 2 bytes of it, a lookup 8, and one with an offset also
 /// its own bytes by its format, so that many offsets to one lookup take no more memory than the bytes account for.

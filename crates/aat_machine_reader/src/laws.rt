@@ -1,7 +1,13 @@
 //! Laws of machines and subtables that are read, as theorems. These calls do nothing: what is proved is their contracts.
-ghost use Rattle.aat_machine_reader.specs.MachineLaws.{HasEntriesOfBytes, SubtablesAreBounded};
+ghost use Rattle.aat_machine_reader.specs.MachineLaws.{HasEntriesOfBytes, MachinesAreThoseOfBytes, SubtablesAreBounded};
 
 use crate::entry_read::EntryRead;
+
+/// A machine that is read is that of its bytes: each glyph has the class of its class table, and each state that a run
+/// can come to from state 0 on has, at each class, the entry that the bytes have there.
+pub fn machines_are_those_of_bytes<T: EntryRead>()
+    ensures { MachinesAreThoseOfBytes T.SIZE T.extra_at }
+{}
 
 /// A machine that is read has, at each state with a row and each class, the entry that the bytes have there.
 pub fn entries_are_those_of_bytes<T: EntryRead>()

@@ -46,7 +46,7 @@ pub(crate) fn with_classes<T: EntryRead, A: Allocator + Copy>(
 /// the faults of the class table, as `read_lookup` has them. The rows are those of state 0, in which a machine starts,
 /// and of every state up to the highest that entries of rows name, so that a font may lack the row of state 1.
 ///
-/// `OutOfMemory` comes only if the bytes have no fault. A fault is found before memory is asked for.
+/// `OutOfMemory` comes only if the bytes have no fault.
 ///
 /// Apple's TrueType Reference Manual, "Font Tables", section on state tables.
 #[tactic(auto, unfolding(crate::specs::Machine::machine_at))]

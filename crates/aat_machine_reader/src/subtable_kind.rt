@@ -29,8 +29,7 @@ fn nothing(alloc: Global) -> Result<SubtableKind, ReadError>
 /// the parts of the subtable may reach: what is behind is not there.
 ///
 /// The faults are those of the kind: of `read_machine`, `read_contextual`, `read_ligature`, `read_lookup` and
-/// `read_insertion`. `OutOfMemory` may come before a fault of a lookup of a contextual subtable is met, and else only
-/// if the bytes have no fault.
+/// `read_insertion`. `OutOfMemory` may come before any of these is met.
 ///
 /// Apple's TrueType Reference Manual, "The 'morx' table", metamorphosis subtables.
 #[tactic(auto, unfolding(crate::specs::SubtableKinds::subtable_kind_at))]

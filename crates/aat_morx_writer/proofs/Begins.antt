@@ -6,12 +6,13 @@ use Rattle.std.proofs.lemmas.List.FromFn.{fill_by_all}
 use Rattle.aat_bytes.specs.Numbers.{be16, be32}
 use Rattle.aat_font.specs.declared.plan.GlyphId.{GlyphId}
 use Rattle.aat_machine_reader.specs.Lists.{count_from, glyphs_from, numbers16, numbers32}
-use Rattle.aat_writer.specs.Words.{word_bytes}
+use Rattle.aat_writer.specs.Words.{long_bytes, word_bytes}
 use Rattle.aat_morx_writer.specs.KindLaws.{BeginsWith, IsGlyph}
 use Rattle.aat_morx_writer.specs.Kinds.{glyph_words}
-use Rattle.aat_morx_writer.specs.Longs.{long_bytes}
 use Rattle.aat_morx_writer.specs.MachineLaws.{IsLong, IsWord}
-use Rattle.aat_morx_writer.proofs.Places.{length_longs, length_words, long_at, word_at}
+use Rattle.aat_writer.specs.facts.LongPlaces.{length_longs, long_at}
+use Rattle.aat_writer.specs.facts.WordPlaces.{length_words}
+use Rattle.aat_morx_writer.proofs.Places.{word_at}
 
 first_of_more : {X : Type 0} (f : ℕ → X) (a n m : ℕ) → n ≤ m → take n (map f (range_with_len a m)) ≡ map f (range_with_len a n)
 first_of_more f a zero m le = refl

@@ -15,7 +15,7 @@ use Rattle.aat_morx_writer.specs.MachineRefusals.{rules_refusal}
 use Rattle.aat_morx_writer.specs.Machines.{class_table_written, machine_bytes, machine_written}
 use Rattle.aat_morx_writer.specs.MorxWriteErrors.{after_written, of_lookup, unless_refused}
 use Rattle.aat_morx_writer.specs.declared.error.MorxWriteError.{MorxWriteError}
-use Rattle.aat_morx_writer.proofs.Places.{length_words}
+use Rattle.aat_writer.specs.facts.WordPlaces.{length_words}
 
 length_pairs : (pairs : List (ℕ × ℕ)) → length (flat_map pair_words pairs) ≡ 2 * length pairs
 length_pairs [] = refl

@@ -8,6 +8,7 @@ use Rattle.std.proofs.lemmas.List.FromFn.{length-range_with_len}
 use Rattle.aat_bytes.specs.Faults.{after, fault_at}
 use Rattle.aat_bytes.specs.Numbers.{be16, be32, inside, u16_at, u32_at}
 use Rattle.aat_bytes.specs.declared.error.Fault.{Fault}
+use Rattle.aat_bytes.specs.facts.Ranges.{none_found}
 use Rattle.aat_bytes.specs.declared.error.FaultKind.TheVariants.{PastEnd, ShortLength}
 use Rattle.aat_bytes.specs.declared.tag.Tag.{Tag}
 use Rattle.aat_font.specs.Subtables.{ContextualTables}
@@ -26,11 +27,10 @@ use Rattle.aat_machine_reader.specs.StateArray.{StateArray, cells_of, class_plac
 use Rattle.aat_machine_reader.specs.declared.kinds.TheConstants.{MORX}
 use Rattle.aat_writer.specs.LookupLaws.{WrittenLookupsAreRead}
 use Rattle.aat_writer.specs.Lookups.{lookup_words, lookup_written}
-use Rattle.aat_writer.specs.Words.{word_bytes}
+use Rattle.aat_writer.specs.Words.{long_bytes, word_bytes}
 use Rattle.aat_morx_writer.specs.Contextual.{contextual_bytes, joined, lookups_asked, lookups_named, starts_from, substitution_bytes, substitutions_written}
 use Rattle.aat_morx_writer.specs.EntryWords.{contextual_words}
 use Rattle.aat_morx_writer.specs.Kinds.{machine_end}
-use Rattle.aat_morx_writer.specs.Longs.{long_bytes}
 use Rattle.aat_morx_writer.specs.MachineLaws.{IsLong, MachinesAreRead}
 use Rattle.aat_morx_writer.specs.Machines.{class_table_written}
 use Rattle.aat_morx_writer.specs.MorxWriteErrors.{after_written}
@@ -40,9 +40,9 @@ use Rattle.aat_morx_writer.specs.facts.Entries as facts
 use Rattle.aat_morx_writer.proofs.ClassTables.{class_table_is, lookup_has_length, lookup_made}
 use Rattle.aat_morx_writer.proofs.MachineAgain.{one_more_long}
 use Rattle.aat_morx_writer.proofs.MachineParts.{HasMachine, end_is_near, has_machine}
-use Rattle.aat_morx_writer.proofs.Places.{length_longs, long_at, word_alone}
+use Rattle.aat_writer.specs.facts.LongPlaces.{length_longs, long_at}
+use Rattle.aat_morx_writer.proofs.Places.{word_alone}
 use Rattle.aat_morx_writer.proofs.RowFacts.{are_rows}
-use Rattle.aat_morx_writer.proofs.Searches.{find_none}
 use Rattle.aat_morx_writer.proofs.TablePlaces.{AreSubstitutions, AreTables, are_substitutions, cost_is, each_is, first_le, length_starts, start_is, starts_are_longs, table_between, written_parts}
 
 -- what comes after a result comes of what the result has
@@ -272,7 +272,7 @@ module _ (law : WrittenLookupsAreRead) (lookups : List (List (ℕ × ℕ))) (tab
 
   none_past_room : (room : ℕ) → 8 * n + length (joined tables) ≤ room → lookup_past_room whole list glyph_count room (length lookups) ≡ None
   none_past_room room enough =
-      find_none (λ i. nat_lt room (lookups_cost whole list glyph_count (i + 1))) 0 (length lookups) (λ i from below.
+      none_found (λ i. nat_lt room (lookups_cost whole list glyph_count (i + 1))) 0 (length lookups) (λ i from below.
       le-ltb room (lookups_cost whole list glyph_count (i + 1))
       (omega (arith, costs_are (i + 1) (omega (arith, below, are.count)), first_le tables (i + 1), enough, below, are.count)))
 

@@ -1,5 +1,5 @@
 -- The number of states that the reader finds.
-use Rattle.std.proofs.Common.{◌≡◌, ℕ, zero, suc, ◌+◌, ◌*◌, ◌<◌, ◌≤◌, ◌⊎◌, inl, inr, List, length, get_or, take, Bool, true, false, not, Option, Some, None, Result, Ok, Err, refl, sym, ap, ◌∙◌, subst, arith}
+use Rattle.std.proofs.Common.{◌≡◌, ℕ, suc, ◌+◌, ◌*◌, ◌<◌, ◌≤◌, inl, inr, List, length, get_or, take, Bool, true, not, Option, Some, None, Result, Ok, Err, refl, sym, ap, ◌∙◌, subst, arith}
 use Rattle.std.specs.Prelude.{nat_le}
 use Rattle.std.proofs.Math.Nat.{mul-le-mul_left, mul-le-mul_right}
 use Rattle.std.proofs.lemmas.Bool.{cases_lt, leb-true, le-leb}
@@ -7,45 +7,15 @@ use Rattle.std.proofs.lemmas.List.{get_or-take, length-take-le}
 use Rattle.aat_bytes.specs.Faults.{after}
 use Rattle.aat_bytes.specs.Numbers.{be16}
 use Rattle.aat_bytes.specs.declared.error.Fault.{Fault}
+use Rattle.aat_bytes.specs.facts.Ranges.{all_pass, each_passes, none_found}
 use Rattle.aat_font.specs.Table.{Rule}
 use Rattle.aat_font.specs.declared.state_table.GenericStateEntry.{GenericStateEntry}
 use Rattle.aat_machine_reader.specs.Entries.{entry_at}
 use Rattle.aat_machine_reader.specs.StateArray as reader
 use Rattle.aat_machine_reader.specs.StateArray.{StateArray, cells_of, entry_place, has_entry, has_index, is_closed, least, missing_entry, missing_index, past_end, row_fault, state_count, states_named}
+use Rattle.aat_machine_reader.specs.facts.Least.{is_least}
 use Rattle.aat_morx_writer.specs.MachineRefusals.{highest_named, states_of}
 use Rattle.aat_morx_writer.proofs.RowFacts.{AreRows, highest_below}
-use Rattle.aat_morx_writer.proofs.Searches.{all_pass, each_passes, find_none}
-
--- what holds of the least number that passes
-record Least (p : ℕ → Bool) (n a k : ℕ) : Type 0 where
-  pub low : a ≤ k
-  pub holds : (k ≡ a + n) ⊎ (p k ≡ true)
-  pub least : (j : ℕ) → a ≤ j → j ≤ a + n → p j ≡ true → k ≤ j
-
-module _ (p : ℕ → Bool) where
-  after_fall : (a j : ℕ) → p a ≡ false → a ≤ j → p j ≡ true → a + 1 ≤ j
-  after_fall a j fails from passes = elim (cases_lt a j) [
-    | inl lt ↦ omega arith
-    | inr le ↦
-        let same : a ≡ j = omega arith in
-        let fails_there : p j ≡ false = subst (λ (i : ℕ). p i ≡ false) same fails in
-        absurd (let clash : true ≡ false = sym passes ∙ fails_there in cc)
-  ]
-
-  least_by :
-      (n a : ℕ) (b : Bool) → p a ≡ b → Least p n (a + 1) (least p n (a + 1))
-      → Least p (suc n) a (elim b [ true ↦ a | false ↦ least p n (a + 1) ])
-  least_by n a true passes later = record { low = omega arith; holds = inr passes; least = λ j from to holds. from }
-  least_by n a false fails later = record {
-    low = omega (arith, later.low);
-    holds = elim later.holds [ inl last ↦ inl (omega (arith, last)) | inr passes ↦ inr passes ];
-    least = λ j from to passes. later.least j (after_fall a j fails from passes) (omega arith) passes;
-  }
-
-  is_least : (n a : ℕ) → Least p n a (least p n a)
-  unfolding least
-  is_least zero a = record { low = omega arith; holds = inl (omega arith); least = λ j from to passes. from }
-  is_least (suc n) a = least_by n a (p a) refl (is_least n (a + 1))
 
 -- the number that passes where none before it does
 least_is : (p : ℕ → Bool) (n : ℕ) → 1 ≤ n → n ≤ 16384 → p n ≡ true → ((j : ℕ) → 1 ≤ j → j < n → p j ≡ true → ⊥) → least p 65535 1 ≡ n
@@ -135,12 +105,12 @@ module _ {T : Type 0} (size : ℕ) (extra_at : List ℕ → ℕ → T) (rules : 
 
   none_missing_index : missing_index m (states * m.class_count) ≡ None
   none_missing_index =
-      find_none (λ cell. not (has_index m cell)) 0 (states * m.class_count) (λ cell from below.
+      none_found (λ cell. not (has_index m cell)) 0 (states * m.class_count) (λ cell from below.
       ap not (index_there cell (omega (arith, rows.whole))))
 
   none_missing_entry : missing_entry m (states * m.class_count) ≡ None
   none_missing_entry =
-      find_none (λ cell. not (has_entry m cell)) 0 (states * m.class_count) (λ cell from below.
+      none_found (λ cell. not (has_entry m cell)) 0 (states * m.class_count) (λ cell from below.
       ap not (entry_there cell (omega (arith, rows.whole))))
 
   states_found : reader.states_of m ≡ Ok states

@@ -12,7 +12,8 @@ use Rattle.aat_writer.specs.Words.{word_bytes}
 use Rattle.aat_morx_writer.specs.EntryLaws.{HasSize, ReadsAgain}
 use Rattle.aat_morx_writer.specs.EntryWords.{rule_words}
 use Rattle.aat_morx_writer.specs.MachineLaws.{IsRule}
-use Rattle.aat_morx_writer.proofs.Places.{length_words, word_at}
+use Rattle.aat_writer.specs.facts.WordPlaces.{length_words}
+use Rattle.aat_morx_writer.proofs.Places.{word_at}
 
 module _ {T : Type 0} (size : ℕ) (extra_at : List ℕ → ℕ → T) (words_of : T → List ℕ)
     (has_size : HasSize size words_of) (reads_again : ReadsAgain extra_at words_of) where

@@ -6,7 +6,7 @@ use Rattle.std.proofs.lemmas.Bool.{lt-ltb}
 use Rattle.std.proofs.lemmas.List.{length-append, map-append}
 use Rattle.std.proofs.lemmas.List.Concat.{flat_map-append}
 use Rattle.aat_morx_writer.specs.Contextual.{are_too_long, byte_lists, joined, lookups_written, starts_from}
-use Rattle.aat_morx_writer.specs.Longs.{long_bytes}
+use Rattle.aat_writer.specs.Words.{long_bytes}
 use Rattle.aat_morx_writer.specs.MorxWriteErrors.{after_written, of_lookup}
 use Rattle.aat_morx_writer.specs.declared.error.MorxWriteError.{MorxWriteError}
 use Rattle.aat_writer.specs.Lookups.{lookup_written}

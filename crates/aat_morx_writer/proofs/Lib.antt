@@ -4,7 +4,6 @@ pub mod EntryPlaces
 pub mod Places
 pub mod RowFacts
 pub mod Rows
-pub mod Searches
 pub mod MachineAgain
 pub mod Refused
 pub mod Begins

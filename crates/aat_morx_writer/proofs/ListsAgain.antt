@@ -14,11 +14,10 @@ use Rattle.aat_machine_reader.specs.Kinds.{insertion_tables_at, ligature_at, lis
 use Rattle.aat_machine_reader.specs.Lists.{glyphs_from, numbers16, numbers32}
 use Rattle.aat_machine_reader.specs.Machine.{machine_at}
 use Rattle.aat_machine_reader.specs.declared.kinds.TheConstants.{MORX}
-use Rattle.aat_writer.specs.Words.{word_bytes}
+use Rattle.aat_writer.specs.Words.{long_bytes, word_bytes}
 use Rattle.aat_morx_writer.specs.EntryWords.{insertion_words, one_word}
 use Rattle.aat_morx_writer.specs.KindLaws.{BeginsWith, InsertionsAreRead, IsInsertion, IsLigature, IsSameInsertion, IsSameLigature, LigaturesAreRead, ReadsSame}
 use Rattle.aat_morx_writer.specs.Kinds.{glyph_words, has_long_list, insertion_bytes, is_too_long, ligature_bytes, machine_end}
-use Rattle.aat_morx_writer.specs.Longs.{long_bytes}
 use Rattle.aat_morx_writer.specs.MachineLaws.{IsLong, MachinesAreRead}
 use Rattle.aat_morx_writer.specs.Machines.{class_table_written}
 use Rattle.aat_morx_writer.specs.MorxWriteErrors.{after_written}
@@ -28,7 +27,8 @@ use Rattle.aat_morx_writer.specs.facts.Entries as facts
 use Rattle.aat_morx_writer.proofs.Begins.{glyphs_begin, longs_begin, words_begin}
 use Rattle.aat_morx_writer.proofs.MachineAgain.{one_more_long}
 use Rattle.aat_morx_writer.proofs.MachineParts.{HasMachine, end_is_near, has_machine}
-use Rattle.aat_morx_writer.proofs.Places.{length_longs, length_words}
+use Rattle.aat_writer.specs.facts.LongPlaces.{length_longs}
+use Rattle.aat_writer.specs.facts.WordPlaces.{length_words}
 
 -- what is known where something was written of a class table, unless it was too long
 pub made_of :

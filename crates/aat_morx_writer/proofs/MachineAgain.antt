@@ -17,16 +17,17 @@ use Rattle.aat_machine_reader.specs.Machine.{machine_at, with_classes}
 use Rattle.aat_machine_reader.specs.StateArray.{StateArray, cells_of, class_place, entry_place, header_at, rule_of, rules_of, state_array_at}
 use Rattle.aat_writer.specs.LookupLaws.{WrittenLookupsAreRead}
 use Rattle.aat_writer.specs.Lookups.{lookup_written}
-use Rattle.aat_writer.specs.Words.{word_bytes}
+use Rattle.aat_writer.specs.Words.{long_bytes, word_bytes}
 use Rattle.aat_morx_writer.specs.EntryLaws.{HasSize, ReadsAgain}
 use Rattle.aat_morx_writer.specs.EntryWords.{rule_words}
-use Rattle.aat_morx_writer.specs.Longs.{long_bytes}
 use Rattle.aat_morx_writer.specs.MachineLaws.{IsLong, IsMachine, IsWord, MachinesAreRead}
 use Rattle.aat_morx_writer.specs.Machines.{class_offset, entry_offset, header_longs, machine_bytes, state_offset}
 use Rattle.aat_morx_writer.proofs.ClassTables.{HasLength, is_made, lookup_has_length}
 use Rattle.aat_morx_writer.proofs.Counted.{HasCells, cells_are, place_is}
 use Rattle.aat_morx_writer.proofs.EntryPlaces.{entry_bytes, entry_stands, length_entries}
-use Rattle.aat_morx_writer.proofs.Places.{length_longs, length_words, long_at, word_at}
+use Rattle.aat_writer.specs.facts.LongPlaces.{length_longs, long_at}
+use Rattle.aat_writer.specs.facts.WordPlaces.{length_words}
+use Rattle.aat_morx_writer.proofs.Places.{word_at}
 use Rattle.aat_morx_writer.proofs.RowFacts.{AreRows, are_rows}
 
 -- numbers below one of 16 bits

@@ -7,11 +7,10 @@ use Rattle.std.proofs.lemmas.List.FromFn.{length-range_with_len}
 use Rattle.aat_bytes.specs.Numbers.{be32}
 use Rattle.aat_font.specs.Table.{TableValue}
 use Rattle.aat_font.specs.declared.state_table.GenericStateEntry.{GenericStateEntry}
-use Rattle.aat_writer.specs.Words.{word_bytes}
+use Rattle.aat_writer.specs.Words.{long_bytes, word_bytes}
 use Rattle.aat_morx_writer.specs.EntryLaws.{HasSize, ReadsAgain}
 use Rattle.aat_morx_writer.specs.EntryWords.{rule_words}
 use Rattle.aat_morx_writer.specs.Kinds.{machine_end}
-use Rattle.aat_morx_writer.specs.Longs.{long_bytes}
 use Rattle.aat_machine_reader.specs.Machine.{machine_at}
 use Rattle.aat_machine_reader.specs.declared.kinds.TheConstants.{MORX}
 use Rattle.aat_morx_writer.specs.MachineLaws.{IsLong, IsMachine, MachinesAreRead}
@@ -21,7 +20,8 @@ use Rattle.aat_morx_writer.specs.declared.error.MorxWriteError.{MorxWriteError}
 use Rattle.aat_morx_writer.proofs.ClassTables.{HasLength, class_table_is, lookup_has_length}
 use Rattle.aat_morx_writer.proofs.EntryPlaces.{length_entries}
 use Rattle.aat_morx_writer.proofs.MachineAgain.{header_are_longs}
-use Rattle.aat_morx_writer.proofs.Places.{length_longs, length_words, long_at}
+use Rattle.aat_writer.specs.facts.LongPlaces.{length_longs, long_at}
+use Rattle.aat_writer.specs.facts.WordPlaces.{length_words}
 use Rattle.aat_morx_writer.proofs.RowFacts.{AreRows, are_rows}
 
 module _ {T : Type 0} (size : ℕ) (extra_at : List ℕ → ℕ → T) (words_of : T → List ℕ)

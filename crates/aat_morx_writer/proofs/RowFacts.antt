@@ -6,11 +6,11 @@ use Rattle.std.specs.Option.{option_or}
 use Rattle.std.proofs.Math.Nat.{div-add-mod}
 use Rattle.std.proofs.lemmas.Bool.{ltb-false}
 use Rattle.std.proofs.lemmas.Bool.Decides.{nat_tests}
+use Rattle.aat_bytes.specs.facts.Ranges.{none_each}
 use Rattle.aat_font.specs.Table.{Rule, rule_key}
 use Rattle.aat_font.specs.declared.state_table.GenericStateEntry.{GenericStateEntry}
 use Rattle.aat_morx_writer.specs.MachineRefusals.{cell_key, highest_from, highest_named, is_cut, misplaced_from, no_row, not_named, out_of_place, rules_refusal, states_of}
 use Rattle.aat_morx_writer.specs.declared.error.MorxWriteError.TheVariants.{FewClasses, TooManyRules, OutOfPlace, NoRow, NotNamed}
-use Rattle.aat_morx_writer.proofs.Searches.{none_found}
 
 -- a choice between a refusal and what comes behind it
 not_first : {X : Type 0} (b : Bool) (x : X) (o : Option X) → cond b (Some x) o ≡ None → (b ≡ false) × (o ≡ None)
@@ -153,5 +153,5 @@ are_rows w rules none =
       whole = rows.0;
       named = named_below w (states_of w rules) rules row;
       reached = λ state low high.
-          ltb-false (highest_named w rules state) state (none_found _ 1 (states_of w rules - 1) name state low (omega arith));
+          ltb-false (highest_named w rules state) state (none_each _ 1 (states_of w rules - 1) name state low (omega arith));
     }

@@ -5,25 +5,16 @@ use Rattle.std.specs.List.{range_with_len}
 use Rattle.std.proofs.lemmas.List.Concat.{flat_map-append}
 use Rattle.std.proofs.lemmas.List.Sums.{fold-append}
 use Rattle.std.proofs.Math.Seq.{take-add}
+use Rattle.aat_bytes.specs.facts.Ranges.{range_more}
 use Rattle.aat_font.specs.Table.{Rule}
 use Rattle.aat_font.specs.declared.state_table.GenericStateEntry.{GenericStateEntry}
 use Rattle.aat_writer.specs.Words.{word_bytes}
 use Rattle.aat_morx_writer.specs.MachineRefusals.{highest_from, highest_named}
 
-range_last : (a n : ℕ) → range_with_len a (suc n) ≡ range_with_len a n ++ (a + n) ∷ []
-range_last a zero = let same : a ≡ a + 0 = omega arith in ap (λ k. k ∷ []) same
-range_last a (suc n) =
-    let same : a + 1 + n ≡ a + suc n = omega arith in
-    ap (λ l. a ∷ l) (range_last (a + 1) n ∙ ap (λ k. range_with_len (a + 1) n ++ k ∷ []) same)
-
 -- the index of one cell more
 pub one_index_more : (n : ℕ) → word_bytes (range_with_len 0 (n + 1)) ≡ word_bytes (range_with_len 0 n) ++ word_bytes (n ∷ [])
 one_index_more n =
-    let more : n + 1 ≡ suc n = omega arith in
-    let last : 0 + n ≡ n = omega arith in
-    ap (λ k. word_bytes (range_with_len 0 k)) more
-    ∙ ap word_bytes (range_last 0 n ∙ ap (λ k. range_with_len 0 n ++ k ∷ []) last)
-    ∙ flat_map-append (to_be_bytes w16) (range_with_len 0 n) (n ∷ [])
+    ap word_bytes (range_more n) ∙ flat_map-append (to_be_bytes w16) (range_with_len 0 n) (n ∷ [])
 
 -- the highest state of one row more
 pub one_row_more :

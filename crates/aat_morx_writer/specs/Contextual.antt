@@ -10,7 +10,7 @@ use Rattle.aat_machine_reader.specs.Lookups.{lookups_to}
 use Rattle.aat_writer.specs.Lookups.{lookup_written}
 use Rattle.aat_morx_writer.specs.EntryWords.{contextual_words}
 use Rattle.aat_morx_writer.specs.Kinds.{machine_end}
-use Rattle.aat_morx_writer.specs.Longs.{long_bytes}
+use Rattle.aat_writer.specs.Words.{long_bytes}
 use Rattle.aat_morx_writer.specs.Machines.{class_table_written, machine_bytes}
 use Rattle.aat_morx_writer.specs.MorxWriteErrors.{after_written, of_lookup}
 use Rattle.aat_morx_writer.specs.declared.error.MorxWriteError.{MorxWriteError}

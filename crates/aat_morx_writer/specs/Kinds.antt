@@ -2,9 +2,8 @@
 use Rattle.std.specs.Prelude.{ℕ, ◌+◌, ◌*◌, List, [], ◌∷◌, ◌++◌, length, map, Bool, Result, Ok, Err, if◌then◌else◌, nat_lt, ◌||◌}
 use Rattle.aat_font.specs.Subtables.{InsertionTables, LigatureTables}
 use Rattle.aat_font.specs.declared.plan.GlyphId.{GlyphId}
-use Rattle.aat_writer.specs.Words.{word_bytes}
+use Rattle.aat_writer.specs.Words.{long_bytes, word_bytes}
 use Rattle.aat_morx_writer.specs.EntryWords.{insertion_words, one_word}
-use Rattle.aat_morx_writer.specs.Longs.{long_bytes}
 use Rattle.aat_morx_writer.specs.Machines.{class_table_written, machine_bytes}
 use Rattle.aat_morx_writer.specs.MorxWriteErrors.{after_written}
 use Rattle.aat_morx_writer.specs.declared.error.MorxWriteError.{MorxWriteError}

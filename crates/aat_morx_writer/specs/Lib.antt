@@ -3,7 +3,6 @@ pub mod EntryLaws
 pub mod EntryWords
 pub mod KindLaws
 pub mod Kinds
-pub mod Longs
 pub mod MachineExamples
 pub mod MachineLaws
 pub mod MachineRefusals

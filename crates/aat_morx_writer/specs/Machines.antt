@@ -4,9 +4,8 @@ use Rattle.std.specs.List.{flat_map, range_with_len}
 use Rattle.aat_font.specs.Table.{Rule, TableValue}
 use Rattle.aat_font.specs.declared.state_table.GenericStateEntry.{GenericStateEntry}
 use Rattle.aat_writer.specs.Lookups.{lookup_written}
-use Rattle.aat_writer.specs.Words.{word_bytes}
+use Rattle.aat_writer.specs.Words.{long_bytes, word_bytes}
 use Rattle.aat_morx_writer.specs.EntryWords.{rule_words}
-use Rattle.aat_morx_writer.specs.Longs.{long_bytes}
 use Rattle.aat_morx_writer.specs.MachineRefusals.{rules_refusal}
 use Rattle.aat_morx_writer.specs.MorxWriteErrors.{after_written, of_lookup, unless_refused}
 use Rattle.aat_morx_writer.specs.declared.error.MorxWriteError.{MorxWriteError}

@@ -105,7 +105,7 @@ fn contextual_bytes(
 ///
 /// Refused in this order: 1 to 7 as by `write_machine`; 8, `LookupCount`, with the number that the entries ask for; 9,
 /// `TooManyLookups`; 6, `NotRising`, and 7, `TooManyPairs`, for the first lookup that is refused; 10, `TooLong`,
-/// lookups of more than 268,435,455 bytes. 11, `OutOfMemory`, may come before any of these but 1 to 5.
+/// lookups of more than 268,435,455 bytes. 11, `OutOfMemory`, may come before any of these is met.
 ///
 /// The reader reads the subtable again, at any place of a table. Apple's TrueType Reference Manual, "The 'morx' table",
 /// contextual glyph substitution.

@@ -12,10 +12,11 @@ pub enum MorxWriteError {
     /// 1: a machine has fewer than four classes.
     #[error("there are fewer than four classes")]
     FewClasses,
-    /// 2: a machine has more rules than cells have numbers.
+    /// 2: a machine has more than 65,536 rules, so that cells have no number of 16 bits.
     #[error("there are more than 65536 rules")]
     TooManyRules,
-    /// 3: the rule at this place is not that of the class that follows, or the last row is cut there.
+    /// 3: the rule at this place is not that of the class that follows, or there is none there, since there are no rules
+    /// or the last row is cut.
     #[error("the rule at place {0} is not that of the class that follows")]
     OutOfPlace(usize),
     /// 4: the entry of the rule at this place names a state without a row.
@@ -27,7 +28,7 @@ pub enum MorxWriteError {
     /// 6: the pair of a lookup at this place is the first that is not above the one before it.
     #[error("the pair at place {0} is not above the one before it")]
     NotRising(usize),
-    /// 7: a lookup has more pairs than the format has numbers for.
+    /// 7: a lookup has more than 65,534 pairs, so that the number of its units has more than 16 bits.
     #[error("there are too many pairs for the format")]
     TooManyPairs,
     /// 8: the entries of a contextual subtable ask for this number of lookups, and it has another one.
@@ -36,10 +37,10 @@ pub enum MorxWriteError {
     /// 9: a contextual subtable has more lookups than two for each rule.
     #[error("there are more lookups than two for each rule")]
     TooManyLookups,
-    /// 10: a list has more than 268,435,455 elements, or the lookups of a contextual subtable have as many bytes.
+    /// 10: a list has more than 268,435,455 elements, or the lookups of a contextual subtable have more bytes.
     #[error("a list is too long")]
     TooLong,
-    /// 11: memory is wanting.
+    /// 11: memory is wanting. It may come before any other error is met.
     #[error("out of memory")]
     OutOfMemory,
 }

@@ -5,9 +5,9 @@ ghost use Rattle.aat_morx_writer.specs.MorxWriteErrors.{Writes};
 
 use crate::error::MorxWriteError;
 use crate::machine::{class_table, machine_bytes};
-use crate::numbers::{append_glyphs, append_longs};
+use crate::numbers::append_glyphs;
 use aat_font::{InsertionSubtable, LigatureSubtable};
-use aat_writer::append_words;
+use aat_writer::{append_longs, append_words};
 use std::alloc::{AllocError, Global};
 
 /// How many elements a list may have.
@@ -37,7 +37,7 @@ pub(crate) fn machine_end(further: u8, size: u8, classes: &[u8], cells: usize) -
 /// Writes a subtable of glyph insertion behind its header of 12 bytes: the machine, and the list of glyphs.
 ///
 /// Refused in this order: 1 to 7 as by `write_machine`; 10, `TooLong`, more than 268,435,455 glyphs. 11, `OutOfMemory`,
-/// may come before 6, 7 and 10 are met, and else only where none of these holds.
+/// may come before any of these is met.
 ///
 /// The reader reads the machine again, and glyphs that begin with these, at any place of a table. Apple's TrueType
 /// Reference Manual, "The 'morx' table", glyph insertion.
@@ -117,7 +117,7 @@ fn ligature_bytes(
 /// components and of ligatures.
 ///
 /// Refused in this order: 1 to 7 as by `write_machine`; 10, `TooLong`, a list of more than 268,435,455 elements. 11,
-/// `OutOfMemory`, may come before 6, 7 and 10 are met, and else only where none of these holds.
+/// `OutOfMemory`, may come before any of these is met.
 ///
 /// The reader reads the machine again, and lists that begin with these, at any place of a table. Apple's TrueType
 /// Reference Manual, "The 'morx' table", ligature substitution.

@@ -2,9 +2,8 @@
 ghost use Rattle.std.specs.Prelude.{[], ◌∷◌, ◌≡◌, ◌++◌, ◌<◌, ◌≤◌, ◌^◌, length, IfOk, OnOk};
 ghost use Rattle.std.specs.List.{flat_map, range_with_len};
 ghost use Rattle.aat_writer.specs.Lookups.{lookup_written};
-ghost use Rattle.aat_writer.specs.Words.{word_bytes};
+ghost use Rattle.aat_writer.specs.Words.{long_bytes, word_bytes};
 ghost use Rattle.aat_morx_writer.specs.EntryWords.{rule_words};
-ghost use Rattle.aat_morx_writer.specs.Longs.{long_bytes};
 ghost use Rattle.aat_morx_writer.specs.MachineRefusals.{rules_refusal};
 ghost use Rattle.aat_morx_writer.specs.Machines.{class_table_written, header_longs, machine_bytes, machine_written};
 ghost use Rattle.aat_morx_writer.specs.MorxWriteErrors.{Writes};
@@ -12,10 +11,9 @@ ghost use Rattle.aat_morx_writer.specs.MorxWriteErrors.{Writes};
 use crate::entry_write::EntryWrite;
 use crate::error::MorxWriteError;
 use crate::lookups::lookup_bytes;
-use crate::numbers::append_longs;
 use crate::refusals::rules_refusal;
 use aat_font::{ExtendedStateTable, GenericStateEntry};
-use aat_writer::append_words;
+use aat_writer::{append_longs, append_words};
 use std::alloc::{AllocError, Allocator};
 
 /// Appends the header of a state table, with further offsets, for a class table of so many bytes and so many cells.
@@ -131,8 +129,7 @@ pub(crate) fn class_table<T: EntryWrite, A: Allocator + Copy>(
 /// are none or the last row is cut; 4, `NoRow`, with the place of the first rule whose entry names a state without a
 /// row; 5, `NotNamed`, with the first state such that the rows before it name neither it nor one behind it; 6,
 /// `NotRising`, with the place of the first class that is not above the one before it; 7, `TooManyPairs`, more than
-/// 65,534 classes of glyphs. 11, `OutOfMemory`, may come before 6 and 7 are met, and else only where none of these
-/// holds.
+/// 65,534 classes of glyphs. 11, `OutOfMemory`, may come before any of these is met.
 ///
 /// The reader reads the machine again, at any place of a table. Apple's TrueType Reference Manual, "Font Tables",
 /// section on state tables.

@@ -30,7 +30,7 @@ pub fn kind_number(kind: &SubtableKind) -> u8
 /// Writes a noncontextual subtable behind its header of 12 bytes: the lookup of the values of glyphs, in format 6.
 ///
 /// Refused in this order: 6, `NotRising`, with the place of the first pair that is not above the one before it; 7,
-/// `TooManyPairs`, more than 65,534 pairs. 11, `OutOfMemory`, may come before these are met.
+/// `TooManyPairs`, more than 65,534 pairs. 11, `OutOfMemory`, may come before any of these is met.
 ///
 /// The reader reads the pairs again, at any place of a table. Apple's TrueType Reference Manual, "The 'morx' table",
 /// noncontextual glyph substitution.

@@ -1,14 +1,14 @@
 //! Tables that stand one behind the other.
 ghost use Rattle.std.specs.Prelude.{◌≡◌, ◌+◌, ◌*◌, ◌++◌, ◌<◌, ◌≤◌, ◌^◌, length, false, IfOk, MatchResult, Ok, OnOk};
 ghost use Rattle.aat_morx_writer.specs.Contextual.{are_too_long, byte_lists, joined, lookups_written, starts_from, substitution_bytes};
-ghost use Rattle.aat_morx_writer.specs.Longs.{long_bytes};
+ghost use Rattle.aat_writer.specs.Words.{long_bytes};
 ghost use Rattle.aat_morx_writer.specs.MorxWriteErrors.{RefusesWithin};
 
 use crate::error::MorxWriteError;
 use crate::lists::MOST;
 use crate::lookups::lookup_bytes;
-use crate::numbers::append_longs;
 use aat_font::Lookup;
+use aat_writer::append_longs;
 use std::alloc::{AllocError, Global};
 
 /// The bytes of each lookup.

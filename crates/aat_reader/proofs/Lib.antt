@@ -1,3 +1,5 @@
 pub mod Bounded
 pub mod Counted
+pub mod OfBytes
+pub mod ReadParts
 pub mod Turns

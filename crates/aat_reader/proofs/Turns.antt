@@ -1,16 +1,13 @@
 -- Records that are read one behind the other, as a loop does.
-use Rattle.std.proofs.Common.{◌≡◌, ℕ, suc, ◌+◌, ◌-◌, ◌<◌, ◌≤◌, List, [], ◌∷◌, ◌++◌, Result, Ok, Err, refl, sym, ap, append_assoc, arith}
+use Rattle.std.proofs.Common.{◌≡◌, ℕ, suc, ◌+◌, ◌-◌, ◌<◌, ◌≤◌, List, [], ◌∷◌, ◌++◌, Result, Ok, Err, refl, sym, ap, arith}
 use Rattle.std.proofs.lemmas.List.{append-nil}
 use Rattle.aat_bytes.specs.Faults.{after}
 use Rattle.aat_bytes.specs.declared.error.Fault.{Fault}
 use Rattle.aat_bytes.specs.declared.error.ReadError.{ReadError}
 use Rattle.aat_bytes.specs.declared.error.ReadError.TheVariants as errors
+use Rattle.aat_bytes.specs.facts.Parts.{after_ok, after_one_more}
 use Rattle.aat_machine_reader.specs.Within.{RefusesWithin}
 use Rattle.aat_reader.specs.InTurn.{in_turn}
-
-after_ok : {X : Type 0} (r : Result X Fault) → after r (λ x. Ok x) ≡ r
-after_ok (Ok x) = refl
-after_ok (Err e) = refl
 
 module _ {S X : Type 0} (read : S → Result (X × S) Fault) (count : ℕ) where
   -- what is read behind some records, when so many were read and the next one starts there
@@ -22,18 +19,12 @@ module _ {S X : Type 0} (read : S → Result (X × S) Fault) (count : ℕ) where
       let whole : count - 0 ≡ count = omega arith in
       rw whole (sym (after_ok (in_turn read count start)))
 
-  one_more :
-      (items : List X) (x : X) (r : Result (List X) Fault)
-      → after (after r (λ xs. Ok (x ∷ xs))) (λ rest. Ok (items ++ rest)) ≡ after r (λ rest. Ok ((items ++ x ∷ []) ++ rest))
-  one_more items x (Ok xs) = ap Ok (sym (append_assoc items (x ∷ []) xs))
-  one_more items x (Err e) = refl
-
   pub goes_on :
       (items : List X) (i : ℕ) (start next : S) (x : X)
       → i < count → read start ≡ Ok (x, next) → behind items i start ≡ behind (items ++ x ∷ []) (i + 1) next
   goes_on items i start next x below is =
       let k : count - i ≡ suc (count - (i + 1)) = omega arith in
-      rw k (rw is (one_more items x (in_turn read (count - (i + 1)) next)))
+      rw k (rw is (after_one_more items x (in_turn read (count - (i + 1)) next)))
 
   pub fails :
       (items : List X) (i : ℕ) (start : S) (e : Fault) → i < count → read start ≡ Err e → behind items i start ≡ Err e

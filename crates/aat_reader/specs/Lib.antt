@@ -1,5 +1,6 @@
 pub mod ChainFeatures
 pub mod Chains
+pub mod ChainsOfBytes
 pub mod ChainSubtables
 pub mod GivesAs
 pub mod InTurn

@@ -8,6 +8,7 @@ use Rattle.aat_font.specs.declared.morx.Subtable.{Subtable}
 use Rattle.aat_font.specs.declared.morx.SubtableKind.TheVariants.{NonContextual}
 use Rattle.aat_machine_reader.specs.declared.kinds.TheConstants.{MORX}
 use Rattle.aat_reader.specs.Chains.{ChainValue, morx_of}
+use Rattle.aat_reader.specs.ChainsOfBytes.{chain_place, subtable_place}
 
 -- the header of a table of a version, of so many chains
 abbrev pub example_table : ℕ → ℕ → List ℕ
@@ -62,6 +63,38 @@ abbrev pub UnknownKindDoesNothing : Type 0
 UnknownKindDoesNothing = read_chains (one_chain 56 28 3) ≡ Ok (
     with_subtable (record { kind = NonContextual []; coverage = record { 0 = 128 }; feature_flags = 0 })
     ∷ [])
+
+-- another feature, of type 3 and selector 4: it sets the second flag, and keeps none
+abbrev pub other_feature : List ℕ
+other_feature = 0 ∷ 3 ∷ 0 ∷ 4 ∷ 0 ∷ 0 ∷ 0 ∷ 2 ∷ 0 ∷ 0 ∷ 0 ∷ 0 ∷ []
+
+-- what that feature says
+abbrev pub second_feature : ChainFeature
+second_feature = record { kind = 3; setting = 4; enable_flags = 2; disable_flags = 0 }
+
+-- a table of two chains, of which the first has two features and two subtables
+abbrev pub two_chains : List ℕ
+two_chains =
+    example_table 2 2 ++ example_chain 96 2 0 2 ++ example_feature ++ other_feature
+    ++ example_subtable 28 4 ++ example_subtable 28 3 ++ example_chain 16 0 0 0
+
+-- chains, features and subtables stand in their order, each behind the one before
+abbrev pub PartsAreInOrder : Type 0
+PartsAreInOrder =
+    (read_chains two_chains ≡ Ok (
+    record {
+      default_flags = 1;
+      features = first_feature ∷ second_feature ∷ [];
+      subtables =
+          record { kind = NonContextual ((5, 3) ∷ []); coverage = record { 0 = 128 }; feature_flags = 1 }
+          ∷ record { kind = NonContextual []; coverage = record { 0 = 128 }; feature_flags = 0 } ∷ [];
+    }
+    ∷ record { default_flags = 1; features = []; subtables = [] }
+    ∷ []))
+    × (chain_place two_chains 0 ≡ 8)
+    × (subtable_place two_chains 8 0 ≡ 48)
+    × (subtable_place two_chains 8 1 ≡ 76)
+    × (chain_place two_chains 1 ≡ 104)
 
 -- a chain starts where the length of the one before ends
 abbrev pub ChainsStartWhereLengthsEnd : Type 0

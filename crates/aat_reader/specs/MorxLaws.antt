@@ -2,7 +2,15 @@
 use Rattle.std.specs.Prelude.{◌≡◌, ℕ, ◌≤◌, List, length, sum_by, ◌*◌, Ok}
 use Rattle.aat_bytes.specs.Numbers.{be32}
 use Rattle.aat_reader.specs.Chains.{ChainValue, morx_of}
+use Rattle.aat_reader.specs.ChainsOfBytes.{AreInOrder, IsChainAt, chain_place}
 use Rattle.aat_reader.specs.Weights.{morx_weight}
+
+-- it has the chains of its bytes, in their order, as many as the number at 4 says
+abbrev pub ChainsAreThoseOfBytes : Type 0
+ChainsAreThoseOfBytes =
+    (bytes : List ℕ) (glyph_count : ℕ) (chains : List ChainValue)
+    → morx_of bytes glyph_count ≡ Ok chains
+    → AreInOrder chains (be32 bytes 4) (λ i chain. IsChainAt bytes glyph_count (chain_place bytes i) chain)
 
 -- it has as many chains as its header says, and no more than 65,535 subtables
 abbrev pub ChainsAreCounted : Type 0

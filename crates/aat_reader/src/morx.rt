@@ -108,7 +108,7 @@ fn chains(
 /// length; 1, a length that reaches past the end, at the length; 1, more than 65,535 subtables with those of the chains
 /// before, at their number; 1, features of 12 bytes that are not in the chain, at the first of them. Then for each
 /// subtable 1, 3 and 1 in the same way, up to the end of the chain, with a header of 12 bytes, and the faults of
-/// `read_subtable_kind`. `OutOfMemory` may come before a fault is met.
+/// `read_subtable_kind`. `OutOfMemory` may come before any of these is met.
 ///
 /// Apple's TrueType Reference Manual, "The 'morx' table".
 #[tactic(auto, unfolding(crate::specs::Chains::morx_of))]

@@ -5,7 +5,7 @@ use Rattle.std.specs.List.{find, range_with_len}
 use Rattle.std.proofs.lemmas.Bool.Decides.{nat_tests}
 use Rattle.std.proofs.lemmas.Grind.{common_steps}
 use Rattle.aat_sfnt.specs.RisingEnds.{end_falls, first_fall}
-use Rattle.aat_sfnt.specs.facts.Finds.{found_first, none_each, none_found}
+use Rattle.aat_bytes.specs.facts.Ranges.{found_first, none_each, none_found}
 
 module _ (end_at : ℕ → ℕ) where
   -- an end that does not fall is above the one before it

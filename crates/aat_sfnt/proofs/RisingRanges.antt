@@ -7,7 +7,7 @@ use Rattle.std.proofs.lemmas.Grind.{common_steps}
 use Rattle.aat_bytes.specs.Numbers.{be16}
 use Rattle.aat_sfnt.specs.ClassDefinition.{range_of}
 use Rattle.aat_sfnt.specs.RisingRanges.{falling_range, range_falls}
-use Rattle.aat_sfnt.specs.facts.Finds.{found_first, none_each, none_found}
+use Rattle.aat_bytes.specs.facts.Ranges.{found_first, none_each, none_found}
 
 -- a range that does not fall
 stands : (bytes : List ℕ) (i : ℕ) → range_falls bytes i ≡ false → be16 bytes (4 + 6 * i) ≤ be16 bytes (6 + 6 * i)

@@ -11,4 +11,3 @@ pub mod RisingRanges
 pub mod SegmentMapping
 pub mod SegmentedCoverage
 pub mod ShortTables
-pub mod facts

@@ -18,13 +18,14 @@ use Rattle.aat_sfnt.specs.SegmentedCoverage.{end_char, glyph_in_group, group_gly
 use Rattle.aat_sfnt.specs.declared.cmap.Cmap.{Cmap}
 use Rattle.aat_sfnt.specs.declared.cmap.Cmap.TheVariants.{SegmentedCoverage}
 use Rattle.aat_sfnt.specs.declared.tags.TheConstants.{CMAP}
-use Rattle.aat_sfnt.specs.facts.Finds.{none_found}
+use Rattle.aat_bytes.specs.facts.Ranges.{none_found}
 use Rattle.aat_sfnt_writer.specs.CharacterLaws.{IsMapping, WrittenCharactersAreRead}
 use Rattle.aat_sfnt_writer.specs.CharacterMaps.{character_of, cmap_words, group_words, subtable_words}
 use Rattle.aat_sfnt_writer.specs.declared.cmap.Mapping.{Mapping}
 use Rattle.aat_sfnt_writer.proofs.TablesAgain.{word_of}
 use Rattle.aat_writer.specs.Words.{word_bytes}
-use Rattle.aat_writer.specs.facts.WordPlaces.{AreWords, length_words, long_again, long_is}
+use Rattle.aat_bytes.specs.facts.Longs.{long_is}
+use Rattle.aat_writer.specs.facts.WordPlaces.{AreWords, length_words, long_again}
 use Rattle.aat_writer.specs.facts.Written.{written_is}
 
 -- the record of all of Unicode is the best

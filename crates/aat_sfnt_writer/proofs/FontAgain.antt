@@ -13,13 +13,14 @@ use Rattle.aat_bytes.specs.declared.tag.Tag.{Tag}
 use Rattle.aat_font.specs.Keys.{at_key, first_fall}
 use Rattle.aat_font.specs.facts.Falls.{rising}
 use Rattle.aat_sfnt.specs.Directory.{Directory, bytes_of_record, directory_at, directory_of, directory_place, is_font_version, record_of, table_of}
-use Rattle.aat_sfnt.specs.facts.Finds.{found_first, none_found}
+use Rattle.aat_bytes.specs.facts.Ranges.{found_first, none_found}
 use Rattle.aat_sfnt_writer.specs.FontLaws.{HasTag, WrittenTablesAreFound, whole_file}
 use Rattle.aat_sfnt_writer.specs.Fonts.{SfntTable, directory_words, file_end, padded, padding, record_words, table_bytes, tag_number}
 use Rattle.aat_sfnt_writer.specs.Records.{records}
 use Rattle.aat_sfnt_writer.proofs.RecordPlaces.{index_8, part_at, part_within, place_of, record_word, records_long, slice_is}
 use Rattle.aat_writer.specs.Words.{word_bytes}
-use Rattle.aat_writer.specs.facts.WordPlaces.{AreWords, length_words, long_again, long_is, word_at, words_joined}
+use Rattle.aat_bytes.specs.facts.Longs.{long_is}
+use Rattle.aat_writer.specs.facts.WordPlaces.{AreWords, length_words, long_again, word_at, words_joined}
 use Rattle.aat_writer.specs.facts.Written.{written_is}
 
 -- the directory of a file that has its records

@@ -1,6 +1,8 @@
 mod Appending
 mod CharactersAgain
+mod FeaturesAgain
 mod FontAgain
 mod NamesAgain
 mod RecordPlaces
+mod SettingCounts
 mod TablesAgain

@@ -9,7 +9,7 @@ use Rattle.aat_bytes.specs.Numbers.{be16, slice}
 use Rattle.aat_font.specs.Keys.{first_fall}
 use Rattle.aat_font.specs.facts.Falls.{rising}
 use Rattle.aat_sfnt.specs.Names.{has_key, has_pair, name_record, names_of, text_of, text_of_record}
-use Rattle.aat_sfnt.specs.facts.Finds.{found_first}
+use Rattle.aat_bytes.specs.facts.Ranges.{found_first}
 use Rattle.aat_sfnt_writer.specs.NameLaws.{HasNumber, WrittenNamesAreFound, english}
 use Rattle.aat_sfnt_writer.specs.NameTables.{SfntName, name_record_words, name_words, number_of, text_bytes, text_of_name}
 use Rattle.aat_sfnt_writer.specs.Records.{records}

@@ -7,5 +7,7 @@ pub mod Headers
 pub mod LongMetrics
 pub mod NameLaws
 pub mod NameTables
+pub mod NamedFeatureLaws
+pub mod NamedFeatures
 pub mod Records
 pub mod TableLaws

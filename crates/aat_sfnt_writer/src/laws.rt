@@ -2,6 +2,7 @@
 ghost use Rattle.aat_sfnt_writer.specs.CharacterLaws.{WrittenCharactersAreRead};
 ghost use Rattle.aat_sfnt_writer.specs.FontLaws.{WrittenTablesAreFound};
 ghost use Rattle.aat_sfnt_writer.specs.NameLaws.{WrittenNamesAreFound};
+ghost use Rattle.aat_sfnt_writer.specs.NamedFeatureLaws.{WrittenFeaturesAreRead};
 ghost use Rattle.aat_sfnt_writer.specs.TableLaws.{WrittenAdvancesAreRead, WrittenClassesAreRead, WrittenCountsAreRead, WrittenHeadersAreRead, WrittenProfilesAreRead};
 
 /// The numbers of glyphs, of units of the em and of long metrics are read again.
@@ -34,4 +35,9 @@ pub fn written_names_are_found()
 /// The glyph of each character that is written is read again.
 pub fn written_characters_are_read()
     ensures { WrittenCharactersAreRead }
+{}
+
+/// The features that are written are read again, and each name of theirs and of their settings is found.
+pub fn written_features_are_read()
+    ensures { WrittenFeaturesAreRead }
 {}

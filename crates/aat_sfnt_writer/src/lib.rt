@@ -1,9 +1,10 @@
-//! Writers of a font file: its directory, and the tables of characters, metrics, classes and names.
+//! Writers of a font file: its directory, and the tables of characters, metrics, classes, names and named features.
 //!
-//! `aat_sfnt` reads each of them again.
+//! `aat_sfnt` reads each of them again, and `aat_lookup_reader` the features.
 #![tactic(auto)]
 
 mod cmap;
+mod feat;
 mod font;
 mod gdef;
 mod header;
@@ -14,6 +15,7 @@ mod metrics;
 mod name;
 
 pub use cmap::{Mapping, write_cmap};
+pub use feat::{NamedFeature, NamedSetting, write_named_feat};
 pub use font::{FontTable, write_font};
 pub use gdef::write_gdef;
 pub use header::{write_head, write_maxp};

@@ -28,11 +28,11 @@ six_each : (end : ℕ) (names : List FeatureName) → length (flat_map (feature_
 six_each end [] = refl
 six_each end (name ∷ names) = omega (arith, six_each end names)
 
-flags_small : (exclusive : Bool) → feature_flags exclusive < 65536
+pub flags_small : (exclusive : Bool) → feature_flags exclusive < 65536
 flags_small true = omega arith
 flags_small false = omega arith
 
-flags_read : (exclusive : Bool) → nat_le 32768 (feature_flags exclusive) ≡ exclusive
+pub flags_read : (exclusive : Bool) → nat_le 32768 (feature_flags exclusive) ≡ exclusive
 flags_read true = refl
 flags_read false = refl
 
@@ -46,9 +46,9 @@ names_are_words end (name ∷ names) low small =
     (here.0, (here.1, (high, (omega arith, (flags_small name.exclusive, (omega arith, names_are_words end names low (λ k d lt. small (suc k) d (omega arith))))))))
 
 -- the number of records, where it stands in the header
-counted :
+pub counted :
     (bytes : List ℕ) (n : ℕ)
-    → length bytes ≡ 12 + 12 * n → be16 bytes 0 ≡ 1 → be16 bytes 4 ≡ n → feature_count bytes ≡ Ok n
+    → 12 + 12 * n ≤ length bytes → be16 bytes 0 ≡ 1 → be16 bytes 4 ≡ n → feature_count bytes ≡ Ok n
 unfolding feature_count
 counted bytes n long version count =
     let header : nat_lt (length bytes) 12 ≡ false = le-ltb (length bytes) 12 (omega arith) in
@@ -56,7 +56,7 @@ counted bytes n long version count =
     rw (header, version, count, inside) refl
 
 -- names that rise are the table
-rising_are : (names : List FeatureName) → first_fall kind_of names ≡ None → rising_names names ≡ Ok names
+pub rising_are : (names : List FeatureName) → first_fall kind_of names ≡ None → rising_names names ≡ Ok names
 rising_are names rises = rw (rises, rising_names) refl
 
 module _ (names : List FeatureName) (small : All IsName names) (few : length names ≤ 65535) (rises : first_fall kind_of names ≡ None) where
@@ -115,7 +115,7 @@ module _ (names : List FeatureName) (small : All IsName names) (few : length nam
       ap of_kind kind ∙ ap of_settings settings ∙ ap of_exclusive exclusive
 
   count_read : feature_count bytes ≡ Ok (length names)
-  count_read = counted bytes (length names) bytes_long (at 0 0 (omega arith) refl) (at 2 4 (omega arith) refl)
+  count_read = counted bytes (length names) (omega (arith, bytes_long)) (at 0 0 (omega arith) refl) (at 2 4 (omega arith) refl)
 
   names_read : feature_names bytes (length names) ≡ names
   names_read =

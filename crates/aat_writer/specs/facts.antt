@@ -1,2 +1,3 @@
+pub mod LongPlaces
 pub mod WordPlaces
 pub mod Written

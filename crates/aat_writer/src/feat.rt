@@ -11,8 +11,8 @@ use crate::words::append_words;
 use aat_font::FeatureName;
 use std::alloc::{AllocError, Allocator};
 
-/// The flags of a feature.
-fn feature_flags(exclusive: bool) -> u16
+/// The flags of a feature in its record: 0x8000 where its settings exclude one another.
+pub fn feature_flags(exclusive: bool) -> u16
     ensures { result ≡ feature_flags exclusive }
 {
     if exclusive { 0x8000 } else { 0 }

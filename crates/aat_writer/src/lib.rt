@@ -10,7 +10,7 @@ mod rising;
 mod words;
 
 pub use error::WriteError;
-pub use feat::write_feat;
+pub use feat::{feature_flags, write_feat};
 pub use lookup::{append_lookup, write_lookup};
 pub use rising::first_fall;
-pub use words::append_words;
+pub use words::{append_longs, append_words};

@@ -1,13 +1,13 @@
 -- Numbers of 16 bits stand where they were written.
-use Rattle.std.proofs.Common.{◌≡◌, ℕ, zero, suc, ◌+◌, ◌*◌, ◌/◌, ◌%◌, ◌<◌, List, [], ◌∷◌, ◌++◌, length, get_or, take, drop, refl, sym, ap, ◌∙◌, append_assoc, arith}
+use Rattle.std.proofs.Common.{◌≡◌, ℕ, zero, suc, ◌+◌, ◌*◌, ◌/◌, ◌%◌, ◌<◌, List, [], ◌∷◌, ◌++◌, length, get_or, take, refl, sym, ap, ◌∙◌, append_assoc, arith}
 use Rattle.std.specs.Int.{w16, from_be_bytes, to_be_bytes}
-use Rattle.std.proofs.lemmas.List.{drop_at, take_at, get_or-drop, get_or-take, length-append}
+use Rattle.std.proofs.lemmas.List.{drop_at, take_at, length-append}
 use Rattle.std.proofs.lemmas.Nat.{from_be_bytes-to_be_bytes_2}
-use Rattle.aat_bytes.specs.Numbers.{be16, be32}
+use Rattle.aat_bytes.specs.Numbers.{be16}
 use Rattle.aat_writer.specs.Words.{word_bytes}
 
 -- a number at the end of a front
-number_at :
+pub number_at :
     (front rest : List ℕ) (place n : ℕ) → length front ≡ place → n < 65536
     → be16 (front ++ (to_be_bytes w16 n ++ rest)) place ≡ n
 number_at front rest place n long small =
@@ -49,23 +49,6 @@ pub length_words : (words : List ℕ) → length (word_bytes words) ≡ 2 * leng
 length_words [] = refl
 length_words (word ∷ words) =
     length-append (to_be_bytes w16 word) (word_bytes words) ∙ omega (arith, length_words words)
-
--- a number of 32 bits is two of 16
-pub long_is :
-    (bytes : List ℕ) (place : ℕ)
-    → be32 bytes place ≡ 65536 * be16 bytes place + be16 bytes (place + 2)
-long_is bytes place = omega (arith, byte 0 (omega arith), byte 1 (omega arith), byte 2 (omega arith), byte 3 (omega arith), high 0 (omega arith), high 1 (omega arith), low 0 (omega arith), low 1 (omega arith)) where
-  byte : (i : ℕ) → i < 4 → get_or (take 4 (drop place bytes)) i 0 ≡ get_or bytes (place + i) 0
-  byte i below = get_or-take 4 (drop place bytes) i 0 below ∙ get_or-drop place bytes i 0
-
-  high : (i : ℕ) → i < 2 → get_or (take 2 (drop place bytes)) i 0 ≡ get_or bytes (place + i) 0
-  high i below = get_or-take 2 (drop place bytes) i 0 below ∙ get_or-drop place bytes i 0
-
-  low : (i : ℕ) → i < 2 → get_or (take 2 (drop (place + 2) bytes)) i 0 ≡ get_or bytes (place + (2 + i)) 0
-  low i below =
-      get_or-take 2 (drop (place + 2) bytes) i 0 below
-      ∙ get_or-drop (place + 2) bytes i 0
-      ∙ ap (λ k. get_or bytes k 0) (omega arith)
 
 -- the words of a number of 32 bits make it again
 pub long_again : (n : ℕ) → 65536 * (n / 65536) + n % 65536 ≡ n

@@ -2,8 +2,7 @@ use Rattle.std.proofs.Common.{◌≡◌, ℕ, ◌+◌, ◌<◌, ◌≤◌, true,
 use Rattle.std.specs.Prelude.{nat_lt}
 use Rattle.std.proofs.lemmas.Bool.Decides.{nat_tests}
 use Rattle.aat_machine_reader.specs.Room.{lookup_cost, lookups_cost}
-use Rattle.aat_machine_reader.proofs.Added.{sum_more}
-use Rattle.aat_machine_reader.proofs.Ranges.{find_first, find_none}
+use Rattle.aat_bytes.specs.facts.Ranges.{found_first, none_found, sum_more}
 use Rattle.aat_machine_reader.proofs.room.lookup_past_room.Goals as goal
 
 below : (a b : ℕ) → a < b → nat_lt a b ≡ true
@@ -19,8 +18,8 @@ returns-then-used-room-clause-first c =
     let more = sum_more (lookup_cost c.args.bytes.now c.args.list c.args.glyph_count) i in
     let past : c.args.room < cost (i + 1) =
     omega (arith, more, c.loop-i.invariant.used, c.lookup_cost-used.ensures.is, c.if-used-room.true) in
-    sym (find_first (λ j. nat_lt c.args.room (cost (j + 1))) 0 c.args.count i (omega arith) (rw zero-add c.loop-i-test.true)
-    (below _ _ past) c.loop-i.invariant.before)
+    sym (found_first (λ j. nat_lt c.args.room (cost (j + 1))) 0 c.args.count i (omega arith) (rw zero-add c.loop-i-test.true)
+    c.loop-i.invariant.before (below _ _ past))
 
 pub loop-i-preserved : goal.loop-i-preserved
 loop-i-preserved c =
@@ -40,5 +39,5 @@ pub returns-clause-first : goal.returns-clause-first
 returns-clause-first c =
     let cost = lookups_cost c.args.bytes.now c.args.list c.args.glyph_count in
     let past = c.loop-i-test.false in
-    sym (find_none (λ j. nat_lt c.args.room (cost (j + 1))) 0 c.args.count
+    sym (none_found (λ j. nat_lt c.args.room (cost (j + 1))) 0 c.args.count
     (λ j from lt. c.loop-i.invariant.before j from (omega (arith, past))))

@@ -1,6 +1,6 @@
 use Rattle.std.proofs.Common.{◌+◌, ◌*◌, arith}
 use Rattle.aat_machine_reader.specs.Room.{unit_size}
-use Rattle.aat_machine_reader.proofs.Added.{sum_more}
+use Rattle.aat_bytes.specs.facts.Ranges.{sum_more}
 use Rattle.aat_machine_reader.proofs.room.units_size.Goals as goal
 
 pub loop-i-preserved : goal.loop-i-preserved

@@ -1,10 +1,28 @@
-use Rattle.std.proofs.Common.{◌≡◌, ◌+◌, ◌-◌, arith, true, false}
+use Rattle.std.proofs.Common.{◌≡◌, ℕ, suc, ◌+◌, ◌-◌, ◌<◌, Bool, true, false, cond, Option, Some, find, subst, arith}
+use Rattle.std.specs.List.{range_with_len}
 use Rattle.std.specs.Prelude.{nat_lt}
 use Rattle.std.proofs.lemmas.Bool.{le-ltb, lt-ltb}
 use Rattle.aat_morx_writer.specs.MachineRefusals.{highest_named}
 use Rattle.aat_morx_writer.proofs.Rows.{row_is_read}
-use Rattle.aat_morx_writer.proofs.Searches.{met, passed}
 use Rattle.aat_morx_writer.proofs.refusals.not_named.Goals as goal
+
+module _ (p : ℕ → Bool) (i n : ℕ) (result : Option ℕ) (left : find p (range_with_len i (n - i)) ≡ result) where
+  from_here : i < n → cond (p i) (Some i) (find p (range_with_len (i + 1) (n - (i + 1)))) ≡ result
+  from_here lt =
+      let more : n - i ≡ suc (n - (i + 1)) = omega arith in
+      subst (λ (k : ℕ). find p (range_with_len i k) ≡ result) more left
+
+  -- a number that does not pass is left behind
+  passed : i < n → p i ≡ false → find p (range_with_len (i + 1) (n - (i + 1))) ≡ result
+  passed lt fails =
+      let rest = find p (range_with_len (i + 1) (n - (i + 1))) in
+      subst (λ (b : Bool). cond b (Some i) rest ≡ result) fails (from_here lt)
+
+  -- the first that passes is found
+  met : i < n → p i ≡ true → Some i ≡ result
+  met lt passes =
+      let rest = find p (range_with_len (i + 1) (n - (i + 1))) in
+      subst (λ (b : Bool). cond b (Some i) rest ≡ result) passes (from_here lt)
 
 pub returns-then-highest-state : goal.returns-then-highest-state
 returns-then-highest-state g c =

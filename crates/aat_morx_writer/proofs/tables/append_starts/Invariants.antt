@@ -1,6 +1,6 @@
 use Rattle.std.proofs.Common.{◌≡◌, ◌+◌, ◌++◌, length, take}
 use Rattle.aat_morx_writer.specs.Contextual.{byte_lists, joined, starts_from}
-use Rattle.aat_morx_writer.specs.Longs.{long_bytes}
+use Rattle.aat_writer.specs.Words.{long_bytes}
 use Rattle.aat_morx_writer.proofs.tables.append_starts.Given as goal
 
 abbrev pub invariant-loop-table : goal.invariant-loop-table

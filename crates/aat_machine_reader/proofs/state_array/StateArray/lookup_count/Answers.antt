@@ -1,7 +1,13 @@
-use Rattle.std.proofs.Common.{◌≡◌, max, sym, ◌∙◌, ap, arith}
+use Rattle.std.proofs.Common.{◌≡◌, ℕ, max, sym, ◌∙◌, ap, arith}
+use Rattle.std.specs.Ordering.{nat_cmp, ord_max}
+use Rattle.std.proofs.lemmas.Bool.Decides.{nat_tests}
+use Rattle.aat_bytes.specs.facts.Ranges.{fold_more}
 use Rattle.aat_machine_reader.specs.Lookups.{lookup_count, lookups_named}
-use Rattle.aat_machine_reader.proofs.Folded.{fold_more, greater_is}
 use Rattle.aat_machine_reader.proofs.state_array.StateArray.lookup_count.Goals as goal
+
+-- the greater of two numbers, as it is compared
+greater_is : (a b : ℕ) → ord_max nat_cmp a b ≡ max a b
+greater_is a b = grind (arith, nat_tests)
 
 pub loop-cell-preserved : goal.loop-cell-preserved
 loop-cell-preserved c =

@@ -1,0 +1,3 @@
+pub mod Longs
+pub mod Parts
+pub mod Ranges
