@@ -1,7 +1,7 @@
 //! Why the example font is not made.
 
+use aat_chain_writer::ChainWriteError;
 use aat_font::TableError;
-use aat_morx_writer::MorxWriteError;
 use aat_writer::WriteError;
 use std::alloc::{AllocError, AllocFailed};
 use thiserror::Error;
@@ -9,13 +9,13 @@ use thiserror::Error;
 /// Why the example font is not made. Each comes only where memory is wanting.
 #[derive(Clone, Copy, PartialEq, Eq, Debug, Error)]
 pub enum ExampleError {
-    /// A table of state is refused.
+    /// A lookup, a machine or the table of chains is refused.
     #[error(transparent)]
     Table(#[from] TableError),
-    /// A part of `morx` is refused.
+    /// The chains are not written.
     #[error(transparent)]
-    Morx(#[from] MorxWriteError),
-    /// Another table is refused, or the file.
+    Chains(#[from] ChainWriteError),
+    /// Another table is not written, or the file.
     #[error(transparent)]
     Write(#[from] WriteError),
     /// Memory is wanting.

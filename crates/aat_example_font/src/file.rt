@@ -1,15 +1,10 @@
 //! The file of the example font.
 
-use crate::capitals::capitals;
 use crate::error::ExampleError;
 use crate::glyphs::{ADVANCES, CHARACTERS, CLASSES, GLYPH_COUNT};
-use crate::ligatures::ligatures;
-use crate::morx::{SubtableBytes, write_chain};
-use crate::names::{
-    COMMON_OFF, COMMON_ON, LIGATURES, LOWER_CASE, PLAIN, SMALL_CAPITALS, features, names,
-};
+use crate::morx::morx;
+use crate::names::{features, names};
 use aat_bytes::Tag;
-use aat_font::{ChainFeature, Coverage};
 use aat_lookup_reader::FEAT;
 use aat_machine_reader::MORX;
 use aat_sfnt::tags::{CMAP, GDEF, HEAD, HHEA, HMTX, MAXP, NAME};
@@ -17,39 +12,6 @@ use aat_sfnt_writer::{
     FontTable, write_cmap, write_font, write_gdef, write_head, write_hhea, write_hmtx, write_maxp,
 };
 use std::alloc::Global;
-
-/// The flags of the chain.
-const JOINS: u32 = 1;
-
-const CAPITALS: u32 = 2;
-
-/// What the settings do to the flags of the chain.
-fn chain_features() -> [ChainFeature; 4] {
-    [
-        ChainFeature::new(LIGATURES, COMMON_ON, JOINS, !0),
-        ChainFeature::new(LIGATURES, COMMON_OFF, 0, !JOINS),
-        ChainFeature::new(LOWER_CASE, PLAIN, 0, !CAPITALS),
-        ChainFeature::new(LOWER_CASE, SMALL_CAPITALS, CAPITALS, !0),
-    ]
-}
-
-/// The bytes of `morx`: small capitals, and then the ligature, which is on where nothing is asked for.
-fn morx(alloc: Global) -> Result<Vec<u8>, ExampleError> {
-    let coverage = Coverage::ALL_DIRECTIONS;
-    let capitals = SubtableBytes {
-        kind: 4,
-        coverage,
-        feature_flags: CAPITALS,
-        body: capitals(alloc)?,
-    };
-    let ligatures = SubtableBytes {
-        kind: 2,
-        coverage,
-        feature_flags: JOINS,
-        body: ligatures(alloc)?,
-    };
-    Ok(write_chain(alloc, JOINS, &chain_features(), &[capitals, ligatures])?)
-}
 
 /// The bytes of a table.
 fn table_of(alloc: Global, tag: Tag) -> Result<Vec<u8>, ExampleError> {
@@ -79,7 +41,7 @@ fn bodies(alloc: Global) -> Result<Vec<Vec<u8>>, ExampleError> {
 }
 
 /// The file of the example font: eight glyphs of the letters a, f and i, of f and i joined, and of small capitals, with
-/// the features of ligatures and of lower case. It fails only where memory is wanting.
+/// the features of ligatures, of contextual alternates and of lower case. It fails only where memory is wanting.
 pub fn example_font(alloc: Global) -> Result<Vec<u8>, ExampleError> {
     let bodies = bodies(alloc)?;
     let mut tables = Vec::with_capacity(alloc, TAGS.len())?;

@@ -1,7 +1,9 @@
 pub mod Chains
 pub mod English
 pub mod Examples
+pub mod FaceLaws
 pub mod Faces
 pub mod Features
 pub mod Lists
 pub mod Tables
+pub mod Weights

@@ -5,9 +5,12 @@ mod chains;
 mod encoding;
 mod face;
 mod features;
+#[doc(hidden)]
+pub mod laws;
 mod lists;
 mod tables;
 mod text;
+pub mod weights;
 #[doc(hidden)]
 pub mod worked;
 

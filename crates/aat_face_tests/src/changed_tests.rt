@@ -35,11 +35,11 @@ pub(crate) fn change(numbers: &mut Numbers, file: &mut Vec<u8>) {
     }
 }
 
-/// Whether a face can give these answers: 16 to 16,384 units, at most one fault of each of eight tables, and without
+/// Whether a face can give these answers: 16 to 16,384 units, at most one fault of each of nine tables, and without
 /// glyphs neither an advance nor properties.
 fn is_possible(answers: &Answers) -> bool {
     (16..=16384).contains(&answers.units_per_em)
-        && answers.fault_count <= 8
+        && answers.fault_count <= 9
         && (answers.fault_count == 0) == answers.first_fault.is_none()
         && (answers.glyph_count > 4 || answers.advances[4] == 0 && answers.properties[4] == 0)
 }

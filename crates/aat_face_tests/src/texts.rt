@@ -1,6 +1,8 @@
 //! The texts of faces.
 
-/// The text of the example font.
+/// The text of the example font. A list of glyphs that go in has no length: behind the two that were written stand those
+/// of the bytes that follow, as far as the subtable may reach. The lists of the ligature, which is the last subtable, end
+/// with the table.
 pub(crate) const EXAMPLE: &str = r#"glyphs 8
 units per em 1000
 glyph 0 advance 500 properties 0x0000
@@ -14,18 +16,120 @@ glyph 7 advance 280 properties 0x0002
 feature 1 settings 2 "Ligatures"
   setting 2 "Common Ligatures"
   setting 3 "No Ligatures"
+feature 36 settings 2 "Contextual Alternates"
+  setting 0 "Alternates"
+  setting 1 "No Alternates"
 feature 37 settings 2 exclusive "Lower Case"
   setting 0 "Letters"
   setting 1 "Small Capitals"
 chain flags 0x00000001
 chain feature 1 setting 2 on 0x00000001 off 0xffffffff
 chain feature 1 setting 3 on 0x00000000 off 0xfffffffe
+chain feature 36 setting 0 on 0x00000004 off 0xffffffff
+chain feature 36 setting 1 on 0x00000000 off 0xfffffffb
 chain feature 37 setting 0 on 0x00000000 off 0xfffffffd
 chain feature 37 setting 1 on 0x00000002 off 0xffffffff
 subtable noncontextual coverage 0x20 flags 0x00000002
   glyph 1 to 5
   glyph 2 to 6
   glyph 3 to 7
+subtable contextual coverage 0x20 flags 0x00000004
+  classes 6
+  glyph 1 class 5
+  glyph 2 class 4
+  state 0 class 0 to 0 flags 0x0000
+  state 0 class 1 to 0 flags 0x0000
+  state 0 class 2 to 0 flags 0x0000
+  state 0 class 3 to 0 flags 0x0000
+  state 0 class 4 to 2 flags 0x8000
+  state 0 class 5 to 0 flags 0x0000
+  state 1 class 0 to 0 flags 0x0000
+  state 1 class 1 to 0 flags 0x0000
+  state 1 class 2 to 0 flags 0x0000
+  state 1 class 3 to 0 flags 0x0000
+  state 1 class 4 to 2 flags 0x8000
+  state 1 class 5 to 0 flags 0x0000
+  state 2 class 0 to 0 flags 0x0000
+  state 2 class 1 to 0 flags 0x0000
+  state 2 class 2 to 2 flags 0x0000
+  state 2 class 3 to 0 flags 0x0000
+  state 2 class 4 to 2 flags 0x8000
+  state 2 class 5 to 0 flags 0x0000 marked 1 current 0
+  lookup 0
+  glyph 1 to 5
+  lookup 1
+  glyph 2 to 6
+subtable rearrangement coverage 0x20 flags 0x00000004
+  classes 6
+  glyph 1 class 5
+  glyph 3 class 4
+  state 0 class 0 to 0 flags 0x0000
+  state 0 class 1 to 0 flags 0x0000
+  state 0 class 2 to 0 flags 0x0000
+  state 0 class 3 to 0 flags 0x0000
+  state 0 class 4 to 2 flags 0x8000
+  state 0 class 5 to 0 flags 0x0000
+  state 1 class 0 to 0 flags 0x0000
+  state 1 class 1 to 0 flags 0x0000
+  state 1 class 2 to 0 flags 0x0000
+  state 1 class 3 to 0 flags 0x0000
+  state 1 class 4 to 2 flags 0x8000
+  state 1 class 5 to 0 flags 0x0000
+  state 2 class 0 to 0 flags 0x0000
+  state 2 class 1 to 0 flags 0x0000
+  state 2 class 2 to 2 flags 0x0000
+  state 2 class 3 to 0 flags 0x0000
+  state 2 class 4 to 2 flags 0x8000
+  state 2 class 5 to 0 flags 0x2001
+subtable insertion coverage 0x20 flags 0x00000004
+  classes 6
+  glyph 1 class 4
+  glyph 2 class 5
+  state 0 class 0 to 0 flags 0x0000
+  state 0 class 1 to 0 flags 0x0000
+  state 0 class 2 to 0 flags 0x0000
+  state 0 class 3 to 0 flags 0x0000
+  state 0 class 4 to 2 flags 0x8000
+  state 0 class 5 to 0 flags 0x0000
+  state 1 class 0 to 0 flags 0x0000
+  state 1 class 1 to 0 flags 0x0000
+  state 1 class 2 to 0 flags 0x0000
+  state 1 class 3 to 0 flags 0x0000
+  state 1 class 4 to 2 flags 0x8000
+  state 1 class 5 to 0 flags 0x0000
+  state 2 class 0 to 0 flags 0x0000
+  state 2 class 1 to 0 flags 0x0000
+  state 2 class 2 to 2 flags 0x0000
+  state 2 class 3 to 0 flags 0x0000
+  state 2 class 4 to 2 flags 0x8000
+  state 2 class 5 to 0 flags 0x0821 marked 1 current 0
+  inserted 0 3
+  inserted 1 1
+  inserted 2 0
+  inserted 3 220
+  inserted 4 8192
+  inserted 5 2
+  inserted 6 0
+  inserted 7 1
+  inserted 8 0
+  inserted 9 6
+  inserted 10 0
+  inserted 11 28
+  inserted 12 0
+  inserted 13 52
+  inserted 14 0
+  inserted 15 88
+  inserted 16 0
+  inserted 17 196
+  inserted 18 0
+  inserted 19 204
+  inserted 20 0
+  inserted 21 206
+  inserted 22 6
+  inserted 23 4
+  inserted 24 3
+  inserted 25 0
+  inserted 26 0
 subtable ligature coverage 0x20 flags 0x00000001
   classes 6
   glyph 2 class 4

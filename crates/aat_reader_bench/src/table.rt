@@ -2,7 +2,7 @@
 
 use crate::bodies::body_of;
 use crate::sizes::{GLYPH_COUNT, Size};
-use aat_example_font::{SubtableBytes, write_chain};
+use aat_chain_writer::{ChainBytes, SubtableBytes, write_chains};
 use aat_font::{Chain, ChainFeature, Coverage, Morx, SubtableKind};
 use aat_reader::read_morx;
 use anyhow::Result;
@@ -23,8 +23,12 @@ pub(crate) fn table_of(alloc: Global, size: &Size) -> Result<Vec<u8>> {
             body: body_of(alloc, size, kind)?,
         })?;
     }
-    let features = [ChainFeature::new(1, 2, 1, !0)];
-    Ok(write_chain(alloc, 1, &features, &subtables)?)
+    let chain = ChainBytes {
+        default_flags: 1,
+        features: vec![in alloc; ChainFeature::new(1, 2, 1, !0)]?,
+        subtables,
+    };
+    Ok(write_chains(alloc, &[chain])?)
 }
 
 /// How many rules the machine of a subtable has.

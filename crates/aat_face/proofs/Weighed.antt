@@ -1,0 +1,259 @@
+-- What a face weighs that is read.
+use Rattle.std.proofs.Common.{◌≡◌, ◌∙◌, sym, ap, refl, subst, cond, ℕ, zero, suc, ◌+◌, ◌*◌, ◌-◌, ◌/◌, ◌≤◌, Bool, true, false, List, [], ◌∷◌, length, get_or, take, drop, Option, None, Some, Result, Ok, Err, arith}
+use Rattle.std.specs.Prelude.{nat_le, nat_lt, ◌==◌, option_map, unwrap_or}
+use Rattle.std.specs.List.{filter_map}
+use Rattle.std.specs.Option.{option_map_or}
+use Rattle.std.proofs.lemmas.Bool.{ltb-false}
+use Rattle.std.proofs.lemmas.Bool.Decides.{nat_tests}
+use Rattle.std.proofs.lemmas.List.{length-drop, length-take}
+use Rattle.std.proofs.lemmas.List.FromFn.{get_or-map-range_with_len, length-map-range_with_len}
+use Rattle.aat_bytes.specs.Faults.{after}
+use Rattle.aat_bytes.specs.Numbers.{be16, be32, slice}
+use Rattle.aat_bytes.specs.declared.error.Fault.{Fault}
+use Rattle.aat_bytes.specs.declared.error.FaultKind.{FaultKind}
+use Rattle.aat_bytes.specs.declared.error.FaultKind.TheVariants.{PastEnd, UnknownFormat, ShortLength, Missing, NotRising}
+use Rattle.aat_bytes.specs.declared.tag.Tag.{Tag}
+use Rattle.aat_bytes.specs.facts.Parts.{ok_parts, parts, passes}
+use Rattle.aat_font.specs.FeatureNames.{kind_of}
+use Rattle.aat_font.specs.Keys.{first, first_fall}
+use Rattle.aat_font.specs.declared.feat.FeatureName.{FeatureName}
+use Rattle.aat_font.specs.inside.GlyphSpans.{glyph_span}
+use Rattle.aat_lookup_reader.specs.Features.{feat_of, feature_count, feature_name, feature_names, rising_names}
+use Rattle.aat_lookup_reader.specs.Sizes.{cells_beside, pairs_size}
+use Rattle.aat_lookup_reader.specs.declared.feat.TheConstants.{FEAT}
+use Rattle.aat_machine_reader.specs.declared.kinds.TheConstants.{MORX}
+use Rattle.aat_reader.specs.Chains.{ChainValue}
+use Rattle.aat_reader.specs.Weights.{morx_weight}
+use Rattle.aat_reader.proofs.Bounded.{memory_bounded}
+use Rattle.aat_sfnt.specs.GlyphClasses.{properties_of}
+use Rattle.aat_sfnt.specs.Metrics.{LongMetrics, advance_of}
+use Rattle.aat_sfnt.specs.declared.gdef.GlyphClasses.{GlyphClasses}
+use Rattle.aat_sfnt.specs.Directory.{Directory, bytes_of_record, directory_at, directory_of, directory_place, is_font_version, record_of, table_of}
+use Rattle.aat_face.specs.Chains.{chain_values_of, chains_in}
+use Rattle.aat_face.specs.FaceLaws.{FaceMemoryIsBounded, count_features}
+use Rattle.aat_face.specs.Faces.{FaceValue, face_of_tables, faults_of, tables_in}
+use Rattle.aat_face.specs.Features.{FeatureTable, feature_table_of, features_in}
+use Rattle.aat_face.specs.Lists.{advance_pairs, pairs_over, property_pairs}
+use Rattle.aat_face.specs.Tables.{fault_in, found_in, none_if_missing, number_in, glyph_count_in, read_if_found, unless_missing}
+use Rattle.aat_face.specs.declared.tables.Tables.{Tables}
+use Rattle.aat_face.specs.Weights.{bytes_of_table, chains_weight, face_weight, features_weight}
+
+-- a version that is known
+version_passes : {X : Type 0} (b : Bool) (fault : Fault) (r : Result X Fault) (x : X)
+    → cond b r (Err fault) ≡ Ok x → r ≡ Ok x
+version_passes true fault r x is = is
+version_passes false fault r x is = cc
+
+-- what there is weighs as much as it may, and nothing where there is none
+light :
+    {X Y : Type 0} (f : X → Y) (weight : Y → ℕ) (bound : ℕ) (o : Option X)
+    → ((x : X) → o ≡ Some x → weight (f x) ≤ bound)
+    → option_map_or weight (option_map f o) 0 ≤ bound
+light f weight bound None each = omega arith
+light f weight bound (Some x) each = each x refl
+
+-- values of so many glyphs: four bytes for each, and four for its cell
+cells_light : (n : ℕ) → cells_beside n n ≤ n
+cells_light n =
+    elim (n == 0) as (λ b. cond b 0 (cond (nat_le (n / 32) n) n (cond (nat_lt n 8) 0 (256 + 256 * (n / 8)))) ≤ n) [
+      | true ↦ omega arith
+      | false ↦ let below : nat_le (n / 32) n ≡ true = grind (arith, nat_tests) in rw below (omega arith)
+    ]
+
+values_long : (value : ℕ → ℕ) (n : ℕ) → length (pairs_over n value) ≡ n
+values_long value n = length-map-range_with_len (λ glyph. (glyph, value glyph)) 0 n
+
+span_is : (value : ℕ → ℕ) (n : ℕ) → glyph_span first (0, 0) (pairs_over (suc n) value) ≡ suc n
+span_is value n =
+    let of : ℕ → ℕ × ℕ = λ glyph. (glyph, value glyph) in
+    let long = values_long value (suc n) in
+    let last : get_or (pairs_over (suc n) value) (length (pairs_over (suc n) value) - 1) (0, 0) ≡ of n =
+    ap (λ (m : ℕ). get_or (pairs_over (suc n) value) (m - 1) (0, 0)) long
+    ∙ get_or-map-range_with_len of 0 (suc n) (suc n - 1) n (0, 0) (omega arith) (omega arith) in
+    let head : get_or (pairs_over (suc n) value) 0 (0, 0) ≡ of 0 =
+    get_or-map-range_with_len of 0 (suc n) 0 0 (0, 0) (omega arith) (omega arith) in
+    let high = ap first last in
+    let low = ap first head in
+    omega (arith, high, low)
+
+values_light : (value : ℕ → ℕ) (n : ℕ) → pairs_size (pairs_over n value) ≤ 8 * n
+values_light value zero = omega arith
+values_light value (suc n) =
+    let long = values_long value (suc n) in
+    let cells : cells_beside (length (pairs_over (suc n) value)) (glyph_span first (0, 0) (pairs_over (suc n) value)) ≡ cells_beside (suc n) (suc n) =
+    ap (λ (m : ℕ). cells_beside m (glyph_span first (0, 0) (pairs_over (suc n) value))) long
+    ∙ ap (cells_beside (suc n)) (span_is value n) in
+    omega (arith, long, cells, cells_light (suc n))
+
+-- faults of nine tables
+join_light : {X : Type 0} (o : Option X) (xs : List (Option X)) (n : ℕ)
+    → length (filter_map (λ x. x) xs) ≤ n → length (filter_map (λ x. x) (o ∷ xs)) ≤ suc n
+join_light None xs n few = omega (arith, few)
+join_light (Some x) xs n few = omega (arith, few)
+
+few_of : {X : Type 0} (xs : List (Option X)) → length (filter_map (λ x. x) xs) ≤ length xs
+few_of [] = omega arith
+few_of (o ∷ xs) = join_light o xs (length xs) (few_of xs)
+
+abbrev all_faults : Tables → List (Option Fault)
+all_faults tables =
+    fault_in tables.maxp ∷ fault_in tables.head ∷ fault_in tables.hhea ∷ fault_in tables.hmtx
+    ∷ fault_in tables.cmap ∷ fault_in tables.gdef ∷ fault_in tables.name ∷ fault_in tables.feat
+    ∷ fault_in tables.morx ∷ []
+
+-- a table that is found has bytes, and what is read of them
+found_ok : {X : Type 0} (r : Result X Fault) (x : X)
+    → found_in (after r (λ y. Ok (Some y))) ≡ Some x → r ≡ Ok x
+found_ok (Ok y) x is = let same : y ≡ x = cc in ap Ok same
+found_ok (Err fault) x is = absurd (let wrong : ⊥ = cc in wrong)
+
+none_found_in : {X : Type 0} (kind : FaultKind) (fault : Fault) (read : List ℕ → Result X Fault) (x : X)
+    → found_in (after (none_if_missing kind fault) (read_if_found read)) ≡ Some x → ⊥
+none_found_in Missing fault read x is = cc
+none_found_in PastEnd fault read x is = cc
+none_found_in UnknownFormat fault read x is = cc
+none_found_in ShortLength fault read x is = cc
+none_found_in NotRising fault read x is = cc
+
+found_parts : {X : Type 0} (r : Result (List ℕ) Fault) (read : List ℕ → Result X Fault) (x : X)
+    → found_in (after (unless_missing r) (read_if_found read)) ≡ Some x
+    → (bytes : List ℕ) × (r ≡ Ok bytes) × (read bytes ≡ Ok x)
+found_parts (Ok bytes) read x is = (bytes, refl, found_ok (read bytes) x is)
+found_parts (Err fault) read x is = absurd (none_found_in fault.kind fault read x is)
+
+-- the bytes of a table are no more than those of the file
+some_parts : {X : Type 0} (b : Bool) (x y : X) → cond b (Some x) None ≡ Some y → x ≡ y
+some_parts true x y is = cc
+some_parts false x y is = absurd (let wrong : ⊥ = cc in wrong)
+
+slice_within : (file : List ℕ) (offset size : ℕ) (bytes : List ℕ) → slice file offset size ≡ Some bytes → length bytes ≤ length file
+unfolding slice
+slice_within file offset size bytes is =
+    let same : take size (drop offset file) ≡ bytes = some_parts (nat_le (offset + size) (length file)) _ bytes is in
+    omega (arith, ap length same, length-take size (drop offset file), length-drop offset file)
+
+bytes_parts : (o : Option (List ℕ)) (fault : Fault) (bytes : List ℕ)
+    → (let r : Result (List ℕ) Fault = elim o [ None ↦ Err fault | Some content ↦ Ok content ] in r ≡ Ok bytes)
+    → o ≡ Some bytes
+bytes_parts None fault bytes is = absurd (let wrong : ⊥ = cc in wrong)
+bytes_parts (Some content) fault bytes is = let same : content ≡ bytes = cc in ap Some same
+
+record_parts : (o : Option ℕ) (of : ℕ → Option (List ℕ)) (missing past : Fault) (bytes : List ℕ)
+    → (let r : Result (List ℕ) Fault = elim o [
+      | None ↦ Err missing
+      | Some i ↦ elim (of i) [ None ↦ Err past | Some content ↦ Ok content ]
+    ] in r ≡ Ok bytes)
+    → (i : ℕ) × (of i ≡ Some bytes)
+record_parts None of missing past bytes is = absurd (let wrong : ⊥ = cc in wrong)
+record_parts (Some i) of missing past bytes is = (i, bytes_parts (of i) past bytes is)
+
+table_within : (directory : Directory) (tag : Tag) (bytes : List ℕ)
+    → table_of directory tag ≡ Ok bytes → length bytes ≤ length directory.file
+table_within directory tag bytes is =
+    let here = record_parts (record_of directory tag.0) (bytes_of_record directory) _ _ bytes is in
+    slice_within directory.file (be32 directory.file (directory.place + 12 + 16 * here.0 + 8))
+    (be32 directory.file (directory.place + 12 + 16 * here.0 + 12)) bytes here.1
+
+directory_whole : (file : List ℕ) (place : ℕ) (directory : Directory) → directory_at file place ≡ Ok directory → directory.file ≡ file
+unfolding directory_at
+directory_whole file place directory is =
+    let header = passes (nat_lt (length file) (place + 12)) _ _ directory is in
+    let version = version_passes (is_font_version (be32 file place)) _ _ directory header.1 in
+    let records = passes (nat_lt (length file) (place + 12 + 16 * be16 file (place + 4))) _ _ directory version in
+    ap (λ (d : Directory). d.file) (sym (ok_parts _ directory records.1))
+
+-- features have twelve bytes each
+features_counted : (bytes : List ℕ) (count : ℕ) → feature_count bytes ≡ Ok count → 12 + 12 * count ≤ length bytes
+unfolding feature_count
+features_counted bytes count is =
+    let header = passes (nat_lt (length bytes) 12) _ _ count is in
+    let version = version_passes (be16 bytes 0 == 1) _ _ count header.1 in
+    let records = passes (nat_lt (length bytes) (12 + 12 * be16 bytes 4)) _ _ count version in
+    let same : be16 bytes 4 ≡ count = ok_parts _ count records.1 in
+    omega (arith, same, ltb-false (length bytes) (12 + 12 * be16 bytes 4) records.0)
+
+rising_parts : (o : Option ℕ) (names read : List FeatureName) (fault : ℕ → Fault)
+    → (let r : Result (List FeatureName) Fault = elim o [ None ↦ Ok names | Some i ↦ Err (fault i) ] in r ≡ Ok read)
+    → names ≡ read
+rising_parts None names read fault is = cc
+rising_parts (Some i) names read fault is = absurd (let wrong : ⊥ = cc in wrong)
+
+features_light : (bytes : List ℕ) (names : List FeatureName) → feat_of bytes ≡ Ok names → 12 + 12 * length names ≤ length bytes
+features_light bytes names is =
+    let read = parts (feature_count bytes) (λ count. rising_names (feature_names bytes count)) names is in
+    let count = read.0 in
+    let same = rising_parts (first_fall kind_of (feature_names bytes count)) (feature_names bytes count) names _ read.2 in
+    let long : length (feature_names bytes count) ≡ count = length-map-range_with_len (feature_name bytes) 0 count in
+    omega (arith, ap length same, long, features_counted bytes count read.1)
+
+-- what the law says of a face
+abbrev Bounded : List ℕ → ℕ → FaceValue → Type 0
+Bounded file index face =
+    (face_weight file index face ≤ 24 * length file + 16 * face.glyph_count + 6 * count_features face + 1000)
+    × (12 * count_features face ≤ length file)
+
+-- the face of a directory
+module _ (file : List ℕ) (index : ℕ) (directory : Directory) (is : directory_of file index ≡ Ok directory) where
+  whole : directory.file ≡ file
+  whole =
+      let place = parts (directory_place file index) (directory_at file) directory is in
+      directory_whole file place.0 directory place.2
+
+  within : (tag : Tag) (bytes : List ℕ) → table_of directory tag ≡ Ok bytes → length bytes ≤ length file
+  within tag bytes here = omega (arith, table_within directory tag bytes here, ap length whole)
+
+  bytes_are : (tag : Tag) (bytes : List ℕ) → table_of directory tag ≡ Ok bytes → bytes_of_table file index tag ≡ bytes
+  bytes_are tag bytes here =
+      let of : Result (List ℕ) Fault → List ℕ = λ r. elim r [ Ok content ↦ content | Err fault ↦ [] ] in
+      ap (λ (d : Result Directory Fault). of (after d (λ found. table_of found tag))) is ∙ ap of here
+
+  features_fit : 12 * option_map_or length (option_map (λ (t : FeatureTable). t.names) (found_in (features_in directory))) 0 ≤ length file
+  features_fit = few_names (found_in (features_in directory)) (λ table found.
+      let there = found_parts (table_of directory FEAT) feature_table_of table found in
+      let read = parts (feat_of there.0) _ table there.2 in
+      let names = ap (λ (t : FeatureTable). t.names) (ok_parts _ table read.2) in
+      let few = features_light there.0 read.0 read.1 in
+      let inside = within FEAT there.0 there.1 in
+      omega (arith, ap length names, few, inside)) where
+        few_names : (o : Option FeatureTable)
+            → ((table : FeatureTable) → o ≡ Some table → 12 * length table.names ≤ length file)
+            → 12 * option_map_or length (option_map (λ (t : FeatureTable). t.names) o) 0 ≤ length file
+        few_names None each = omega arith
+        few_names (Some table) each = each table refl
+
+  features_weigh : (o : Option (List FeatureName)) → features_weight o ≡ 6 * option_map_or length o 0
+  features_weigh None = refl
+  features_weigh (Some names) = refl
+
+  chains_fit : (n : ℕ) → chains_weight (bytes_of_table file index MORX) n (found_in (chains_in directory n)) ≤ 24 * length file
+  chains_fit n = chains_light (found_in (chains_in directory n)) (λ chains found.
+      let there = found_parts (table_of directory MORX) (chain_values_of n) chains found in
+      let few = memory_bounded there.0 n chains there.2 in
+      let inside = within MORX there.0 there.1 in
+      let same = ap (λ (b : List ℕ). morx_weight b n) (bytes_are MORX there.0 there.1) in
+      omega (arith, few, inside, same)) where
+        chains_light : (o : Option (List ChainValue))
+            → ((chains : List ChainValue) → o ≡ Some chains → morx_weight (bytes_of_table file index MORX) n ≤ 24 * length file)
+            → chains_weight (bytes_of_table file index MORX) n o ≤ 24 * length file
+        chains_light None each = omega arith
+        chains_light (Some chains) each = each chains refl
+
+  face_light : Bounded file index (face_of_tables (tables_in directory))
+  face_light =
+      let tables = tables_in directory in
+      let n = number_in (glyph_count_in directory) in
+      let advances = light (λ (metrics : LongMetrics). advance_pairs metrics n) pairs_size (8 * n) (found_in tables.hmtx)
+      (λ metrics found. values_light (λ glyph. unwrap_or (advance_of metrics glyph) 0) n) in
+      let properties = light (λ (classes : GlyphClasses). property_pairs classes n) pairs_size (8 * n) (found_in tables.gdef)
+      (λ classes found. values_light (properties_of classes) n) in
+      let faults : length (faults_of tables) ≤ 9 = few_of (all_faults tables) in
+      let features = features_weigh (face_of_tables tables).font.feat in
+      (omega (arith, advances, properties, faults, features, chains_fit n), features_fit)
+
+-- the law
+pub face_memory_bounded : FaceMemoryIsBounded
+face_memory_bounded file index face is =
+    let read = parts (directory_of file index) _ face is in
+    let same : face_of_tables (tables_in read.0) ≡ face = ok_parts _ face read.2 in
+    subst (Bounded file index) same
+    (face_light file index read.0 read.1)

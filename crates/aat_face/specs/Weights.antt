@@ -1,0 +1,40 @@
+-- What a face weighs that is read: the bytes of memory that it takes, besides those of its file, from which it borrows
+-- names, characters and the bytes of features.
+use Rattle.std.specs.Prelude.{ℕ, ◌+◌, ◌*◌, List, [], length, Option, Ok, Err}
+use Rattle.std.specs.Option.{option_map_or}
+use Rattle.aat_bytes.specs.Faults.{after}
+use Rattle.aat_bytes.specs.declared.tag.Tag.{Tag}
+use Rattle.aat_font.specs.declared.feat.FeatureName.{FeatureName}
+use Rattle.aat_lookup_reader.specs.Sizes.{pairs_size}
+use Rattle.aat_machine_reader.specs.declared.kinds.TheConstants.{MORX}
+use Rattle.aat_reader.specs.Chains.{ChainValue}
+use Rattle.aat_reader.specs.Weights.{morx_weight}
+use Rattle.aat_sfnt.specs.Directory.{directory_of, table_of}
+use Rattle.aat_face.specs.Faces.{FaceValue}
+use Rattle.aat_face.specs.declared.weights.TheConstants.{FACE_SIZE, FAULT_SIZE, FEATURE_NAME_SIZE}
+
+-- the bytes of a table of the font at an index of a file, none where they cannot be had
+abbrev pub bytes_of_table : List ℕ → ℕ → Tag → List ℕ
+bytes_of_table file index tag = elim (after (directory_of file index) (λ directory. table_of directory tag)) [
+  | Ok bytes ↦ bytes
+  | Err fault ↦ []
+]
+
+-- values of glyphs: their pairs, with the cells beside them
+abbrev pub values_weight : Option (List (ℕ × ℕ)) → ℕ
+values_weight pairs = option_map_or pairs_size pairs 0
+
+-- features
+abbrev pub features_weight : Option (List FeatureName) → ℕ
+features_weight features = option_map_or (λ names. FEATURE_NAME_SIZE * length names) features 0
+
+-- the chains of a table of these bytes
+abbrev pub chains_weight : List ℕ → ℕ → Option (List ChainValue) → ℕ
+chains_weight bytes glyph_count chains = option_map_or (λ _. morx_weight bytes glyph_count) chains 0
+
+-- a face of the font at an index of a file
+abbrev pub face_weight : List ℕ → ℕ → FaceValue → ℕ
+face_weight file index face =
+    FACE_SIZE + FAULT_SIZE * length face.faults
+    + values_weight face.font.advances + values_weight face.font.properties
+    + features_weight face.font.feat + chains_weight (bytes_of_table file index MORX) face.glyph_count face.font.morx
