@@ -1,4 +1,6 @@
 pub mod Raised
+pub mod Linked
+pub mod Counted
 pub mod Gathered
 pub mod Reaching
 pub mod Liveness

@@ -1,2 +1,3 @@
 pub mod HeldSteps
 pub mod Steps
+pub mod Waiting

@@ -23,9 +23,11 @@ use std::alloc::{AllocError, Global};
 /// that it names as missing is missing, but `TakenForOne` shows only that it is for the components, and
 /// `TooFewComponents` only that the subtable is not settled.
 ///
-/// For each subtable with a machine it walks 65,536 states, and passes over the entries of its table until no label of
-/// a state rises. A state has a label of 0 or 1 for each thing that is asked, and for the components of ligatures one
-/// of up to 65. Fails where memory is wanting for the labels of 65,536 states, and for lists of the entries.
+/// For each subtable with a machine it walks 65,536 states and the entries of its table. A state has a label of 0 or 1
+/// for each thing that is asked, and for the components of ligatures one of up to 65. For each of these an entry is
+/// looked at once at the start, and once more for each rise of the label of the state that it looks at: twice at most,
+/// and for the components 66 times. Fails where memory is wanting for the labels of 65,536 states, for lists of the
+/// entries, and for a list of states whose labels rose.
 ///
 /// Apple's TrueType Reference Manual, "The 'morx' table", and "Font Tables", section on state tables.
 pub fn find_unsettled(alloc: Global, kind: &SubtableKind) -> Result<Option<Unsettled>, AllocError>

@@ -11,7 +11,8 @@ ghost use Rattle.aat_cuts.specs.inside.HeldSteps.{AreEnough, IsLacking, differs_
 
 use crate::cells::Cell;
 use crate::classes::glyph_classes;
-use crate::labels::{Asked, Edge, STATES, least_labels};
+use crate::labels::{Asked, Edge, STATES};
+use crate::least::least_labels;
 use crate::reached::{Reach, Reached, find_reached};
 use crate::unsettled::{Unsettled, UsedRegister};
 use aat_font::entry_bits::ligature;

@@ -1,7 +1,6 @@
-//! The least labels of states that meet edges.
-ghost use Rattle.std.specs.Prelude.{◌≡◌, ◌+◌, ◌-◌, ◌≤◌, ◌<◌, ℕ, true, false, length, sum, IfOk, if◌then◌else◌, ◌==◌};
-ghost use Rattle.std.specs.List.{All};
-ghost use Rattle.aat_cuts.specs.Labels.{AreBelow, AreLabels, AreLeast, IsMet, asked_by, before_action, before_push, label_in};
+//! Labels of states, and edges that ask for them.
+ghost use Rattle.std.specs.Prelude.{◌≡◌, ◌≤◌, ℕ, length, IfOk};
+ghost use Rattle.aat_cuts.specs.Labels.{asked_by, before_action, before_push, label_in};
 
 use std::alloc::{AllocError, Allocator};
 
@@ -85,64 +84,10 @@ pub(crate) const START: Edge = Edge {
     asked: Asked::One,
 };
 
-/// Raises the label of a state to what an edge asks for, and answers whether it rose.
-fn raise(labels: &mut [u8], edge: Edge) -> bool
-    requires labels { AreLabels labels.old }
-    ensures labels { AreLabels labels.new }
-    ensures met { result ≡ false → IsMet (label_in labels.new) edge }
-    ensures same { result ≡ false → labels.new ≡ labels.old }
-    ensures more { result ≡ true → sum labels.old < sum labels.new }
-    ensures least { (label : ℕ → ℕ) → IsMet label edge → AreBelow labels.old label → AreBelow labels.new label }
-{
-    let asked = edge.asked.by(labels[edge.to as usize]);
-    if asked <= labels[edge.from as usize] {
-        return false;
-    }
-    labels[edge.from as usize] = asked;
-    true
-}
-
-/// Raises labels along each edge once, and answers whether one rose.
-fn raise_each(labels: &mut [u8], edges: &[Edge]) -> bool
-    requires labels { AreLabels labels.old }
-    ensures labels { AreLabels labels.new }
-    ensures met { result ≡ false → All (IsMet (label_in labels.new)) edges.now }
-    ensures more { result ≡ true → sum labels.old < sum labels.new }
-    ensures least { (label : ℕ → ℕ) → All (IsMet label) edges.now → AreBelow labels.old label
-        → AreBelow labels.new label }
-{
-    let mut has_risen = false;
-    for edge in edges {
-        let rises = raise(labels, *edge);
-        has_risen |= rises;
-    }
-    has_risen
-}
-
 /// So many labels of 0.
 pub(crate) fn zeros<A: Allocator>(alloc: A, count: usize) -> Result<Vec<u8, A>, AllocError>
     ensures long { IfOk result (λ labels. length labels.items ≡ count) }
     ensures zero { IfOk result (λ labels. (state : ℕ) → label_in labels.items state ≡ 0) }
 {
     vec![in alloc; 0u8; count]
-}
-
-/// Raises labels until each edge is met.
-fn settle(labels: &mut [u8], edges: &[Edge])
-    requires labels { AreLabels labels.old }
-    ensures labels { AreLabels labels.new }
-    ensures met { All (IsMet (label_in labels.new)) edges.now }
-    ensures least { (label : ℕ → ℕ) → All (IsMet label) edges.now → AreBelow labels.old label
-        → AreBelow labels.new label }
-{
-    while raise_each(labels, edges) {}
-}
-
-/// The least labels that meet each edge, up to 65.
-pub(crate) fn least_labels<A: Allocator>(alloc: A, edges: &[Edge]) -> Result<Vec<u8, A>, AllocError>
-    ensures { IfOk result (λ labels. AreLeast edges.now labels.items) }
-{
-    let mut labels = zeros(alloc, STATES)?;
-    settle(&mut labels, edges);
-    Ok(labels)
 }

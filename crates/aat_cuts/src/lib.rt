@@ -8,6 +8,8 @@ mod find;
 mod font;
 mod held;
 mod labels;
+mod least;
+mod links;
 mod reached;
 mod register;
 mod settled;

@@ -6,7 +6,8 @@ ghost use Rattle.aat_cuts.specs.Labels.{AreLabels, IsMet, label_in};
 ghost use Rattle.aat_cuts.specs.Reached.{AreGathered, AreReachLabels, IsFound, IsWhole, follow_edge, is_labelled};
 
 use crate::cells::{Cell, cells_of, missing_class};
-use crate::labels::{Asked, Edge, START, STATES, least_labels};
+use crate::labels::{Asked, Edge, START, STATES};
+use crate::least::least_labels;
 use aat_font::ExtendedStateTable;
 use std::alloc::{AllocError, Global};
 

@@ -5,7 +5,8 @@ ghost use Rattle.aat_cuts.specs.Labels.{AreLabels, AreLeast};
 ghost use Rattle.aat_cuts.specs.Reached.{is_labelled, start_edge};
 ghost use Rattle.aat_cuts.specs.inside.Steps.{AreFit, IsFoundOf, IsTrouble, live_edge, unset_edge};
 
-use crate::labels::{Asked, Edge, START, least_labels};
+use crate::labels::{Asked, Edge, START};
+use crate::least::least_labels;
 use std::alloc::{AllocError, Global};
 
 /// What an entry does to a register.
