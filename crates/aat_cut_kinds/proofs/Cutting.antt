@@ -1,11 +1,13 @@
 -- The kinds leave the parts of a line.
-use Rattle.std.proofs.Common.{arith, take, drop, map, ap, sym, ◌∙◌}
+use Rattle.std.proofs.Common.{◌-◌, arith, length, take, drop, map, ap, sym, ◌∙◌}
 use Rattle.std.proofs.lemmas.List.{map-append, take-append-drop}
-use Rattle.aat_kinds.specs.Kinds.{noncontextual_run}
+use Rattle.aat_buffer.specs.Buffer.{reversed}
+use Rattle.aat_kinds.specs.Kinds.{insertion_run, noncontextual_run}
 use Rattle.aat_kinds.specs.Values.{with_looked_up_value}
-use Rattle.aat_cut_kinds.specs.Cuts.{ContextualLeavesParts, InsertionLeavesParts, NoncontextualLeavesParts}
+use Rattle.aat_cut_kinds.specs.Cuts.{BackwardInsertionLeavesParts, ContextualLeavesParts, InsertionLeavesParts, InsertionLeavesPartsAtFall, NoncontextualLeavesParts, ReversedLeavesParts}
+use Rattle.aat_cut_kinds.specs.facts.BackwardCuts.{fall_of_rise, turned_leaves_parts}
 use Rattle.aat_cut_kinds.specs.facts.ContextualCuts.{leaves_parts}
-use Rattle.aat_cut_kinds.specs.facts.InsertionCuts as insertion
+use Rattle.aat_cut_kinds.specs.facts.InsertionCuts.{leaves_parts_at_fall, leaves_parts_at_rise}
 
 pub contextual_leaves_parts : ContextualLeavesParts
 contextual_leaves_parts on classes table lookups q b settled cut =
@@ -23,4 +25,16 @@ noncontextual_leaves_parts on classes lookup q b =
 
 pub insertion_leaves_parts : InsertionLeavesParts
 insertion_leaves_parts on table glyphs reached c q b entries plain cut =
-    insertion.leaves_parts glyphs on table reached entries plain c q b cut
+    leaves_parts_at_rise glyphs on table reached entries plain c q b cut
+
+pub insertion_leaves_parts_at_fall : InsertionLeavesPartsAtFall
+insertion_leaves_parts_at_fall on table glyphs reached c q b entries plain cut =
+    leaves_parts_at_fall glyphs on table reached entries plain c q b cut
+
+pub reversed_leaves_parts : ReversedLeavesParts
+reversed_leaves_parts = turned_leaves_parts
+
+pub backward_insertion_leaves_parts : BackwardInsertionLeavesParts
+backward_insertion_leaves_parts on table glyphs reached c q b entries plain cut =
+    let run = insertion_run on table glyphs in
+    turned_leaves_parts run q b (leaves_parts_at_fall glyphs on table reached entries plain c (length b.line - q) (reversed b) (fall_of_rise run q b on c cut))

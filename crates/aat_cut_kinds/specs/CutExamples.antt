@@ -25,10 +25,11 @@ marks_to state = entry_to state 0x8000 0xFFFF 0xFFFF
 abbrev pub table_of : List (Rule Entry) → TableValue Entry
 table_of rules = record { class_count = 7; classes = (4, 4) ∷ (5, 5) ∷ (6, 6) ∷ []; rules = rules }
 
--- the rules of a state for the end of the text, and for classes 1, 4, 5 and 6
+-- the rules of a state for the end of the text, and for classes 1, 4, 5 and 6; those for classes 2 and 3 do nothing
 abbrev pub row_of : ℕ → Entry → Entry → Entry → Entry → Entry → List (Rule Entry) → List (Rule Entry)
 row_of s at_end one four five six more =
-    (s, 0, at_end) ∷ (s, 1, one) ∷ (s, 4, four) ∷ (s, 5, five) ∷ (s, 6, six) ∷ more
+    (s, 0, at_end) ∷ (s, 1, one) ∷ (s, 2, idle_to 0) ∷ (s, 3, idle_to 0) ∷ (s, 4, four) ∷ (s, 5, five) ∷ (s, 6, six)
+    ∷ more
 
 -- a line of these glyphs, each of a cluster of its own, with a budget
 abbrev pub line_of : List (ℕ × ℕ) → Buffer
@@ -73,7 +74,9 @@ rules_apart =
 
 -- state 0 has no entry for class 4
 abbrev pub rules_with_a_gap : List (Rule Entry)
-rules_with_a_gap = (0, 0, idle_to 0) ∷ (0, 1, entry_to 0 0 0xFFFF 0) ∷ (0, 5, idle_to 0) ∷ (0, 6, idle_to 0) ∷ []
+rules_with_a_gap =
+    (0, 0, idle_to 0) ∷ (0, 1, entry_to 0 0 0xFFFF 0) ∷ (0, 2, idle_to 0) ∷ (0, 3, idle_to 0) ∷ (0, 5, idle_to 0)
+    ∷ (0, 6, idle_to 0) ∷ []
 
 -- an entry with the flag names a missing lookup, so that it does not set the mark
 abbrev pub rules_unanswered : List (Rule Entry)

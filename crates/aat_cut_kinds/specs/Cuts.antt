@@ -1,7 +1,7 @@
 -- Where the line of a subtable can be cut. (No chapter of the manual: the marks that say where a line can be broken are
 -- the shaper's own.)
-use Rattle.std.specs.Prelude.{◌≡◌, ◌≢◌, ℕ, ◌-◌, ◌<◌, ◌≤◌, Bool, true, nat_le, List, length, take, drop, find, All, Option, Some}
-use Rattle.aat_buffer.specs.Buffer.{Buffer, glyph_at}
+use Rattle.std.specs.Prelude.{◌≡◌, ◌≢◌, ℕ, ◌-◌, ◌<◌, ◌≤◌, Bool, true, nat_le, List, length, take, drop, reverse, find, All, Option, Some}
+use Rattle.aat_buffer.specs.Buffer.{Buffer, glyph_at, reversed}
 use Rattle.aat_buffer.specs.Marks.{cluster_at}
 use Rattle.aat_font.specs.Table.{TableValue}
 use Rattle.aat_font.specs.declared.plan.GlyphId.{GlyphId}
@@ -10,7 +10,7 @@ use Rattle.aat_run.specs.Budget.{operations_left}
 use Rattle.aat_run.specs.Outcome.{Outcome}
 use Rattle.aat_kinds.specs.Contextual.{Entry}
 use Rattle.aat_kinds.specs.Insertion as insertion
-use Rattle.aat_kinds.specs.Kinds.{contextual_run, insertion_run, noncontextual_run}
+use Rattle.aat_kinds.specs.Kinds.{contextual_run, insertion_run, noncontextual_run, reversed_run}
 use Rattle.aat_cut_laws.specs.Greater.{IsUnflagged, greater_at}
 use Rattle.aat_cut_laws.specs.Parts.{LeftInParts, back_part, front_part}
 use Rattle.aat_cut_kinds.specs.Settled.{HasEntries, IsPlain, IsSettled}
@@ -49,6 +49,44 @@ pub record IsUnmarkedRise (run : Buffer → Outcome) (on : ℕ → Bool) (c q : 
   pub unflagged : IsUnflaggedFrom c (run b).buffer.line
   pub budget : 0 < operations_left (run b).buffer.max_ops
 
+-- the clusters before place q are not lower than c, and those from there on are
+pub record IsFallAt (c q : ℕ) (line : List hb_glyph_info_t) : Type 0 where
+  pub before : All (λ g. c ≤ g.cluster) (take q line)
+  pub behind : All (λ g. g.cluster < c) (drop q line)
+
+-- the last glyph whose cluster is not lower than c, if there is one, is without the flag
+abbrev pub IsUnflaggedDownTo : ℕ → List hb_glyph_info_t → Type 0
+IsUnflaggedDownTo c line = IsUnflaggedFrom c (reverse line)
+
+-- A place q inside the line of b, at which the subtable is on and the clusters fall below c. The run leaves the last
+-- glyph of those before without the flag, and it leaves some of the budget.
+pub record IsUnmarkedFall (run : Buffer → Outcome) (on : ℕ → Bool) (c q : ℕ) (b : Buffer) : Type 0 where
+  pub behind_first : 0 < q
+  pub before_end : q < length b.line
+  pub split : IsFallAt c q b.line
+  pub is_on : on (cluster_at b.line q) ≡ true
+  pub unflagged : IsUnflaggedDownTo c (run b).buffer.line
+  pub budget : 0 < operations_left (run b).buffer.max_ops
+
+-- A place q inside the line of b, at which the clusters come to c, for a run that takes the line from its end. Behind
+-- the cut it first takes the glyph before q, and it is on there. It leaves the first glyph whose cluster is not lower
+-- than c without the flag, and it leaves some of the budget.
+pub record IsUnmarkedBackwardRise (run : Buffer → Outcome) (on : ℕ → Bool) (c q : ℕ) (b : Buffer) : Type 0 where
+  pub behind_first : 0 < q
+  pub before_end : q < length b.line
+  pub split : IsSplitAt c q b.line
+  pub is_on : on (cluster_at b.line (q - 1)) ≡ true
+  pub unflagged : IsUnflaggedFrom c (run b).buffer.line
+  pub budget : 0 < operations_left (run b).buffer.max_ops
+
+-- on the line in the opposite order a run leaves the parts of a line where it leaves those of the line turned round, at
+-- the same place from the end
+abbrev pub ReversedLeavesParts : Type 0
+ReversedLeavesParts =
+    (run : Buffer → Outcome) (q : ℕ) (b : Buffer)
+    → LeavesParts run (length b.line - q) (reversed b)
+    → LeavesParts (reversed_run run) q b
+
 -- a settled contextual subtable leaves the parts of each line at an unmarked cut
 abbrev pub ContextualLeavesParts : Type 0
 ContextualLeavesParts =
@@ -73,3 +111,21 @@ InsertionLeavesParts =
     → HasEntries table reached → IsPlain table
     → IsUnmarkedRise (insertion_run on table glyphs) on c q b
     → LeavesParts (insertion_run on table glyphs) q b
+
+-- and at an unmarked fall
+abbrev pub InsertionLeavesPartsAtFall : Type 0
+InsertionLeavesPartsAtFall =
+    (on : ℕ → Bool) (table : TableValue insertion.Entry) (glyphs : List GlyphId) (reached : ℕ → Bool) (c q : ℕ)
+    (b : Buffer)
+    → HasEntries table reached → IsPlain table
+    → IsUnmarkedFall (insertion_run on table glyphs) on c q b
+    → LeavesParts (insertion_run on table glyphs) q b
+
+-- on the line in the opposite order, at an unmarked rise
+abbrev pub BackwardInsertionLeavesParts : Type 0
+BackwardInsertionLeavesParts =
+    (on : ℕ → Bool) (table : TableValue insertion.Entry) (glyphs : List GlyphId) (reached : ℕ → Bool) (c q : ℕ)
+    (b : Buffer)
+    → HasEntries table reached → IsPlain table
+    → IsUnmarkedBackwardRise (reversed_run (insertion_run on table glyphs)) on c q b
+    → LeavesParts (reversed_run (insertion_run on table glyphs)) q b

@@ -1,5 +1,6 @@
 //! Examples of cuts as theorems. These calls do nothing: what is proved is their contracts.
 ghost use Rattle.aat_cut_kinds.specs.CutExamples.{CutExamples};
+ghost use Rattle.aat_cut_kinds.specs.FallExamples.{FallExamples};
 ghost use Rattle.aat_cut_kinds.specs.OtherCutExamples.{InsertionCutExamples, LigatureCutExamples, RearrangementCutExamples};
 
 /// What a settled contextual subtable leaves of a line and of its parts, and for each premise a line whose parts leave
@@ -25,4 +26,11 @@ pub fn rearrangements_over_cuts()
 #[tactic(auto, using(crate::proofs::Examples::insertion_cut_examples))]
 pub fn insertions_over_cuts()
     ensures { InsertionCutExamples }
+{}
+
+/// Lines whose clusters fall as an insertion subtable takes them: two that are cut, one where the mark before the cut
+/// tells that it is not, and one whose parts have other marks, since an entry that puts no glyphs in names a run.
+#[tactic(auto, using(crate::proofs::Examples::fall_examples))]
+pub fn insertions_where_clusters_fall()
+    ensures { FallExamples }
 {}

@@ -1,19 +1,22 @@
 -- A subtable that is settled as the question of subtables says it is so as the laws of cuts say it.
-use Rattle.std.proofs.Common.{◌≡◌, ℕ, Bool, true, false, ◌&&◌, ◌||◌, not, length, sym, ap, ◌∙◌, refl}
+use Rattle.std.proofs.Common.{◌≡◌, ℕ, ◌-◌, Bool, true, false, ◌&&◌, ◌||◌, not, length, sym, ap, ◌∙◌, refl}
 use Rattle.std.specs.Prelude.{nat_lt}
+use Rattle.aat_buffer.specs.Buffer.{reversed}
 use Rattle.aat_font.specs.Entries.{has_flag, is_present}
 use Rattle.aat_font.specs.Subtables.{ContextualTables}
 use Rattle.aat_font.specs.Table.{TableValue}
-use Rattle.aat_font.specs.declared.morx.SubtableKind.TheVariants.{Contextual}
+use Rattle.aat_font.specs.declared.morx.SubtableKind.TheVariants.{Contextual, Insertion}
 use Rattle.aat_font.specs.declared.state_table.GenericStateEntry.{GenericStateEntry}
 use Rattle.aat_kinds.specs.Contextual.{Entry}
+use Rattle.aat_kinds.specs.Kinds.{kind_run}
 use Rattle.aat_cuts.specs.Kinds as question
 use Rattle.aat_cuts.specs.Reached.{IsComplete}
 use Rattle.aat_cuts.specs.Settled.{the_mark}
 use Rattle.aat_cut_kinds.specs.Settled.{HasEntries, IsSettled, may_replace}
+use Rattle.aat_cut_kinds.specs.facts.BackwardCuts.{fall_of_rise, turned_leaves_parts}
 use Rattle.aat_cut_kinds.specs.facts.ContextualCuts as contextual
-use Rattle.aat_cut_kinds.specs.facts.InsertionCuts as insertion
-use Rattle.aat_settled_cuts.specs.SettledCuts.{SettledContextualLeavesParts, SettledInsertionLeavesParts}
+use Rattle.aat_cut_kinds.specs.facts.InsertionCuts.{leaves_parts_at_fall, leaves_parts_at_rise}
+use Rattle.aat_settled_cuts.specs.SettledCuts.{SettledBackwardInsertionLeavesParts, SettledContextualLeavesParts, SettledInsertionLeavesParts, SettledInsertionLeavesPartsAtFall}
 
 -- a complete table has its entries
 has_entries : {T : Type 0} (table : TableValue (GenericStateEntry T)) (reached : ℕ → Bool) → IsComplete table reached → HasEntries table reached
@@ -57,4 +60,13 @@ settled_contextual_leaves_parts z on tables q b settled cut =
 
 pub settled_insertion_leaves_parts : SettledInsertionLeavesParts
 settled_insertion_leaves_parts z on tables c q b settled plain cut =
-    insertion.leaves_parts tables.glyphs on tables.state settled.0 (has_entries tables.state settled.0 settled.1) plain c q b cut
+    leaves_parts_at_rise tables.glyphs on tables.state settled.0 (has_entries tables.state settled.0 settled.1) plain c q b cut
+
+pub settled_insertion_leaves_parts_at_fall : SettledInsertionLeavesPartsAtFall
+settled_insertion_leaves_parts_at_fall z on tables c q b settled plain cut =
+    leaves_parts_at_fall tables.glyphs on tables.state settled.0 (has_entries tables.state settled.0 settled.1) plain c q b cut
+
+pub settled_backward_insertion_leaves_parts : SettledBackwardInsertionLeavesParts
+settled_backward_insertion_leaves_parts z on tables c q b settled plain cut =
+    let run = kind_run z on (Insertion tables) in
+    turned_leaves_parts run q b (settled_insertion_leaves_parts_at_fall z on tables c (length b.line - q) (reversed b) settled plain (fall_of_rise run q b on c cut))

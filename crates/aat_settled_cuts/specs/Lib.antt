@@ -1,1 +1,2 @@
 pub mod SettledCuts
+pub mod UnsettledExamples

@@ -4,9 +4,9 @@ use Rattle.std.specs.Prelude.{ℕ, Bool}
 use Rattle.aat_buffer.specs.Buffer.{Buffer}
 use Rattle.aat_font.specs.Subtables.{ContextualTables, InsertionTables}
 use Rattle.aat_font.specs.declared.morx.SubtableKind.TheVariants.{Contextual, Insertion}
-use Rattle.aat_kinds.specs.Kinds.{Sizes, kind_run}
+use Rattle.aat_kinds.specs.Kinds.{Sizes, kind_run, reversed_run}
 use Rattle.aat_cuts.specs.Kinds.{IsSettled}
-use Rattle.aat_cut_kinds.specs.Cuts.{IsUnmarkedCut, IsUnmarkedRise, LeavesParts}
+use Rattle.aat_cut_kinds.specs.Cuts.{IsUnmarkedBackwardRise, IsUnmarkedCut, IsUnmarkedFall, IsUnmarkedRise, LeavesParts}
 use Rattle.aat_cut_kinds.specs.Settled.{IsPlain}
 
 -- a contextual subtable that is settled leaves the parts of each line at an unmarked cut
@@ -25,3 +25,19 @@ SettledInsertionLeavesParts =
     → IsSettled (Insertion tables) → IsPlain tables.state
     → IsUnmarkedRise (kind_run z on (Insertion tables)) on c q b
     → LeavesParts (kind_run z on (Insertion tables)) q b
+
+-- and at an unmarked fall
+abbrev pub SettledInsertionLeavesPartsAtFall : Type 0
+SettledInsertionLeavesPartsAtFall =
+    (z : Sizes) (on : ℕ → Bool) (tables : InsertionTables) (c q : ℕ) (b : Buffer)
+    → IsSettled (Insertion tables) → IsPlain tables.state
+    → IsUnmarkedFall (kind_run z on (Insertion tables)) on c q b
+    → LeavesParts (kind_run z on (Insertion tables)) q b
+
+-- on the line in the opposite order, at an unmarked rise
+abbrev pub SettledBackwardInsertionLeavesParts : Type 0
+SettledBackwardInsertionLeavesParts =
+    (z : Sizes) (on : ℕ → Bool) (tables : InsertionTables) (c q : ℕ) (b : Buffer)
+    → IsSettled (Insertion tables) → IsPlain tables.state
+    → IsUnmarkedBackwardRise (reversed_run (kind_run z on (Insertion tables))) on c q b
+    → LeavesParts (reversed_run (kind_run z on (Insertion tables))) q b

@@ -1,0 +1,3 @@
+pub mod Renaming
+pub mod RenamingCuts
+pub mod facts

@@ -1,0 +1,179 @@
+-- The verdicts on the machines of the examples, from reached state to reached state, and by the tests of labellings.
+use Rattle.std.proofs.Common.{◌≡◌, ℕ, ◌≤◌, Bool, true, false, nat_lt, Some, None, [], ◌∷◌, subst, sym, ◌∙◌, refl, arith, lit<}
+use Rattle.std.specs.Prelude.{◌==◌}
+use Rattle.aat_font.specs.Table.{TableValue, entry_of}
+use Rattle.aat_font.specs.declared.state_table.GenericStateEntry.{GenericStateEntry}
+use Rattle.aat_kinds.specs.Contextual.{Entry}
+use Rattle.aat_cut_kinds.specs.CutExamples.{entry_to, idle_to, marks_to, rules_apart, rules_at_end, rules_for_an_end, rules_unanswered, rules_with_a_gap, settled_rules, table_of}
+use Rattle.aat_cut_kinds.specs.OtherCutExamples.{ending_and_moving, entry_with, moving_deleted, moving_to_start, pushing_apart, pushing_in_start, putting_in_at_end, putting_in_with_a_gap}
+use Rattle.aat_cuts.specs.Held.{IsLigatureSettled}
+use Rattle.aat_cuts.specs.Kinds.{IsContextualSettled, IsInsertionSettled, IsQuietAtEnd, IsRearrangementSettled}
+use Rattle.aat_cuts.specs.Reached.{IsComplete}
+use Rattle.aat_cuts.specs.Settled.{IsNeverSetBeforeUse, IsTidy, Register, the_end_set_by, the_mark}
+use Rattle.aat_settled_cuts.specs.UnsettledExamples.{CaseVerdicts, FailedPremises, IsIncomplete, never_taken}
+use Rattle.aat_settled_cuts.proofs.Labelled.{complete_by, quiet_by, tidy_by}
+
+module _ {T : Type 0} (table : TableValue (GenericStateEntry T)) (is_reached : ℕ → Bool) (complete : IsComplete table is_reached) where
+  -- the state that an entry of a reached one leads to is reached
+  leads : (s k : ℕ) (e : GenericStateEntry T) → is_reached s ≡ true → entry_of table s k ≡ Some e → is_reached e.new_state ≡ true
+  leads s k e here is =
+      let (f, there, next) = complete.entries s k here in
+      let equal : Some f ≡ Some e = sym there ∙ is in
+      let same : f ≡ e = cc in
+      subst (λ (g : GenericStateEntry T). is_reached g.new_state ≡ true) same next
+
+  -- a reached state lacks no entry
+  lacks_none : (s k : ℕ) → is_reached s ≡ true → entry_of table s k ≡ None → ⊥
+  lacks_none s k here missing =
+      let (f, there, next) = complete.entries s k here in
+      let equal : Some f ≡ None = sym there ∙ missing in cc
+
+-- a labelling that agrees is one
+less_asked : {T : Type 0} (table : TableValue (GenericStateEntry T)) (register : Register T) (is_reached is_live : ℕ → Bool) → IsTidy table register is_reached is_live → IsTidy table (never_taken register) is_reached is_live
+less_asked table register is_reached is_live tidy = record {
+  first = tidy.first;
+  used = tidy.used;
+  at_end = tidy.at_end;
+  kept = tidy.kept;
+  agreed = λ s k e f here class is from idle idle_start next going alive. absurd (cc);
+}
+
+clash : (b : Bool) → b ≡ true → b ≡ false → ⊥
+clash b is is_not = let both : true ≡ false = sym is ∙ is_not in cc
+
+-- contextual: no labelling goes with the entry for the end of the text
+untidy_at_end : IsNeverSetBeforeUse (table_of rules_at_end) (never_taken (the_mark 1))
+untidy_at_end is_reached is_live complete tidy =
+    let one : is_reached 1 ≡ true = leads (table_of rules_at_end) is_reached complete 0 4 (idle_to 1) complete.first refl in
+    let live : is_live 1 ≡ true = tidy.at_end 1 (entry_to 0 0 0xFFFF 0) one refl refl in
+    clash (is_live 0) (tidy.kept 0 4 (idle_to 1) complete.first (4, refl) refl live) tidy.first
+
+-- nor with the one that asks for the mark behind the missing lookup
+untidy_unanswered : IsNeverSetBeforeUse (table_of rules_unanswered) (never_taken (the_mark 1))
+untidy_unanswered is_reached is_live complete tidy =
+    let one : is_reached 1 ≡ true = leads (table_of rules_unanswered) is_reached complete 0 5 (entry_to 1 0x8000 0xFFFF 9) complete.first refl in
+    let live : is_live 1 ≡ true = tidy.used 1 6 (entry_to 0 0 0 0xFFFF) one refl refl in
+    clash (is_live 0) (tidy.kept 0 5 (entry_to 1 0x8000 0xFFFF 9) complete.first (5, refl) refl live) tidy.first
+
+-- one of two entries that are taken for one sets the mark
+disagreeing_apart : IsNeverSetBeforeUse (table_of rules_apart) (the_mark 1)
+disagreeing_apart is_reached is_live complete tidy =
+    let one : is_reached 1 ≡ true = leads (table_of rules_apart) is_reached complete 0 1 (marks_to 1) complete.first refl in
+    let live : is_live 1 ≡ true = tidy.used 1 4 (entry_to 0 0 0 0xFFFF) one refl refl in
+    let both : false ≡ true = tidy.agreed 1 1 (idle_to 1) (marks_to 1) one (0, refl) refl refl refl refl refl refl live in
+    cc
+
+incomplete_contextual : IsIncomplete (table_of rules_with_a_gap)
+incomplete_contextual is_reached complete = lacks_none (table_of rules_with_a_gap) is_reached complete 0 4 complete.first refl
+
+incomplete_insertion : IsIncomplete putting_in_with_a_gap
+incomplete_insertion is_reached complete = lacks_none putting_in_with_a_gap is_reached complete 0 1 complete.first refl
+
+never_contextual : (table : TableValue Entry) (lookups : ℕ) → IsNeverSetBeforeUse table (the_mark lookups) → IsContextualSettled table lookups → ⊥
+never_contextual table lookups never (is_reached, complete, (is_live, tidy)) = never is_reached is_live complete tidy
+
+never_loose : {T : Type 0} (table : TableValue (GenericStateEntry T)) (register : Register T) → IsNeverSetBeforeUse table (never_taken register) → IsNeverSetBeforeUse table register
+never_loose table register never is_reached is_live complete tidy = never is_reached is_live complete (less_asked table register is_reached is_live tidy)
+
+-- ligature: state 0 takes a component, and holds none
+unheld_in_start : IsLigatureSettled pushing_in_start (0xFFFFFFFF ∷ []) → ⊥
+unheld_in_start (is_reached, complete, is_here, held, fit) =
+    let enough : 1 ≤ held 0 = fit.enough 0 3 (entry_with 0 0x2000 0) complete.first (1, refl) refl in
+    let none : held 0 ≡ 0 = fit.first in
+    absurd (omega (arith, enough, none))
+
+-- one of two entries that are taken for one pushes
+unheld_apart : IsLigatureSettled pushing_apart (0xBFFFFFFF ∷ []) → ⊥
+unheld_apart (is_reached, complete, is_here, held, fit) =
+    let one : is_reached 1 ≡ true = leads pushing_apart is_reached complete 0 1 (entry_with 1 0x8000 0) complete.first refl in
+    let enough : 1 ≤ held 1 = fit.enough 1 4 (entry_with 0 0x2000 0) one (1, refl) refl in
+    let both : false ≡ true = fit.agreed 1 1 (entry_with 1 0 0) (entry_with 1 0x8000 0) one (0, refl) refl refl refl refl refl refl (omega (arith, enough)) in
+    cc
+
+-- rearrangement: the entry for the end of the text asks for a start that is not set, and moves glyphs
+untidy_start : IsNeverSetBeforeUse ending_and_moving (never_taken (the_end_set_by 0x8000))
+untidy_start is_reached is_live complete tidy = clash (is_live 0) (tidy.used 0 0 (entry_with 0 0x2004 tt) complete.first refl refl) tidy.first
+
+unquiet_at_end : (is_reached : ℕ → Bool) → IsComplete ending_and_moving is_reached → IsQuietAtEnd ending_and_moving is_reached → ⊥
+unquiet_at_end is_reached complete quiet = let both : true ≡ false = quiet 0 (entry_with 0 0x2004 tt) complete.first refl in cc
+
+settled_contextual : IsContextualSettled (table_of settled_rules) 1
+settled_contextual =
+    (λ s. nat_lt s 2, complete_by (table_of settled_rules) 2 (lit< tt) refl refl, (λ s. s == 1, tidy_by (table_of settled_rules) 2 (lit< tt) (the_mark 1) (λ s. s == 1) refl refl))
+
+settled_for_an_end : IsContextualSettled (table_of rules_for_an_end) 1
+settled_for_an_end =
+    (λ s. nat_lt s 2, complete_by (table_of rules_for_an_end) 2 (lit< tt) refl refl, (λ s. s == 1, tidy_by (table_of rules_for_an_end) 2 (lit< tt) (the_mark 1) (λ s. s == 1) refl refl))
+
+settled_to_start : IsRearrangementSettled moving_to_start
+settled_to_start = (
+  λ s. nat_lt s 2,
+  complete_by moving_to_start 2 (lit< tt) refl refl,
+  (λ s. s == 1, tidy_by moving_to_start 2 (lit< tt) (the_end_set_by 0x8000) (λ s. s == 1) refl refl),
+  (λ s. false, tidy_by moving_to_start 2 (lit< tt) (the_end_set_by 0x2000) (λ s. false) refl refl),
+  quiet_by moving_to_start 2 (lit< tt) refl,
+)
+
+settled_deleted : IsRearrangementSettled moving_deleted
+settled_deleted = (
+  λ s. nat_lt s 2,
+  complete_by moving_deleted 2 (lit< tt) refl refl,
+  (λ s. s == 1, tidy_by moving_deleted 2 (lit< tt) (the_end_set_by 0x8000) (λ s. s == 1) refl refl),
+  (λ s. false, tidy_by moving_deleted 2 (lit< tt) (the_end_set_by 0x2000) (λ s. false) refl refl),
+  quiet_by moving_deleted 2 (lit< tt) refl,
+)
+
+settled_at_end : IsInsertionSettled putting_in_at_end
+settled_at_end = (λ s. nat_lt s 1, complete_by putting_in_at_end 1 (lit< tt) refl refl)
+
+pub case_verdicts : CaseVerdicts
+case_verdicts = record {
+  a_settled_table_is_cut = settled_contextual;
+  a_mark_outlives_the_cut =
+      (never_contextual (table_of rules_at_end) 1 (never_loose (table_of rules_at_end) (the_mark 1) untidy_at_end), (the_mark 1, refl, (entry_to 0 0 0xFFFF 0, refl, refl)));
+  two_entries_set_the_mark_differently =
+      (never_contextual (table_of rules_apart) 1 disagreeing_apart, (the_mark 1, refl, (idle_to 1, marks_to 1, refl, refl, refl, λ same. cc)));
+  a_contextual_entry_is_missing = (λ (is_reached, complete, set). incomplete_contextual is_reached complete, refl);
+  a_missing_lookup_sets_no_mark =
+      (never_contextual (table_of rules_unanswered) 1 (never_loose (table_of rules_unanswered) (the_mark 1) untidy_unanswered), (the_mark 1, refl, (entry_to 0 0 0 0xFFFF, refl, refl)));
+  a_contextual_subtable_is_off = settled_for_an_end;
+  a_component_outlives_the_cut = (unheld_in_start, tt);
+  two_entries_push_differently = (unheld_apart, refl);
+  the_end_of_the_text_acts =
+      (λ (is_reached, complete, start, end, quiet). unquiet_at_end is_reached complete quiet, (entry_with 0 0x2004 tt, refl, refl));
+  the_end_of_the_text_asks_for_a_start = (
+    λ (is_reached, complete, (is_live, tidy), end, quiet). never_loose ending_and_moving (the_end_set_by 0x8000) untidy_start is_reached is_live complete tidy,
+    (the_end_set_by 0x8000, refl, (entry_with 0 0x2004 tt, refl, refl)),
+  );
+  the_marked_glyph_moves = settled_to_start;
+  a_merge_splits_a_cluster = settled_deleted;
+  an_insertion_subtable_is_off = settled_at_end;
+  an_insertion_entry_is_missing = (λ (is_reached, complete). incomplete_insertion is_reached complete, refl);
+}
+
+pub failed_premises : FailedPremises
+failed_premises = record {
+  a_mark_outlives_the_cut = record {
+    is_reached = λ s. nat_lt s 2;
+    complete = complete_by (table_of rules_at_end) 2 (lit< tt) refl refl;
+    untidy = untidy_at_end;
+  };
+  two_entries_set_the_mark_differently = record {
+    is_reached = λ s. nat_lt s 2;
+    complete = complete_by (table_of rules_apart) 2 (lit< tt) refl refl;
+    tidy = (λ s. s == 1, tidy_by (table_of rules_apart) 2 (lit< tt) (never_taken (the_mark 1)) (λ s. s == 1) refl refl);
+    disagreeing = disagreeing_apart;
+  };
+  a_contextual_entry_is_missing = incomplete_contextual;
+  a_missing_lookup_sets_no_mark = record {
+    is_reached = λ s. nat_lt s 2;
+    complete = complete_by (table_of rules_unanswered) 2 (lit< tt) refl refl;
+    untidy = untidy_unanswered;
+  };
+  the_end_of_the_text_acts = record {
+    is_reached = λ s. nat_lt s 1;
+    complete = complete_by ending_and_moving 1 (lit< tt) refl refl;
+    untidy = untidy_start;
+  };
+  an_insertion_entry_is_missing = incomplete_insertion;
+}
