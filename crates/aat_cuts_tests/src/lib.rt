@@ -1,12 +1,18 @@
-//! The tests of `aat_cuts`: the smallest machine that fails each premise, texts, and small machines drawn at random
-//! whose lines are cut.
+//! The tests of `aat_cuts`: the smallest machine that fails each premise, texts, the machines of the worked rows, and
+//! small machines drawn at random whose lines are cut.
 #![tactic(auto)]
 
+#[cfg(test)]
+mod context_tests;
 #[cfg(test)]
 mod cut_tests;
 #[cfg(test)]
 mod font_tests;
 #[cfg(test)]
+mod long_chain_tests;
+#[cfg(test)]
 mod machines;
 #[cfg(test)]
 mod reason_tests;
+#[cfg(test)]
+mod row_tests;

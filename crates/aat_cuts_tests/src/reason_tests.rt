@@ -127,6 +127,21 @@ fn settled_machines(rt: HostRuntime) -> Result<(), Fail> {
 }
 
 #[test]
+fn machines_of_lines_that_cannot_be_cut_may_be_settled(rt: HostRuntime) -> Result<(), Fail> {
+    let alloc = rt.alloc();
+    let cells = [
+        (0, 1, entry(1, MARK, lookups(NO_INDEX, NO_INDEX))),
+        (1, 0, entry(0, 0, lookups(NO_INDEX, 0))),
+    ];
+    let kind = contextual(alloc, &[], &cells, &[(1, 3)])?;
+    assert!(rt; find_unsettled(alloc, &kind)?.is_none());
+    let cells = [(0, 2, entry(1, MARK, ())), (1, 1, entry(0, LAST | 1, ()))];
+    let kind = rearrangement(alloc, &[], &cells)?;
+    assert!(rt; find_unsettled(alloc, &kind)?.is_none());
+    Ok(())
+}
+
+#[test]
 fn texts(rt: HostRuntime) -> Result<(), Fail> {
     let alloc = rt.alloc();
     let missing = format!(in alloc; "{}", Unsettled::MissingEntry(2, 5))?;

@@ -1,12 +1,14 @@
-//! The worked rows of Apple Advanced Typography: what each shapes, and the printing of what comes out.
+//! The worked rows of Apple Advanced Typography: what each shapes, the printing of what comes out, and their fonts.
 #![tactic(auto)]
 
 mod build;
+mod fonts;
 mod kerned;
 mod print;
 mod rows;
 mod shaped;
 mod stop;
 
+pub use fonts::font_of_part;
 pub use print::print_chosen;
 pub use stop::Stop;

@@ -1,0 +1,59 @@
+//! The fonts of the parts of rows.
+
+use crate::build::face_of;
+use crate::kerned::kerned_face_of;
+use crate::rows::{FROM_7, FROM_13, FROM_19, FROM_25, FROM_31, Part, Row, Shown, TO_6};
+use crate::shaped::shaped_face_of;
+use crate::stop::Stop;
+use aat_layout::font::hb_font_t;
+use std::alloc::Global;
+
+/// The font of the part of a row with this name, as it is printed; none where no part has the name, or its part needs no
+/// font.
+///
+/// Stopped as `Refused` with 3 for want of memory.
+pub fn font_of_part(alloc: Global, name: &str) -> Result<Option<hb_font_t>, Stop> {
+    match part_named(name) {
+        Some(part) => font_of(alloc, &part.shown),
+        None => Ok(None),
+    }
+}
+
+/// The part with a name.
+fn part_named(name: &str) -> Option<&'static Part> {
+    part_in(&TO_6, name)
+        .or(part_in(&FROM_7, name))
+        .or(part_in(&FROM_13, name))
+        .or(part_in(&FROM_19, name))
+        .or(part_in(&FROM_25, name))
+        .or(part_in(&FROM_31, name))
+}
+
+/// The part with a name among those of some rows.
+fn part_in(rows: &'static [Row], name: &str) -> Option<&'static Part> {
+    for row in rows {
+        let found = part_of(row.parts, name);
+        if found.is_some() {
+            return found;
+        }
+    }
+    None
+}
+
+/// The one of these parts with a name.
+fn part_of(parts: &'static [Part], name: &str) -> Option<&'static Part> {
+    parts.iter().find(|part| part.name == name)
+}
+
+/// The font of what a part shows, if it needs one.
+fn font_of(alloc: Global, shown: &Shown) -> Result<Option<hb_font_t>, Stop> {
+    match shown {
+        Shown::Substitution(shown) => Ok(Some(face_of(alloc, &shown.font)?)),
+        Shown::Refusals(shown) => Ok(Some(face_of(alloc, &shown.font)?)),
+        Shown::Compilation(shown) => Ok(Some(face_of(alloc, &shown.font)?)),
+        Shown::Addition(shown) => Ok(Some(face_of(alloc, &shown.font)?)),
+        Shown::Kerning(shown) => Ok(Some(kerned_face_of(alloc, &shown.table)?)),
+        Shown::Shaping(shown) => Ok(Some(shaped_face_of(alloc, shown)?)),
+        Shown::Zeroing(_) | Shown::Removal(_) => Ok(None),
+    }
+}
