@@ -19,7 +19,8 @@ pub mod attach_type {
 /// The attach chain is counted in places: that of a mark in the order of drawing, since a backward line is kerned put
 /// the other way round, and that of a cursive glyph in the order of the text. One that leaves the line, or leads to the
 /// glyph itself or to one that is drawn after it, counts as none. Kerning across the stream makes such a chain at the
-/// first glyph, and the removal of glyphs may leave one.
+/// first glyph, and the removal of glyphs may leave one. A chain of a machine from last to first is followed as any
+/// other, and so leads to another glyph than the machine marked.
 ///
 /// `i` has to be a place of the line. It takes no memory and cannot be refused.
 pub fn parent_of(direction: Direction, positions: &[GlyphPosition], i: usize) -> Option<usize>

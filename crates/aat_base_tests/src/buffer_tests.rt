@@ -1,155 +1,80 @@
-//! What no clause says: examples from outside, and each call once. Growth that is refused and long lines have files of
-//! their own.
-ghost use Rattle.std.specs.Prelude.{◌≡◌, ◌<◌, length};
-ghost use Rattle.aat_buffer.specs.Buffer.{with_glyph_id};
-ghost use Rattle.aat_buffer.specs.Removal.{is_deleted, removed};
+//! What no clause says: examples from outside, and each call once. Clusters that are merged, growth that is refused and
+//! long lines have files of their own.
 
+mod cluster_tests;
+mod lines;
 mod long_lines;
 mod memory;
 
+use crate::asserting::wanted;
 use aat_buffer::{
     BufferError, BufferFlags, Direction, GlyphPosition, HB_BUFFER_CLUSTER_LEVEL_CHARACTERS,
     HB_BUFFER_CLUSTER_LEVEL_MONOTONE_CHARACTERS, HB_BUFFER_CLUSTER_LEVEL_MONOTONE_GRAPHEMES,
-    ScratchFlags, UnicodeProps, glyph_flag, hb_buffer_t, hb_glyph_info_t,
+    ScratchFlags, UnicodeProps, glyph_flag, hb_buffer_t,
 };
 use bitflags::Flags;
-use std::alloc::{Allocator, Global};
-use std::cell::Cell;
+use lines::{
+    advances_are, clusters_at, copy, delete_its_first, go_to, insert, is_at, line_is, line_of,
+    masks_are, number_positions, pass, record, remove_deleted, replace, skip,
+};
+use std::alloc::Global;
 use std::process::Abort;
 use std::test::Fail;
-
-/// A glyph of a line in a test: its glyph id, cluster and mask.
-type Glyph = (u32, u32, u32);
-
-fn record((glyph_id, cluster, mask): Glyph) -> hb_glyph_info_t {
-    hb_glyph_info_t {
-        glyph_id,
-        cluster,
-        mask,
-        ..hb_glyph_info_t::default()
-    }
-}
-
-fn line_of(alloc: Global, glyphs: &[Glyph]) -> Result<hb_buffer_t, BufferError> {
-    let mut buffer = hb_buffer_t::new(alloc, 100, 16384);
-    for glyph in glyphs {
-        buffer.add(record(*glyph))?;
-    }
-    Ok(buffer)
-}
-
-/// A line of glyphs with these clusters, with the cursor at place `cursor`.
-fn clusters_at(
-    rt: &impl Abort,
-    alloc: Global,
-    cursor: usize,
-    clusters: &[u32],
-) -> Result<hb_buffer_t, BufferError> {
-    let mut buffer = hb_buffer_t::new(alloc, 100, 16384);
-    for cluster in clusters {
-        buffer.add(record((1, *cluster, 0)))?;
-    }
-    assert!(rt; cursor <= buffer.len());
-    buffer.move_to(cursor);
-    Ok(buffer)
-}
-
-fn line_is<A: Allocator + Copy>(buffer: &hb_buffer_t<A>, wanted: &[Glyph]) -> bool {
-    for i in 0..wanted.len() {
-        if i >= buffer.len() || *buffer.info(i) != record(wanted[i]) {
-            return false;
-        }
-    }
-    buffer.len() == wanted.len()
-}
-
-fn clusters_are<A: Allocator + Copy>(buffer: &hb_buffer_t<A>, wanted: &[u32]) -> bool {
-    for i in 0..wanted.len() {
-        if i >= buffer.len() || buffer.info(i).cluster != wanted[i] {
-            return false;
-        }
-    }
-    buffer.len() == wanted.len()
-}
-
-fn masks_are<A: Allocator + Copy>(buffer: &hb_buffer_t<A>, wanted: &[u32]) -> bool {
-    for i in 0..wanted.len() {
-        if i >= buffer.len() || buffer.info(i).mask != wanted[i] {
-            return false;
-        }
-    }
-    buffer.len() == wanted.len()
-}
-
-/// Gives each glyph a position whose advance is its place.
-fn number_positions<A: Allocator + Copy>(
-    rt: &impl Abort,
-    buffer: &mut hb_buffer_t<A>,
-) -> Result<(), BufferError> {
-    buffer.clear_positions()?;
-    let mut advance = 0;
-    for i in 0..buffer.len() {
-        assert!(rt; buffer.has_positions() && i < buffer.len() && advance < 1_000_000);
-        buffer.pos_mut(i).x_advance = advance;
-        advance += 1;
-    }
-    Ok(())
-}
-
-fn advances_are<A: Allocator + Copy>(buffer: &hb_buffer_t<A>, wanted: &[i32]) -> bool {
-    for i in 0..wanted.len() {
-        if !buffer.has_positions() || i >= buffer.len() || buffer.pos(i).x_advance != wanted[i] {
-            return false;
-        }
-    }
-    buffer.has_positions() && buffer.len() == wanted.len()
-}
-
-/// Writes through a borrow: no proof file says what this leaves.
-fn delete_first<A: Allocator + Copy>(buffer: &mut hb_buffer_t<A>)
-    requires { 0 < length buffer.old.line }
-    ensures { buffer.new ≡ with_glyph_id buffer.old 0 0xFFFF }
-{
-    buffer.info_mut(0).glyph_id = 0xFFFF;
-}
-
-/// Passes a filter: no proof file says what this leaves.
-fn remove_deleted<A: Allocator + Copy>(buffer: &mut hb_buffer_t<A>)
-    ensures { buffer.new ≡ removed is_deleted buffer.old }
-{
-    buffer.delete_glyphs_inplace(|glyph| glyph.glyph_id == 0xFFFF);
-}
 
 #[test]
 fn plain_fields(rt: HostRuntime) {
     let mut buffer = hb_buffer_t::new(rt.alloc(), 7, -3);
-    assert_fresh(&rt, &buffer);
-    assert_fields_are_set(&rt, &mut buffer);
-    assert!(rt; UnicodeProps::IGNORABLE.bits() == 0x20);
-    assert!(rt; glyph_flag::UNSAFE_TO_BREAK == 1 && glyph_flag::UNSAFE_TO_CONCAT == 2);
-    assert!(rt; glyph_flag::SAFE_TO_INSERT_TATWEEL == 4 && glyph_flag::DEFINED == 7);
-    assert!(rt; HB_BUFFER_CLUSTER_LEVEL_MONOTONE_GRAPHEMES == 0);
-    assert!(rt; HB_BUFFER_CLUSTER_LEVEL_MONOTONE_CHARACTERS == 1);
-    assert!(rt; BufferError::TooLong.number() == 1 && BufferError::OutOfMemory.number() == 2);
+    wanted(&rt, is_fresh(&buffer), "fields of a new buffer");
+    wanted(&rt, has_first_settings(&buffer), "settings of a new buffer");
+    set_fields(&mut buffer);
+    wanted(&rt, has_fields(&buffer), "fields that were set");
+    wanted(&rt, flags_have_their_bits(), "flags");
+    wanted(&rt, numbers_are_fixed(), "numbers");
 }
 
-fn assert_fresh(rt: &impl Abort, buffer: &hb_buffer_t) {
-    assert!(rt; buffer.is_empty() && buffer.len() == 0 && buffer.backtrack_len() == 0);
-    assert!(rt; !buffer.has_positions() && buffer.is_successful() && buffer.all_glyphs_16());
-    assert!(rt; buffer.max_len() == 7 && buffer.max_ops() == -3);
-    assert!(rt; buffer.direction() == Direction::LeftToRight && buffer.cluster_level() == 0);
-    assert!(rt; buffer.flags().is_empty() && buffer.scratch_flags().is_empty());
+fn is_fresh(buffer: &hb_buffer_t) -> bool {
+    buffer.is_empty()
+        && is_at(buffer, 0, 0)
+        && !buffer.has_positions()
+        && buffer.is_successful()
+        && buffer.all_glyphs_16()
 }
 
-fn assert_fields_are_set(rt: &impl Abort, buffer: &mut hb_buffer_t) {
+fn has_first_settings(buffer: &hb_buffer_t) -> bool {
+    (buffer.max_len(), buffer.max_ops(), buffer.cluster_level()) == (7, -3, 0)
+        && buffer.direction() == Direction::LeftToRight
+        && buffer.flags().is_empty()
+        && buffer.scratch_flags().is_empty()
+}
+
+fn set_fields(buffer: &mut hb_buffer_t) {
     buffer.set_direction(Direction::BottomToTop);
     buffer.set_cluster_level(HB_BUFFER_CLUSTER_LEVEL_CHARACTERS);
     buffer.set_flags(BufferFlags::PRODUCE_UNSAFE_TO_CONCAT);
     buffer.set_scratch_flags(ScratchFlags::HAS_GPOS_ATTACHMENT);
     buffer.set_max_ops(5);
-    assert!(rt; buffer.direction() == Direction::BottomToTop && buffer.cluster_level() == 2);
-    assert!(rt; buffer.flags().bits() == 0x40 && buffer.scratch_flags().bits() == 0x08);
-    assert!(rt; buffer.max_ops() == 5);
+}
+
+fn has_fields(buffer: &hb_buffer_t) -> bool {
+    buffer.direction() == Direction::BottomToTop
+        && (buffer.cluster_level(), buffer.max_ops()) == (2, 5)
+        && buffer.flags().bits() == 0x40
+        && buffer.scratch_flags().bits() == 0x08
+}
+
+fn flags_have_their_bits() -> bool {
+    UnicodeProps::IGNORABLE.bits() == 0x20
+        && glyph_flag::UNSAFE_TO_BREAK == 1
+        && glyph_flag::UNSAFE_TO_CONCAT == 2
+        && glyph_flag::SAFE_TO_INSERT_TATWEEL == 4
+        && glyph_flag::DEFINED == 7
+}
+
+fn numbers_are_fixed() -> bool {
+    HB_BUFFER_CLUSTER_LEVEL_MONOTONE_GRAPHEMES == 0
+        && HB_BUFFER_CLUSTER_LEVEL_MONOTONE_CHARACTERS == 1
+        && BufferError::TooLong.number() == 1
+        && BufferError::OutOfMemory.number() == 2
 }
 
 #[test]
@@ -160,12 +85,17 @@ fn directions(rt: HostRuntime) {
         (Direction::TopToBottom, false, true),
         (Direction::BottomToTop, false, false),
     ];
-    for (direction, horizontal, forward) in &rows {
-        assert!(rt;
-            direction.is_horizontal() == *horizontal && direction.is_vertical() != *horizontal
-        );
-        assert!(rt; direction.is_forward() == *forward && direction.is_backward() != *forward);
+    for (direction, horizontal, forward) in rows {
+        assert!(rt; is_of(direction, horizontal, forward), "{direction:?}");
     }
+}
+
+/// Whether a direction is horizontal and forward as this says.
+fn is_of(direction: Direction, horizontal: bool, forward: bool) -> bool {
+    direction.is_horizontal() == horizontal
+        && direction.is_vertical() != horizontal
+        && direction.is_forward() == forward
+        && direction.is_backward() != forward
 }
 
 #[test]
@@ -177,27 +107,49 @@ fn line_calls(rt: HostRuntime) -> Result<(), Fail> {
 }
 
 fn assert_written(rt: &impl Abort, buffer: &mut hb_buffer_t) {
-    assert!(rt; buffer.len() == 3 && buffer.backtrack_len() == 0);
-    delete_first(buffer);
+    wanted(rt, is_at(buffer, 3, 0), "a line of three glyphs");
+    delete_its_first(rt, buffer);
+    pass(rt, buffer);
+    wanted(rt, has_id_at_cursor(buffer, 2), "the second glyph");
+    replace(rt, buffer, 0x10000);
+    wanted(
+        rt,
+        is_at(buffer, 3, 2) && !buffer.all_glyphs_16(),
+        "behind a long id",
+    );
+    mask_at_cursor(rt, buffer, 8);
+    let line = [(0xFFFF, 0, 0), (0x10000, 1, 0), (3, 2, 8)];
+    wanted(rt, line_is(buffer, &line), "the line that was written");
+}
+
+/// Whether the glyph at the cursor has this id.
+fn has_id_at_cursor(buffer: &hb_buffer_t, glyph_id: u32) -> bool {
+    buffer.backtrack_len() < buffer.len() && buffer.cur().glyph_id == glyph_id
+}
+
+/// Gives the glyph at the cursor a mask.
+fn mask_at_cursor(rt: &impl Abort, buffer: &mut hb_buffer_t, mask: u32) {
     assert!(rt; buffer.backtrack_len() < buffer.len());
-    buffer.next_glyph();
-    assert!(rt; buffer.backtrack_len() < buffer.len() && buffer.cur().glyph_id == 2);
-    buffer.replace_glyph(0x10000);
-    assert!(rt; !buffer.all_glyphs_16() && buffer.backtrack_len() == 2);
-    assert!(rt; buffer.backtrack_len() < buffer.len());
-    buffer.cur_mut().mask = 8;
-    assert!(rt; line_is(buffer, &[(0xFFFF, 0, 0), (0x10000, 1, 0), (3, 2, 8)]));
+    buffer.cur_mut().mask = mask;
 }
 
 fn assert_turned(rt: &impl Abort, buffer: &mut hb_buffer_t) {
-    assert!(rt; buffer.len() >= 1);
-    buffer.move_to(1);
-    assert!(rt; buffer.backtrack_len() == 1);
+    go_to(rt, buffer, 1);
+    wanted(
+        rt,
+        buffer.backtrack_len() == 1,
+        "the place that was gone to",
+    );
     buffer.reverse();
-    assert!(rt; line_is(buffer, &[(3, 2, 8), (0x10000, 1, 0), (0xFFFF, 0, 0)]));
-    assert!(rt; buffer.backtrack_len() == 1);
+    let line = [(3, 2, 8), (0x10000, 1, 0), (0xFFFF, 0, 0)];
+    wanted(rt, line_is(buffer, &line), "the line that was turned round");
+    wanted(rt, buffer.backtrack_len() == 1, "the place after that");
     buffer.sync();
-    assert!(rt; buffer.backtrack_len() == 0 && buffer.is_successful());
+    wanted(
+        rt,
+        is_at(buffer, 3, 0) && buffer.is_successful(),
+        "the front",
+    );
 }
 
 #[test]
@@ -210,62 +162,85 @@ fn glyphs_put_out(rt: HostRuntime) -> Result<(), Fail> {
 }
 
 fn assert_copied(rt: &impl Abort, buffer: &mut hb_buffer_t) -> Result<(), BufferError> {
-    assert!(rt; buffer.len() >= 1);
-    buffer.move_to(1);
-    assert!(rt; buffer.backtrack_len() < buffer.len());
-    buffer.copy_glyph()?;
-    assert!(rt; buffer.backtrack_len() == 2);
-    assert!(rt; line_is(buffer, &[(2, 1, 0), (3, 2, 8), (3, 2, 8)]));
+    go_to(rt, buffer, 1);
+    copy(rt, buffer)?;
+    wanted(rt, buffer.backtrack_len() == 2, "behind the copy");
+    wanted(
+        rt,
+        line_is(buffer, &[(2, 1, 0), (3, 2, 8), (3, 2, 8)]),
+        "a copy",
+    );
     Ok(())
 }
 
 fn assert_put_out(rt: &impl Abort, buffer: &mut hb_buffer_t) -> Result<(), BufferError> {
-    assert!(rt; buffer.backtrack_len() < buffer.len());
-    buffer.skip_glyph();
+    skip(rt, buffer);
     buffer.output_glyph(9)?;
-    assert!(rt; line_is(buffer, &[(2, 1, 0), (3, 2, 8), (9, 2, 8)]));
-    assert!(rt; buffer.backtrack_len() == 3 && buffer.len() >= 1);
-    buffer.move_to(1);
+    wanted(
+        rt,
+        line_is(buffer, &[(2, 1, 0), (3, 2, 8), (9, 2, 8)]),
+        "a glyph at the end",
+    );
+    wanted(rt, buffer.backtrack_len() == 3, "behind the end");
+    go_to(rt, buffer, 1);
     buffer.output_glyph(7)?;
-    assert!(rt; line_is(buffer, &[(2, 1, 0), (7, 2, 8), (3, 2, 8), (9, 2, 8)]));
-    assert!(rt; buffer.backtrack_len() == 2);
+    let line = [(2, 1, 0), (7, 2, 8), (3, 2, 8), (9, 2, 8)];
+    wanted(rt, line_is(buffer, &line), "a glyph before another");
+    wanted(rt, buffer.backtrack_len() == 2, "behind that glyph");
     Ok(())
 }
 
 fn assert_run_put_in(rt: &impl Abort, buffer: &mut hb_buffer_t) -> Result<(), BufferError> {
-    buffer.insert_glyphs(&[record((4, 5, 1)), record((6, 0, 0))])?;
-    assert!(rt;
-        line_is(
-            buffer,
-            &[
-                (2, 1, 0),
-                (7, 2, 8),
-                (4, 5, 1),
-                (6, 0, 0),
-                (3, 2, 8),
-                (9, 2, 8)
-            ]
-        )
-    );
-    assert!(rt; buffer.backtrack_len() == 4);
+    insert(buffer, &[record((4, 5, 1)), record((6, 0, 0))])?;
+    let line = [
+        (2, 1, 0),
+        (7, 2, 8),
+        (4, 5, 1),
+        (6, 0, 0),
+        (3, 2, 8),
+        (9, 2, 8),
+    ];
+    wanted(rt, line_is(buffer, &line), "a run");
+    wanted(rt, buffer.backtrack_len() == 4, "behind the run");
     Ok(())
 }
 
 #[test]
 fn nothing_goes_into_an_empty_line(rt: HostRuntime) -> Result<(), Fail> {
     let mut buffer = hb_buffer_t::new(rt.alloc(), 0, 0);
+    Ok(assert_stays_empty(&rt, &mut buffer)?)
+}
+
+fn assert_stays_empty(rt: &impl Abort, buffer: &mut hb_buffer_t) -> Result<(), BufferError> {
     buffer.clear_positions()?;
-    assert!(rt; buffer.has_positions() && buffer.is_empty());
+    wanted(
+        rt,
+        buffer.has_positions() && buffer.is_empty(),
+        "positions of no glyph",
+    );
     buffer.output_glyph(5)?;
-    assert!(rt; !buffer.has_positions() && buffer.is_empty() && buffer.backtrack_len() == 0);
+    wanted(
+        rt,
+        !buffer.has_positions() && is_at(buffer, 0, 0),
+        "no glyph put out",
+    );
     buffer.clear_positions()?;
-    buffer.reverse();
-    remove_deleted(&mut buffer);
-    buffer.merge_clusters(0, 2);
-    assert!(rt; buffer.has_positions());
+    turn_and_merge(buffer);
+    wanted(rt, buffer.has_positions(), "positions that stay");
     buffer.drop_positions();
-    assert!(rt; !buffer.has_positions() && buffer.is_successful());
+    wanted(
+        rt,
+        !buffer.has_positions() && buffer.is_successful(),
+        "positions dropped",
+    );
     Ok(())
+}
+
+/// Makes calls that keep positions.
+fn turn_and_merge(buffer: &mut hb_buffer_t) {
+    buffer.reverse();
+    remove_deleted(buffer);
+    buffer.merge_clusters(0, 2);
 }
 
 /// Numbers the positions of a line of three with the cursor in the middle.
@@ -278,12 +253,16 @@ fn numbered(rt: &impl Abort, alloc: Global) -> Result<hb_buffer_t, BufferError> 
 #[test]
 fn positions_dropped(rt: HostRuntime) -> Result<(), Fail> {
     for call in 0..7u32 {
-        let mut buffer = numbered(&rt, rt.alloc())?;
-        drop_by(&rt, call, &mut buffer)?;
-        assert!(rt; !buffer.has_positions(), "call {call}");
-        assert!(rt; call != 4 || (buffer.backtrack_len() == 0 && buffer.len() == 3));
+        assert!(rt; drops(&rt, rt.alloc(), call)?, "call {call}");
     }
     Ok(())
+}
+
+/// Whether one of the calls drops positions, and the fourth leaves all glyphs behind the cursor.
+fn drops(rt: &impl Abort, alloc: Global, call: u32) -> Result<bool, BufferError> {
+    let mut buffer = numbered(rt, alloc)?;
+    drop_by(rt, call, &mut buffer)?;
+    Ok(!buffer.has_positions() && (call != 4 || is_at(&buffer, 3, 0)))
 }
 
 /// Makes one of the calls that drop positions.
@@ -309,17 +288,34 @@ fn drop_by(rt: &impl Abort, call: u32, buffer: &mut hb_buffer_t) -> Result<(), B
 #[test]
 fn positions_kept(rt: HostRuntime) -> Result<(), Fail> {
     for call in 0..9u32 {
-        let mut buffer = numbered(&rt, rt.alloc())?;
-        keep_by(&rt, call, &mut buffer);
-        assert!(rt; advances_are(&buffer, &[0, 1, 2]), "call {call}");
+        assert!(rt; keeps(&rt, rt.alloc(), call)?, "call {call}");
     }
     let mut buffer = numbered(&rt, rt.alloc())?;
     assert_positions_turned(&rt, &mut buffer);
+    Ok(assert_positions_cleared(&rt, &mut buffer)?)
+}
+
+/// Whether one of the calls keeps positions.
+fn keeps(rt: &impl Abort, alloc: Global, call: u32) -> Result<bool, BufferError> {
+    let mut buffer = numbered(rt, alloc)?;
+    keep_by(rt, call, &mut buffer);
+    Ok(advances_are(&buffer, &[0, 1, 2]))
+}
+
+fn assert_positions_cleared(rt: &impl Abort, buffer: &mut hb_buffer_t) -> Result<(), BufferError> {
     buffer.clear_positions()?;
-    assert!(rt; advances_are(&buffer, &[0, 0, 0]));
-    assert!(rt; buffer.has_positions() && buffer.len() == 3);
-    assert!(rt; *buffer.pos(2) == GlyphPosition::default());
+    wanted(
+        rt,
+        advances_are(buffer, &[0, 0, 0]),
+        "advances that are cleared",
+    );
+    wanted(rt, is_default_at(buffer, 2), "a position that is cleared");
     Ok(())
+}
+
+/// Whether a glyph has a position of which nothing was set.
+fn is_default_at(buffer: &hb_buffer_t, place: usize) -> bool {
+    buffer.has_positions() && place < buffer.len() && *buffer.pos(place) == GlyphPosition::default()
 }
 
 fn assert_positions_turned(rt: &impl Abort, buffer: &mut hb_buffer_t) {
@@ -345,150 +341,79 @@ fn keep_by(rt: &impl Abort, call: u32, buffer: &mut hb_buffer_t) {
 
 #[test]
 fn marks(rt: HostRuntime) -> Result<(), Fail> {
-    let mut rising = clusters_at(&rt, rt.alloc(), 2, &[0, 1, 1, 2, 2])?;
-    assert_marked_above_least(&rt, &mut rising);
-    let mut falling = clusters_at(&rt, rt.alloc(), 0, &[3, 3, 2, 2])?;
-    assert_marked_within_span(&rt, &mut falling);
-    let mut one = clusters_at(&rt, rt.alloc(), 0, &[7])?;
-    assert_marked_where_asked(&rt, &mut one);
+    marks_above_least(&rt, rt.alloc())?;
+    marks_within_span(&rt, rt.alloc())?;
+    Ok(marks_where_asked(&rt, rt.alloc())?)
+}
+
+fn marks_above_least(rt: &impl Abort, alloc: Global) -> Result<(), BufferError> {
+    let mut buffer = clusters_at(rt, alloc, 2, &[0, 1, 1, 2, 2])?;
+    buffer.unsafe_to_break(Some(1), Some(4));
+    wanted(
+        rt,
+        masks_are(&buffer, &[0, 0, 0, 3, 0]),
+        "the glyph above the least cluster",
+    );
+    buffer.unsafe_to_break_from_outbuffer(None, Some(9));
+    wanted(
+        rt,
+        masks_are(&buffer, &[0, 3, 3, 3, 3]),
+        "all glyphs above it",
+    );
+    wanted(rt, buffer.backtrack_len() == 2, "the cursor");
     Ok(())
 }
 
-fn assert_marked_above_least(rt: &impl Abort, buffer: &mut hb_buffer_t) {
-    buffer.unsafe_to_break(Some(1), Some(4));
-    assert!(rt; masks_are(buffer, &[0, 0, 0, 3, 0]));
-    buffer.unsafe_to_break_from_outbuffer(None, Some(9));
-    assert!(rt; masks_are(buffer, &[0, 3, 3, 3, 3]) && buffer.backtrack_len() == 2);
-}
-
-fn assert_marked_within_span(rt: &impl Abort, buffer: &mut hb_buffer_t) {
+fn marks_within_span(rt: &impl Abort, alloc: Global) -> Result<(), BufferError> {
+    let mut buffer = clusters_at(rt, alloc, 0, &[3, 3, 2, 2])?;
     buffer.unsafe_to_break(Some(2), Some(3));
     buffer.unsafe_to_concat(None, None);
-    assert!(rt; masks_are(buffer, &[0, 0, 0, 0]));
+    wanted(rt, masks_are(&buffer, &[0, 0, 0, 0]), "a span of one glyph");
     buffer.unsafe_to_break(Some(1), None);
-    assert!(rt; masks_are(buffer, &[0, 3, 0, 0]));
+    wanted(rt, masks_are(&buffer, &[0, 3, 0, 0]), "a span to the end");
+    Ok(())
 }
 
-fn assert_marked_where_asked(rt: &impl Abort, buffer: &mut hb_buffer_t) {
+fn marks_where_asked(rt: &impl Abort, alloc: Global) -> Result<(), BufferError> {
+    let mut buffer = clusters_at(rt, alloc, 0, &[7])?;
     buffer.set_flags(BufferFlags::PRODUCE_UNSAFE_TO_CONCAT);
     buffer.unsafe_to_break(None, None);
-    assert!(rt; masks_are(buffer, &[0]));
+    wanted(rt, masks_are(&buffer, &[0]), "one glyph alone");
     buffer.unsafe_to_concat(None, None);
-    assert!(rt; masks_are(buffer, &[2]));
-}
-
-#[test]
-fn merges(rt: HostRuntime) -> Result<(), Fail> {
-    let rows: [(usize, usize, usize, &[u32], &[u32]); 5] = [
-        (0, 2, 0, &[0, 1, 1, 2, 2], &[0, 0, 0, 2, 2]),
-        (1, 3, 0, &[3, 3, 2, 2], &[2, 2, 2, 2]),
-        (1, 3, 1, &[3, 3, 2, 2], &[3, 2, 2, 2]),
-        (1, 9, 2, &[3, 3, 2, 2], &[3, 2, 2, 2]),
-        (1, 2, 0, &[3, 3, 2, 2], &[3, 3, 2, 2]),
-    ];
-    for level in 0..2u8 {
-        for (start, end, cursor, before, after) in &rows {
-            let mut buffer = clusters_at(&rt, rt.alloc(), *cursor, before)?;
-            buffer.set_cluster_level(level);
-            buffer.merge_clusters(*start, *end);
-            assert!(rt; clusters_are(&buffer, after), "{start} {end} {cursor}");
-            assert!(rt; buffer.backtrack_len() == *cursor);
-        }
-    }
-    Ok(())
-}
-
-#[test]
-fn merges_out(rt: HostRuntime) -> Result<(), Fail> {
-    for level in 0..2u8 {
-        let mut buffer = clusters_at(&rt, rt.alloc(), 3, &[0, 1, 1, 2, 2])?;
-        buffer.set_cluster_level(level);
-        buffer.merge_out_clusters(2, 4);
-        assert!(rt; clusters_are(&buffer, &[0, 1, 1, 1, 1]) && buffer.backtrack_len() == 3);
-    }
-    Ok(())
-}
-
-#[test]
-fn clusters_that_stay_apart(rt: HostRuntime) -> Result<(), Fail> {
-    let mut buffer = clusters_at(&rt, rt.alloc(), 3, &[0, 1, 1, 2, 2])?;
-    assert_apart(&rt, &mut buffer);
-    let mut flagged = line_of(rt.alloc(), &[(1, 1, 15), (2, 2, 15)])?;
-    flagged.merge_clusters(0, 2);
-    assert!(rt; line_is(&flagged, &[(1, 1, 15), (2, 1, 8)]));
-    Ok(())
-}
-
-fn assert_apart(rt: &impl Abort, buffer: &mut hb_buffer_t) {
-    buffer.set_cluster_level(HB_BUFFER_CLUSTER_LEVEL_CHARACTERS);
-    buffer.merge_out_clusters(2, 4);
-    assert!(rt; masks_are(buffer, &[0, 0, 0, 0, 0]));
-    buffer.merge_clusters(0, 4);
-    assert!(rt; clusters_are(buffer, &[0, 1, 1, 2, 2]) && masks_are(buffer, &[0, 3, 3, 3, 0]));
-}
-
-#[test]
-fn removals(rt: HostRuntime) -> Result<(), Fail> {
-    let rows: [(&[Glyph], &[Glyph], &[i32]); 8] = [
-        (&[(0xFFFF, 0, 0), (1, 0, 0)], &[(1, 0, 0)], &[1]),
-        (
-            &[(1, 9, 0), (2, 5, 15), (3, 5, 9), (0xFFFF, 4, 18), (4, 3, 0)],
-            &[(1, 9, 0), (2, 4, 10), (3, 4, 10), (4, 3, 0)],
-            &[0, 1, 2, 4],
-        ),
-        (&[(1, 0, 1), (0xFFFF, 1, 0)], &[(1, 0, 1)], &[0]),
-        (&[(1, 2, 1), (0xFFFF, 1, 0)], &[(1, 1, 0)], &[0]),
-        (
-            &[(0xFFFF, 0, 0), (1, 1, 1), (2, 1, 9), (3, 2, 1)],
-            &[(1, 0, 0), (2, 0, 8), (3, 2, 1)],
-            &[1, 2, 3],
-        ),
-        (&[(0xFFFF, 1, 0), (0xFFFF, 0, 0)], &[], &[]),
-        (&[(1, 0, 0), (2, 1, 0)], &[(1, 0, 0), (2, 1, 0)], &[0, 1]),
-        (&[], &[], &[]),
-    ];
-    for (before, after, advances) in &rows {
-        let mut buffer = line_of(rt.alloc(), before)?;
-        number_positions(&rt, &mut buffer)?;
-        buffer.move_to(buffer.len());
-        remove_deleted(&mut buffer);
-        assert!(rt; line_is(&buffer, after) && advances_are(&buffer, advances));
-        assert!(rt; buffer.backtrack_len() == 0);
-    }
-    let mut apart = line_of(rt.alloc(), &[(0xFFFF, 0, 0), (1, 2, 0), (0xFFFF, 1, 4)])?;
-    apart.set_cluster_level(HB_BUFFER_CLUSTER_LEVEL_CHARACTERS);
-    remove_deleted(&mut apart);
-    assert!(rt; line_is(&apart, &[(1, 1, 4)]) && !apart.has_positions());
-    Ok(())
-}
-
-/// The filter is asked once a glyph, of its record as it stands then: each glyph that goes hands its cluster to
-/// the next.
-#[test]
-fn filter_asked_once(rt: HostRuntime) -> Result<(), Fail> {
-    let asked = Cell::new(0u32);
-    let mut buffer = clusters_at(&rt, rt.alloc(), 2, &[0, 1, 2, 3])?;
-    buffer.delete_glyphs_inplace(|glyph| {
-        asked.set(asked.get().wrapping_add(1));
-        glyph.cluster == 0
-    });
-    assert!(rt; buffer.is_empty() && asked.get() == 4);
+    wanted(rt, masks_are(&buffer, &[2]), "one glyph that is asked for");
     Ok(())
 }
 
 #[test]
 fn too_long(rt: HostRuntime) -> Result<(), Fail> {
     for call in 0..4u32 {
-        let mut buffer = hb_buffer_t::new(rt.alloc(), 2, 0);
-        fill(&rt, &mut buffer)?;
-        let refused = pass_length(&rt, call, &mut buffer);
-        assert!(rt; refused == Err(BufferError::TooLong), "call {call}");
-        assert!(rt; !buffer.is_successful() && buffer.backtrack_len() == 1);
-        assert!(rt; line_is(&buffer, &[(1, 0, 0), (2, 1, 0)]) && advances_are(&buffer, &[0, 1]));
-        replace_last(&rt, &mut buffer)?;
-        assert!(rt; !buffer.is_successful() && line_is(&buffer, &[(1, 0, 0), (3, 2, 0)]));
+        assert!(rt; is_refused(&rt, rt.alloc(), call)?, "call {call}");
     }
     Ok(())
+}
+
+/// Whether one of the calls that make a line longer is refused where it is too long, and changes nothing else, and a
+/// glyph that goes in for another stays.
+fn is_refused(rt: &impl Abort, alloc: Global, call: u32) -> Result<bool, BufferError> {
+    let mut buffer = hb_buffer_t::new(alloc, 2, 0);
+    fill(rt, &mut buffer)?;
+    let refused = pass_length(rt, call, &mut buffer);
+    Ok(refused == Err(BufferError::TooLong) && is_full(&buffer) && stays_failed(rt, &mut buffer))
+}
+
+/// Whether a failed line is as `fill` leaves it.
+fn is_full(buffer: &hb_buffer_t) -> bool {
+    !buffer.is_successful()
+        && is_at(buffer, 2, 1)
+        && line_is(buffer, &[(1, 0, 0), (2, 1, 0)])
+        && advances_are(buffer, &[0, 1])
+}
+
+/// Whether a failed line takes a glyph for its last one, and stays failed.
+fn stays_failed(rt: &impl Abort, buffer: &mut hb_buffer_t) -> bool {
+    replace_last(rt, buffer).is_ok()
+        && !buffer.is_successful()
+        && line_is(buffer, &[(1, 0, 0), (3, 2, 0)])
 }
 
 /// Makes a line of two glyphs whose positions are numbered, with the cursor between them.
@@ -523,64 +448,28 @@ fn replace_last(rt: &impl Abort, buffer: &mut hb_buffer_t) -> Result<(), BufferE
 #[test]
 fn run_too_long(rt: HostRuntime) -> Result<(), Fail> {
     let mut buffer = hb_buffer_t::new(rt.alloc(), 3, 0);
+    Ok(assert_run_too_long(&rt, &mut buffer)?)
+}
+
+fn assert_run_too_long(rt: &impl Abort, buffer: &mut hb_buffer_t) -> Result<(), BufferError> {
     buffer.add(record((1, 0, 0)))?;
     let run = [record((2, 1, 0)), record((3, 1, 0)), record((4, 1, 0))];
-    assert!(rt; buffer.insert_glyphs(&run) == Err(BufferError::TooLong));
-    assert!(rt; !buffer.is_successful() && line_is(&buffer, &[(1, 0, 0)]));
-    buffer.insert_glyphs(&run[..2])?;
-    assert!(rt;
-        line_is(&buffer, &[(2, 1, 0), (3, 1, 0), (1, 0, 0)]) && buffer.backtrack_len() == 2
+    wanted(
+        rt,
+        insert(buffer, &run) == Err(BufferError::TooLong),
+        "a run that is too long",
     );
-    Ok(())
-}
-
-/// Removes the deleted glyphs of a line.
-fn left_of(alloc: Global, glyphs: &[Glyph]) -> Result<hb_buffer_t, BufferError> {
-    let mut buffer = line_of(alloc, glyphs)?;
-    remove_deleted(&mut buffer);
-    Ok(buffer)
-}
-
-/// Two runs are lowered apart, or the second joins the first, and both are lowered again.
-#[test]
-fn runs_apart(rt: HostRuntime) -> Result<(), Fail> {
-    for (joining, after) in [
-        (5, [(1, 7, 1), (2, 7, 9), (3, 4, 4), (4, 4, 4)]),
-        (7, [(1, 4, 4), (2, 4, 12), (3, 4, 4), (4, 4, 4)]),
-    ] {
-        let before = [
-            (1, 9, 0),
-            (2, 9, 8),
-            (0xFFFF, 7, 1),
-            (3, 8, 1),
-            (4, 8, 0),
-            (0xFFFF, joining, 2),
-            (0xFFFF, 4, 4),
-        ];
-        assert!(rt; line_is(&left_of(rt.alloc(), &before)?, &after));
-    }
-    Ok(())
-}
-
-/// A run that was lowered to the cluster of the glyphs on both sides is lowered with them, and only where the
-/// last glyph that goes is lower.
-#[test]
-fn runs_between(rt: HostRuntime) -> Result<(), Fail> {
-    for (last, after) in [
-        (2, [(1, 9, 3), (2, 2, 0), (3, 2, 0), (4, 2, 0), (5, 2, 0)]),
-        (7, [(1, 9, 3), (2, 6, 4), (3, 6, 1), (4, 6, 1), (5, 6, 2)]),
-    ] {
-        let before = [
-            (1, 9, 3),
-            (2, 6, 4),
-            (3, 9, 0),
-            (4, 9, 0),
-            (0xFFFF, 6, 1),
-            (0xFFFF, 7, 0),
-            (5, 6, 2),
-            (0xFFFF, last, 0),
-        ];
-        assert!(rt; line_is(&left_of(rt.alloc(), &before)?, &after));
-    }
+    wanted(
+        rt,
+        !buffer.is_successful() && line_is(buffer, &[(1, 0, 0)]),
+        "none of it",
+    );
+    insert(buffer, &run[..2])?;
+    wanted(
+        rt,
+        line_is(buffer, &[(2, 1, 0), (3, 1, 0), (1, 0, 0)]),
+        "a run that fits",
+    );
+    wanted(rt, buffer.backtrack_len() == 2, "behind that run");
     Ok(())
 }

@@ -2,6 +2,8 @@
 #![tactic(auto)]
 
 #[cfg(test)]
+mod asserting;
+#[cfg(test)]
 mod buffer_tests;
 #[cfg(test)]
 mod table_tests;

@@ -6,8 +6,8 @@ use crate::stop::Stop;
 use crate::tables::{LAST_GLYPH, table_of};
 use crate::workloads::Kerned;
 use aat_layout::font::{
-    Ankr, FaceTables, Kern, KernKind, KernMachine, KernSubtable, Kerx, KerxFormat, KerxSubtable,
-    Pairs, Point, Subtable1, Subtable4, hb_font_t, hb_ot_shape_plan_t,
+    Ankr, ClassPairs, FaceTables, Kern, KernKind, KernMachine, KernSubtable, Kerx, KerxFormat,
+    KerxSubtable, Pairs, Point, Subtable1, Subtable4, hb_font_t, hb_ot_shape_plan_t,
 };
 use std::alloc::Global;
 
@@ -36,6 +36,7 @@ pub(crate) fn plan_of(alloc: Global) -> hb_ot_shape_plan_t {
 pub(crate) fn kerned_face_of(alloc: Global, subtable: &Kerned) -> Result<hb_font_t, Stop> {
     let tables = match subtable {
         Kerned::KernPairs => kern_pairs(alloc),
+        Kerned::KernClasses => kern_classes(alloc),
         Kerned::KerxPairs => kerx_pairs(alloc),
         Kerned::KernMachine => kern_machine(alloc),
         Kerned::KerxMachine => kerx_machine(alloc),
@@ -59,6 +60,42 @@ fn with_kerx(alloc: Global, format: KerxFormat) -> Result<FaceTables, Stop> {
 /// Pairs, in the kerning table.
 fn kern_pairs(alloc: Global) -> Result<FaceTables, Stop> {
     with_kern(alloc, KernKind::Pairs(pairs_of(alloc)?))
+}
+
+/// The same pairs by classes, of which each glyph has one of its own, in the kerning table.
+fn kern_classes(alloc: Global) -> Result<FaceTables, Stop> {
+    let mut classes = Vec::new(alloc);
+    for glyph in 1..=LAST_GLYPH {
+        classes.push((glyph, glyph))?;
+    }
+    let values = values_of(alloc)?;
+    let pairs = ClassPairs::new(alloc, &classes, &classes, LAST_GLYPH + 1, &values)?;
+    with_kern(alloc, KernKind::Classes(pairs))
+}
+
+/// The value of each two classes.
+fn values_of(alloc: Global) -> Result<Vec<i16>, Stop> {
+    let mut values = Vec::new(alloc);
+    for left in 0..=LAST_GLYPH {
+        add_values(&mut values, left)?;
+    }
+    Ok(values)
+}
+
+/// Adds the values of a left class.
+fn add_values(values: &mut Vec<i16>, left: u16) -> Result<(), Stop> {
+    for right in 0..=LAST_GLYPH {
+        values.push(class_value(left, right))?;
+    }
+    Ok(())
+}
+
+/// The value of two classes, which is that of the pair of their glyphs, and 0 where these are no pair.
+fn class_value(left: u16, right: u16) -> i16 {
+    if left == 0 || right % 10 != left.wrapping_add(1) % 10 || right == 0 {
+        return 0;
+    }
+    units_of(left.wrapping_mul(right), 41)
 }
 
 /// Pairs, in the extended kerning table.

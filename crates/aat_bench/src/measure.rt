@@ -165,7 +165,9 @@ fn kern(
     requires placed { IsSome buffer.old.positions }
 {
     match subtable {
-        Kerned::KernPairs | Kerned::KernMachine => hb_ot_layout_kern(plan, face, buffer),
+        Kerned::KernPairs | Kerned::KernClasses | Kerned::KernMachine => {
+            hb_ot_layout_kern(plan, face, buffer)
+        }
         Kerned::KerxPairs | Kerned::KerxMachine | Kerned::KerxAnchors => {
             hb_aat_layout_position(plan, face, buffer)
         }

@@ -36,6 +36,8 @@ pub(crate) enum Substituted {
 pub(crate) enum Kerned {
     /// 4,000 pairs of the kerning table.
     KernPairs,
+    /// The same pairs by classes, in the kerning table.
+    KernClasses,
     /// 4,000 pairs of the extended kerning table, format 0.
     KerxPairs,
     /// A machine of the kerning table that pushes and acts.
@@ -146,7 +148,7 @@ macro_rules! kerning {
 }
 
 /// The workloads, in the order in which they are printed.
-pub(crate) static WORKLOADS: [Workload; 14] = [
+pub(crate) static WORKLOADS: [Workload; 15] = [
     substitution!("noncontextual", NonContextual, 0),
     substitution!("ligatures", Ligature, 0),
     substitution!("contextual", Contextual, 0),
@@ -155,6 +157,7 @@ pub(crate) static WORKLOADS: [Workload; 14] = [
     substitution!("noncontextual-ranges", NonContextual, OF_370_RANGES),
     substitution!("ligatures-ranges", Ligature, OF_370_RANGES),
     kerning!("kern-pairs", KernPairs),
+    kerning!("kern-classes", KernClasses),
     kerning!("kerx-pairs", KerxPairs),
     kerning!("kern-machine", KernMachine),
     kerning!("kerx-machine", KerxMachine),

@@ -1,4 +1,5 @@
 pub mod AnchorRows
+pub mod ClassRows
 pub mod DenseAnswers
 pub mod Falls
 pub mod Filling

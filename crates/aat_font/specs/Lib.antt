@@ -1,5 +1,6 @@
 pub mod AnchorPoints
 pub mod Chains
+pub mod Classes
 pub mod Coverage
 pub mod Entries
 pub mod Face

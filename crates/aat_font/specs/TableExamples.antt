@@ -1,6 +1,7 @@
 -- Worked examples of tables.
 use Rattle.std.specs.Prelude.{◌≡◌, ℕ, List, [], ◌∷◌, ℤ, pos, negsuc, Some, None}
 use Rattle.aat_font.specs.AnchorPoints.{Points, listed_point, point_of}
+use Rattle.aat_font.specs.Classes.{ClassValues, kerning_by_classes}
 use Rattle.aat_font.specs.Keys.{first, first_fall}
 use Rattle.aat_font.specs.Pairs.{key_of_pair, kerning_of}
 use Rattle.aat_font.specs.Segments.{first_segment_fall, pairs_of_segments}
@@ -66,6 +67,26 @@ PairsAreOrdered =
     × (kerning_of example_pairs 2 0 ≡ None)
     × (first_fall key_of_pair example_pairs ≡ None)
     × (first_fall key_of_pair ((2, 1, pos 7) ∷ (2, 0, pos 7) ∷ []) ≡ Some 1)
+
+-- pairs by two left classes and three right ones, of which the last value is missing
+abbrev pub example_classes : ClassValues
+example_classes = record {
+  left = (7, 1) ∷ (9, 2) ∷ [];
+  right = (7, 2) ∷ (8, 1) ∷ (9, 3) ∷ [];
+  right_count = 3;
+  values = pos 0 ∷ negsuc 4 ∷ pos 0 ∷ pos 10 ∷ pos 11 ∷ [];
+}
+
+-- a glyph without a class has class 0, and two classes without a value, or beyond their number, kern by 0
+abbrev pub ClassesKern : Type 0
+ClassesKern =
+    (kerning_by_classes example_classes 7 8 ≡ pos 11)
+    × (kerning_by_classes example_classes 7 5 ≡ pos 10)
+    × (kerning_by_classes example_classes 5 8 ≡ negsuc 4)
+    × (kerning_by_classes example_classes 8 7 ≡ pos 0)
+    × (kerning_by_classes example_classes 7 7 ≡ pos 0)
+    × (kerning_by_classes example_classes 7 9 ≡ pos 0)
+    × (kerning_by_classes example_classes 9 5 ≡ pos 0)
 
 -- an anchor point
 abbrev pub example_point : Point

@@ -111,6 +111,42 @@ impl hb_font_t {
         hb_font_t::new(tables, None, None)
     }
 
+    /// The same font with this kerning table.
+    pub fn with_kern(self, kern: Kern) -> hb_font_t
+        ensures tables { tables_of result ≡ record (tables_of self) { kern = Some kern } }
+        ensures glyph_classes { glyph_classes_of result ≡ glyph_classes_of self }
+        ensures advances { advances_of result ≡ advances_of self }
+    {
+        hb_font_t {
+            tables: self.tables.with_kern(kern),
+            ..self
+        }
+    }
+
+    /// The same font with this extended kerning table.
+    pub fn with_kerx(self, kerx: Kerx) -> hb_font_t
+        ensures tables { tables_of result ≡ record (tables_of self) { kerx = Some kerx } }
+        ensures glyph_classes { glyph_classes_of result ≡ glyph_classes_of self }
+        ensures advances { advances_of result ≡ advances_of self }
+    {
+        hb_font_t {
+            tables: self.tables.with_kerx(kerx),
+            ..self
+        }
+    }
+
+    /// The same font with this table of anchor points.
+    pub fn with_ankr(self, ankr: Ankr) -> hb_font_t
+        ensures tables { tables_of result ≡ record (tables_of self) { ankr = Some ankr } }
+        ensures glyph_classes { glyph_classes_of result ≡ glyph_classes_of self }
+        ensures advances { advances_of result ≡ advances_of self }
+    {
+        hb_font_t {
+            tables: self.tables.with_ankr(ankr),
+            ..self
+        }
+    }
+
     /// The font's optional tables.
     pub fn tables(&self) -> &FaceTables
         ensures { result.now ≡ tables_of self.now }

@@ -2,6 +2,7 @@
 ghost use Rattle.std.specs.Prelude.{◌≡◌, ◌≤◌, IfOk, IfErr, OnOk, false, length, vec_len};
 ghost use Rattle.aat_font.specs.TableErrors.{RefusesMany};
 
+use crate::class_pairs::ClassPairs;
 use crate::entries::KernEntryData;
 use crate::error::TableError;
 use crate::pairs::Pairs;
@@ -33,8 +34,10 @@ impl Model for KernMachine {
 /// Apple's TrueType Reference Manual, "The 'kern' table", subtable formats.
 #[derive(Drop)]
 pub enum KernKind {
-    /// By pairs. The manual's formats 0, 2 and 3.
+    /// By pairs. The manual's format 0.
     Pairs(Pairs),
+    /// By pairs of classes. The manual's formats 2 and 3.
+    Classes(ClassPairs),
     /// By a machine with a stack. The manual's format 1.
     Machine(KernMachine),
 }

@@ -2,6 +2,7 @@
 ghost use Rattle.std.specs.Prelude.{◌≡◌, ◌≤◌, IfOk, IfErr, OnOk, false, length, vec_len};
 ghost use Rattle.aat_font.specs.TableErrors.{RefusesMany};
 
+use crate::class_pairs::ClassPairs;
 use crate::entries::EntryData;
 use crate::error::TableError;
 use crate::pairs::Pairs;
@@ -57,13 +58,17 @@ pub enum KerxFormat {
     Format0(Pairs),
     /// By a machine that gives values to the glyphs of a stack.
     Format1(Subtable1),
-    /// By pairs, which stand in a font as an array over classes of glyphs. This format alone marks the whole line
-    /// against joining first, where the buffer asks for it.
+    /// By pairs that are listed, though the font has an array over classes of glyphs. This format, listed or by classes,
+    /// alone marks the whole line against joining first, where the buffer asks for it.
     Format2(Pairs),
+    /// By pairs of classes, as the font has them.
+    Format2Classes(ClassPairs),
     /// By a machine that attaches glyphs by anchor points.
     Format4(Subtable4),
-    /// By pairs, which stand in a font as an array with an index for each glyph.
+    /// By pairs that are listed, though the font has an array with an index for each glyph.
     Format6(Pairs),
+    /// By pairs of classes, which are the rows and columns of the font's array.
+    Format6Classes(ClassPairs),
 }
 
 /// A subtable of the extended kerning table.
@@ -79,19 +84,22 @@ pub struct KerxSubtable {
     pub has_cross_stream: bool,
     /// Whether its values are those of variations of the font. Such a subtable is passed over.
     pub variable: bool,
+    /// Whether its machine takes the glyphs from the last to the first. Pairs take no notice of it.
+    pub is_last_to_first: bool,
     /// How many values stand together for each one that a machine takes, of which the first one counts. 0 means 1.
     pub tuple_count: u32,
 }
 
 impl KerxSubtable {
     /// A subtable of this format for horizontal text, or else for vertical text, that moves glyphs along the line, has
-    /// no variations, and has a tuple count of 0.
+    /// no variations, takes the glyphs from the first to the last, and has a tuple count of 0.
     pub fn new(format: KerxFormat, horizontal: bool) -> KerxSubtable
         ensures { result ≡ record {
           format = format;
           horizontal = horizontal;
           has_cross_stream = false;
           variable = false;
+          is_last_to_first = false;
           tuple_count = 0;
         } }
     {
@@ -100,6 +108,7 @@ impl KerxSubtable {
             horizontal,
             has_cross_stream: false,
             variable: false,
+            is_last_to_first: false,
             tuple_count: 0,
         }
     }

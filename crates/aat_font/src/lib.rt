@@ -5,6 +5,7 @@
 
 mod ankr;
 mod cells;
+mod class_pairs;
 pub mod constants;
 mod dense;
 mod entries;
@@ -30,6 +31,7 @@ mod walk;
 pub mod worked;
 
 pub use ankr::Ankr;
+pub use class_pairs::ClassPairs;
 pub use entries::{ContextualEntryData, EntryData, InsertionEntryData, KernEntryData, Point};
 pub use error::TableError;
 pub use face::{FaceTables, hb_font_t};

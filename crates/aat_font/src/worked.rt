@@ -1,5 +1,5 @@
 //! Worked examples of the tables as theorems. This call does nothing: what is proved is its contract.
-ghost use Rattle.aat_font.specs.TableExamples.{ClassesAreAsListed, EntriesAreByRule, FaultsComeInOrder, EqualKeysFall, PairsAreOrdered, PointsAreListed, SegmentsAreListed};
+ghost use Rattle.aat_font.specs.TableExamples.{ClassesAreAsListed, EntriesAreByRule, FaultsComeInOrder, EqualKeysFall, PairsAreOrdered, ClassesKern, PointsAreListed, SegmentsAreListed};
 
 /// The definitions of tables compute to the examples.
 pub fn examples()
@@ -8,6 +8,7 @@ pub fn examples()
     ensures faults { FaultsComeInOrder }
     ensures falls { EqualKeysFall }
     ensures pairs { PairsAreOrdered }
+    ensures class_pairs { ClassesKern }
     ensures points { PointsAreListed }
     ensures segments { SegmentsAreListed }
 {}

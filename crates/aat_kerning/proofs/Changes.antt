@@ -1,5 +1,5 @@
 -- What each part of kerning changes.
-use Rattle.std.proofs.Common.{◌≡◌, ℕ, ◌+◌, ◌≤◌, ◌⊎◌, inl, inr, Bool, true, false, cond, List, [], ◌∷◌, length, ℤ, pos, Option, Some, None, refl, ap, ◌∙◌, arith}
+use Rattle.std.proofs.Common.{◌≡◌, ℕ, ◌+◌, ◌≤◌, ◌⊎◌, inl, inr, Bool, true, false, cond, List, [], ◌∷◌, length, pos, Option, Some, None, refl, ap, ◌∙◌, arith}
 use Rattle.std.specs.Prelude.{IsSome, fold, option_map, reverse}
 use Rattle.std.specs.Ordering.{int_eq}
 use Rattle.std.proofs.lemmas.List.{length-reverse, length-map, reverse-reverse}
@@ -12,7 +12,7 @@ use Rattle.aat_glyph.specs.declared.glyph.hb_glyph_info_t.{hb_glyph_info_t}
 use Rattle.aat_run.specs.Budget.{paid, operations_left}
 use Rattle.aat_run.specs.facts.MachineRuns.{paid_less}
 use Rattle.aat_kerning_machines.specs.KerningLaws.{GainsBits, SameText, PositionsAlone, IsKernedFrom}
-use Rattle.aat_kerning.specs.PairKerning.{pair_kerning, kerned, value_of, in_stream, cross_stream}
+use Rattle.aat_kerning.specs.PairKerning.{pair_kerning, kerned, in_stream, cross_stream, PairValues}
 use Rattle.aat_kerning.specs.Pairs.{Pair, pairs_of}
 use Rattle.aat_kerning.specs.Positioning.{cursively_attached, in_processing_order, line_marked}
 use Rattle.aat_kerning_machines.specs.Positions.{on_positions}
@@ -102,10 +102,10 @@ of_payment b = record {
 }
 
 pub of_pair :
-    (is_cross : Bool) (values : List (ℕ × ℕ × ℤ)) (p : Pair) (b : Buffer) → IsKernedFrom b (kerned is_cross values p b)
+    (is_cross : Bool) (values : PairValues) (p : Pair) (b : Buffer) → IsKernedFrom b (kerned is_cross values p b)
 unfolding kerned
 of_pair is_cross values p b =
-    let v = value_of values (glyph_at b.line p.left).glyph_id (glyph_at b.line p.right).glyph_id in
+    let v = values (glyph_at b.line p.left).glyph_id (glyph_at b.line p.right).glyph_id in
     let moved = cond is_cross (cross_stream p v b) (in_stream p v b) in
     let written : PositionsAlone b moved =
     chosen (PositionsAlone b) is_cross (cross_stream p v b) (in_stream p v b)
@@ -115,7 +115,7 @@ of_pair is_cross values p b =
     (λ _. kerned_twice b moved _ (of_place b moved written) (of_break moved (Some p.left) (Some (p.right + 1))))
 
 pub of_pairs :
-    (is_cross : Bool) (values : List (ℕ × ℕ × ℤ)) (ps : List Pair) (b : Buffer)
+    (is_cross : Bool) (values : PairValues) (ps : List Pair) (b : Buffer)
     → IsKernedFrom b (fold (λ x p. kerned is_cross values p x) b ps)
 of_pairs is_cross values [] b = same b
 of_pairs is_cross values (p ∷ ps) b =
@@ -126,7 +126,7 @@ pub of_marked : (asked : Bool) (b : Buffer) → IsKernedFrom b (line_marked aske
 of_marked asked b =
     chosen (IsKernedFrom b) asked (unsafe_to_concat b None None) b (λ _. of_concat b None None) (λ _. same b)
 
-pub of_pair_kerning : (skips kern_mask : ℕ) (is_cross : Bool) (values : List (ℕ × ℕ × ℤ)) (asked : Bool) (b : Buffer)
+pub of_pair_kerning : (skips kern_mask : ℕ) (is_cross : Bool) (values : PairValues) (asked : Bool) (b : Buffer)
     → IsKernedFrom b (pair_kerning skips kern_mask is_cross values (line_marked asked b))
 unfolding pair_kerning
 of_pair_kerning skips kern_mask is_cross values asked b =
@@ -162,7 +162,7 @@ reversed_places b = by_positions b.positions
     by_positions (Some qs) = length-reverse qs
 
 -- what was kerned in the opposite order, turned back
-turned_back : (b s : Buffer) → IsKernedFrom (reversed b) s → IsKernedFrom b (reversed s)
+pub turned_back : (b s : Buffer) → IsKernedFrom (reversed b) s → IsKernedFrom b (reversed s)
 turned_back b s k = record {
   line = let turned = line_reversed (reverse b.line) s.line k.line in rw (reverse-reverse b.line) at turned;
   cursor = k.cursor;

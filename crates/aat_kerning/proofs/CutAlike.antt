@@ -19,7 +19,7 @@ use Rattle.aat_glyph.specs.declared.glyph.hb_glyph_info_t.{hb_glyph_info_t}
 use Rattle.aat_run.specs.Switches.{meets}
 use Rattle.aat_kerning.specs.Cut.{ordered_line, greater_at, AreAlikeParts, AlikePartsAreKernedApart, CanBeCutAlike}
 use Rattle.aat_kerning_machines.specs.KerningLaws.{IsKernedFrom, IsMarkedFrom}
-use Rattle.aat_kerning.specs.PairKerning.{kerned, pair_kerning, in_stream, cross_stream}
+use Rattle.aat_kerning.specs.PairKerning.{kerned, pair_kerning, in_stream, cross_stream, PairValues}
 use Rattle.aat_kerning.specs.Pairs.{Pair, kerx_skips, kern_skips, is_solid, pairs_of}
 use Rattle.aat_font.specs.declared.kern.KernSubtable.{KernSubtable}
 use Rattle.aat_font.specs.declared.kerx.KerxSubtable.{KerxSubtable}
@@ -41,11 +41,11 @@ abbrev pub marks_if : ℤ → Pair → List hb_glyph_info_t → List hb_glyph_in
 marks_if v p gs = cond (int_eq v (pos 0)) gs (span_marked_of p gs)
 
 -- what a pair of a line does to the glyphs
-abbrev pub marks : List (ℕ × ℕ × ℤ) → List hb_glyph_info_t → Pair → List hb_glyph_info_t → List hb_glyph_info_t
+abbrev pub marks : PairValues → List hb_glyph_info_t → Pair → List hb_glyph_info_t → List hb_glyph_info_t
 marks values line p gs = marks_if (value_at values line p) p gs
 
 kerned_marks :
-    (is_cross : Bool) (values : List (ℕ × ℕ × ℤ)) (p : Pair) (b : Buffer)
+    (is_cross : Bool) (values : PairValues) (p : Pair) (b : Buffer)
     → (kerned is_cross values p b).line ≡ marks values b.line p b.line
 unfolding kerned
 kerned_marks is_cross values p b =
@@ -60,7 +60,7 @@ kerned_marks is_cross values p b =
     by_tests false false x y e f = ap (span_marked_of p) f
 
 pairs_mark :
-    (is_cross : Bool) (values : List (ℕ × ℕ × ℤ)) (line : List hb_glyph_info_t) (ps : List Pair) (b : Buffer)
+    (is_cross : Bool) (values : PairValues) (line : List hb_glyph_info_t) (ps : List Pair) (b : Buffer)
     → SameIds line b.line
     → (by_pairs is_cross values b ps).line ≡ fold (λ gs p. marks values line p gs) b.line ps
 pairs_mark is_cross values line [] b ids = refl
@@ -180,7 +180,7 @@ length_of_marks v p gs =
     either (λ (xs : List hb_glyph_info_t). length xs) (int_eq v (pos 0)) gs (span_marked_of p gs) (length gs) refl
     (length_on_long_span break_marked p.left (min (p.right + 1) (length gs)) gs (λ xs. length-map xs _) (omega arith))
 
-module _ (q : ℕ) (values : List (ℕ × ℕ × ℤ)) (line : List hb_glyph_info_t) where
+module _ (q : ℕ) (values : PairValues) (line : List hb_glyph_info_t) where
   front_marks :
       (first : List hb_glyph_info_t) → ((i : ℕ) → i < q → (glyph_at first i).glyph_id ≡ (glyph_at line i).glyph_id)
       → (ps : List Pair) (xs ys : List hb_glyph_info_t) → AllBefore q ps → length xs ≡ q
@@ -320,7 +320,7 @@ module _ (skips kern_mask q : ℕ) (way : Direction) (line : List hb_glyph_info_
 
   -- the marks of pairs
   pairs_joined :
-      (is_cross : Bool) (values : List (ℕ × ℕ × ℤ)) (b first second : Buffer)
+      (is_cross : Bool) (values : PairValues) (b first second : Buffer)
       → AreAlike q way line b first second → IsGreater q (greater_at q line) place.less b.line
       → IsUnflagged (glyph_at (pair_kerning skips kern_mask is_cross values b).line (greater_at q line))
       → (pair_kerning skips kern_mask is_cross values b).line

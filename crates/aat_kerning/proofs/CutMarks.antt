@@ -1,6 +1,6 @@
 -- What marks say of a cut: a pair over it with a value marks the glyph with the greater cluster, and a mask only gains
 -- marks.
-use Rattle.std.proofs.Common.{◌≡◌, ℕ, zero, suc, ◌+◌, ◌-◌, ◌<◌, ◌≤◌, ◌==◌, not, subst, Bool, true, false, cond, List, [], ◌∷◌, length, drop, min, fold, ℤ, pos, Some, refl, sym, ap, ◌∙◌, arith, nat_le, bit_and, bit_or}
+use Rattle.std.proofs.Common.{◌≡◌, ℕ, zero, suc, ◌+◌, ◌-◌, ◌<◌, ◌≤◌, ◌==◌, not, subst, Bool, true, false, cond, List, [], ◌∷◌, length, drop, min, fold, pos, Some, refl, sym, ap, ◌∙◌, arith, nat_le, bit_and, bit_or}
 use Rattle.std.specs.Prelude.{slice_range}
 use Rattle.std.specs.Int.{bit_at}
 use Rattle.std.specs.Ordering.{int_eq}
@@ -15,7 +15,7 @@ use Rattle.aat_buffer.specs.facts.Lines.{length_slice}
 use Rattle.aat_glyph.specs.declared.glyph.hb_glyph_info_t.{hb_glyph_info_t}
 use Rattle.aat_run.specs.Switches.{meets}
 use Rattle.aat_kerning_machines.specs.KerningLaws.{IsMarkedFrom}
-use Rattle.aat_kerning.specs.PairKerning.{kerned, in_stream, cross_stream}
+use Rattle.aat_kerning.specs.PairKerning.{kerned, in_stream, cross_stream, PairValues}
 use Rattle.aat_kerning.specs.Pairs.{Pair, is_solid}
 use Rattle.aat_kerning.proofs.CutMoves.{value_at}
 use Rattle.aat_kerning.proofs.CutPairs.{LooksLike}
@@ -122,7 +122,7 @@ span_flagged gs i j great less from to from_less to_less high order none =
 
 -- so has one of a pair that is kerned by a value
 pub pair_flagged :
-    (is_cross : Bool) (values : List (ℕ × ℕ × ℤ)) (p : Pair) (b : Buffer) (great less : ℕ)
+    (is_cross : Bool) (values : PairValues) (p : Pair) (b : Buffer) (great less : ℕ)
     → p.left ≤ great → great ≤ p.right → p.left ≤ less → less ≤ p.right → p.right < length b.line
     → cluster_at b.line less < cluster_at b.line great → IsUnflagged (glyph_at (kerned is_cross values p b).line great)
     → int_eq (value_at values b.line p) (pos 0) ≡ true

@@ -10,7 +10,7 @@ use Rattle.aat_glyph.specs.Directions.{is_horizontal}
 use Rattle.aat_glyph.specs.declared.glyph.GlyphPosition.{GlyphPosition}
 use Rattle.aat_glyph.specs.declared.glyph.hb_glyph_info_t.{hb_glyph_info_t}
 use Rattle.aat_kerning_machines.specs.KerningLaws.{IsKernedFrom}
-use Rattle.aat_kerning.specs.PairKerning.{kerned, value_of, half, in_stream, cross_stream}
+use Rattle.aat_kerning.specs.PairKerning.{kerned, half, in_stream, cross_stream, PairValues}
 use Rattle.aat_kerning.specs.Pairs.{Pair}
 use Rattle.aat_kerning_machines.specs.Positions.{with_advance, with_shift, with_cross_offset}
 use Rattle.aat_kerning.proofs.Changes.{of_pair}
@@ -32,16 +32,16 @@ abbrev pub moved_if : Bool → Bool → ℤ → Pair → List GlyphPosition → 
 moved_if is_cross h v p qs = cond (int_eq v (pos 0)) qs (moved_by is_cross h v p qs)
 
 -- the value of a pair of a line
-abbrev pub value_at : List (ℕ × ℕ × ℤ) → List hb_glyph_info_t → Pair → ℤ
-value_at values line p = value_of values (glyph_at line p.left).glyph_id (glyph_at line p.right).glyph_id
+abbrev pub value_at : PairValues → List hb_glyph_info_t → Pair → ℤ
+value_at values line p = values (glyph_at line p.left).glyph_id (glyph_at line p.right).glyph_id
 
 -- what a pair of a line does to positions
-abbrev pub moves : Bool → Bool → List (ℕ × ℕ × ℤ) → List hb_glyph_info_t → Pair → List GlyphPosition → List GlyphPosition
+abbrev pub moves : Bool → Bool → PairValues → List hb_glyph_info_t → Pair → List GlyphPosition → List GlyphPosition
 moves is_cross h values line p qs = moved_if is_cross h (value_at values line p) p qs
 
 -- a pair that is kerned does this to the positions of the buffer
 kerned_moves :
-    (is_cross : Bool) (values : List (ℕ × ℕ × ℤ)) (p : Pair) (b : Buffer)
+    (is_cross : Bool) (values : PairValues) (p : Pair) (b : Buffer)
     → position_list (kerned is_cross values p b)
     ≡ moves is_cross (is_horizontal b.direction) values b.line p (position_list b)
 unfolding kerned
@@ -63,21 +63,21 @@ SameIds gs hs = (i : ℕ) → (glyph_at hs i).glyph_id ≡ (glyph_at gs i).glyph
 
 -- give a pair the same value
 pub same_value :
-    (values : List (ℕ × ℕ × ℤ)) (gs hs : List hb_glyph_info_t) (p : Pair)
+    (values : PairValues) (gs hs : List hb_glyph_info_t) (p : Pair)
     → (glyph_at hs p.left).glyph_id ≡ (glyph_at gs p.left).glyph_id
     → (glyph_at hs p.right).glyph_id ≡ (glyph_at gs p.right).glyph_id → value_at values hs p ≡ value_at values gs p
 same_value values gs hs p left right =
-    ap (λ n. value_of values n (glyph_at hs p.right).glyph_id) left
-    ∙ ap (value_of values (glyph_at gs p.left).glyph_id) right
+    ap (λ n. values n (glyph_at hs p.right).glyph_id) left
+    ∙ ap (values (glyph_at gs p.left).glyph_id) right
 
 -- also where one line begins so many places further on
 pub value_further :
-    (q : ℕ) (values : List (ℕ × ℕ × ℤ)) (whole part : List hb_glyph_info_t)
+    (q : ℕ) (values : PairValues) (whole part : List hb_glyph_info_t)
     → ((i : ℕ) → (glyph_at part i).glyph_id ≡ (glyph_at whole (q + i)).glyph_id) → (p : Pair)
     → value_at values part p ≡ value_at values whole (shifted q p)
 value_further q values whole part ids p =
-    ap (λ n. value_of values n (glyph_at part p.right).glyph_id) (ids p.left)
-    ∙ ap (value_of values (glyph_at whole (q + p.left)).glyph_id) (ids p.right)
+    ap (λ n. values n (glyph_at part p.right).glyph_id) (ids p.left)
+    ∙ ap (values (glyph_at whole (q + p.left)).glyph_id) (ids p.right)
 
 -- what is kerned keeps its glyph ids
 pub ids_kept : (b d : Buffer) → IsKernedFrom b d → SameIds b.line d.line
@@ -85,7 +85,7 @@ ids_kept b d k i = ap (λ (g : hb_glyph_info_t). g.glyph_id) (marked_at b.line d
 
 -- so kerning by pairs does to the positions what the pairs of the line at first do
 pub pairs_move :
-    (is_cross : Bool) (values : List (ℕ × ℕ × ℤ)) (line : List hb_glyph_info_t) (h : Bool) (ps : List Pair) (b : Buffer)
+    (is_cross : Bool) (values : PairValues) (line : List hb_glyph_info_t) (h : Bool) (ps : List Pair) (b : Buffer)
     → SameIds line b.line → is_horizontal b.direction ≡ h
     → position_list (fold (λ d p. kerned is_cross values p d) b ps)
     ≡ fold (λ qs p. moves is_cross h values line p qs) (position_list b) ps
@@ -206,7 +206,7 @@ module _ {X : Type 0} (q : ℕ) (whole : Pair → List X → List X) where
   fold_rest_off law (p ∷ ps) xs = fold_rest_off law ps (whole (shifted q p) xs) ∙ law p xs
 
 -- the pairs of the whole line and those of a part, one by one
-module _ (q : ℕ) (is_cross h : Bool) (values : List (ℕ × ℕ × ℤ)) (whole : List hb_glyph_info_t) where
+module _ (q : ℕ) (is_cross h : Bool) (values : PairValues) (whole : List hb_glyph_info_t) where
   pub front_moves :
       (first : List hb_glyph_info_t) → ((i : ℕ) → i < q → (glyph_at first i).glyph_id ≡ (glyph_at whole i).glyph_id)
       → (p : Pair) (qs : List GlyphPosition) → p.left < q → p.right < q

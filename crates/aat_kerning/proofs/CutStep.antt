@@ -1,5 +1,5 @@
 -- One subtable of pairs, over a line and over its two parts.
-use Rattle.std.proofs.Common.{◌≡◌, ℕ, suc, ◌+◌, ◌-◌, ◌<◌, ◌≤◌, Bool, true, cond, List, ◌∷◌, ◌++◌, length, map, take, drop, fold, ℤ, pos, Option, Some, None, IfSome, refl, sym, ap, ◌∙◌, arith, subst}
+use Rattle.std.proofs.Common.{◌≡◌, ℕ, suc, ◌+◌, ◌-◌, ◌<◌, ◌≤◌, Bool, true, cond, List, ◌∷◌, ◌++◌, length, map, take, drop, fold, pos, Option, Some, None, IfSome, refl, sym, ap, ◌∙◌, arith, subst}
 use Rattle.std.specs.List.{cons_option}
 use Rattle.std.specs.Ordering.{int_eq}
 use Rattle.std.proofs.lemmas.List.Sums.{fold-append}
@@ -11,7 +11,7 @@ use Rattle.aat_glyph.specs.declared.glyph.Direction.{Direction}
 use Rattle.aat_glyph.specs.declared.glyph.GlyphPosition.{GlyphPosition}
 use Rattle.aat_glyph.specs.declared.glyph.hb_glyph_info_t.{hb_glyph_info_t}
 use Rattle.aat_kerning_machines.specs.KerningLaws.{IsMarkedFrom}
-use Rattle.aat_kerning.specs.PairKerning.{kerned, pair_kerning}
+use Rattle.aat_kerning.specs.PairKerning.{kerned, pair_kerning, PairValues}
 use Rattle.aat_kerning.specs.Pairs.{Pair, is_solid, pair_at, pairs_of}
 use Rattle.aat_kerning.proofs.Changes.{of_pairs}
 use Rattle.aat_kerning.proofs.CutMarks.{IsUnflagged, unflagged_before, pair_flagged}
@@ -42,7 +42,7 @@ pub record IsCut (skips kern_mask q : ℕ) (way : Direction) (whole first second
   pub back_places : position_list second ≡ drop q (position_list whole)
 
 -- kerning by pairs
-abbrev pub by_pairs : Bool → List (ℕ × ℕ × ℤ) → Buffer → List Pair → Buffer
+abbrev pub by_pairs : Bool → PairValues → Buffer → List Pair → Buffer
 by_pairs is_cross values b ps = fold (λ d p. kerned is_cross values p d) b ps
 
 -- the clusters of what is kerned are those from before
@@ -62,7 +62,7 @@ greater_kept q great less gs hs k at = record {
   order = rw (clusters_kept gs hs k less, clusters_kept gs hs k great) at.order;
 }
 
-module _ (q great less : ℕ) (is_cross : Bool) (values : List (ℕ × ℕ × ℤ)) (whole : Buffer) (at : IsGreater q great less whole.line) (inside : q < length whole.line) where
+module _ (q great less : ℕ) (is_cross : Bool) (values : PairValues) (whole : Buffer) (at : IsGreater q great less whole.line) (inside : q < length whole.line) where
   -- where the greater glyph is left without the flag, a pair over the cut has the value 0
   crossing_is_zero :
       (p : Pair) (ps rest : List Pair) → StandsBefore q p
@@ -112,7 +112,7 @@ pub record IsMovedApart (q : ℕ) (whole first second : Buffer) : Type 0 where
 -- What pairs do over the whole line, those of the first part do and then those of the second, where the greater glyph
 -- is left without the flag.
 pub folded_apart :
-    (skips kern_mask q great less : ℕ) (way : Direction) (is_cross : Bool) (values : List (ℕ × ℕ × ℤ))
+    (skips kern_mask q great less : ℕ) (way : Direction) (is_cross : Bool) (values : PairValues)
     (whole first second : Buffer)
     → IsCut skips kern_mask q way whole first second → IsGreater q great less whole.line
     → IsUnflagged (glyph_at (pair_kerning skips kern_mask is_cross values whole).line great)
@@ -137,7 +137,7 @@ folded_apart skips kern_mask q great less way is_cross values whole first second
     ∙ crossing_changes_nothing q great less is_cross values whole at inside act stays over ps rs (pair_before skips kern_mask whole.line q) unset x
 
 pub pairs_apart :
-    (skips kern_mask q great less : ℕ) (way : Direction) (is_cross : Bool) (values : List (ℕ × ℕ × ℤ))
+    (skips kern_mask q great less : ℕ) (way : Direction) (is_cross : Bool) (values : PairValues)
     (whole first second : Buffer)
     → IsCut skips kern_mask q way whole first second → IsGreater q great less whole.line
     → IsUnflagged (glyph_at (pair_kerning skips kern_mask is_cross values whole).line great)

@@ -1,5 +1,5 @@
 -- All subtables of either table, over a line and over its two parts.
-use Rattle.std.proofs.Common.{◌≡◌, ℕ, ◌-◌, ◌<◌, Bool, true, false, cond, List, length, map, ℤ, Option, None, refl, sym, ap, ◌∙◌, arith, subst, true≢false}
+use Rattle.std.proofs.Common.{◌≡◌, ℕ, ◌-◌, ◌<◌, Bool, true, false, cond, List, length, map, Option, None, refl, sym, ap, ◌∙◌, arith, subst, true≢false}
 use Rattle.std.proofs.lemmas.Slice.Zip.{AllZip-long}
 use Rattle.aat_buffer.specs.Buffer.{Buffer, glyph_at, reversed}
 use Rattle.aat_buffer.specs.Marks.{unsafe_to_concat}
@@ -8,22 +8,23 @@ use Rattle.aat_font.specs.declared.kern.KernKind.{KernKind}
 use Rattle.aat_font.specs.declared.kern.KernKind.TheVariants as kind
 use Rattle.aat_font.specs.declared.kern.KernSubtable.{KernSubtable}
 use Rattle.aat_font.specs.declared.kerx.KerxFormat.{KerxFormat}
-use Rattle.aat_font.specs.declared.kerx.KerxFormat.TheVariants.{Format0, Format1, Format2, Format4, Format6}
+use Rattle.aat_font.specs.declared.kerx.KerxFormat.TheVariants.{Format0, Format1, Format2, Format2Classes, Format4, Format6, Format6Classes}
 use Rattle.aat_font.specs.declared.kerx.KerxSubtable.{KerxSubtable}
 use Rattle.aat_glyph.specs.Directions.{is_backward}
 use Rattle.aat_glyph.specs.declared.glyph.Direction.{Direction}
 use Rattle.aat_glyph.specs.declared.glyph.hb_glyph_info_t.{hb_glyph_info_t}
 use Rattle.aat_kerning_machines.specs.KerningLaws.{IsKernedFrom, IsMarkedFrom}
 use Rattle.aat_kerning.specs.Cut.{ordered_line, greater_at, IsCutPlace, IsKernedInParts, PairsAlone}
-use Rattle.aat_kerning.specs.PairKerning.{pair_kerning}
+use Rattle.aat_kerning.specs.PairKerning.{pair_kerning, PairValues, value_of}
 use Rattle.aat_kerning.specs.Pairs.{kerx_skips, kern_skips, is_solid}
-use Rattle.aat_kerning.specs.Positioning.{cursively_attached, in_processing_order, line_marked, is_kerx_pairs, is_kern_pairs, run_of_kerx_subtable, run_of_kern_subtable, kerning_of_kerx_subtable, kerning_of_kern_subtable, kerx_positioning, kern_positioning}
+use Rattle.aat_kerning.specs.Positioning.{cursively_attached, in_processing_order, line_marked, is_kerx_pairs, is_kern_pairs, is_turned_round, run_turned_round, run_of_kerx_subtable, run_of_kern_subtable, kerning_of_kerx_subtable, kerning_of_kern_subtable, kerx_positioning, kern_positioning}
 use Rattle.aat_kerning.proofs.Changes.{of_concat}
 use Rattle.aat_kerning.proofs.CutMarks.{IsUnflagged}
 use Rattle.aat_kerning.proofs.CutRuns.{greater_of, positioned_apart}
 use Rattle.aat_kerning.proofs.CutStep.{IsGreater, IsMovedApart, clusters_kept}
 use Rattle.aat_kerning.proofs.KerningLawsHold.{kerx_each_paid, kern_each_paid, kerning_changes_little}
 use Rattle.aat_kerning.proofs.Marked.{IsMarkedLine, line_same, line_reversed, marked_at}
+use Rattle.aat_font.specs.Classes.{kerning_by_classes}
 
 -- what is kerned of a line, in processing order, is marked from it
 pub ordered_kept : (old left : Buffer) → IsKernedFrom old left → IsMarkedLine (ordered_line old) (ordered_line left)
@@ -64,7 +65,7 @@ line_before skips q old left kerned place =
 -- kerning by the pairs of a subtable keeps what holds of a line and its parts, where it leaves a glyph unflagged
 abbrev pub PairsKeep : ℕ → ℕ → ℕ → (Buffer → Buffer → Buffer → Type 0) → Type 0
 PairsKeep skips kern_mask great Now =
-    (is_cross : Bool) (values : List (ℕ × ℕ × ℤ)) (asked : Bool) (b first second : Buffer) → Now b first second
+    (is_cross : Bool) (values : PairValues) (asked : Bool) (b first second : Buffer) → Now b first second
     → IsUnflagged (glyph_at (pair_kerning skips kern_mask is_cross values (line_marked asked b)).line great)
     → Now (pair_kerning skips kern_mask is_cross values (line_marked asked b))
     (pair_kerning skips kern_mask is_cross values (line_marked asked first))
@@ -83,18 +84,24 @@ pub record IsKeptApart (skips kern_mask q great : ℕ) (way : Direction) (Now : 
 
 -- a subtable of pairs of either table
 module _ (kern_mask great : ℕ) (Now : Buffer → Buffer → Buffer → Type 0) where
+  abbrev kerx_left : Option Points → Bool → Bool → ℕ → KerxFormat → Buffer → Buffer
+  kerx_left points is_cross is_last tuple_count k b =
+      (run_turned_round (is_turned_round is_last k) (run_of_kerx_subtable kern_mask points is_cross tuple_count k) b).buffer
+
   kerx_now :
       PairsKeep kerx_skips kern_mask great Now
-      → (points : Option Points) (is_cross : Bool) (tuple_count : ℕ) (k : KerxFormat) (b first second : Buffer)
+      → (points : Option Points) (is_cross is_last : Bool) (tuple_count : ℕ) (k : KerxFormat) (b first second : Buffer)
       → is_kerx_pairs k ≡ true → Now b first second
-      → IsUnflagged (glyph_at (run_of_kerx_subtable kern_mask points is_cross tuple_count k b).buffer.line great)
-      → Now (run_of_kerx_subtable kern_mask points is_cross tuple_count k b).buffer
-      (run_of_kerx_subtable kern_mask points is_cross tuple_count k first).buffer (run_of_kerx_subtable kern_mask points is_cross tuple_count k second).buffer
-  kerx_now keep points is_cross tuple_count (Format0 values) b first second pairs = keep is_cross values false b first second
-  kerx_now keep points is_cross tuple_count (Format1 s) b first second pairs = absurd (true≢false (sym pairs))
-  kerx_now keep points is_cross tuple_count (Format2 values) b first second pairs = keep is_cross values true b first second
-  kerx_now keep points is_cross tuple_count (Format4 s) b first second pairs = absurd (true≢false (sym pairs))
-  kerx_now keep points is_cross tuple_count (Format6 values) b first second pairs = keep is_cross values false b first second
+      → IsUnflagged (glyph_at (kerx_left points is_cross is_last tuple_count k b).line great)
+      → Now (kerx_left points is_cross is_last tuple_count k b) (kerx_left points is_cross is_last tuple_count k first)
+      (kerx_left points is_cross is_last tuple_count k second)
+  kerx_now keep points is_cross is_last tuple_count (Format0 listed) b first second pairs = keep is_cross (value_of listed) false b first second
+  kerx_now keep points is_cross is_last tuple_count (Format1 s) b first second pairs = absurd (true≢false (sym pairs))
+  kerx_now keep points is_cross is_last tuple_count (Format2 listed) b first second pairs = keep is_cross (value_of listed) true b first second
+  kerx_now keep points is_cross is_last tuple_count (Format2Classes classes) b first second pairs = keep is_cross (kerning_by_classes classes) true b first second
+  kerx_now keep points is_cross is_last tuple_count (Format4 s) b first second pairs = absurd (true≢false (sym pairs))
+  kerx_now keep points is_cross is_last tuple_count (Format6 listed) b first second pairs = keep is_cross (value_of listed) false b first second
+  kerx_now keep points is_cross is_last tuple_count (Format6Classes classes) b first second pairs = keep is_cross (kerning_by_classes classes) false b first second
 
   kern_now :
       PairsKeep kern_skips kern_mask great Now → (is_cross : Bool) (k : KernKind) (b first second : Buffer)
@@ -102,7 +109,8 @@ module _ (kern_mask great : ℕ) (Now : Buffer → Buffer → Buffer → Type 0)
       → IsUnflagged (glyph_at (run_of_kern_subtable kern_mask is_cross k b).buffer.line great)
       → Now (run_of_kern_subtable kern_mask is_cross k b).buffer
       (run_of_kern_subtable kern_mask is_cross k first).buffer (run_of_kern_subtable kern_mask is_cross k second).buffer
-  kern_now keep is_cross (kind.Pairs values) b first second pairs = keep is_cross values true b first second
+  kern_now keep is_cross (kind.Pairs listed) b first second pairs = keep is_cross (value_of listed) true b first second
+  kern_now keep is_cross (kind.Classes classes) b first second pairs = keep is_cross (kerning_by_classes classes) true b first second
   kern_now keep is_cross (kind.Machine s) b first second pairs = absurd (true≢false (sym pairs))
 
 -- a table
@@ -128,7 +136,7 @@ module _ (requested : Bool) (kern_mask q : ℕ) (b first second : Buffer) (Now :
       (kerning_changes_little.kerx requested kern_mask points subtables b) place)
       in
       positioned_apart (kerning_of_kerx_subtable kern_mask points) requested (greater_at q line) b.direction Now kept.ways kept.attaches
-      (λ x. kerx_now kern_mask (greater_at q line) Now kept.pairs points x.has_cross_stream x.tuple_count x.format)
+      (λ x. kerx_now kern_mask (greater_at q line) Now kept.pairs points x.has_cross_stream x.is_last_to_first x.tuple_count x.format)
       (kerx_each_paid kern_mask points)
       q line subtables b (unsafe_to_concat b None None) (unsafe_to_concat first None None) (unsafe_to_concat second None None)
       refl alone refl kept.apart now (ordered_kept b (unsafe_to_concat b None None) (of_concat b None None)) place.unflagged

@@ -13,7 +13,7 @@ use Rattle.aat_font.specs.declared.kern.KernKind.{KernKind}
 use Rattle.aat_font.specs.declared.kern.KernKind.TheVariants as kind
 use Rattle.aat_font.specs.declared.kern.KernSubtable.{KernSubtable}
 use Rattle.aat_font.specs.declared.kerx.KerxFormat.{KerxFormat}
-use Rattle.aat_font.specs.declared.kerx.KerxFormat.TheVariants.{Format0, Format1, Format2, Format4, Format6}
+use Rattle.aat_font.specs.declared.kerx.KerxFormat.TheVariants.{Format0, Format1, Format2, Format2Classes, Format4, Format6, Format6Classes}
 use Rattle.aat_font.specs.declared.kerx.KerxSubtable.{KerxSubtable}
 use Rattle.aat_font.specs.AnchorPoints.{Points}
 use Rattle.aat_run.specs.Budget.{operations_left}
@@ -25,13 +25,15 @@ use Rattle.aat_run.specs.Laws.{RunsEnd}
 use Rattle.aat_kerning_machines.specs.KerningLaws.{IsLawfulDriver, IsMarkedFrom, IsKernedFrom}
 use Rattle.aat_kerning.specs.KerningLawful.{DriversAreLawful, IsPaidBeyond, KerningIsBounded, KerningChangesLittle}
 use Rattle.aat_kerning_machines.specs.KerningMachine.{Driver, driver_run, kerning_machine_of, kerning_turn, kerning_whole}
-use Rattle.aat_kerning.specs.Positioning.{Kerning, Positioned, positioned, positioning, cursively_attached, in_processing_order, is_for_text, run_of_kerx_subtable, run_of_kern_subtable, kerning_of_kerx_subtable, kerning_of_kern_subtable, kerx_positioning, kern_positioning}
+use Rattle.aat_kerning.specs.Positioning.{Kerning, Positioned, positioned, positioning, cursively_attached, in_processing_order, is_for_text, is_turned_round, run_turned_round, run_of_kerx_subtable, run_of_kern_subtable, kerning_of_kerx_subtable, kerning_of_kern_subtable, kerx_positioning, kern_positioning}
 use Rattle.aat_kerning_machines.specs.Stack.{kerx_driver, kern_driver}
 use Rattle.aat_kerning_machines.specs.facts.AnchorLaws.{anchors_are_lawful}
 use Rattle.aat_kerning_machines.specs.facts.StackLaws.{kerx_is_lawful, kern_is_lawful}
-use Rattle.aat_kerning.proofs.Changes.{IsKernedInside, inside, inside_twice, kerned_twice, same, of_break, of_place, of_cursor, of_payment, of_pair_kerning, of_marked, of_attachment, in_order}
+use Rattle.aat_kerning.proofs.Changes.{IsKernedInside, inside, inside_twice, kerned_twice, same, of_break, of_place, of_cursor, of_payment, of_pair_kerning, of_marked, of_attachment, turned_back, in_order}
 use Rattle.aat_kerning_machines.specs.facts.KerningRuns.{spends, runs_end, buffer_kept}
 use Rattle.aat_kerning.proofs.Positioned.{positioned_so_far}
+use Rattle.aat_kerning.specs.PairKerning.{value_of}
+use Rattle.aat_font.specs.Classes.{kerning_by_classes}
 
 pub drivers_are_lawful : DriversAreLawful
 drivers_are_lawful = record { kerx_stack = kerx_is_lawful; kern_stack = kern_is_lawful; anchors = anchors_are_lawful }
@@ -82,21 +84,27 @@ module _ {T R : Type 0} (pays_first : Bool) (x : Driver R (GenericStateEntry T))
 kerx_is_paid :
     (kern_mask : ℕ) (points : Option Points) (is_cross : Bool) (tuple_count : ℕ) (k : KerxFormat) (b : Buffer)
     → IsPaid b (run_of_kerx_subtable kern_mask points is_cross tuple_count k b)
-kerx_is_paid kern_mask points is_cross tuple_count (Format0 values) b =
-    paid_without_turns b _ (of_pair_kerning _ kern_mask is_cross values false b)
+kerx_is_paid kern_mask points is_cross tuple_count (Format0 pairs) b =
+    paid_without_turns b _ (of_pair_kerning _ kern_mask is_cross (value_of pairs) false b)
 kerx_is_paid kern_mask points is_cross tuple_count (Format1 s) b =
     driver_is_paid false (kerx_driver is_cross kern_mask tuple_count s.values) FitsAlways (kerx_is_lawful is_cross kern_mask tuple_count s.values) s.state_table b
-kerx_is_paid kern_mask points is_cross tuple_count (Format2 values) b =
-    paid_without_turns b _ (of_pair_kerning _ kern_mask is_cross values true b)
+kerx_is_paid kern_mask points is_cross tuple_count (Format2 pairs) b =
+    paid_without_turns b _ (of_pair_kerning _ kern_mask is_cross (value_of pairs) true b)
+kerx_is_paid kern_mask points is_cross tuple_count (Format2Classes pairs) b =
+    paid_without_turns b _ (of_pair_kerning _ kern_mask is_cross (kerning_by_classes pairs) true b)
 kerx_is_paid kern_mask points is_cross tuple_count (Format4 s) b =
     driver_is_paid false (anchor_driver points s.anchor_points) IsFit (anchors_are_lawful points s.anchor_points) s.state_table b
-kerx_is_paid kern_mask points is_cross tuple_count (Format6 values) b =
-    paid_without_turns b _ (of_pair_kerning _ kern_mask is_cross values false b)
+kerx_is_paid kern_mask points is_cross tuple_count (Format6 pairs) b =
+    paid_without_turns b _ (of_pair_kerning _ kern_mask is_cross (value_of pairs) false b)
+kerx_is_paid kern_mask points is_cross tuple_count (Format6Classes pairs) b =
+    paid_without_turns b _ (of_pair_kerning _ kern_mask is_cross (kerning_by_classes pairs) false b)
 
 kern_is_paid :
     (kern_mask : ℕ) (is_cross : Bool) (k : KernKind) (b : Buffer) → IsPaid b (run_of_kern_subtable kern_mask is_cross k b)
-kern_is_paid kern_mask is_cross (kind.Pairs values) b =
-    paid_without_turns b _ (of_pair_kerning _ kern_mask is_cross values true b)
+kern_is_paid kern_mask is_cross (kind.Pairs pairs) b =
+    paid_without_turns b _ (of_pair_kerning _ kern_mask is_cross (value_of pairs) true b)
+kern_is_paid kern_mask is_cross (kind.Classes pairs) b =
+    paid_without_turns b _ (of_pair_kerning _ kern_mask is_cross (kerning_by_classes pairs) true b)
 kern_is_paid kern_mask is_cross (kind.Machine s) b =
     driver_is_paid true (kern_driver is_cross kern_mask s.values) FitsAlways (kern_is_lawful is_cross kern_mask s.values) s.state_table b
 
@@ -180,10 +188,22 @@ positioning_is_bounded requested kerning ks b each =
       kept = in_order b after.buffer all.kept;
     }
 
+-- a run over the line turned round
+turned_is_paid :
+    (asked : Bool) (run : Buffer → Outcome) (b : Buffer) → ((d : Buffer) → IsPaid d (run d))
+    → IsPaid b (run_turned_round asked run b)
+turned_is_paid true run b each =
+    let k = each (reversed b) in
+    record { turns = omega (arith, k.turns, length-reverse b.line); kept = turned_back b (run (reversed b)).buffer k.kept }
+turned_is_paid false run b each = each b
+
 -- each subtable of a table
 pub kerx_each_paid :
     (kern_mask : ℕ) (points : Option Points) (s : KerxSubtable) (b : Buffer) → IsPaid b ((kerning_of_kerx_subtable kern_mask points s).run b)
-kerx_each_paid kern_mask points s b = kerx_is_paid kern_mask points s.has_cross_stream s.tuple_count s.format b
+kerx_each_paid kern_mask points s b =
+    turned_is_paid (is_turned_round s.is_last_to_first s.format)
+    (run_of_kerx_subtable kern_mask points s.has_cross_stream s.tuple_count s.format) b
+    (kerx_is_paid kern_mask points s.has_cross_stream s.tuple_count s.format)
 
 pub kern_each_paid : (kern_mask : ℕ) (s : KernSubtable) (b : Buffer) → IsPaid b ((kerning_of_kern_subtable kern_mask s).run b)
 kern_each_paid kern_mask s b = kern_is_paid kern_mask s.has_cross_stream s.kind b

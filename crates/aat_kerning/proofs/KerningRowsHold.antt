@@ -6,7 +6,7 @@ use Rattle.aat_buffer.specs.Removal.{removal, cluster_kept_line, lowered_run}
 use Rattle.aat_kerning_machines.specs.Anchors.{anchor_act}
 use Rattle.aat_kerning_machines.specs.KerningMachine.{driver_run, kerning_marked, kerning_acted, looked_ahead, kerning_by_entry, kerning_turn, kerning_whole}
 use Rattle.aat_kerning.specs.KerningRows.{KerningRows}
-use Rattle.aat_kerning.specs.KerningExamples.{PairExamples, CutExamples, MachineExamples, StackExamples, AnchorExamples, PositioningExamples, KerningExamples}
+use Rattle.aat_kerning.specs.KerningExamples.{PairExamples, CutExamples, MachineExamples, StackExamples, AnchorExamples, PositioningExamples, OrderExamples, KerningExamples}
 use Rattle.aat_run.specs.Machine.{run}
 use Rattle.aat_kerning.specs.PairKerning.{kerned, pair_kerning}
 use Rattle.aat_kerning.specs.Pairs.{pairs_of}
@@ -48,6 +48,8 @@ pair_examples = record {
   skipped_at_left = refl;
   vertical_pair = refl;
   vertical_pair_across = refl;
+  pair_by_classes = refl;
+  kerx_pair_by_classes = (refl, refl);
   attaches_nothing = refl;
   backward_cut = refl;
   advances_added = refl;
@@ -117,6 +119,17 @@ positioning_examples = record {
   kerx_marks = refl;
 }
 
+order_examples : OrderExamples
+unfolding int_wrap merged removal cluster_kept_line lowered_run anchor_act kerning_marked kerning_acted looked_ahead kerning_by_entry kerning_turn kerning_whole run kerned pair_kerning pairs_of driver_run positioned positioning kerx_positioning kern_positioning popped kerx_act kern_act
+order_examples = record {
+  first_to_last = refl;
+  last_to_first = refl;
+  backward_first_to_last = refl;
+  backward_last_to_first = refl;
+  chain_in_its_order = refl;
+  pairs_in_order = refl;
+}
+
 cut_examples : CutExamples
 unfolding int_wrap merged removal cluster_kept_line lowered_run anchor_act kerning_marked kerning_acted looked_ahead kerning_by_entry kerning_turn kerning_whole run kerned pair_kerning pairs_of driver_run positioned positioning kerx_positioning kern_positioning popped kerx_act kern_act
 cut_examples = record {
@@ -151,4 +164,5 @@ kerning_examples = record {
   stack = stack_examples;
   anchors = anchor_examples;
   positioning = positioning_examples;
+  order = order_examples;
 }

@@ -8,7 +8,7 @@ use Rattle.aat_buffer.specs.facts.Cases.{chosen}
 use Rattle.aat_glyph.specs.Directions.{is_backward, is_horizontal}
 use Rattle.aat_glyph.specs.declared.glyph.Direction.{Direction}
 use Rattle.aat_glyph.specs.declared.glyph.GlyphPosition.{GlyphPosition}
-use Rattle.aat_kerning.specs.Positioning.{Kerning, Positioned, cursively_attached, in_processing_order, is_for_text, positioned, positioning}
+use Rattle.aat_kerning.specs.Positioning.{Kerning, Positioned, cursively_attached, in_processing_order, is_for_text, positioned, positioning, run_turned_round, turned_round}
 use Rattle.aat_run.specs.Outcome.{Outcome, untouched}
 use Rattle.aat_run.specs.Truth.{is_alike}
 
@@ -104,6 +104,16 @@ pub ordered_twice : (b : Buffer) → in_processing_order (in_processing_order b)
 ordered_twice b =
     chosen (λ (d : Buffer). cond (is_backward d.direction) (reversed d) d ≡ b) (is_backward b.direction) (reversed b) b
     (λ back. ap (λ t. cond t (reversed (reversed b)) (reversed b)) back ∙ reversed_twice b) (λ ahead. ap (λ t. cond t (reversed b) b) ahead)
+
+-- a run over a line that was turned round, which is turned back
+pub turned_run :
+    (run : Buffer → Outcome) (t u : Bool) (b c d e : Buffer) (n : ℕ) → t ≡ u → c ≡ turned_round t b
+    → record { buffer = d; turns = n } ≡ run c → e ≡ turned_round t d
+    → record { buffer = e; turns = n } ≡ run_turned_round u run b
+turned_run run t u b c d e n same first ran last =
+    ap (λ (x : Buffer). record { buffer = x; turns = n }) last
+    ∙ ap (λ (o : Outcome). record { buffer = turned_round t o.buffer; turns = o.turns }) (ran ∙ ap run first)
+    ∙ ap (λ (s : Bool). run_turned_round s run b) same
 
 -- no subtables leave the line as it was
 pub none_positioned :

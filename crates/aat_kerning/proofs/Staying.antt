@@ -7,7 +7,7 @@ use Rattle.aat_font.specs.declared.kern.KernKind.{KernKind}
 use Rattle.aat_font.specs.declared.kern.KernKind.TheVariants as kind
 use Rattle.aat_font.specs.declared.kern.KernSubtable.{KernSubtable}
 use Rattle.aat_font.specs.declared.kerx.KerxFormat.{KerxFormat}
-use Rattle.aat_font.specs.declared.kerx.KerxFormat.TheVariants.{Format0, Format1, Format2, Format4, Format6}
+use Rattle.aat_font.specs.declared.kerx.KerxFormat.TheVariants.{Format0, Format1, Format2, Format2Classes, Format4, Format6, Format6Classes}
 use Rattle.aat_font.specs.declared.kerx.KerxSubtable.{KerxSubtable}
 use Rattle.aat_run.specs.Laws.{FitsAlways}
 use Rattle.aat_kerning.specs.KerningLawful.{KernKindPaysForStaying, KernPaysForStaying, KerxFormatPaysForStaying, KerxPaysForStaying, StayingIsPaid}
@@ -33,13 +33,15 @@ staying_is_paid = record {
 kerx_format_pays :
     (kern_mask : ℕ) (points : Option Points) (is_cross : Bool) (tuple_count : ℕ) (format : KerxFormat)
     → KerxFormatPaysForStaying kern_mask points is_cross tuple_count format
-kerx_format_pays kern_mask points is_cross tuple_count (Format0 values) = tt
+kerx_format_pays kern_mask points is_cross tuple_count (Format0 pairs) = tt
 kerx_format_pays kern_mask points is_cross tuple_count (Format1 s) =
     staying_is_paid.kerx_stack s.state_table is_cross kern_mask tuple_count s.values
-kerx_format_pays kern_mask points is_cross tuple_count (Format2 values) = tt
+kerx_format_pays kern_mask points is_cross tuple_count (Format2 pairs) = tt
+kerx_format_pays kern_mask points is_cross tuple_count (Format2Classes pairs) = tt
 kerx_format_pays kern_mask points is_cross tuple_count (Format4 s) =
     staying_is_paid.anchors s.state_table points s.anchor_points
-kerx_format_pays kern_mask points is_cross tuple_count (Format6 values) = tt
+kerx_format_pays kern_mask points is_cross tuple_count (Format6 pairs) = tt
+kerx_format_pays kern_mask points is_cross tuple_count (Format6Classes pairs) = tt
 
 -- each subtable of `kerx` pays for staying
 pub kerx_pays_for_staying :
@@ -51,7 +53,8 @@ kerx_pays_for_staying kern_mask points subtables k d below =
     kerx_format_pays kern_mask points s.has_cross_stream s.tuple_count s.format
 
 kern_kind_pays : (kern_mask : ℕ) (is_cross : Bool) (k : KernKind) → KernKindPaysForStaying kern_mask is_cross k
-kern_kind_pays kern_mask is_cross (kind.Pairs values) = tt
+kern_kind_pays kern_mask is_cross (kind.Pairs pairs) = tt
+kern_kind_pays kern_mask is_cross (kind.Classes pairs) = tt
 kern_kind_pays kern_mask is_cross (kind.Machine s) =
     staying_is_paid.kern_stack s.state_table is_cross kern_mask s.values
 

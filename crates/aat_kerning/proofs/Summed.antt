@@ -1,19 +1,17 @@
 -- Kerning by pairs in the stream changes the sum of the advances by the sum of the values.
-use Rattle.std.proofs.Common.{◌≡◌, ℕ, zero, suc, ◌-◌, ◌/◌, ◌<◌, Bool, true, false, List, [], ◌∷◌, length, set, get_or, ℤ, pos, negsuc, ◌+ℤ◌, ◌-ℤ◌, neg_ℤ, Option, Some, None, IfSome, All, fold, option_map, unwrap_or, eqb, FitsSigned, refl, sym, ap, ◌∙◌, arith, subst, length-set}
+use Rattle.std.proofs.Common.{◌≡◌, ℕ, zero, suc, ◌-◌, ◌/◌, ◌<◌, Bool, true, false, List, [], ◌∷◌, length, set, get_or, ℤ, pos, negsuc, ◌+ℤ◌, ◌-ℤ◌, neg_ℤ, All, fold, FitsSigned, refl, sym, ap, ◌∙◌, arith, subst, length-set}
 use Rattle.std.specs.Int.{int_wrap, w16, w32}
 use Rattle.std.specs.Ordering.{int_eq}
 use Rattle.std.proofs.lemmas.Bool.Decides.{Decides-int_eq}
 use Rattle.std.proofs.lemmas.Int.{ints, wrapping_add_is, int_wrap-add_right, int_wrap-add_same, SFits-int_wrap}
-use Rattle.std.proofs.lemmas.List.Elements.{All-set, All-get_or, All-head, All-tail}
+use Rattle.std.proofs.lemmas.List.Elements.{All-set, All-get_or}
 use Rattle.aat_buffer.specs.Buffer.{glyph_at, position_list, zero_position}
 use Rattle.aat_buffer.specs.facts.Cases.{chosen, either}
-use Rattle.aat_font.specs.Keys.{at_key}
 use Rattle.aat_glyph.specs.Directions.{is_horizontal}
 use Rattle.aat_glyph.specs.declared.glyph.GlyphPosition.{GlyphPosition}
 use Rattle.aat_glyph.specs.declared.glyph.hb_glyph_info_t.{hb_glyph_info_t}
-use Rattle.aat_kerning.specs.Advances.{advance, all_advances, all_values, PairsChangeTheAdvances}
-use Rattle.aat_font.specs.Pairs.{pair_key}
-use Rattle.aat_kerning.specs.PairKerning.{value_of, half, pair_kerning}
+use Rattle.aat_kerning.specs.Advances.{advance, all_advances, all_values, PairsChangeTheAdvances, HaveSixteenBits}
+use Rattle.aat_kerning.specs.PairKerning.{half, pair_kerning, PairValues}
 use Rattle.aat_kerning.specs.Pairs.{Pair, pairs_of}
 use Rattle.aat_kerning_machines.specs.Positions.{plus, with_advance, with_shift}
 use Rattle.aat_kerning.proofs.CutMoves.{on_place, moved_by, moved_if, moves, value_at, pairs_move}
@@ -137,28 +135,6 @@ module _ (h : Bool) where
       more : (s v : ℤ) → v ≡ pos 0 → s ≡ s +ℤ v
       more s v e = omega (arith, ints, e)
 
--- a value of a table has its bits
-value_fits :
-    (values : List (ℕ × ℕ × ℤ)) (left right : ℕ) → All (λ v. FitsSigned w16 v.2) values → FitsSigned w16 (value_of values left right)
-value_fits values left right fits = by_found (at_key (λ v. pair_key v.0 v.1) values (pair_key left right)) (found values fits)
-  where
-    Fit : ℕ × ℕ × ℤ → Type 0
-    Fit v = FitsSigned w16 v.2
-
-    by_found : (o : Option (ℕ × ℕ × ℤ)) → IfSome o (λ v. FitsSigned w16 v.2) → FitsSigned w16 (unwrap_or (option_map (λ v. v.2) o) (pos 0))
-    by_found None small = record { sfits = omega arith }
-    by_found (Some v) small = small
-
-    found :
-        (xs : List (ℕ × ℕ × ℤ)) → All (λ v. FitsSigned w16 v.2) xs
-        → IfSome (at_key (λ v. pair_key v.0 v.1) xs (pair_key left right)) (λ v. FitsSigned w16 v.2)
-    found [] small = tt
-    found (v ∷ vs) small =
-        let rest = found vs (All-tail (λ (v : ℕ × ℕ × ℤ). FitsSigned w16 v.2) v vs small) in
-        chosen (λ (o : Option (ℕ × ℕ × ℤ)). IfSome o (λ v. FitsSigned w16 v.2)) (eqb (pair_key v.0 v.1) (pair_key left right)) (Some v)
-        (at_key (λ v. pair_key v.0 v.1) vs (pair_key left right))
-        (λ _. All-head (λ (v : ℕ × ℕ × ℤ). FitsSigned w16 v.2) v vs small) (λ _. rest)
-
 length_of_moves :
     (h : Bool) (v : ℤ) (p : Pair) (qs : List GlyphPosition) → length (moved_if false h v p qs) ≡ length qs
 length_of_moves h v p qs =
@@ -168,7 +144,7 @@ length_of_moves h v p qs =
 
 -- all pairs
 pub sum_of_pairs :
-    (h : Bool) (values : List (ℕ × ℕ × ℤ)) (line : List hb_glyph_info_t) → All (λ v. FitsSigned w16 v.2) values
+    (h : Bool) (values : PairValues) (line : List hb_glyph_info_t) → HaveSixteenBits values
     → (ps : List Pair) (qs : List GlyphPosition) → AllBefore (length qs) ps → Fits h qs
     → int_wrap w32 (all_advances h (fold (λ qs p. moves false h values line p qs) qs ps))
     ≡ int_wrap w32 (all_advances h qs +ℤ all_values values line ps)
@@ -178,7 +154,7 @@ sum_of_pairs h values line small [] qs before fits = ap (int_wrap w32) (more (al
     more s = omega (arith, ints)
 sum_of_pairs h values line small (p ∷ ps) qs before fits =
     let v = value_at values line p in
-    let here = sum_of_pair h v p qs (value_fits values (glyph_at line p.left).glyph_id (glyph_at line p.right).glyph_id small) before.0.0 before.0.1 fits in
+    let here = sum_of_pair h v p qs (small (glyph_at line p.left).glyph_id (glyph_at line p.right).glyph_id) before.0.0 before.0.1 fits in
     let next = moves false h values line p qs in
     let inside : AllBefore (length next) ps = subst (λ n. AllBefore n ps) (sym (length_of_moves h v p qs)) before.1 in
     let rest = sum_of_pairs h values line small ps next inside here.1 in
@@ -196,13 +172,13 @@ sum_of_pairs h values line small (p ∷ ps) qs before fits =
 
 -- advances of 32 bits stay so
 pub fits_of_pairs :
-    (h : Bool) (values : List (ℕ × ℕ × ℤ)) (line : List hb_glyph_info_t) → All (λ v. FitsSigned w16 v.2) values
+    (h : Bool) (values : PairValues) (line : List hb_glyph_info_t) → HaveSixteenBits values
     → (ps : List Pair) (qs : List GlyphPosition) → AllBefore (length qs) ps → Fits h qs
     → Fits h (fold (λ qs p. moves false h values line p qs) qs ps)
 fits_of_pairs h values line small [] qs before fits = fits
 fits_of_pairs h values line small (p ∷ ps) qs before fits =
     let v = value_at values line p in
-    let here = sum_of_pair h v p qs (value_fits values (glyph_at line p.left).glyph_id (glyph_at line p.right).glyph_id small) before.0.0 before.0.1 fits in
+    let here = sum_of_pair h v p qs (small (glyph_at line p.left).glyph_id (glyph_at line p.right).glyph_id) before.0.0 before.0.1 fits in
     let inside = subst (λ n. AllBefore n ps) (sym (length_of_moves h v p qs)) before.1 in
     fits_of_pairs h values line small ps (moves false h values line p qs) inside here.1
 

@@ -1,7 +1,7 @@
 -- Kerning by all subtables of pairs in the stream changes the sum of the advances by the sums of their values.
 use Rattle.std.proofs.Common.{◌≡◌, ℕ, ◌+◌, ◌&&◌, ◌||◌, not, Bool, true, false, cond, List, [], ◌∷◌, length, map, fold, ℤ, pos, ◌+ℤ◌, Option, Some, None, All, FitsSigned, unwrap_or, bit_and, refl, sym, ap, ◌∙◌, arith, subst, true≢false, reverse}
 use Rattle.std.specs.Prelude.{option_map, filter_map}
-use Rattle.std.specs.Int.{int_wrap, w16, w32}
+use Rattle.std.specs.Int.{int_wrap, w32}
 use Rattle.std.proofs.lemmas.Int.{ints, int_wrap-add_same}
 use Rattle.std.proofs.lemmas.List.{length-reverse, reverse-append}
 use Rattle.std.proofs.lemmas.List.Elements.{All-head, All-push, All-tail}
@@ -15,7 +15,7 @@ use Rattle.aat_font.specs.declared.kern.KernKind.{KernKind}
 use Rattle.aat_font.specs.declared.kern.KernKind.TheVariants as kind
 use Rattle.aat_font.specs.declared.kern.KernSubtable.{KernSubtable}
 use Rattle.aat_font.specs.declared.kerx.KerxFormat.{KerxFormat}
-use Rattle.aat_font.specs.declared.kerx.KerxFormat.TheVariants.{Format0, Format1, Format2, Format4, Format6}
+use Rattle.aat_font.specs.declared.kerx.KerxFormat.TheVariants.{Format0, Format1, Format2, Format2Classes, Format4, Format6, Format6Classes}
 use Rattle.aat_font.specs.declared.kerx.KerxSubtable.{KerxSubtable}
 use Rattle.aat_glyph.specs.Directions.{is_backward, is_horizontal}
 use Rattle.aat_glyph.specs.declared.glyph.Direction.{Direction}
@@ -23,12 +23,12 @@ use Rattle.aat_glyph.specs.declared.glyph.GlyphPosition.{GlyphPosition}
 use Rattle.aat_glyph.specs.declared.glyph.hb_glyph_info_t.{hb_glyph_info_t}
 use Rattle.aat_run.specs.Outcome.{untouched}
 use Rattle.aat_run.specs.Truth.{is_alike}
-use Rattle.aat_kerning.specs.Advances.{advance, all_advances, all_values, kern_values, kerx_values, IsInStream, KernSumsAdvances, KerxSumsAdvances}
+use Rattle.aat_kerning.specs.Advances.{advance, all_advances, all_values, kern_values, kerx_values, IsInStream, KernSumsAdvances, KerxSumsAdvances, HaveSixteenBits}
 use Rattle.aat_kerning.specs.Cut.{ordered_line, ordered_positions}
 use Rattle.aat_kerning_machines.specs.KerningLaws.{IsMarkedFrom}
-use Rattle.aat_kerning.specs.PairKerning.{pair_kerning}
+use Rattle.aat_kerning.specs.PairKerning.{pair_kerning, PairValues, value_of}
 use Rattle.aat_kerning.specs.Pairs.{Pair, kern_skips, kerx_skips, pair_at, pairs_of, places}
-use Rattle.aat_kerning.specs.Positioning.{Kerning, Positioned, cursively_attached, in_processing_order, is_for_text, is_kern_pairs, is_kerx_pairs, kerning_of_kern_subtable, kern_positioning, run_of_kern_subtable, kerning_of_kerx_subtable, kerx_positioning, run_of_kerx_subtable, line_marked, positioned, positioning}
+use Rattle.aat_kerning.specs.Positioning.{Kerning, Positioned, cursively_attached, in_processing_order, is_for_text, is_kern_pairs, is_kerx_pairs, kerning_of_kern_subtable, kern_positioning, run_of_kern_subtable, kerning_of_kerx_subtable, kerx_positioning, is_turned_round, run_turned_round, run_of_kerx_subtable, line_marked, positioned, positioning}
 use Rattle.aat_kerning_machines.specs.Positions.{IsPlaced}
 use Rattle.aat_kerning.proofs.Changes.{of_concat, of_marked, of_pair_kerning}
 use Rattle.aat_kerning.proofs.CutHolds.{ordered_places, ordered_way, places_of_marked}
@@ -39,6 +39,7 @@ use Rattle.aat_kerning.proofs.CutTables.{ordered_kept}
 use Rattle.aat_kerning.proofs.Marked.{IsMarkedLine, line_same, line_twice, marked_at}
 use Rattle.aat_kerning.proofs.Positioned.{not_for_text}
 use Rattle.aat_kerning.proofs.Summed.{Fits, fits_of_pairs, sum_from, sum_of_pairs}
+use Rattle.aat_font.specs.Classes.{kerning_by_classes}
 
 -- a sum and its parts are the same in either order
 sum_of_reversed : (h : Bool) (qs : List GlyphPosition) → all_advances h (reverse qs) ≡ all_advances h qs
@@ -112,7 +113,7 @@ module _ (skips kern_mask : ℕ) (free : bit_and kern_mask 7 ≡ 0) (way : Direc
 
   -- one subtable of pairs
   pairs_summed :
-      (values : List (ℕ × ℕ × ℤ)) (asked : Bool) (v : ℤ) (d : Buffer) → All (λ v. FitsSigned w16 v.2) values
+      (values : PairValues) (asked : Bool) (v : ℤ) (d : Buffer) → HaveSixteenBits values
       → IsSummed way glyphs start v d
       → IsSummed way glyphs start (v +ℤ all_values values glyphs (pairs_of skips kern_mask glyphs))
       (pair_kerning skips kern_mask false values (line_marked asked d))
@@ -166,7 +167,7 @@ run_alone k s along inside =
 abbrev for_way : Kerning → Direction → Bool
 for_way k d = not k.variable && is_alike k.horizontal (is_horizontal d)
 
-module _ {X : Type 0} (kerning : X → Kerning) (values_of : X → List (ℕ × ℕ × ℤ)) (skips kern_mask : ℕ) (way : Direction)
+module _ {X : Type 0} (kerning : X → Kerning) (values_of : X → PairValues) (skips kern_mask : ℕ) (way : Direction)
     (glyphs : List hb_glyph_info_t) (start : ℤ)
     (runs : (x : X) (v : ℤ) (d : Buffer) → IsInStream (kerning x) (values_of x) → IsSummed way glyphs start v d
     → IsSummed way glyphs start (v +ℤ all_values (values_of x) glyphs (pairs_of skips kern_mask glyphs)) ((kerning x).run d).buffer)
@@ -238,30 +239,36 @@ at_start b whole marked same way placed fits =
 
 module _ (kern_mask : ℕ) (free : bit_and kern_mask 7 ≡ 0) (way : Direction) (glyphs : List hb_glyph_info_t) (start : ℤ) where
   kerx_run_summed :
-      (points : Option Points) (is_cross : Bool) (tuple_count : ℕ) (format : KerxFormat) (v : ℤ) (d : Buffer)
-      → is_kerx_pairs format ≡ true → is_cross ≡ false → All (λ v. FitsSigned w16 v.2) (kerx_values format)
+      (points : Option Points) (is_cross is_last : Bool) (tuple_count : ℕ) (format : KerxFormat) (v : ℤ) (d : Buffer)
+      → is_kerx_pairs format ≡ true → is_cross ≡ false → HaveSixteenBits (kerx_values format)
       → IsSummed way glyphs start v d
       → IsSummed way glyphs start (v +ℤ all_values (kerx_values format) glyphs (pairs_of kerx_skips kern_mask glyphs))
-      (run_of_kerx_subtable kern_mask points is_cross tuple_count format d).buffer
-  kerx_run_summed points true tuple_count format v d pairs along small now = absurd (true≢false along)
-  kerx_run_summed points false tuple_count (Format0 values) v d pairs along small now =
-      pairs_summed kerx_skips kern_mask free way glyphs start values false v d small now
-  kerx_run_summed points false tuple_count (Format1 s) v d pairs along small now = absurd (true≢false (sym pairs))
-  kerx_run_summed points false tuple_count (Format2 values) v d pairs along small now =
-      pairs_summed kerx_skips kern_mask free way glyphs start values true v d small now
-  kerx_run_summed points false tuple_count (Format4 s) v d pairs along small now = absurd (true≢false (sym pairs))
-  kerx_run_summed points false tuple_count (Format6 values) v d pairs along small now =
-      pairs_summed kerx_skips kern_mask free way glyphs start values false v d small now
+      (run_turned_round (is_turned_round is_last format) (run_of_kerx_subtable kern_mask points is_cross tuple_count format) d).buffer
+  kerx_run_summed points true is_last tuple_count format v d pairs along small now = absurd (true≢false along)
+  kerx_run_summed points false is_last tuple_count (Format0 ps) v d pairs along small now =
+      pairs_summed kerx_skips kern_mask free way glyphs start (value_of ps) false v d small now
+  kerx_run_summed points false is_last tuple_count (Format1 s) v d pairs along small now = absurd (true≢false (sym pairs))
+  kerx_run_summed points false is_last tuple_count (Format2 ps) v d pairs along small now =
+      pairs_summed kerx_skips kern_mask free way glyphs start (value_of ps) true v d small now
+  kerx_run_summed points false is_last tuple_count (Format2Classes ps) v d pairs along small now =
+      pairs_summed kerx_skips kern_mask free way glyphs start (kerning_by_classes ps) true v d small now
+  kerx_run_summed points false is_last tuple_count (Format4 s) v d pairs along small now = absurd (true≢false (sym pairs))
+  kerx_run_summed points false is_last tuple_count (Format6 ps) v d pairs along small now =
+      pairs_summed kerx_skips kern_mask free way glyphs start (value_of ps) false v d small now
+  kerx_run_summed points false is_last tuple_count (Format6Classes ps) v d pairs along small now =
+      pairs_summed kerx_skips kern_mask free way glyphs start (kerning_by_classes ps) false v d small now
 
   kern_run_summed :
       (is_cross : Bool) (k : KernKind) (v : ℤ) (d : Buffer)
-      → is_kern_pairs k ≡ true → is_cross ≡ false → All (λ v. FitsSigned w16 v.2) (kern_values k)
+      → is_kern_pairs k ≡ true → is_cross ≡ false → HaveSixteenBits (kern_values k)
       → IsSummed way glyphs start v d
       → IsSummed way glyphs start (v +ℤ all_values (kern_values k) glyphs (pairs_of kern_skips kern_mask glyphs))
       (run_of_kern_subtable kern_mask is_cross k d).buffer
   kern_run_summed true k v d pairs along small now = absurd (true≢false along)
-  kern_run_summed false (kind.Pairs values) v d pairs along small now =
-      pairs_summed kern_skips kern_mask free way glyphs start values true v d small now
+  kern_run_summed false (kind.Pairs ps) v d pairs along small now =
+      pairs_summed kern_skips kern_mask free way glyphs start (value_of ps) true v d small now
+  kern_run_summed false (kind.Classes ps) v d pairs along small now =
+      pairs_summed kern_skips kern_mask free way glyphs start (kerning_by_classes ps) true v d small now
   kern_run_summed false (kind.Machine s) v d pairs along small now = absurd (true≢false (sym pairs))
 
 pub kerx_sums :
@@ -274,7 +281,7 @@ kerx_sums requested kern_mask points subtables b asked free placed fits each =
     let glyphs = ordered_line b in
     let start = all_advances (is_horizontal way) (position_list b) in
     positioned_sum (kerning_of_kerx_subtable kern_mask points) (λ (s : KerxSubtable). kerx_values s.format) kerx_skips kern_mask way glyphs start
-    (λ x v d is. kerx_run_summed kern_mask free way glyphs start points x.has_cross_stream x.tuple_count x.format v d is.pairs is.in_stream is.small)
+    (λ x v d is. kerx_run_summed kern_mask free way glyphs start points x.has_cross_stream x.is_last_to_first x.tuple_count x.format v d is.pairs is.in_stream is.small)
     subtables requested (unsafe_to_concat b None None) asked
     (All-weaker (λ (x : KerxSubtable). is_for_text (kerning_of_kerx_subtable kern_mask None x) b ≡ true → IsInStream (kerning_of_kerx_subtable kern_mask None x) (kerx_values x.format))
     (λ x. is_for_text (kerning_of_kerx_subtable kern_mask points x) b ≡ true → IsInStream (kerning_of_kerx_subtable kern_mask points x) (kerx_values x.format))

@@ -1,5 +1,5 @@
 -- The walk over a line that finds its pairs, step by step.
-use Rattle.std.proofs.Common.{◌≡◌, ◌∙◌, ap, sym, subst, refl, ℕ, zero, suc, ◌+◌, ◌-◌, ◌<◌, ◌≤◌, ◌&&◌, Bool, true, false, cond, ℤ, pos, List, [], ◌∷◌, ◌++◌, Option, Some, None, length, take, drop, nat_le, arith, length-append, length-take}
+use Rattle.std.proofs.Common.{◌≡◌, ◌∙◌, ap, sym, subst, refl, ℕ, zero, suc, ◌+◌, ◌-◌, ◌<◌, ◌≤◌, ◌&&◌, Bool, true, false, cond, pos, List, [], ◌∷◌, ◌++◌, Option, Some, None, length, take, drop, nat_le, arith, length-append, length-take}
 use Rattle.std.specs.Prelude.{find, filter_map, fold, option_map, slice_range, IfSome, min}
 use Rattle.std.specs.Bool.{then_some}
 use Rattle.std.specs.List.{cons_option}
@@ -18,7 +18,7 @@ use Rattle.aat_buffer.specs.facts.Ids.{small_of_unsafe}
 use Rattle.aat_buffer.specs.facts.Lines.{length_slice, length_unsafe}
 use Rattle.aat_glyph.specs.declared.glyph.hb_glyph_info_t.{hb_glyph_info_t}
 use Rattle.aat_run.specs.Switches.{meets}
-use Rattle.aat_kerning.specs.PairKerning.{cross_stream, in_stream, kerned, value_of}
+use Rattle.aat_kerning.specs.PairKerning.{cross_stream, in_stream, kerned, PairValues}
 use Rattle.aat_kerning.specs.Pairs.{Pair, is_solid, last_solid, left_of, pair_at, places}
 use Rattle.aat_kerning_machines.specs.Positions.{IsPlaced}
 use Rattle.aat_kerning.specs.inside.Walk.{kerned_where, left_behind, pair_with}
@@ -76,18 +76,18 @@ behind_low false a t (Some i) low = omega (arith, low)
 -- the pairs
 
 -- what the pairs whose right glyph stands before place n leave
-abbrev pub kerned_before : ℕ → ℕ → Bool → List (ℕ × ℕ × ℤ) → Buffer → ℕ → Buffer
+abbrev pub kerned_before : ℕ → ℕ → Bool → PairValues → Buffer → ℕ → Buffer
 kerned_before skips kern_mask is_cross values b n =
     fold (λ d p. kerned is_cross values p d) b (filter_map (pair_at skips kern_mask b.line) (places 0 n))
 
 kerned_option :
-    (is_cross : Bool) (values : List (ℕ × ℕ × ℤ)) (o : Option Pair) (b : Buffer)
+    (is_cross : Bool) (values : PairValues) (o : Option Pair) (b : Buffer)
     → fold (λ d p. kerned is_cross values p d) b (cons_option o []) ≡ kerned_where is_cross values o b
 kerned_option is_cross values None b = refl
 kerned_option is_cross values (Some p) b = refl
 
 kerned_more :
-    (skips kern_mask : ℕ) (is_cross : Bool) (values : List (ℕ × ℕ × ℤ)) (b : Buffer) (t : ℕ)
+    (skips kern_mask : ℕ) (is_cross : Bool) (values : PairValues) (b : Buffer) (t : ℕ)
     → kerned_before skips kern_mask is_cross values b (suc t)
     ≡ kerned_where is_cross values (pair_at skips kern_mask b.line t) (kerned_before skips kern_mask is_cross values b t)
 kerned_more skips kern_mask is_cross values b t =
@@ -138,11 +138,11 @@ break_keeps b d i n low high k = record {
 }
 
 kerned_keeps :
-    (is_cross : Bool) (values : List (ℕ × ℕ × ℤ)) (p : Pair) (b : Buffer) → p.left < p.right → p.right < length b.line
+    (is_cross : Bool) (values : PairValues) (p : Pair) (b : Buffer) → p.left < p.right → p.right < length b.line
     → IsKept (p.right + 1) b (kerned is_cross values p b)
 unfolding kerned
 kerned_keeps is_cross values p b ordered high =
-    let v = value_of values (glyph_at b.line p.left).glyph_id (glyph_at b.line p.right).glyph_id in
+    let v = values (glyph_at b.line p.left).glyph_id (glyph_at b.line p.right).glyph_id in
     let n = p.right + 1 in
     let across = cross_stream p v b in
     let along = in_stream p v b in
@@ -154,7 +154,7 @@ kerned_keeps is_cross values p b ordered high =
     (λ _. break_keeps b (cond is_cross across along) p.left n (omega (arith, ordered)) (omega (arith, high, moved.count)) moved)
 
 where_keeps :
-    (is_cross : Bool) (values : List (ℕ × ℕ × ℤ)) (s a : Bool) (t : ℕ) (left : Option ℕ) (b : Buffer) → IfSome left (λ i. i < t)
+    (is_cross : Bool) (values : PairValues) (s a : Bool) (t : ℕ) (left : Option ℕ) (b : Buffer) → IfSome left (λ i. i < t)
     → t < length b.line → IsKept (t + 1) b (kerned_where is_cross values (pair_with s a t left) b)
 where_keeps is_cross values s a t left b low high =
     chosen (λ o. IsKept (t + 1) b (kerned_where is_cross values o b)) (s && a) (option_map (λ i. record { left = i; right = t }) left) None
@@ -167,7 +167,7 @@ where_keeps is_cross values s a t left b low high =
     by_left (Some i) h = kerned_keeps is_cross values (record { left = i; right = t }) b h high
 
 -- the walk up to place t, with the left glyph of the pairs behind it
-pub record IsWalk (skips kern_mask : ℕ) (is_cross : Bool) (values : List (ℕ × ℕ × ℤ)) (start now : Buffer) (left : Option ℕ) (t : ℕ) : Type 0 where
+pub record IsWalk (skips kern_mask : ℕ) (is_cross : Bool) (values : PairValues) (start now : Buffer) (left : Option ℕ) (t : ℕ) : Type 0 where
   pub done : now ≡ kerned_before skips kern_mask is_cross values start t
   pub found : left ≡ left_of skips kern_mask start.line t
   pub ordered : IfSome left (λ i. i < t)
@@ -177,14 +177,14 @@ pub record IsWalk (skips kern_mask : ℕ) (is_cross : Bool) (values : List (ℕ 
   pub ids : IsSmall now
 
 pub walk_none :
-    (skips kern_mask : ℕ) (is_cross : Bool) (values : List (ℕ × ℕ × ℤ)) (b : Buffer) → IsPlaced b → IsSmall b
+    (skips kern_mask : ℕ) (is_cross : Bool) (values : PairValues) (b : Buffer) → IsPlaced b → IsSmall b
     → IsWalk skips kern_mask is_cross values b b None 0
 walk_none skips kern_mask is_cross values b placed ids =
     record { done = refl; found = refl; ordered = tt; rest = refl; count = refl; placed = placed; ids = ids }
 
 -- one place more
 pub walk_more :
-    (skips kern_mask : ℕ) (is_cross : Bool) (values : List (ℕ × ℕ × ℤ)) (start now after : Buffer) (left next : Option ℕ) (t : ℕ)
+    (skips kern_mask : ℕ) (is_cross : Bool) (values : PairValues) (start now after : Buffer) (left next : Option ℕ) (t : ℕ)
     → t < length start.line → IsWalk skips kern_mask is_cross values start now left t
     → next ≡ left_behind (is_solid skips (glyph_at now.line t)) (meets (glyph_at now.line t).mask kern_mask) t left
     → after

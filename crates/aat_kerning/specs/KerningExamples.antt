@@ -3,7 +3,9 @@ use Rattle.std.specs.Prelude.{◌≡◌, bit_and, ℕ, ℤ, pos, negsuc, Bool, t
 use Rattle.aat_buffer.specs.Buffer.{Buffer, glyph_at}
 use Rattle.aat_glyph.specs.declared.glyph.hb_glyph_info_t.{hb_glyph_info_t}
 use Rattle.aat_glyph.specs.declared.glyph.GlyphPosition.{GlyphPosition}
+use Rattle.aat_glyph.specs.declared.glyph.Direction.{Direction}
 use Rattle.aat_glyph.specs.declared.glyph.Direction.TheVariants.{LeftToRight, RightToLeft, TopToBottom}
+use Rattle.aat_font.specs.Classes.{ClassValues}
 use Rattle.aat_font.specs.declared.entries.EntryData.{EntryData}
 use Rattle.aat_font.specs.declared.entries.KernEntryData.{KernEntryData}
 use Rattle.aat_font.specs.declared.state_table.GenericStateEntry.{GenericStateEntry}
@@ -12,9 +14,10 @@ use Rattle.aat_run.specs.Rows.{glyph, entry, many}
 use Rattle.aat_kerning.specs.Advances.{all_advances, all_values, kern_values, values_by_all}
 use Rattle.aat_kerning.specs.Cut.{ordered_line, IsCutPlace, AreParts, IsKernedInParts}
 use Rattle.aat_kerning.specs.KerningRows.{positions_of, skipped_mark, kern_machine, three_values, two_points}
-use Rattle.aat_kerning.specs.PairKerning.{pair_kerning}
+use Rattle.aat_kerning.specs.PairKerning.{pair_kerning, value_of}
 use Rattle.aat_kerning.specs.Pairs.{kern_skips, pairs_of}
-use Rattle.aat_font.specs.declared.kerx.KerxFormat.TheVariants.{Format0, Format2}
+use Rattle.aat_font.specs.declared.kerx.KerxFormat.TheVariants.{Format0, Format2, Format2Classes, Format6, Format6Classes}
+use Rattle.aat_font.specs.declared.kern.KernKind.TheVariants as kind
 use Rattle.aat_font.specs.declared.kern.KernSubtable.{KernSubtable}
 use Rattle.aat_font.specs.declared.kerx.KerxSubtable.{KerxSubtable}
 use Rattle.aat_kerning.specs.Positioning.{run_of_kerx_subtable, kerning_of_kern_subtable, kern_positioning}
@@ -48,6 +51,15 @@ cursive q = attached_as 2 (negsuc 0) q
 -- the pair of 1 and 2
 abbrev pub one_pair : ℤ → List (ℕ × ℕ × ℤ)
 one_pair v = (1, 2, v) ∷ []
+
+-- the same pair by classes: glyph 1 has left class 1, and glyph 2 right class 2
+abbrev pub one_pair_by_classes : ℤ → ClassValues
+one_pair_by_classes v = record {
+  left = (1, 1) ∷ [];
+  right = (2, 2) ∷ [];
+  right_count = 3;
+  values = pos 0 ∷ pos 0 ∷ pos 0 ∷ pos 0 ∷ pos 0 ∷ v ∷ [];
+}
 
 -- three glyphs, of which the one in the middle has props
 abbrev pub with_middle : hb_glyph_info_t → List hb_glyph_info_t
@@ -104,9 +116,19 @@ pub record PairExamples : Type 0 where
       by_kern (record kern_across { horizontal = false } ∷ []) in_a_column
       ≡ record (shows_positions two_glyphs_marked
       (cursive untouched_position ∷ cursive (position (pos 500) (pos 0) (pos 30) (pos 0)) ∷ [])) { scratch = 8 }
+  -- a pair of classes is kerned as a listed one is
+  pub pair_by_classes :
+      by_kern (kern_subtable (kind.Classes (one_pair_by_classes (negsuc 24))) ∷ []) in_a_row
+      ≡ by_kern (kern_subtable (pairs_of_kern (one_pair (negsuc 24))) ∷ []) in_a_row
+  -- also by format 2 of `kerx`, which marks the line against joining, and by format 6
+  pub kerx_pair_by_classes :
+      (by_kerx None (kerx_subtable (Format2Classes (one_pair_by_classes (negsuc 24))) ∷ []) in_a_row
+      ≡ by_kerx None (kerx_subtable (Format2 (one_pair (negsuc 24))) ∷ []) in_a_row)
+      × (by_kerx None (kerx_subtable (Format6Classes (one_pair_by_classes (negsuc 24))) ∷ []) in_a_row
+      ≡ by_kerx None (kerx_subtable (Format6 (one_pair (negsuc 24))) ∷ []) in_a_row)
   -- a pair across the stream sets the scratch flag, and attaches nothing
   pub attaches_nothing :
-      printed_kerning (untouched (pair_kerning kern_skips 8 true (one_pair (pos 30)) in_a_row))
+      printed_kerning (untouched (pair_kerning kern_skips 8 true (value_of (one_pair (pos 30))) in_a_row))
       ≡ record (shows_positions two_glyphs_marked
       (untouched_position ∷ position (pos 500) (pos 0) (pos 0) (pos 30) ∷ [])) {
         scratch = 8;
@@ -119,7 +141,7 @@ pub record PairExamples : Type 0 where
   -- the pairs of row 16 have the values -20, 0 and 10, so four advances of 500 become 1990
   pub advances_added :
       all_advances true (positions_of (kern_pairs LeftToRight three_values four_glyphs)) ≡ pos 1990
-  pub values_added : all_values three_values four_glyphs (pairs_of kern_skips 8 four_glyphs) ≡ negsuc 9
+  pub values_added : all_values (value_of three_values) four_glyphs (pairs_of kern_skips 8 four_glyphs) ≡ negsuc 9
   -- two subtables that are for the text change them twice, so they become 1980
   pub advances_added_twice :
       all_advances true (positions_of (by_kern three_tables (buffer_with_advances LeftToRight many four_glyphs)))
@@ -394,6 +416,51 @@ pub record PositioningExamples : Type 0 where
   -- positioning by `kerx` marks the whole line before any subtable
   pub kerx_marks : by_kerx None [] asking_for_concat ≡ shows_positions two_glyphs_apart two_untouched
 
+-- the glyphs 1, 2 and 1, kerned by a stack machine that is from last to first or not: a 2 behind a 1 takes 20 for
+-- itself and 10 for the 1
+abbrev pub three_by_stack : Bool → Direction → PrintedKerning
+three_by_stack is_last_to_first direction =
+    let rules = (0, 4, entry 1 0x8000 no_action) ∷ (1, 5, entry 0 0x8000 (action_at 0)) ∷ [] in
+    let machine = stack_of_kerx (kerx_rules rules) (pos 20 ∷ pos 11 ∷ []) in
+    by_kerx None (record (kerx_subtable machine) { is_last_to_first = is_last_to_first } ∷ [])
+    (buffer_with_advances direction many (asking_from 0 (1 ∷ 2 ∷ 1 ∷ [])))
+
+-- what is left where it takes them from the first on: of the two glyphs marked the second has the greater cluster
+abbrev pub kerned_from_first : PrintedKerning
+kerned_from_first =
+    record (shows_positions (glyph 1 0 8 ∷ glyph 2 1 11 ∷ glyph 1 2 8 ∷ [])
+    (along_x (pos 510) (pos 10) ∷ along_x (pos 520) (pos 20) ∷ untouched_position ∷ [])) {
+      turns = 4;
+      budget = pos 16381;
+    }
+
+-- and from the last on: of the two marked it is the last
+abbrev pub kerned_from_last : PrintedKerning
+kerned_from_last =
+    record (shows_positions (glyph 1 0 8 ∷ glyph 2 1 8 ∷ glyph 1 2 11 ∷ [])
+    (untouched_position ∷ along_x (pos 520) (pos 20) ∷ along_x (pos 510) (pos 10) ∷ [])) {
+      turns = 4;
+      budget = pos 16381;
+    }
+
+-- machines from last to first. TrueType Reference Manual: The 'kerx' table, process direction.
+pub record OrderExamples : Type 0 where
+  -- such a machine takes a forward line from its last glyph on, and a backward one from its first
+  pub first_to_last : three_by_stack false LeftToRight ≡ kerned_from_first
+  pub last_to_first : three_by_stack true LeftToRight ≡ kerned_from_last
+  pub backward_first_to_last : three_by_stack false RightToLeft ≡ kerned_from_last
+  pub backward_last_to_first : three_by_stack true RightToLeft ≡ kerned_from_first
+  -- a chain is counted in the order of the machine: 2 is attached to the 1 that stands behind it in the line
+  pub chain_in_its_order :
+      by_kerx (Some two_points) (record anchoring { is_last_to_first = true } ∷ [])
+      (buffer_with_advances LeftToRight many (asking_from 0 (2 ∷ 1 ∷ [])))
+      ≡ record (shows_three_turns (asking_from 0 (2 ∷ 1 ∷ []))
+      (attached_as 1 (negsuc 0) anchored_position ∷ untouched_position ∷ [])) { scratch = 8 }
+  -- pairs take no notice
+  pub pairs_in_order :
+      by_kerx None (record (kerx_subtable (Format0 (one_pair (negsuc 24)))) { is_last_to_first = true } ∷ []) in_a_row
+      ≡ shows_positions two_glyphs_marked (along_x (pos 487) (pos 0) ∷ along_x (pos 488) (negsuc 11) ∷ [])
+
 -- right to left, the pair of 2 and 1, of which 2 comes first in processing order
 abbrev pub backward_pair : Buffer → Outcome
 backward_pair b = kern_positioning true 8 (kern_subtable (pairs_of_kern ((2, 1, negsuc 19) ∷ [])) ∷ []) b
@@ -456,3 +523,4 @@ pub record KerningExamples : Type 0 where
   pub stack : StackExamples
   pub anchors : AnchorExamples
   pub positioning : PositioningExamples
+  pub order : OrderExamples

@@ -9,7 +9,7 @@ use Rattle.aat_font.specs.declared.kern.KernKind.{KernKind}
 use Rattle.aat_font.specs.declared.kern.KernKind.TheVariants as kind
 use Rattle.aat_font.specs.declared.kern.KernSubtable.{KernSubtable}
 use Rattle.aat_font.specs.declared.kerx.KerxFormat.{KerxFormat}
-use Rattle.aat_font.specs.declared.kerx.KerxFormat.TheVariants.{Format0, Format1, Format2, Format4, Format6}
+use Rattle.aat_font.specs.declared.kerx.KerxFormat.TheVariants.{Format0, Format1, Format2, Format2Classes, Format4, Format6, Format6Classes}
 use Rattle.aat_font.specs.declared.kerx.KerxSubtable.{KerxSubtable}
 use Rattle.aat_font.specs.declared.state_table.GenericStateEntry.{GenericStateEntry}
 use Rattle.aat_run.specs.Budget.{operations_left}
@@ -71,14 +71,16 @@ pub record StayingIsPaid : Type 0 where
 -- a turn that stays has been paid for in the machine that `run_of_kerx_subtable` runs by this format; pairs have no
 -- turns
 abbrev pub KerxFormatPaysForStaying : ℕ → Option Points → Bool → ℕ → KerxFormat → Type 0
-KerxFormatPaysForStaying kern_mask points is_cross tuple_count (Format0 values) = Unit {0}
+KerxFormatPaysForStaying kern_mask points is_cross tuple_count (Format0 pairs) = Unit {0}
 KerxFormatPaysForStaying kern_mask points is_cross tuple_count (Format1 s) =
     let driver = kerx_driver is_cross kern_mask tuple_count s.values in
     PaysForStaying (kerning_machine_of false s.state_table driver) FitsAlways
-KerxFormatPaysForStaying kern_mask points is_cross tuple_count (Format2 values) = Unit {0}
+KerxFormatPaysForStaying kern_mask points is_cross tuple_count (Format2 pairs) = Unit {0}
+KerxFormatPaysForStaying kern_mask points is_cross tuple_count (Format2Classes pairs) = Unit {0}
 KerxFormatPaysForStaying kern_mask points is_cross tuple_count (Format4 s) =
     PaysForStaying (kerning_machine_of false s.state_table (anchor_driver points s.anchor_points)) IsFit
-KerxFormatPaysForStaying kern_mask points is_cross tuple_count (Format6 values) = Unit {0}
+KerxFormatPaysForStaying kern_mask points is_cross tuple_count (Format6 pairs) = Unit {0}
+KerxFormatPaysForStaying kern_mask points is_cross tuple_count (Format6Classes pairs) = Unit {0}
 
 -- and so it has in this `kerx` subtable
 unfoldable pub KerxPaysForStaying : ℕ → Option Points → KerxSubtable → Type 0
@@ -87,7 +89,8 @@ KerxPaysForStaying kern_mask points s =
 
 -- a turn that stays has been paid for in the machine that `run_of_kern_subtable` runs; pairs have no turns
 abbrev pub KernKindPaysForStaying : ℕ → Bool → KernKind → Type 0
-KernKindPaysForStaying kern_mask is_cross (kind.Pairs values) = Unit {0}
+KernKindPaysForStaying kern_mask is_cross (kind.Pairs pairs) = Unit {0}
+KernKindPaysForStaying kern_mask is_cross (kind.Classes pairs) = Unit {0}
 KernKindPaysForStaying kern_mask is_cross (kind.Machine s) =
     PaysForStaying (kerning_machine_of true s.state_table (kern_driver is_cross kern_mask s.values)) FitsAlways
 

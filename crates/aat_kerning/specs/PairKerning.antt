@@ -9,9 +9,13 @@ use Rattle.aat_glyph.specs.Directions.{is_horizontal}
 use Rattle.aat_kerning.specs.Pairs.{Pair, pairs_of}
 use Rattle.aat_kerning_machines.specs.Positions.{on_position, with_advance, with_shift, with_cross_offset, with_attachment_flag}
 
--- the value of two glyphs, and 0 without one
-abbrev pub value_of : List (ℕ × ℕ × ℤ) → ℕ → ℕ → ℤ
-value_of values left right = unwrap_or (kerning_of values left right) (pos 0)
+-- the kerning values of a table of pairs: the value of a left and a right glyph
+abbrev pub PairValues : Type 0
+PairValues = ℕ → ℕ → ℤ
+
+-- those of pairs that are listed: 0 for two glyphs that are not
+abbrev pub value_of : List (ℕ × ℕ × ℤ) → PairValues
+value_of pairs left right = unwrap_or (kerning_of pairs left right) (pos 0)
 
 -- the half of a value, rounded down
 abbrev pub half : ℤ → ℤ
@@ -33,13 +37,13 @@ abbrev pub cross_stream : Pair → ℤ → Buffer → Buffer
 cross_stream p v b = with_attachment_flag (on_position (with_cross_offset (is_horizontal b.direction) v) p.right b)
 
 -- a pair with a value that is not 0 is kerned, and marked from its left to its right glyph
-unfoldable pub kerned : Bool → List (ℕ × ℕ × ℤ) → Pair → Buffer → Buffer
+unfoldable pub kerned : Bool → PairValues → Pair → Buffer → Buffer
 kerned is_cross values p b =
-    let v = value_of values (glyph_at b.line p.left).glyph_id (glyph_at b.line p.right).glyph_id in
+    let v = values (glyph_at b.line p.left).glyph_id (glyph_at b.line p.right).glyph_id in
     if int_eq v (pos 0) then b
     else unsafe_to_break (if is_cross then cross_stream p v b else in_stream p v b) (Some p.left) (Some (p.right + 1))
 
 -- all pairs of the line as it stands at first
-unfoldable pub pair_kerning : ℕ → ℕ → Bool → List (ℕ × ℕ × ℤ) → Buffer → Buffer
+unfoldable pub pair_kerning : ℕ → ℕ → Bool → PairValues → Buffer → Buffer
 pair_kerning skips kern_mask is_cross values b =
     fold (λ d p. kerned is_cross values p d) b (pairs_of skips kern_mask b.line)

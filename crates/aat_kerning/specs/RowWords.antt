@@ -110,6 +110,7 @@ kerx_subtable format = record {
   horizontal = true;
   has_cross_stream = false;
   variable = false;
+  is_last_to_first = false;
   tuple_count = 0;
 }
 

@@ -7,13 +7,17 @@ ghost use Rattle.aat_kerning.specs.FontKerning.{KernCanBeCut, KernCanBeCutAlike,
 ghost use Rattle.aat_kerning.specs.KerningLawful.{KernPaysForStaying};
 ghost use Rattle.aat_kerning_machines.specs.KerningLaws.{IsKernedFrom};
 ghost use Rattle.aat_kerning_machines.specs.KerningMachine.{driver_run};
-ghost use Rattle.aat_kerning.specs.Positioning.{AreKernPairs, is_kern_pairs, kerning_of_kern_subtable, run_of_kern_subtable};
+ghost use Rattle.aat_kerning.specs.PairKerning.{pair_kerning};
+ghost use Rattle.aat_kerning.specs.Pairs.{kern_skips};
+ghost use Rattle.aat_kerning.specs.Positioning.{AreKernPairs, is_kern_pairs, kerning_of_kern_subtable, line_marked, run_of_kern_subtable};
 ghost use Rattle.aat_kerning_machines.specs.Positions.{IsPlaced};
 ghost use Rattle.aat_kerning_machines.specs.Stack.{kern_driver};
+ghost use Rattle.aat_kerning.specs.inside.Values.{values_of};
 ghost use Rattle.aat_run.specs.Budget.{operations_left};
 
 use crate::kerning_subtable::{KerningSubtable, kern_by_subtables};
 use crate::pair_kerning::PairRun;
+use crate::pair_values::PairValues;
 use crate::positioning::{is_for_text, kern_line};
 use crate::solid::KERN_SKIPS;
 use aat_buffer::{Direction, hb_buffer_t};
@@ -49,6 +53,30 @@ fn run_kern_machine<A: Allocator + Copy>(
     drive_kern(&run, &mut driver, buffer)
 }
 
+/// Kerns by the pairs of a `kern` subtable.
+fn kern_by_pairs<A: Allocator + Copy>(
+    plan: &hb_ot_shape_plan_t,
+    subtable: &KernSubtable,
+    values: PairValues,
+    buffer: &mut hb_buffer_t<A>,
+)
+    requires ids { IsSmall buffer.old }
+    requires placed { IsPlaced buffer.old }
+    ensures kerned { buffer.new
+        ≡ pair_kerning kern_skips plan.now.kern_mask subtable.now.has_cross_stream (values_of values.entry)
+        (line_marked true buffer.old) }
+    ensures ids { IsSmall buffer.new }
+    ensures placed { IsPlaced buffer.new }
+{
+    let run = PairRun {
+        values,
+        skips: KERN_SKIPS,
+        kern_mask: plan.kern_mask,
+        is_cross_stream: subtable.has_cross_stream,
+    };
+    kern_line(&run, true, buffer);
+}
+
 /// Kerns by a `kern` subtable, and answers the turns of a machine, which are 0 of pairs.
 fn run_kern_subtable<A: Allocator + Copy>(
     plan: &hb_ot_shape_plan_t,
@@ -65,13 +93,11 @@ fn run_kern_subtable<A: Allocator + Copy>(
 {
     match &subtable.kind {
         KernKind::Pairs(pairs) => {
-            let run = PairRun {
-                pairs,
-                skips: KERN_SKIPS,
-                kern_mask: plan.kern_mask,
-                is_cross_stream: subtable.has_cross_stream,
-            };
-            kern_line(&run, true, buffer);
+            kern_by_pairs(plan, subtable, PairValues::Listed(pairs), buffer);
+            0
+        }
+        KernKind::Classes(pairs) => {
+            kern_by_pairs(plan, subtable, PairValues::Classes(pairs), buffer);
             0
         }
         KernKind::Machine(machine) => {
@@ -86,6 +112,7 @@ fn is_of_kern_pairs(subtable: &KernSubtable) -> bool
 {
     match &subtable.kind {
         KernKind::Pairs(_) => true,
+        KernKind::Classes(_) => true,
         KernKind::Machine(_) => false,
     }
 }

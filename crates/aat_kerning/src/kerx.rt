@@ -9,39 +9,44 @@ ghost use Rattle.aat_kerning_machines.specs.Anchors.{anchor_driver};
 ghost use Rattle.aat_kerning.specs.KerningLawful.{KerxPaysForStaying};
 ghost use Rattle.aat_kerning_machines.specs.KerningLaws.{IsKernedFrom};
 ghost use Rattle.aat_kerning_machines.specs.KerningMachine.{driver_run};
-ghost use Rattle.aat_kerning.specs.Positioning.{AreKerxPairs, is_kerx_pairs, kerning_of_kerx_subtable, run_of_kerx_subtable};
+ghost use Rattle.aat_kerning.specs.Positioning.{AreKerxPairs, is_kerx_pairs, is_turned_round, kerning_of_kerx_subtable, run_of_kerx_subtable};
 ghost use Rattle.aat_kerning_machines.specs.Positions.{IsPlaced};
 ghost use Rattle.aat_kerning_machines.specs.Stack.{kerx_driver};
 ghost use Rattle.aat_run.specs.Budget.{operations_left};
 
 use crate::kerning_subtable::{KerningSubtable, kern_by_subtables};
 use crate::pair_kerning::PairRun;
-use crate::positioning::{is_for_text, kern_line, mark_line};
+use crate::pair_values::PairValues;
+use crate::positioning::{is_for_text, kern_line, mark_line, turn_round};
 use crate::solid::KERX_SKIPS;
 use aat_buffer::{Direction, hb_buffer_t, hb_mask_t};
 use aat_font::{
-    Ankr, KerxFormat, KerxSubtable, Pairs, Subtable1, Subtable4, hb_font_t, hb_ot_shape_plan_t,
+    Ankr, KerxFormat, KerxSubtable, Subtable1, Subtable4, hb_font_t, hb_ot_shape_plan_t,
 };
 use aat_kerning_machines::{Driver1, Driver4, KerningRun, drive_kerx};
 use aat_run::AatError;
 use std::alloc::Allocator;
 
 /// How the pairs of a `kerx` subtable are kerned.
-fn pairs_of<'a>(kern_mask: hb_mask_t, subtable: &KerxSubtable, pairs: &'a Pairs) -> PairRun<'a>
-    ensures pairs { result.pairs.now ≡ pairs.now }
+fn pairs_of<'a>(
+    kern_mask: hb_mask_t,
+    subtable: &KerxSubtable,
+    values: PairValues<'a>,
+) -> PairRun<'a>
+    ensures values { result.values ≡ values.entry }
     ensures skips { result.skips ≡ 0x000E }
     ensures mask { result.kern_mask ≡ kern_mask }
     ensures across { result.is_cross_stream ≡ subtable.now.has_cross_stream }
 {
     PairRun {
-        pairs,
+        values,
         skips: KERX_SKIPS,
         kern_mask,
         is_cross_stream: subtable.has_cross_stream,
     }
 }
 
-/// Runs a stack machine of the `kerx` table over a line in processing order, and answers its turns.
+/// Runs a stack machine of the `kerx` table over a line in the order of the machine, and answers its turns.
 fn run_stack<A: Allocator + Copy>(
     plan: &hb_ot_shape_plan_t,
     subtable: &KerxSubtable,
@@ -69,7 +74,7 @@ fn run_stack<A: Allocator + Copy>(
     drive_kerx(&run, &mut driver, buffer)
 }
 
-/// Runs an anchor machine of the `kerx` table over a line in processing order, and answers its turns.
+/// Runs an anchor machine of the `kerx` table over a line in the order of the machine, and answers its turns.
 fn run_anchors<A: Allocator + Copy>(
     plan: &hb_ot_shape_plan_t,
     ankr: Option<&Ankr>,
@@ -97,7 +102,7 @@ fn run_anchors<A: Allocator + Copy>(
     drive_kerx(&run, &mut driver, buffer)
 }
 
-/// Kerns by a `kerx` subtable, and answers the turns of a machine, which are 0 of pairs.
+/// Kerns by a `kerx` subtable, on a line in its order, and answers the turns of a machine, which are 0 of pairs.
 fn run_kerx_subtable<A: Allocator + Copy>(
     plan: &hb_ot_shape_plan_t,
     ankr: Option<&Ankr>,
@@ -113,19 +118,33 @@ fn run_kerx_subtable<A: Allocator + Copy>(
     ensures ids { IsSmall buffer.new }
     ensures placed { IsPlaced buffer.new }
 {
+    let kern_mask = plan.kern_mask;
     match &subtable.format {
         KerxFormat::Format0(pairs) => {
-            kern_line(&pairs_of(plan.kern_mask, subtable, pairs), false, buffer);
+            let values = PairValues::Listed(pairs);
+            kern_line(&pairs_of(kern_mask, subtable, values), false, buffer);
             0
         }
         KerxFormat::Format1(machine) => run_stack(plan, subtable, machine, buffer),
         KerxFormat::Format2(pairs) => {
-            kern_line(&pairs_of(plan.kern_mask, subtable, pairs), true, buffer);
+            let values = PairValues::Listed(pairs);
+            kern_line(&pairs_of(kern_mask, subtable, values), true, buffer);
+            0
+        }
+        KerxFormat::Format2Classes(pairs) => {
+            let values = PairValues::Classes(pairs);
+            kern_line(&pairs_of(kern_mask, subtable, values), true, buffer);
             0
         }
         KerxFormat::Format4(machine) => run_anchors(plan, ankr, subtable, machine, buffer),
         KerxFormat::Format6(pairs) => {
-            kern_line(&pairs_of(plan.kern_mask, subtable, pairs), false, buffer);
+            let values = PairValues::Listed(pairs);
+            kern_line(&pairs_of(kern_mask, subtable, values), false, buffer);
+            0
+        }
+        KerxFormat::Format6Classes(pairs) => {
+            let values = PairValues::Classes(pairs);
+            kern_line(&pairs_of(kern_mask, subtable, values), false, buffer);
             0
         }
     }
@@ -139,9 +158,40 @@ fn is_of_kerx_pairs(subtable: &KerxSubtable) -> bool
         KerxFormat::Format0(_) => true,
         KerxFormat::Format1(_) => false,
         KerxFormat::Format2(_) => true,
+        KerxFormat::Format2Classes(_) => true,
         KerxFormat::Format4(_) => false,
         KerxFormat::Format6(_) => true,
+        KerxFormat::Format6Classes(_) => true,
     }
+}
+
+/// Whether a `kerx` subtable takes the line turned round: a machine from last to first does.
+fn takes_turned_line(subtable: &KerxSubtable) -> bool
+    ensures { result ≡ is_turned_round subtable.now.is_last_to_first subtable.now.format }
+{
+    !is_of_kerx_pairs(subtable) && subtable.is_last_to_first
+}
+
+/// Kerns by a `kerx` subtable, on a line in processing order that is turned round for it where it asks for that.
+fn run_in_its_order<A: Allocator + Copy>(
+    plan: &hb_ot_shape_plan_t,
+    ankr: Option<&Ankr>,
+    subtable: &KerxSubtable,
+    buffer: &mut hb_buffer_t<A>,
+) -> u64
+    requires ids { IsSmall buffer.old }
+    requires placed { IsPlaced buffer.old }
+    ensures run { record { buffer = buffer.new; turns = result }
+        ≡ (kerning_of_kerx_subtable plan.now.kern_mask (option_copied ankr.entry) subtable.now).run buffer.old }
+    ensures few { result < 2 ^ 32 }
+    ensures ids { IsSmall buffer.new }
+    ensures placed { IsPlaced buffer.new }
+{
+    let is_turned = takes_turned_line(subtable);
+    turn_round(is_turned, buffer);
+    let turns = run_kerx_subtable(plan, ankr, subtable, buffer);
+    turn_round(is_turned, buffer);
+    turns
 }
 
 impl KerningSubtable for KerxSubtable {
@@ -167,7 +217,7 @@ impl KerningSubtable for KerxSubtable {
         ankr: Option<&Ankr>,
         buffer: &mut hb_buffer_t<A>,
     ) -> u64 {
-        run_kerx_subtable(plan, ankr, self, buffer)
+        run_in_its_order(plan, ankr, self, buffer)
     }
 }
 
@@ -197,11 +247,12 @@ pub fn has_kerx_pairs_alone(face: &hb_font_t) -> bool
 /// Where the plan requests kerning, the pairs of each change positions, in units of the font, and are marked unsafe to
 /// break. Machines run in any case, as `drive_kerx` does, with `Driver1` or, over the font's `ankr` table, `Driver4`:
 /// they change positions, mark unsafe to break, and may set the scratch flag `HAS_GPOS_ATTACHMENT`. Glyphs, clusters
-/// and their order stay. The bit 0x10000000 of a subtable's coverage, to process from the last glyph to the first, has
-/// no field here: such a subtable is run as any other, as the crate runs it.
+/// and their order stay. A machine from last to first (`is_last_to_first`) takes the glyphs in the other order: of a
+/// forward line from its last glyph on, of a backward one from its first. Pairs take no notice of that.
 ///
-/// The attach chain that `Driver4` writes is counted in processing order, so in a backward line, which is turned back
-/// in the end, it points the other way. Where glyphs are removed later, a chain may lead past the line.
+/// The attach chain that `Driver4` writes is counted in the order in which it takes the glyphs. Where that is the
+/// opposite of the line's, the chain points the other way in the end. Where glyphs are removed later, a chain may lead
+/// past the line.
 ///
 /// Where each subtable that is for the text is of pairs, as `has_kerx_pairs_alone` tells of all, and the kern mask has
 /// none of the bits of `glyph_flag`, a line can be cut before a glyph, in processing order, that is not skipped, as

@@ -9,6 +9,7 @@ mod kerx;
 #[doc(hidden)]
 pub mod laws;
 mod pair_kerning;
+mod pair_values;
 mod positioning;
 mod solid;
 #[doc(hidden)]

@@ -4,39 +4,29 @@ ghost use Rattle.aat_buffer.specs.Buffer.{glyph_at};
 ghost use Rattle.aat_buffer.specs.Clusters.{IsSmall};
 ghost use Rattle.aat_glyph.specs.Directions.{is_horizontal};
 ghost use Rattle.aat_run.specs.Switches.{meets};
-ghost use Rattle.aat_kerning.specs.PairKerning.{half, in_stream, kerned, pair_kerning, value_of};
+ghost use Rattle.aat_kerning.specs.PairKerning.{half, in_stream, kerned, pair_kerning};
 ghost use Rattle.aat_kerning.specs.Pairs.{is_solid};
 ghost use Rattle.aat_kerning_machines.specs.Positions.{IsPlaced, on_position, with_advance, with_attachment_flag, with_cross_offset, with_shift};
+ghost use Rattle.aat_kerning.specs.inside.Values.{values_of};
 ghost use Rattle.aat_kerning.specs.inside.Walk.{kerned_where, left_behind, pair_with};
 
+use crate::pair_values::{PairValues, value_of};
 use crate::solid::is_solid;
 use aat_buffer::{GlyphPosition, hb_buffer_t, hb_mask_t};
-use aat_font::{GlyphId, Pairs};
 use aat_kerning_machines::{meets, note_attachment};
 use std::alloc::Allocator;
 
 /// What kerning by the pairs of a subtable is given besides the line.
 #[derive(Clone, Copy)]
 pub(crate) struct PairRun<'a> {
-    /// The pairs with their values.
-    pub pairs: &'a Pairs,
+    /// The values of the pairs.
+    pub values: PairValues<'a>,
     /// The glyph properties that are skipped.
     pub skips: u16,
     /// The bits of a glyph's mask at which it is kerned.
     pub kern_mask: hb_mask_t,
     /// Whether the values are across the line.
     pub is_cross_stream: bool,
-}
-
-/// The kerning value of two glyphs, 0 where the table has none.
-fn value_of(pairs: &Pairs, left: u32, right: u32) -> i16
-    requires left_id { left ≤ 65535 }
-    requires right_id { right ≤ 65535 }
-    ensures { result ≡ value_of pairs.now left right }
-{
-    pairs
-        .glyphs_kerning(GlyphId(left as u16), GlyphId(right as u16))
-        .unwrap_or(0)
 }
 
 /// A position with a value more in its advance along the line.
@@ -156,11 +146,11 @@ fn kern_pair<A: Allocator + Copy>(
     requires in_line { right < length buffer.old.line }
     requires placed { IsPlaced buffer.old }
     ensures { buffer.new
-        ≡ kerned run.now.is_cross_stream run.now.pairs.now (record { left = left; right = right }) buffer.old }
+        ≡ kerned run.now.is_cross_stream (values_of run.now.values) (record { left = left; right = right }) buffer.old }
 {
     let _length = buffer.len();
     let value = value_of(
-        run.pairs,
+        run.values,
         buffer.info(left).glyph_id,
         buffer.info(right).glyph_id,
     );
@@ -189,7 +179,7 @@ fn kern_at<A: Allocator + Copy>(
     requires placed { IsPlaced buffer.old }
     ensures left { result ≡ left_behind (is_solid run.now.skips (glyph_at buffer.old.line place))
         (meets (glyph_at buffer.old.line place).mask run.now.kern_mask) place left }
-    ensures kerned { buffer.new ≡ kerned_where run.now.is_cross_stream run.now.pairs.now
+    ensures kerned { buffer.new ≡ kerned_where run.now.is_cross_stream (values_of run.now.values)
         (pair_with (is_solid run.now.skips (glyph_at buffer.old.line place))
         (meets (glyph_at buffer.old.line place).mask run.now.kern_mask) place left) buffer.old }
 {
@@ -216,7 +206,7 @@ pub(crate) fn kern_pairs<A: Allocator + Copy>(run: &PairRun, buffer: &mut hb_buf
     requires ids { IsSmall buffer.old }
     requires placed { IsPlaced buffer.old }
     ensures kerned { buffer.new
-        ≡ pair_kerning run.now.skips run.now.kern_mask run.now.is_cross_stream run.now.pairs.now buffer.old }
+        ≡ pair_kerning run.now.skips run.now.kern_mask run.now.is_cross_stream (values_of run.now.values) buffer.old }
     ensures ids { IsSmall buffer.new }
     ensures placed { IsPlaced buffer.new }
 {

@@ -3,9 +3,10 @@ ghost use Rattle.std.specs.Prelude.{◌≡◌, ◌&&◌, ◌||◌, if◌then◌e
 ghost use Rattle.aat_buffer.specs.Clusters.{IsSmall};
 ghost use Rattle.aat_glyph.specs.Directions.{is_backward, is_horizontal};
 ghost use Rattle.aat_kerning.specs.PairKerning.{pair_kerning};
-ghost use Rattle.aat_kerning.specs.Positioning.{cursively_attached, in_processing_order, line_marked};
+ghost use Rattle.aat_kerning.specs.Positioning.{cursively_attached, in_processing_order, line_marked, turned_round};
 ghost use Rattle.aat_kerning_machines.specs.Positions.{IsPlaced, attached_as};
 ghost use Rattle.aat_run.specs.Truth.{is_alike};
+ghost use Rattle.aat_kerning.specs.inside.Values.{values_of};
 
 use crate::pair_kerning::{PairRun, kern_pairs};
 use aat_buffer::{Direction, GlyphPosition, hb_buffer_t};
@@ -72,13 +73,20 @@ pub(crate) fn attach_once<A: Allocator + Copy>(
     }
 }
 
-/// Puts a line in processing order, or back: a backward one is reversed.
+/// Turns a line round, where asked.
+pub(crate) fn turn_round<A: Allocator + Copy>(is_asked: bool, buffer: &mut hb_buffer_t<A>)
+    ensures { buffer.new ≡ turned_round is_asked buffer.old }
+{
+    if is_asked {
+        buffer.reverse();
+    }
+}
+
+/// Puts a line in processing order, or back: a backward one is turned round.
 pub(crate) fn reorder<A: Allocator + Copy>(buffer: &mut hb_buffer_t<A>)
     ensures { buffer.new ≡ in_processing_order buffer.old }
 {
-    if buffer.direction().is_backward() {
-        buffer.reverse();
-    }
+    turn_round(buffer.direction().is_backward(), buffer);
 }
 
 /// Marks the whole line against joining, where a subtable asks for it.
@@ -104,7 +112,7 @@ pub(crate) fn kern_line<A: Allocator + Copy>(
     requires ids { IsSmall buffer.old }
     requires placed { IsPlaced buffer.old }
     ensures kerned { buffer.new
-        ≡ pair_kerning run.now.skips run.now.kern_mask run.now.is_cross_stream run.now.pairs.now
+        ≡ pair_kerning run.now.skips run.now.kern_mask run.now.is_cross_stream (values_of run.now.values)
         (line_marked marks_line buffer.old) }
     ensures ids { IsSmall buffer.new }
     ensures placed { IsPlaced buffer.new }

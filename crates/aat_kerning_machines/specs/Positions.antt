@@ -45,8 +45,9 @@ abbrev pub with_attachment_flag : Buffer → Buffer
 with_attachment_flag b = record b { scratch_flags = record { 0 = bit_or b.scratch_flags.0 0x08 } }
 
 -- the attach type (0 none, 1 a mark, 2 a cursive glyph), and the chain: how many places on the glyph stands that this
--- one is attached to. An anchor's chain is counted in processing order. A backward line is then turned back and the
--- chain is not, so there it points the other way. Where glyphs are removed later, chains stay as they are, so one may
--- lead to another glyph or past the line. (No chapter of the manual: both are the shaper's own.)
+-- one is attached to. An anchor's chain is counted in the order in which the machine takes the glyphs. A line that was
+-- turned round for it is then turned back and the chain is not, so there it points the other way. Where glyphs are
+-- removed later, chains stay as they are, so one may lead to another glyph or past the line. (No chapter of the manual:
+-- both are the shaper's own.)
 abbrev pub attached_as : ℕ → ℤ → GlyphPosition → GlyphPosition
 attached_as kind chain q = record q { attach_type = kind; attach_chain = chain }

@@ -15,7 +15,7 @@ pub fn meets(mask: hb_mask_t, kern_mask: hb_mask_t) -> bool
 }
 
 /// Notes in the buffer that glyphs are attached, with the scratch flag `HAS_GPOS_ATTACHMENT`. It tells that a glyph may
-/// have an attach chain, and not which way: in a backward line a machine counts an anchor's chain in processing order.
+/// have an attach chain, and not which way: a machine counts an anchor's chain in the order in which it takes the glyphs.
 pub fn note_attachment<A: Allocator + Copy>(buffer: &mut hb_buffer_t<A>)
     ensures { buffer.new ≡ with_attachment_flag buffer.old }
 {

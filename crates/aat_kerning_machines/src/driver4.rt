@@ -216,9 +216,9 @@ fn low_bits(number: i64) -> u16
 }
 
 /// Attaches the glyph at the cursor to the marked one as a mark, and notes in the buffer that glyphs are attached.
-/// The chain is counted in the order of the line as it stands, which is processing order. Whoever turns a backward line
-/// back afterwards leaves the chain as it is, so that it points the other way; and where glyphs are removed later, it
-/// may lead to another glyph or past the line.
+/// The chain is counted in the order of the line as it stands, which is that of the machine. Whoever turns the line back
+/// afterwards leaves the chain as it is, so that it points the other way; and where glyphs are removed later, it may
+/// lead to another glyph or past the line.
 fn attach_to_mark<A: Allocator + Copy>(mark: usize, buffer: &mut hb_buffer_t<A>)
     requires marked { mark < length buffer.old.line }
     requires inside { buffer.old.cursor < length buffer.old.line }

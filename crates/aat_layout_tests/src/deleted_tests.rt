@@ -1,5 +1,6 @@
 //! Deleted glyphs: the worked rows, what zeroing and removal leave as it was, and a long line.
 
+use crate::checks::{place_all, wanted};
 use aat_layout::buffer::{BufferError, GlyphPosition, hb_buffer_t, hb_glyph_info_t};
 use aat_layout::{
     DELETED_GLYPH, hb_aat_layout_remove_deleted_glyphs, hb_aat_layout_zero_width_deleted_glyphs,
@@ -76,17 +77,14 @@ fn positions_are(buffer: &hb_buffer_t, wanted: &[GlyphPosition]) -> bool {
     buffer.has_positions() && buffer.len() == wanted.len()
 }
 
-/// Gives each glyph this position.
-fn place_all(
+/// Gives each glyph this position, and takes the room of deleted glyphs away.
+fn zero_placed(
     rt: &impl Abort,
     buffer: &mut hb_buffer_t,
-    place: GlyphPosition,
+    position: GlyphPosition,
 ) -> Result<(), BufferError> {
-    buffer.clear_positions()?;
-    for i in 0..buffer.len() {
-        assert!(rt; buffer.has_positions() && i < buffer.len());
-        *buffer.pos_mut(i) = place;
-    }
+    place_all(rt, buffer, position)?;
+    hb_aat_layout_zero_width_deleted_glyphs(buffer);
     Ok(())
 }
 
@@ -94,11 +92,10 @@ fn place_all(
 fn row_19a(rt: HostRuntime) -> Result<(), Fail> {
     let line = [(5, 0), (65535, 1)];
     let mut buffer = line_of(rt.alloc(), &line)?;
-    place_all(&rt, &mut buffer, position(300, 0, 0, 0))?;
-    hb_aat_layout_zero_width_deleted_glyphs(&mut buffer);
-    let wanted = [position(300, 0, 0, 0), position(0, 0, 0, 0)];
-    assert!(rt; positions_are(&buffer, &wanted));
-    assert!(rt; line_is(&buffer, &line));
+    zero_placed(&rt, &mut buffer, position(300, 0, 0, 0))?;
+    let zeroed = [position(300, 0, 0, 0), position(0, 0, 0, 0)];
+    wanted(&rt, positions_are(&buffer, &zeroed), "positions");
+    wanted(&rt, line_is(&buffer, &line), "glyphs");
     Ok(())
 }
 
@@ -111,21 +108,27 @@ fn leaves_5_at_0(alloc: Global, glyphs: &[Glyph]) -> Result<bool, BufferError> {
 
 #[test]
 fn rows_19b_to_19d(rt: HostRuntime) -> Result<(), Fail> {
-    let (first, lower, higher) = (
-        [(65535, 0), (5, 1)],
-        [(5, 1), (65535, 0)],
-        [(5, 0), (65535, 1)],
-    );
-    for line in [first, lower, higher] {
-        assert!(rt; leaves_5_at_0(rt.alloc(), &line)?);
+    let rows: [(&str, [Glyph; 2]); 3] = [
+        ("row 19b", [(65535, 0), (5, 1)]),
+        ("row 19c", [(5, 1), (65535, 0)]),
+        ("row 19d", [(5, 0), (65535, 1)]),
+    ];
+    for (row, line) in rows {
+        let is_left = leaves_5_at_0(rt.alloc(), &line)?;
+        wanted(&rt, is_left, row);
     }
     Ok(())
+}
+
+/// Takes the room of deleted glyphs away, with the cursor at the end.
+fn zero_at_end(buffer: &mut hb_buffer_t) {
+    buffer.move_to(buffer.len());
+    hb_aat_layout_zero_width_deleted_glyphs(buffer);
 }
 
 /// What a deleted glyph is attached to stays, and so do the positions of all other glyphs.
 #[test]
 fn zeroing_keeps_attachments(rt: HostRuntime) -> Result<(), Fail> {
-    let mut buffer = line_of(rt.alloc(), &[(65534, 0), (65535, 1), (0, 2), (65535, 3)])?;
     let full = GlyphPosition {
         attach_type: 1,
         attach_chain: -1,
@@ -136,12 +139,21 @@ fn zeroing_keeps_attachments(rt: HostRuntime) -> Result<(), Fail> {
         attach_chain: -1,
         ..GlyphPosition::default()
     };
+    let mut buffer = line_of(rt.alloc(), &[(65534, 0), (65535, 1), (0, 2), (65535, 3)])?;
     place_all(&rt, &mut buffer, full)?;
-    buffer.move_to(buffer.len());
-    hb_aat_layout_zero_width_deleted_glyphs(&mut buffer);
-    assert!(rt; positions_are(&buffer, &[full, zeroed, full, zeroed]));
-    assert!(rt; buffer.backtrack_len() == 4 && buffer.is_successful());
+    zero_at_end(&mut buffer);
+    wanted(
+        &rt,
+        positions_are(&buffer, &[full, zeroed, full, zeroed]),
+        "positions",
+    );
+    wanted(&rt, is_successful_at(&buffer, 4), "the cursor at the end");
     Ok(())
+}
+
+/// Whether a buffer has not failed, and its cursor is at this place.
+fn is_successful_at(buffer: &hb_buffer_t, place: usize) -> bool {
+    buffer.backtrack_len() == place && buffer.is_successful()
 }
 
 /// A line without positions has nothing to zero.
@@ -150,7 +162,8 @@ fn nothing_to_zero(rt: HostRuntime) -> Result<(), Fail> {
     let line = [(5, 0), (65535, 1)];
     let mut bare = line_of(rt.alloc(), &line)?;
     hb_aat_layout_zero_width_deleted_glyphs(&mut bare);
-    assert!(rt; !bare.has_positions() && line_is(&bare, &line));
+    wanted(&rt, !bare.has_positions(), "no positions");
+    wanted(&rt, line_is(&bare, &line), "glyphs");
     Ok(())
 }
 
@@ -161,7 +174,15 @@ fn an_empty_line(rt: HostRuntime) -> Result<(), Fail> {
     empty.clear_positions()?;
     hb_aat_layout_zero_width_deleted_glyphs(&mut empty);
     hb_aat_layout_remove_deleted_glyphs(&mut empty);
-    assert!(rt; positions_are(&empty, &[]));
+    wanted(&rt, positions_are(&empty, &[]), "no glyph, and positions");
+    Ok(())
+}
+
+/// Gives each glyph a position, puts the cursor at the end, and takes the deleted glyphs out.
+fn remove_placed(rt: &impl Abort, buffer: &mut hb_buffer_t) -> Result<(), BufferError> {
+    place_all(rt, buffer, position(1, 2, 3, 4))?;
+    buffer.move_to(buffer.len());
+    hb_aat_layout_remove_deleted_glyphs(buffer);
     Ok(())
 }
 
@@ -169,22 +190,19 @@ fn an_empty_line(rt: HostRuntime) -> Result<(), Fail> {
 #[test]
 fn nothing_left(rt: HostRuntime) -> Result<(), Fail> {
     let mut deleted = line_of(rt.alloc(), &[(65535, 0), (65535, 1), (65535, 2)])?;
-    place_all(&rt, &mut deleted, position(1, 2, 3, 4))?;
-    deleted.move_to(deleted.len());
-    hb_aat_layout_remove_deleted_glyphs(&mut deleted);
-    assert!(rt; positions_are(&deleted, &[]) && deleted.backtrack_len() == 0);
+    remove_placed(&rt, &mut deleted)?;
+    wanted(&rt, positions_are(&deleted, &[]), "no glyph, and positions");
+    wanted(&rt, deleted.backtrack_len() == 0, "the cursor at the start");
     Ok(())
 }
 
-/// Ten thousand glyphs, of which every second one is deleted, with an advance of 7 and a falling cluster each.
-fn long_line(rt: &impl Abort, alloc: Global) -> Result<hb_buffer_t, BufferError> {
-    let mut buffer = hb_buffer_t::new(alloc, 16384, 16384);
+/// Adds ten thousand glyphs, of which every second one is deleted, with a falling cluster each.
+fn fill(buffer: &mut hb_buffer_t) -> Result<(), BufferError> {
     for i in 0..10_000u32 {
         let glyph_id = if i % 2 == 0 { i } else { DELETED_GLYPH };
         buffer.add(hb_glyph_info_t::new(glyph_id, 9_999 - i))?;
     }
-    place_all(rt, &mut buffer, position(7, 0, 0, 0))?;
-    Ok(buffer)
+    Ok(())
 }
 
 /// Whether each second one of ten thousand glyphs has lost its advance of 7.
@@ -210,13 +228,20 @@ fn is_halved(buffer: &hb_buffer_t) -> bool {
     buffer.len() == 5_000 && buffer.has_positions()
 }
 
+/// Ends the test where the calls leave something else of a long line whose glyphs have an advance of 7.
+fn check_long_line(rt: &impl Abort, buffer: &mut hb_buffer_t) -> Result<(), BufferError> {
+    fill(buffer)?;
+    zero_placed(rt, buffer, position(7, 0, 0, 0))?;
+    wanted(rt, is_zeroed(buffer), "each second advance of 0");
+    hb_aat_layout_remove_deleted_glyphs(buffer);
+    wanted(rt, is_halved(buffer), "each second glyph");
+    Ok(())
+}
+
 /// A long line in which every second glyph is deleted. A call that is quadratic does not end in time.
 #[test]
 fn ten_thousand_glyphs(rt: HostRuntime) -> Result<(), Fail> {
-    let mut buffer = long_line(&rt, rt.alloc())?;
-    hb_aat_layout_zero_width_deleted_glyphs(&mut buffer);
-    assert!(rt; is_zeroed(&buffer));
-    hb_aat_layout_remove_deleted_glyphs(&mut buffer);
-    assert!(rt; is_halved(&buffer));
+    let mut buffer = line_of(rt.alloc(), &[])?;
+    check_long_line(&rt, &mut buffer)?;
     Ok(())
 }

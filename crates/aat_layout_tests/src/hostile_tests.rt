@@ -19,6 +19,7 @@ use lines::{line, place};
 use numbers::Numbers;
 use plans::plan;
 use std::alloc::Global;
+use std::process::Abort;
 use std::test::Fail;
 
 /// The seed of all cases.
@@ -74,28 +75,70 @@ fn run(alloc: Global, case: u64) -> Result<Result<Outcome, Fault>, Fail> {
     shaped(alloc, &mut numbers, &plan, &font)
 }
 
+/// How often each outcome came.
+#[derive(Clone, Copy)]
+struct Counts {
+    kept: u32,
+    grown: u32,
+    too_long: u32,
+    too_large: u32,
+}
+
+impl Counts {
+    /// Counts an outcome.
+    fn add(&mut self, outcome: Outcome) {
+        match outcome {
+            Outcome::Kept => self.kept = self.kept.saturating_add(1),
+            Outcome::Grown => self.grown = self.grown.saturating_add(1),
+            Outcome::TooLong => self.too_long = self.too_long.saturating_add(1),
+            Outcome::TooLarge => self.too_large = self.too_large.saturating_add(1),
+        }
+    }
+
+    /// Whether each outcome came a hundred times.
+    fn are_many(&self) -> bool {
+        self.kept >= 100 && self.grown >= 100 && self.too_long >= 100 && self.too_large >= 100
+    }
+}
+
+/// Ends the test at a case that breaks a bound, and tells which.
+fn broken(rt: &impl Abort, case: u64, fault: Fault) {
+    assert!(rt; false, "case {case} of seed {SEED}: {fault}");
+}
+
+/// Runs all cases, and answers how often each outcome came.
+fn counts_of_cases(rt: &impl Abort, alloc: Global) -> Result<Counts, Fail> {
+    let mut counts = Counts {
+        kept: 0,
+        grown: 0,
+        too_long: 0,
+        too_large: 0,
+    };
+    for case in 0..CASES {
+        match run(alloc, case)? {
+            Ok(outcome) => counts.add(outcome),
+            Err(fault) => broken(rt, case, fault),
+        }
+    }
+    Ok(counts)
+}
+
+/// Ends the test where an outcome came too seldom, and tells how often each came.
+fn check_counts(rt: &impl Abort, counts: Counts) {
+    assert!(rt;
+        counts.are_many(),
+        "{} kept, {} grown, {} too long, {} too large",
+        counts.kept,
+        counts.grown,
+        counts.too_long,
+        counts.too_large
+    );
+}
+
 /// Every case keeps the bounds, and each outcome comes often.
 #[test]
 fn hostile_cases_keep_the_bounds(rt: HostRuntime) -> Result<(), Fail> {
-    let mut counts = [0u32; 4];
-    for case in 0..CASES {
-        match run(rt.alloc(), case)? {
-            Ok(Outcome::Kept) => counts[0] = counts[0].saturating_add(1),
-            Ok(Outcome::Grown) => counts[1] = counts[1].saturating_add(1),
-            Ok(Outcome::TooLong) => counts[2] = counts[2].saturating_add(1),
-            Ok(Outcome::TooLarge) => counts[3] = counts[3].saturating_add(1),
-            Err(fault) => assert!(rt; false, "case {case} of seed {SEED}: {fault}"),
-        }
-    }
-    for count in counts {
-        assert!(rt;
-            count >= 100,
-            "{} {} {} {}",
-            counts[0],
-            counts[1],
-            counts[2],
-            counts[3]
-        );
-    }
+    let counts = counts_of_cases(&rt, rt.alloc())?;
+    check_counts(&rt, counts);
     Ok(())
 }

@@ -1,5 +1,6 @@
 //! The calls of kerning, the lines that tests kern, and what they compare.
 
+use crate::checks::place_all;
 use aat_layout::buffer::{BufferError, Direction, GlyphPosition, hb_buffer_t, hb_glyph_info_t};
 use aat_layout::font::{hb_font_t, hb_ot_shape_plan_t};
 use aat_layout::{AatError, hb_aat_layout_position, hb_ot_layout_kern};
@@ -24,6 +25,16 @@ pub(crate) enum Call {
 
 pub(crate) const CALLS: [Call; 2] = [Call::Kern, Call::Position];
 
+impl Call {
+    /// What the call does, by its table.
+    pub(crate) fn name(self) -> &'static str {
+        match self {
+            Call::Kern => "kerning by `kern`",
+            Call::Position => "kerning by `kerx`",
+        }
+    }
+}
+
 /// A position with these advances and these offsets, each in x and in y.
 pub(crate) fn position(advance: i32, offset: i32) -> GlyphPosition {
     GlyphPosition {
@@ -44,6 +55,14 @@ fn plan_of(alloc: Global, requested_kerning: bool) -> hb_ot_shape_plan_t {
     }
 }
 
+/// A line before it is kerned: its direction, its glyphs, and the position of each.
+#[derive(Clone, Copy)]
+pub(crate) struct Line<'a> {
+    pub(crate) direction: Direction,
+    pub(crate) glyphs: &'a [Glyph],
+    pub(crate) place: GlyphPosition,
+}
+
 /// A line of glyphs that ask for kerning, without positions.
 pub(crate) fn line_of(
     alloc: Global,
@@ -62,34 +81,33 @@ pub(crate) fn line_of(
     Ok(buffer)
 }
 
-/// Gives each glyph this position.
-pub(crate) fn place_all(
-    rt: &impl Abort,
-    buffer: &mut hb_buffer_t,
-    place: GlyphPosition,
-) -> Result<(), BufferError> {
-    buffer.clear_positions()?;
-    for i in 0..buffer.len() {
-        assert!(rt; buffer.has_positions() && i < buffer.len());
-        *buffer.pos_mut(i) = place;
-    }
-    Ok(())
-}
-
-/// A line of glyphs that ask for kerning, each with this position.
+/// A line of glyphs that ask for kerning, with their positions.
 pub(crate) fn placed_line(
     rt: &impl Abort,
     alloc: Global,
-    direction: Direction,
-    glyphs: &[Glyph],
-    place: GlyphPosition,
+    line: Line,
 ) -> Result<hb_buffer_t, BufferError> {
-    let mut buffer = line_of(alloc, direction, glyphs)?;
-    place_all(rt, &mut buffer, place)?;
+    let mut buffer = line_of(alloc, line.direction, line.glyphs)?;
+    place_all(rt, &mut buffer, line.place)?;
     Ok(buffer)
 }
 
-/// Kerns by a call, where its conditions hold.
+/// Kerns by a call and a plan.
+fn kern_as_planned(
+    rt: &impl Abort,
+    call: Call,
+    plan: &hb_ot_shape_plan_t,
+    font: &hb_font_t,
+    buffer: &mut hb_buffer_t,
+) -> Result<u64, AatError> {
+    assert!(rt; buffer.all_glyphs_16() && buffer.has_positions());
+    match call {
+        Call::Kern => hb_ot_layout_kern(plan, font, buffer),
+        Call::Position => hb_aat_layout_position(plan, font, buffer),
+    }
+}
+
+/// Kerns by a call, where kerning is requested or not.
 pub(crate) fn kern_by(
     rt: &impl Abort,
     alloc: Global,
@@ -98,12 +116,8 @@ pub(crate) fn kern_by(
     font: &hb_font_t,
     buffer: &mut hb_buffer_t,
 ) -> Result<u64, AatError> {
-    assert!(rt; buffer.all_glyphs_16() && buffer.has_positions());
     let plan = plan_of(alloc, requested);
-    match call {
-        Call::Kern => hb_ot_layout_kern(&plan, font, buffer),
-        Call::Position => hb_aat_layout_position(&plan, font, buffer),
-    }
+    kern_as_planned(rt, call, &plan, font, buffer)
 }
 
 /// The glyph at a place, where positions stand.

@@ -1,195 +1,22 @@
 //! Machines that kern, by what both calls leave of lines: stacks and their values, anchors, marks, numbers at their
 //! ends, and long lines.
 
-use crate::kerning::{
-    ASKS, Call, Glyph, Seen, attached_at, kern_by, line_is, line_of, place_all, position, seen_at,
+use crate::checks::{wanted, wanted_at};
+use crate::kerning::{ASKS, Glyph, Seen, attached_at, line_is, line_of, seen_at};
+use crate::kerning_machines::{
+    KINDS, Kind, Machine, NONE, PUSH, Rule, STAYS, kern_with, kerned, machine_of,
 };
 use aat_layout::buffer::{Direction, ScratchFlags, hb_buffer_t, hb_glyph_info_t};
-use aat_layout::font::{
-    Ankr, EntryData, ExtendedStateTable, FaceTables, GenericStateEntry, Kern, KernEntryData,
-    KernKind, KernMachine, KernSubtable, Kerx, KerxFormat, KerxSubtable, Point, Subtable1,
-    Subtable4, hb_font_t,
-};
-use std::alloc::Global;
+use std::alloc::{AllocError, Global};
 use std::process::Abort;
 use std::test::Fail;
-
-/// No value, and no pair of indexes of points.
-const NONE: u16 = 0xFFFF;
-
-/// The bit of an entry that puts its place on the stack, or marks it.
-const PUSH: u16 = 0x8000;
-
-/// The bit of an entry that does not go on to the next glyph.
-const STAYS: u16 = 0x4000;
 
 /// The budget of a line, if a test gives no other.
 const BUDGET: i32 = 16384;
 
-/// The glyphs with their classes, where 6 is the number of classes. All others are of class 1, but for 65535, which is
-/// of class 2.
-const CLASSES: [(u16, u16); 4] = [(0, 4), (1, 4), (2, 5), (3, 65535)];
-
-/// The pairs of indexes of points: of the marked glyph and of the current one.
-const PAIRS: [(u16, u16); 4] = [(0, 0), (0, 9), (65535, 0), (0, 1)];
-
-/// The machines of kerning: that of `kern`, that of `kerx` with a stack, and that with anchors.
-#[derive(Clone, Copy)]
-enum Kind {
-    Kern,
-    Stack,
-    Anchors,
-}
-
-const KINDS: [Kind; 3] = [Kind::Kern, Kind::Stack, Kind::Anchors];
-
-/// An entry: its state, its class, the state that follows, its flags, and the index that it names.
-type Rule = (u16, u16, u16, u16, u16);
-
-/// A machine for text of one direction.
-#[derive(Clone, Copy)]
-struct Machine<'a> {
-    kind: Kind,
-    direction: Direction,
-    is_across: bool,
-    tuple_count: u32,
-    rules: &'a [Rule],
-    values: &'a [i16],
-    has_points: bool,
-}
-
-/// A machine along lines from left to right, whose font has anchor points.
-fn machine_of<'a>(kind: Kind, rules: &'a [Rule], values: &'a [i16]) -> Machine<'a> {
-    Machine {
-        kind,
-        direction: Direction::LeftToRight,
-        is_across: false,
-        tuple_count: 0,
-        rules,
-        values,
-        has_points: true,
-    }
-}
-
-/// The state table of a `kern` machine.
-fn kern_table(alloc: Global, listed: &[Rule]) -> Result<ExtendedStateTable<KernEntryData>, Fail> {
-    let mut rules = Vec::new(alloc);
-    for (state, class, new_state, flags, index) in listed {
-        let entry = GenericStateEntry {
-            new_state: *new_state,
-            flags: *flags,
-            extra: KernEntryData {
-                value_index: *index,
-            },
-        };
-        rules.push((*state, *class, entry))?;
-    }
-    Ok(ExtendedStateTable::new(alloc, 6, &CLASSES, &rules)?)
-}
-
-/// The state table of a `kerx` machine.
-fn kerx_table(alloc: Global, listed: &[Rule]) -> Result<ExtendedStateTable<EntryData>, Fail> {
-    let mut rules = Vec::new(alloc);
-    for (state, class, new_state, flags, index) in listed {
-        let entry = GenericStateEntry {
-            new_state: *new_state,
-            flags: *flags,
-            extra: EntryData {
-                action_index: *index,
-            },
-        };
-        rules.push((*state, *class, entry))?;
-    }
-    Ok(ExtendedStateTable::new(alloc, 6, &CLASSES, &rules)?)
-}
-
-/// A `kern` table of a machine.
-fn kern_of(alloc: Global, machine: &Machine) -> Result<Kern, Fail> {
-    let kind = KernKind::Machine(KernMachine {
-        state_table: kern_table(alloc, machine.rules)?,
-        values: Vec::from_slice(alloc, machine.values)?,
-    });
-    let subtable = KernSubtable {
-        has_cross_stream: machine.is_across,
-        ..KernSubtable::new(kind, machine.direction.is_horizontal())
-    };
-    Ok(Kern::new(vec![in alloc; subtable]?)?)
-}
-
-/// How a `kerx` machine kerns.
-fn format_of(alloc: Global, machine: &Machine) -> Result<KerxFormat, Fail> {
-    let state_table = kerx_table(alloc, machine.rules)?;
-    Ok(match machine.kind {
-        Kind::Anchors => KerxFormat::Format4(Subtable4 {
-            state_table,
-            anchor_points: Vec::from_slice(alloc, &PAIRS)?,
-        }),
-        _ => KerxFormat::Format1(Subtable1 {
-            state_table,
-            values: Vec::from_slice(alloc, machine.values)?,
-        }),
-    })
-}
-
-/// A `kerx` table of a machine.
-fn kerx_of(alloc: Global, machine: &Machine) -> Result<Kerx, Fail> {
-    let subtable = KerxSubtable {
-        has_cross_stream: machine.is_across,
-        tuple_count: machine.tuple_count,
-        ..KerxSubtable::new(
-            format_of(alloc, machine)?,
-            machine.direction.is_horizontal(),
-        )
-    };
-    Ok(Kerx::new(vec![in alloc; subtable]?)?)
-}
-
-/// The anchor points of the glyphs 0, 1, 2 and 65535.
-fn ankr_of(alloc: Global) -> Result<Ankr, Fail> {
-    let first = Point { x: 100, y: 200 };
-    let second = Point { x: 30, y: -50 };
-    let farthest = Point {
-        x: -32768,
-        y: 32767,
-    };
-    Ok(Ankr::new(vec![in alloc;
-        (0, vec![in alloc; first]?),
-        (1, vec![in alloc; first, second]?),
-        (2, vec![in alloc; second]?),
-        (65535, vec![in alloc; farthest]?),
-    ]?)?)
-}
-
-/// A font of a machine.
-fn font_of(alloc: Global, machine: &Machine) -> Result<hb_font_t, Fail> {
-    let tables = FaceTables::default();
-    let tables = match machine.kind {
-        Kind::Kern => tables.with_kern(kern_of(alloc, machine)?),
-        _ => tables.with_kerx(kerx_of(alloc, machine)?),
-    };
-    Ok(hb_font_t::from_tables(if machine.has_points {
-        tables.with_ankr(ankr_of(alloc)?)
-    } else {
-        tables
-    }))
-}
-
-/// Kerns a line by a machine, whose glyphs begin 500 units wide and high, with these offsets in x and y.
-fn kern_with(
-    rt: &impl Abort,
-    alloc: Global,
-    machine: &Machine,
-    is_requested: bool,
-    offset: i32,
-    buffer: &mut hb_buffer_t,
-) -> Result<u64, Fail> {
-    let font = font_of(alloc, machine)?;
-    place_all(rt, buffer, position(500, offset))?;
-    let call = match machine.kind {
-        Kind::Kern => Call::Kern,
-        _ => Call::Position,
-    };
-    Ok(kern_by(rt, alloc, call, is_requested, &font, buffer)?)
+/// Whether so many turns were taken, and so much of the budget is left.
+fn is_ended(buffer: &hb_buffer_t, turns: u64, (wanted, left): (u64, i32)) -> bool {
+    turns == wanted && buffer.max_ops() == left
 }
 
 /// The glyphs 1 and 2.
@@ -249,31 +76,47 @@ const ALONG: [(Along, [Seen; 2]); 5] = [
 /// offset stands. The machine looks ahead to the end of the text, whose entry marks the glyph behind.
 #[test]
 fn values_along_the_line(rt: HostRuntime) -> Result<(), Fail> {
-    for (line, wanted) in ALONG {
-        assert_along(&rt, rt.alloc(), line, &wanted)?;
+    for (line, left) in ALONG {
+        check_along(&rt, rt.alloc(), line, &left)?;
     }
     Ok(())
 }
 
-/// Asserts what both machines with a stack leave of the glyphs 1 and 2, where kerning is requested and where not.
-fn assert_along(rt: &impl Abort, alloc: Global, line: Along, wanted: &[Seen]) -> Result<(), Fail> {
+/// The machines with a stack, and whether kerning is requested.
+const REQUESTED: [(Kind, bool); 4] = [
+    (Kind::Kern, false),
+    (Kind::Kern, true),
+    (Kind::Stack, false),
+    (Kind::Stack, true),
+];
+
+/// Ends the test where a machine with a stack leaves other glyphs of the glyphs 1 and 2, where kerning is requested or
+/// not.
+fn check_along(rt: &impl Abort, alloc: Global, line: Along, left: &[Seen]) -> Result<(), Fail> {
     let (direction, rules, values, offset) = line;
-    for (kind, is_requested) in [
-        (Kind::Kern, false),
-        (Kind::Kern, true),
-        (Kind::Stack, false),
-        (Kind::Stack, true),
-    ] {
+    for (kind, is_requested) in REQUESTED {
         let machine = Machine {
             direction,
             ..machine_of(kind, rules, &values)
         };
-        let mut buffer = line_of(alloc, direction, TWO)?;
-        let turns = kern_with(rt, alloc, &machine, is_requested, offset, &mut buffer)?;
-        assert!(rt; turns == 3 && buffer.max_ops() == BUDGET - 2);
-        assert!(rt; line_is(&buffer, wanted));
+        let is_left = leaves_along(rt, alloc, &machine, is_requested, offset, left)?;
+        wanted(rt, is_left, kind.name());
     }
     Ok(())
+}
+
+/// Whether a machine leaves these glyphs of the glyphs 1 and 2.
+fn leaves_along(
+    rt: &impl Abort,
+    alloc: Global,
+    machine: &Machine,
+    is_requested: bool,
+    offset: i32,
+    left: &[Seen],
+) -> Result<bool, Fail> {
+    let mut buffer = line_of(alloc, machine.direction, TWO)?;
+    let turns = kern_with(rt, alloc, machine, is_requested, offset, &mut buffer)?;
+    Ok(is_ended(&buffer, turns, (3, BUDGET - 2)) && line_is(&buffer, left))
 }
 
 /// What is left of a glyph across a line: its offsets in x and y, its attach type and its chain.
@@ -284,6 +127,21 @@ fn left_at(buffer: &hb_buffer_t, place: usize) -> Option<Left> {
     let (attach_type, chain) = attached_at(buffer, place)?;
     let (_, _, _, _, x_offset, y_offset) = seen_at(buffer, place)?;
     Some((x_offset, y_offset, attach_type, chain))
+}
+
+/// Whether this is left of the glyphs.
+fn are_left(buffer: &hb_buffer_t, wanted: &[Left]) -> bool {
+    for (place, left) in wanted.iter().enumerate() {
+        if left_at(buffer, place) != Some(*left) {
+            return false;
+        }
+    }
+    true
+}
+
+/// Whether the buffer notes attachments.
+fn is_noted(buffer: &hb_buffer_t) -> bool {
+    buffer.scratch_flags() == ScratchFlags::HAS_GPOS_ATTACHMENT
 }
 
 /// A line that is kerned across it: its direction, the entries and the values.
@@ -322,19 +180,19 @@ const ACROSS: [(Across, [Left; 2], bool); 5] = [
 /// attachment and the offset away. No other value is added to a glyph that is not attached.
 #[test]
 fn values_across_the_line(rt: HostRuntime) -> Result<(), Fail> {
-    for (line, wanted, is_noted) in ACROSS {
-        assert_across(&rt, rt.alloc(), line, wanted, is_noted)?;
+    for (line, left, has_note) in ACROSS {
+        check_across(&rt, rt.alloc(), line, left, has_note)?;
     }
     Ok(())
 }
 
-/// Asserts what both machines with a stack leave of the glyphs 1 and 2.
-fn assert_across(
+/// Ends the test where a machine with a stack leaves something else of the glyphs 1 and 2.
+fn check_across(
     rt: &impl Abort,
     alloc: Global,
     line: Across,
-    wanted: [Left; 2],
-    is_noted: bool,
+    left: [Left; 2],
+    has_note: bool,
 ) -> Result<(), Fail> {
     let (direction, rules, values) = line;
     for kind in [Kind::Kern, Kind::Stack] {
@@ -343,22 +201,16 @@ fn assert_across(
             is_across: true,
             ..machine_of(kind, rules, &values)
         };
-        let mut buffer = line_of(alloc, direction, TWO)?;
-        kern_with(rt, alloc, &machine, true, 3, &mut buffer)?;
-        let left = (left_at(&buffer, 0), left_at(&buffer, 1));
-        assert!(rt; left == (Some(wanted[0]), Some(wanted[1])));
-        let is_set = buffer.scratch_flags() == ScratchFlags::HAS_GPOS_ATTACHMENT;
-        assert!(rt; is_set == is_noted);
+        let (buffer, _) = kerned(rt, alloc, &machine, 3, TWO)?;
+        wanted(rt, are_left(&buffer, &left), kind.name());
+        wanted(rt, is_noted(&buffer) == has_note, "a note of attachments");
     }
     Ok(())
 }
 
 /// As many values as 16 bits can number, and one more: 8 at 65535, and 4 at each other place.
-fn many_values(alloc: Global) -> Result<Vec<i16>, Fail> {
-    let mut values = Vec::new(alloc);
-    for _ in 0..65535u32 {
-        values.push(4)?;
-    }
+fn many_values(alloc: Global) -> Result<Vec<i16>, AllocError> {
+    let mut values = vec![in alloc; 4; 65535]?;
     values.push(8)?;
     Ok(values)
 }
@@ -373,10 +225,13 @@ fn widths_of(buffer: &hb_buffer_t) -> Option<[i32; 3]> {
     Some([first.2, second.2, third.2])
 }
 
-/// Lists of values that begin at an index, for three places: the kind, the tuple count, the index, and what widths are
-/// left. `kerx` takes no value whose next index is above 65535, and `kern` takes 0 for a missing one. The index 65535
+/// A list of values that begins at an index, for three places: the kind, the tuple count, the index, and what widths are
+/// left.
+type List = (Kind, u32, u16, [i32; 3]);
+
+/// Lists with indexes and counts at their ends. `kerx` takes no value whose next index is above 65535, and `kern` takes 0 for a missing one. The index 65535
 /// names none.
-const LISTS: [(Kind, u32, u16, [i32; 3]); 9] = [
+const LISTS: [List; 9] = [
     (Kind::Kern, 0, 65534, [500, 508, 504]),
     (Kind::Kern, 0, 65535, [500, 500, 500]),
     (Kind::Stack, 0, 65534, [500, 500, 504]),
@@ -390,29 +245,38 @@ const LISTS: [(Kind, u32, u16, [i32; 3]); 9] = [
 
 #[test]
 fn indexes_at_their_ends(rt: HostRuntime) -> Result<(), Fail> {
-    let alloc = rt.alloc();
-    let values = many_values(alloc)?;
-    for (kind, tuple_count, index, wanted) in LISTS {
-        let rules = [
-            (0, 0, 0, 0, NONE),
-            (0, 4, 0, PUSH, NONE),
-            (0, 5, 0, PUSH, index),
-        ];
-        let machine = Machine {
-            tuple_count,
-            ..machine_of(kind, &rules, &values)
-        };
-        let mut buffer = line_of(alloc, Direction::LeftToRight, &[(1, 0), (1, 1), (2, 2)])?;
-        let turns = kern_with(&rt, alloc, &machine, true, 0, &mut buffer)?;
-        assert!(rt; turns == 4 && widths_of(&buffer) == Some(wanted));
+    let values = many_values(rt.alloc())?;
+    for list in LISTS {
+        check_list(&rt, rt.alloc(), &values, list)?;
     }
     Ok(())
 }
 
+/// Ends the test where a list of these values leaves other widths.
+fn check_list(rt: &impl Abort, alloc: Global, values: &[i16], list: List) -> Result<(), Fail> {
+    let (kind, tuple_count, index, widths) = list;
+    let rules = [
+        (0, 0, 0, 0, NONE),
+        (0, 4, 0, PUSH, NONE),
+        (0, 5, 0, PUSH, index),
+    ];
+    let machine = Machine {
+        tuple_count,
+        ..machine_of(kind, &rules, values)
+    };
+    let (buffer, turns) = kerned(rt, alloc, &machine, 0, &[(1, 0), (1, 1), (2, 2)])?;
+    let is_left = turns == 4 && widths_of(&buffer) == Some(widths);
+    wanted_at(rt, index as usize, is_left, kind.name());
+    Ok(())
+}
+
 /// What anchors leave of the glyphs 2 and 65535 behind a marked one, where the font has points or not, and the entry of
-/// the glyph 2 has these flags and names this pair. A missing pair ends the act before the mark, and a missing point is
+/// the glyph 2 has these flags and names this pair.
+type Attaching = (bool, u16, u16, [Left; 2]);
+
+/// Pairs and points that are there or missing. A missing pair ends the act before the mark, and a missing point is
 /// (0, 0). Without points the offsets stay, which begin at 3.
-const ATTACHED: [(bool, u16, u16, [Left; 2]); 8] = [
+const ATTACHED: [Attaching; 8] = [
     (true, 0, 0, [(70, 250, 1, -1), (32868, -32567, 1, -2)]),
     (true, PUSH, 0, [(70, 250, 1, -1), (32798, -32817, 1, -1)]),
     (true, 0, 1, [(100, 200, 1, -1), (32868, -32567, 1, -2)]),
@@ -425,22 +289,16 @@ const ATTACHED: [(bool, u16, u16, [Left; 2]); 8] = [
 
 #[test]
 fn attachments_to_marks(rt: HostRuntime) -> Result<(), Fail> {
-    for (has_points, flags, index, wanted) in ATTACHED {
-        assert_attached(&rt, rt.alloc(), has_points, flags, index, wanted)?;
+    for attaching in ATTACHED {
+        check_attached(&rt, rt.alloc(), attaching)?;
     }
     Ok(())
 }
 
-/// Asserts what anchors leave of the glyphs 2 and 65535 behind the glyph 1. The entry of that one marks it and names a
-/// pair, which does nothing where no mark is set.
-fn assert_attached(
-    rt: &impl Abort,
-    alloc: Global,
-    has_points: bool,
-    flags: u16,
-    index: u16,
-    wanted: [Left; 2],
-) -> Result<(), Fail> {
+/// Ends the test where anchors leave something else of the glyphs 2 and 65535 behind the glyph 1. The entry of that one
+/// marks it and names a pair, which does nothing where no mark is set.
+fn check_attached(rt: &impl Abort, alloc: Global, attaching: Attaching) -> Result<(), Fail> {
+    let (has_points, flags, index, [second, third]) = attaching;
     let rules = [
         (0, 0, 0, 0, NONE),
         (0, 2, 0, 0, 0),
@@ -452,13 +310,110 @@ fn assert_attached(
         ..machine_of(Kind::Anchors, &rules, &[])
     };
     let glyphs = [(1, 0), (2, 1), (65535, 2)];
-    let mut buffer = line_of(alloc, Direction::LeftToRight, &glyphs)?;
-    let turns = kern_with(rt, alloc, &machine, true, 3, &mut buffer)?;
-    assert!(rt; turns == 4 && buffer.max_ops() == BUDGET - 3);
-    assert!(rt; left_at(&buffer, 0) == Some((3, 3, 0, 0)));
-    let left = (left_at(&buffer, 1), left_at(&buffer, 2));
-    assert!(rt; left == (Some(wanted[0]), Some(wanted[1])));
-    assert!(rt; buffer.scratch_flags() == ScratchFlags::HAS_GPOS_ATTACHMENT);
+    let (buffer, turns) = kerned(rt, alloc, &machine, 3, &glyphs)?;
+    let is_left = are_left(&buffer, &[(3, 3, 0, 0), second, third]);
+    wanted_at(rt, index as usize, is_left, "what is left by the pair");
+    wanted(rt, is_ended(&buffer, turns, (4, BUDGET - 3)), "turns");
+    wanted(rt, is_noted(&buffer), "a note of attachments");
+    Ok(())
+}
+
+/// The glyph 1 is put on the stack or marked. The glyph 2 behind it takes values for both, or is attached to it.
+const BEHIND: [Rule; 4] = [
+    (0, 0, 0, 0, NONE),
+    (0, 4, 1, PUSH, NONE),
+    (1, 0, 0, 0, NONE),
+    (1, 5, 0, PUSH, 0),
+];
+
+/// What values and anchors leave of the glyphs 1, 2 and 1 where a machine takes them from the first on.
+const FROM_FIRST: [(Kind, [Seen; 3]); 2] = [
+    (
+        Kind::Stack,
+        [
+            (1, 0, 510, 500, 10, 0),
+            (2, 3, 520, 500, 20, 0),
+            (1, 0, 500, 500, 0, 0),
+        ],
+    ),
+    (
+        Kind::Anchors,
+        [
+            (1, 0, 500, 500, 0, 0),
+            (2, 3, 500, 500, 70, 250),
+            (1, 0, 500, 500, 0, 0),
+        ],
+    ),
+];
+
+/// The same where it takes them from the last on: of the two glyphs that are marked the last one has the greater
+/// cluster.
+const FROM_LAST: [(Kind, [Seen; 3]); 2] = [
+    (
+        Kind::Stack,
+        [
+            (1, 0, 500, 500, 0, 0),
+            (2, 0, 520, 500, 20, 0),
+            (1, 3, 510, 500, 10, 0),
+        ],
+    ),
+    (
+        Kind::Anchors,
+        [
+            (1, 0, 500, 500, 0, 0),
+            (2, 0, 500, 500, 70, 250),
+            (1, 3, 500, 500, 0, 0),
+        ],
+    ),
+];
+
+/// Machines of both orders, in both directions. A line is taken from its last glyph on where the machine is from last
+/// to first or the text is backward, and not both.
+#[test]
+fn machines_from_last_to_first(rt: HostRuntime) -> Result<(), Fail> {
+    for (direction, is_last_to_first, wanted) in [
+        (Direction::LeftToRight, false, FROM_FIRST),
+        (Direction::LeftToRight, true, FROM_LAST),
+        (Direction::RightToLeft, false, FROM_LAST),
+        (Direction::RightToLeft, true, FROM_FIRST),
+    ] {
+        for (kind, left) in wanted {
+            let machine = Machine {
+                direction,
+                is_last_to_first,
+                ..machine_of(kind, &BEHIND, &[20, 11])
+            };
+            check_three(&rt, rt.alloc(), &machine, &left)?;
+        }
+    }
+    Ok(())
+}
+
+/// The type and the chain by which the glyph 2 is attached. The chain is counted in the order in which the machine takes
+/// the glyphs.
+fn attached_by(kind: Kind) -> (u8, i16) {
+    match kind {
+        Kind::Anchors => (1, -1),
+        _ => (0, 0),
+    }
+}
+
+/// Ends the test where a machine leaves other glyphs of the glyphs 1, 2 and 1.
+fn check_three(
+    rt: &impl Abort,
+    alloc: Global,
+    machine: &Machine,
+    left: &[Seen],
+) -> Result<(), Fail> {
+    let (buffer, turns) = kerned(rt, alloc, machine, 0, &[(1, 0), (2, 1), (1, 2)])?;
+    wanted(rt, is_ended(&buffer, turns, (4, BUDGET - 3)), "turns");
+    wanted(rt, line_is(&buffer, left), machine.kind.name());
+    let attached = Some(attached_by(machine.kind));
+    wanted(
+        rt,
+        attached_at(&buffer, 1) == attached,
+        "attachment of the glyph 2",
+    );
     Ok(())
 }
 
@@ -488,11 +443,14 @@ const TO_0: Rule = (0, 4, 0, PUSH, NONE);
 /// The entry of the glyph 1 that goes to state 1.
 const TO_1: Rule = (0, 4, 1, PUSH, NONE);
 
-/// Entries and glyphs, and the flags, the turns and the budget that are left. The entry of the glyph 2 marks it in a
+/// Entries and glyphs, and the flags, the turns and the budget that are left.
+type Marked = (&'static [Rule], &'static [Glyph], &'static [u32], u64, i32);
+
+/// Entries that mark glyphs, and others that do not. The entry of the glyph 2 marks it in a
 /// state that is not 0, where it is actionable, goes to a state that is not 0, or goes on to the next glyph. With two
 /// glyphs or more to go, an actionable entry at the end of the text marks the glyph behind, and a missing one ends the
 /// run. The last turn takes no operation.
-const MARKED: [(&[Rule], &[Glyph], &[u32], u64, i32); 10] = [
+const MARKED: [Marked; 10] = [
     (&[IDLE, TO_0, (0, 5, 0, 0, 0)], TWO, &[0, 0], 3, 16382),
     (&[IDLE, TO_0, (0, 5, 2, 0, 0)], TWO, &[0, 0], 3, 16382),
     (
@@ -525,26 +483,20 @@ const MARKED: [(&[Rule], &[Glyph], &[u32], u64, i32); 10] = [
 
 #[test]
 fn marks_of_machines(rt: HostRuntime) -> Result<(), Fail> {
-    for (rules, glyphs, flags, turns, left) in MARKED {
-        assert_marked(&rt, rt.alloc(), rules, glyphs, flags, (turns, left))?;
+    for (case, marked) in MARKED.iter().enumerate() {
+        check_marked(&rt, rt.alloc(), case, marked)?;
     }
     Ok(())
 }
 
-/// Asserts the flags of the glyphs, the turns and the budget, by each machine.
-fn assert_marked(
-    rt: &impl Abort,
-    alloc: Global,
-    rules: &[Rule],
-    glyphs: &[Glyph],
-    flags: &[u32],
-    ended: (u64, i32),
-) -> Result<(), Fail> {
+/// Ends the test where a machine leaves other flags, turns or budget.
+fn check_marked(rt: &impl Abort, alloc: Global, case: usize, marked: &Marked) -> Result<(), Fail> {
+    let (rules, glyphs, flags, turns, left) = *marked;
     for kind in KINDS {
         let machine = machine_of(kind, rules, &[]);
-        let mut buffer = line_of(alloc, Direction::LeftToRight, glyphs)?;
-        let turns = kern_with(rt, alloc, &machine, true, 0, &mut buffer)?;
-        assert!(rt; (turns, buffer.max_ops()) == ended && flags_are(&buffer, flags));
+        let (buffer, taken) = kerned(rt, alloc, &machine, 0, glyphs)?;
+        let is_left = is_ended(&buffer, taken, (turns, left)) && flags_are(&buffer, flags);
+        wanted_at(rt, case, is_left, kind.name());
     }
     Ok(())
 }
@@ -578,13 +530,12 @@ fn questions_at_their_ends(rt: HostRuntime) -> Result<(), Fail> {
     for kind in KINDS {
         let machine = machine_of(kind, &AT_THEIR_ENDS, &[20, 11]);
         let glyphs = [(0, 0), (65535, 1), (3, 2)];
-        let mut buffer = line_of(rt.alloc(), Direction::LeftToRight, &glyphs)?;
-        let turns = kern_with(&rt, rt.alloc(), &machine, true, 0, &mut buffer)?;
-        let wanted = match kind {
+        let (buffer, turns) = kerned(&rt, rt.alloc(), &machine, 0, &glyphs)?;
+        let left = match kind {
             Kind::Anchors => &ATTACHED_AT_ENDS,
             _ => &KERNED_AT_ENDS,
         };
-        assert!(rt; turns == 4 && line_is(&buffer, wanted));
+        wanted(&rt, turns == 4 && line_is(&buffer, left), kind.name());
     }
     Ok(())
 }
@@ -613,11 +564,14 @@ fn long_line(alloc: Global, max_ops: i32) -> Result<hb_buffer_t, Fail> {
     Ok(buffer)
 }
 
-/// Long lines: the kind, the budget, the turns, the budget that is left, and the third glyph, which tells for which
-/// place the values and points are. With 16384 operations, 5461 glyphs take three turns each. One operation is left
+/// A long line: the kind, the budget, the turns, the budget that is left, and the third glyph, which tells for which
+/// place the values and points are.
+type LongLine = (Kind, i32, u64, i32, Seen);
+
+/// Long lines by each machine. With 16384 operations, 5461 glyphs take three turns each. One operation is left
 /// then: in `kerx` the next entry stays by it, and in `kern` it is taken first. From there on each turn goes on, as all
 /// do with the least budget. The end takes one turn more.
-const LONG: [(Kind, i32, u64, i32, Seen); 6] = [
+const LONG: [LongLine; 6] = [
     (Kind::Kern, 16384, 20923, -4538, (1, 3, 520, 500, 20, 0)),
     (Kind::Stack, 16384, 20924, -4539, (1, 3, 520, 500, 20, 0)),
     (
@@ -652,12 +606,20 @@ const LONG: [(Kind, i32, u64, i32, Seen); 6] = [
 
 #[test]
 fn long_lines(rt: HostRuntime) -> Result<(), Fail> {
-    for (kind, budget, turns, left, third) in LONG {
-        let machine = machine_of(kind, &THREE_TURNS_EACH, &[2, 2, 2, 21]);
-        let mut buffer = long_line(rt.alloc(), budget)?;
-        let taken = kern_with(&rt, rt.alloc(), &machine, true, 0, &mut buffer)?;
-        assert!(rt; (taken, buffer.max_ops()) == (turns, left));
-        assert!(rt; buffer.len() == 10_000 && seen_at(&buffer, 2) == Some(third));
+    for line in LONG {
+        check_long_line(&rt, rt.alloc(), line)?;
     }
+    Ok(())
+}
+
+/// Ends the test where a machine leaves something else of a long line.
+fn check_long_line(rt: &impl Abort, alloc: Global, line: LongLine) -> Result<(), Fail> {
+    let (kind, budget, turns, left, third) = line;
+    let machine = machine_of(kind, &THREE_TURNS_EACH, &[2, 2, 2, 21]);
+    let mut buffer = long_line(alloc, budget)?;
+    let taken = kern_with(rt, alloc, &machine, true, 0, &mut buffer)?;
+    wanted(rt, is_ended(&buffer, taken, (turns, left)), "turns");
+    let is_left = buffer.len() == 10_000 && seen_at(&buffer, 2) == Some(third);
+    wanted(rt, is_left, kind.name());
     Ok(())
 }

@@ -3,6 +3,8 @@
 #![tactic(auto)]
 
 #[cfg(test)]
+mod checks;
+#[cfg(test)]
 mod deleted_tests;
 #[cfg(test)]
 mod hostile_tests;
@@ -10,5 +12,7 @@ mod hostile_tests;
 mod kerning;
 #[cfg(test)]
 mod kerning_machine_tests;
+#[cfg(test)]
+mod kerning_machines;
 #[cfg(test)]
 mod kerning_tests;

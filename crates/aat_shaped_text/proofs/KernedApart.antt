@@ -8,14 +8,15 @@ use Rattle.aat_glyph.specs.declared.glyph.GlyphPosition.{GlyphPosition}
 use Rattle.aat_buffer.specs.Buffer.{Buffer, glyph_at, position_at, position_list, reversed, zero_position}
 use Rattle.aat_buffer.specs.Marks.{unsafe_to_break}
 use Rattle.aat_font.specs.AnchorPoints.{Points}
+use Rattle.aat_font.specs.Classes.{kerning_by_classes}
 use Rattle.aat_font.specs.declared.kern.KernKind.{KernKind}
 use Rattle.aat_font.specs.declared.kern.KernKind.TheVariants as kind
 use Rattle.aat_font.specs.declared.kerx.KerxFormat.{KerxFormat}
-use Rattle.aat_font.specs.declared.kerx.KerxFormat.TheVariants.{Format0, Format1, Format2, Format4, Format6}
+use Rattle.aat_font.specs.declared.kerx.KerxFormat.TheVariants.{Format0, Format1, Format2, Format2Classes, Format4, Format6, Format6Classes}
 use Rattle.aat_kerning_machines.specs.Positions.{on_position, with_advance, with_shift}
-use Rattle.aat_kerning.specs.PairKerning.{half, in_stream, kerned, pair_kerning, value_of}
+use Rattle.aat_kerning.specs.PairKerning.{PairValues, half, in_stream, kerned, pair_kerning, value_of}
 use Rattle.aat_kerning.specs.Pairs.{Pair, kern_skips, kerx_skips, pairs_of}
-use Rattle.aat_kerning.specs.Positioning.{Kerning, Positioned, in_processing_order, is_for_direction, is_kern_pairs, is_kerx_pairs, run_of_kern_subtable, run_of_kerx_subtable, line_marked, positioned}
+use Rattle.aat_kerning.specs.Positioning.{Kerning, Positioned, in_processing_order, is_for_direction, is_kern_pairs, is_kerx_pairs, is_turned_round, run_turned_round, run_of_kern_subtable, run_of_kerx_subtable, line_marked, positioned}
 use Rattle.aat_shaped_text.specs.Breaks.{kerns_pairs_along}
 
 -- no position is attached
@@ -75,25 +76,25 @@ in_stream_plain p v b =
     (λ q. shift_keeps h rest (with_advance h rest q) ∙ advance_keeps h rest q) in
     record { direction = refl; plain = λ x. second.plain (first.plain x) }
 
-kerned_plain : (values : List (ℕ × ℕ × ℤ)) (p : Pair) (b : Buffer) → IsPlainFrom b (kerned false values p b)
+kerned_plain : (values : PairValues) (p : Pair) (b : Buffer) → IsPlainFrom b (kerned false values p b)
 unfolding kerned
 kerned_plain values p b = by (int_eq v (pos 0))
   where
     v : ℤ
-    v = value_of values (glyph_at b.line p.left).glyph_id (glyph_at b.line p.right).glyph_id
+    v = values (glyph_at b.line p.left).glyph_id (glyph_at b.line p.right).glyph_id
 
     by : (t : Bool) → IsPlainFrom b (cond t b (unsafe_to_break (in_stream p v b) (Some p.left) (Some (p.right + 1))))
     by true = plain_same b
     by false = let s = in_stream_plain p v b in record { direction = s.direction; plain = s.plain }
 
-pairs_plain : (values : List (ℕ × ℕ × ℤ)) (ps : List Pair) (b : Buffer) → IsPlainFrom b (fold (λ d p. kerned false values p d) b ps)
+pairs_plain : (values : PairValues) (ps : List Pair) (b : Buffer) → IsPlainFrom b (fold (λ d p. kerned false values p d) b ps)
 pairs_plain values [] b = plain_same b
 pairs_plain values (p ∷ ps) b =
     plain_then b (kerned false values p b) (fold (λ d p. kerned false values p d) (kerned false values p b) ps)
     (kerned_plain values p b) (pairs_plain values ps (kerned false values p b))
 
 pair_kerning_plain :
-    (asked : Bool) (skips mask : ℕ) (values : List (ℕ × ℕ × ℤ)) (b : Buffer)
+    (asked : Bool) (skips mask : ℕ) (values : PairValues) (b : Buffer)
     → IsPlainFrom b (pair_kerning skips mask false values (line_marked asked b))
 unfolding pair_kerning
 pair_kerning_plain true skips mask values b =
@@ -106,20 +107,24 @@ abbrev pub RunsPlain : Kerning → Type 0
 RunsPlain k = k.is_pairs ≡ true → k.has_cross_stream ≡ false → (b : Buffer) → IsPlainFrom b (k.run b).buffer
 
 pub kerx_plain :
-    (mask : ℕ) (points : Option Points) (cross : Bool) (tuple : ℕ) (format : KerxFormat) → is_kerx_pairs format ≡ true
-    → cross ≡ false → (b : Buffer) → IsPlainFrom b (run_of_kerx_subtable mask points cross tuple format b).buffer
-kerx_plain mask points true tuple format pairs along b = absurd (true≢false along)
-kerx_plain mask points false tuple (Format0 values) pairs along b = pair_kerning_plain false kerx_skips mask values b
-kerx_plain mask points false tuple (Format1 s) pairs along b = absurd (true≢false (sym pairs))
-kerx_plain mask points false tuple (Format2 values) pairs along b = pair_kerning_plain true kerx_skips mask values b
-kerx_plain mask points false tuple (Format4 s) pairs along b = absurd (true≢false (sym pairs))
-kerx_plain mask points false tuple (Format6 values) pairs along b = pair_kerning_plain false kerx_skips mask values b
+    (mask : ℕ) (points : Option Points) (cross last : Bool) (tuple : ℕ) (format : KerxFormat) → is_kerx_pairs format ≡ true
+    → cross ≡ false → (b : Buffer)
+    → IsPlainFrom b (run_turned_round (is_turned_round last format) (run_of_kerx_subtable mask points cross tuple format) b).buffer
+kerx_plain mask points true last tuple format pairs along b = absurd (true≢false along)
+kerx_plain mask points false last tuple (Format0 listed) pairs along b = pair_kerning_plain false kerx_skips mask (value_of listed) b
+kerx_plain mask points false last tuple (Format1 s) pairs along b = absurd (true≢false (sym pairs))
+kerx_plain mask points false last tuple (Format2 listed) pairs along b = pair_kerning_plain true kerx_skips mask (value_of listed) b
+kerx_plain mask points false last tuple (Format2Classes classes) pairs along b = pair_kerning_plain true kerx_skips mask (kerning_by_classes classes) b
+kerx_plain mask points false last tuple (Format4 s) pairs along b = absurd (true≢false (sym pairs))
+kerx_plain mask points false last tuple (Format6 listed) pairs along b = pair_kerning_plain false kerx_skips mask (value_of listed) b
+kerx_plain mask points false last tuple (Format6Classes classes) pairs along b = pair_kerning_plain false kerx_skips mask (kerning_by_classes classes) b
 
 pub kern_plain :
     (mask : ℕ) (cross : Bool) (kind : KernKind) → is_kern_pairs kind ≡ true → cross ≡ false → (b : Buffer)
     → IsPlainFrom b (run_of_kern_subtable mask cross kind b).buffer
 kern_plain mask true kind pairs along b = absurd (true≢false along)
-kern_plain mask false (kind.Pairs values) pairs along b = pair_kerning_plain true kern_skips mask values b
+kern_plain mask false (kind.Pairs listed) pairs along b = pair_kerning_plain true kern_skips mask (value_of listed) b
+kern_plain mask false (kind.Classes classes) pairs along b = pair_kerning_plain true kern_skips mask (kerning_by_classes classes) b
 kern_plain mask false (kind.Machine s) pairs along b = absurd (true≢false (sym pairs))
 
 pub step_plain :

@@ -52,7 +52,7 @@ kerx_text_plain :
     → IsPlainFrom b (kerx_positioning requested 8 points subtables b).buffer
 unfolding kerx_positioning
 kerx_text_plain requested points subtables b all =
-    let m = positioning_plain (kerning_of_kerx_subtable 8 points) (λ s pairs along c. kerx_plain 8 points s.has_cross_stream s.tuple_count s.format pairs along c) requested subtables (unsafe_to_concat b None None) all in
+    let m = positioning_plain (kerning_of_kerx_subtable 8 points) (λ s pairs along c. kerx_plain 8 points s.has_cross_stream s.is_last_to_first s.tuple_count s.format pairs along c) requested subtables (unsafe_to_concat b None None) all in
     record { direction = m.direction; plain = m.plain }
 
 kern_text_plain :

@@ -73,6 +73,7 @@ fn kerx_pairs_along(direction: Direction, subtable: &KerxSubtable) -> bool
 {
     let is_pairs = match &subtable.format {
         KerxFormat::Format0(_) | KerxFormat::Format2(_) | KerxFormat::Format6(_) => true,
+        KerxFormat::Format2Classes(_) | KerxFormat::Format6Classes(_) => true,
         KerxFormat::Format1(_) | KerxFormat::Format4(_) => false,
     };
     let is_for_direction = !subtable.variable && subtable.horizontal == direction.is_horizontal();
@@ -84,7 +85,7 @@ fn kern_pairs_along(direction: Direction, subtable: &KernSubtable) -> bool
     ensures { result ≡ kerns_pairs_along direction (kerning_of_kern_subtable 8 subtable.now) }
 {
     let is_pairs = match &subtable.kind {
-        KernKind::Pairs(_) => true,
+        KernKind::Pairs(_) | KernKind::Classes(_) => true,
         KernKind::Machine(_) => false,
     };
     let is_for_direction = !subtable.variable && subtable.horizontal == direction.is_horizontal();

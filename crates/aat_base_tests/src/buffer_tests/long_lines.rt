@@ -1,5 +1,6 @@
 //! Long lines, whose calls end in time.
-use super::{number_positions, record, remove_deleted};
+use super::lines::{copy, go_to, is_at, number_positions, pass, record, skip, take_out_deleted};
+use crate::asserting::wanted;
 use aat_buffer::{BufferError, hb_buffer_t};
 use std::alloc::Global;
 use std::process::Abort;
@@ -10,19 +11,40 @@ use std::test::Fail;
 #[test]
 fn long_line(rt: HostRuntime) -> Result<(), Fail> {
     let mut buffer = hb_buffer_t::new(rt.alloc(), 1_000_000, 0);
+    add_by_turns(&mut buffer)?;
+    number_positions(&rt, &mut buffer)?;
+    mark_each(&rt, &mut buffer);
+    buffer.delete_glyphs_inplace(|glyph| glyph.glyph_id == 1);
+    wanted(
+        &rt,
+        is_last(&buffer, 9_998, 3),
+        "the last glyph that is kept",
+    );
+    Ok(())
+}
+
+/// Adds ten thousand glyphs with the ids 0 and 1 by turns.
+fn add_by_turns(buffer: &mut hb_buffer_t) -> Result<(), BufferError> {
     for i in 0..10_000u32 {
         buffer.add(record((i % 2, i, 0)))?;
     }
-    number_positions(&rt, &mut buffer)?;
-    for i in 0..10_000usize {
-        assert!(rt; buffer.backtrack_len() < buffer.len());
-        buffer.unsafe_to_break(Some(i), Some(i + 2));
-        buffer.next_glyph();
-    }
-    buffer.delete_glyphs_inplace(|glyph| glyph.glyph_id == 1);
-    assert!(rt; buffer.len() == 5_000 && buffer.has_positions());
-    assert!(rt; buffer.pos(4_999).x_advance == 9_998 && buffer.info(4_999).mask == 3);
     Ok(())
+}
+
+/// Passes each glyph with a mark.
+fn mark_each(rt: &impl Abort, buffer: &mut hb_buffer_t) {
+    for i in 0..10_000usize {
+        buffer.unsafe_to_break(Some(i), Some(i + 2));
+        pass(rt, buffer);
+    }
+}
+
+/// Whether the last of five thousand glyphs has this advance and this mask.
+fn is_last(buffer: &hb_buffer_t, advance: i32, mask: u32) -> bool {
+    buffer.len() == 5_000
+        && buffer.has_positions()
+        && buffer.pos(4_999).x_advance == advance
+        && buffer.info(4_999).mask == mask
 }
 
 /// Kept glyphs that share a cluster, while glyphs that go behind them have ever lower ones: first one after
@@ -30,14 +52,31 @@ fn long_line(rt: HostRuntime) -> Result<(), Fail> {
 #[test]
 fn long_run(rt: HostRuntime) -> Result<(), Fail> {
     let mut buffer = hb_buffer_t::new(rt.alloc(), 1_000_000, 0);
-    add_one_after_another(&mut buffer)?;
-    add_by_twos(&mut buffer)?;
-    number_positions(&rt, &mut buffer)?;
-    remove_deleted(&mut buffer);
-    assert!(rt; buffer.len() == 5_000 && buffer.has_positions());
-    assert!(rt; are_joined(&buffer));
-    assert!(rt; buffer.info(3_999).mask == 3_994 && buffer.pos(4_000).x_advance == 7_000);
+    join_runs(&rt, &mut buffer)?;
+    wanted(&rt, are_joined(&buffer), "glyphs that are joined");
+    wanted(
+        &rt,
+        is_mask_and_advance(&buffer, 3_994, 7_000),
+        "a mask and an advance",
+    );
     Ok(())
+}
+
+/// Adds the glyphs of both sorts, and takes those out that go.
+fn join_runs(rt: &impl Abort, buffer: &mut hb_buffer_t) -> Result<(), BufferError> {
+    add_one_after_another(buffer)?;
+    add_by_twos(buffer)?;
+    number_positions(rt, buffer)?;
+    take_out_deleted(buffer);
+    Ok(())
+}
+
+/// Whether five thousand glyphs have this mask where the first part ends, and this advance where the second begins.
+fn is_mask_and_advance(buffer: &hb_buffer_t, mask: u32, advance: i32) -> bool {
+    buffer.len() == 5_000
+        && buffer.has_positions()
+        && buffer.info(3_999).mask == mask
+        && buffer.pos(4_000).x_advance == advance
 }
 
 /// Whether the kept glyphs have one cluster, and are marked unsafe to concatenate alone.
@@ -76,14 +115,32 @@ fn add_by_twos(buffer: &mut hb_buffer_t) -> Result<(), BufferError> {
 #[test]
 fn long_line_grows(rt: HostRuntime) -> Result<(), Fail> {
     let mut buffer = hb_buffer_t::new(rt.alloc(), 1_000_000, 0);
-    copy_each(&rt, &mut buffer)?;
-    add_at_end(&rt, &mut buffer)?;
-    assert!(rt; buffer.len() == 30_000 && buffer.backtrack_len() == 10_000);
-    assert!(rt; buffer.info(19_999).cluster == 9_999 && buffer.info(20_000).cluster == 0);
+    Ok(assert_grows(&rt, &mut buffer)?)
+}
+
+fn assert_grows(rt: &impl Abort, buffer: &mut hb_buffer_t) -> Result<(), BufferError> {
+    copy_each(rt, buffer)?;
+    add_at_end(rt, buffer)?;
+    wanted(rt, is_at(buffer, 30_000, 10_000), "thirty thousand glyphs");
+    wanted(rt, has_cluster(buffer, 19_999, 9_999), "the last copy");
+    wanted(
+        rt,
+        has_cluster(buffer, 20_000, 0),
+        "the first glyph at the end",
+    );
     buffer.clear_positions()?;
-    shorten(&rt, &mut buffer);
-    assert!(rt; buffer.len() == 1 && buffer.info(0).cluster == 9_999);
+    shorten(rt, buffer);
+    wanted(
+        rt,
+        buffer.len() == 1 && has_cluster(buffer, 0, 9_999),
+        "the last glyph",
+    );
     Ok(())
+}
+
+/// Whether a glyph has this cluster.
+fn has_cluster(buffer: &hb_buffer_t, place: usize, cluster: u32) -> bool {
+    place < buffer.len() && buffer.info(place).cluster == cluster
 }
 
 /// Adds ten thousand glyphs and puts a copy in before each.
@@ -92,10 +149,8 @@ fn copy_each(rt: &impl Abort, buffer: &mut hb_buffer_t) -> Result<(), BufferErro
         buffer.add(record((1, i, 0)))?;
     }
     for _ in 0..10_000u32 {
-        assert!(rt; buffer.backtrack_len() < buffer.len());
-        buffer.copy_glyph()?;
-        assert!(rt; buffer.backtrack_len() < buffer.len());
-        buffer.next_glyph();
+        copy(rt, buffer)?;
+        pass(rt, buffer);
     }
     Ok(())
 }
@@ -105,8 +160,7 @@ fn add_at_end(rt: &impl Abort, buffer: &mut hb_buffer_t) -> Result<(), BufferErr
     buffer.sync();
     for i in 0..10_000u32 {
         buffer.add(record((2, i, 0)))?;
-        assert!(rt; buffer.backtrack_len() < buffer.len());
-        buffer.next_glyph();
+        pass(rt, buffer);
     }
     Ok(())
 }
@@ -116,9 +170,13 @@ fn shorten(rt: &impl Abort, buffer: &mut hb_buffer_t) {
     buffer.drop_positions();
     buffer.sync();
     for _ in 1..30_000u32 {
-        assert!(rt; buffer.backtrack_len() < buffer.len());
-        buffer.skip_glyph();
+        skip(rt, buffer);
     }
+    turn_again(buffer);
+}
+
+/// Turns a line round again and again.
+fn turn_again(buffer: &mut hb_buffer_t) {
     for _ in 0..10_000u32 {
         buffer.reverse();
     }
@@ -126,22 +184,45 @@ fn shorten(rt: &impl Abort, buffer: &mut hb_buffer_t) {
 
 /// Puts a run of three glyphs in at every tenth place of a line of a hundred thousand. Where `back` is set, the
 /// cursor goes to the front between.
-fn insert_runs(rt: &impl Abort, alloc: Global, back: bool) -> Result<hb_buffer_t, BufferError> {
-    let mut buffer = hb_buffer_t::new(alloc, 1_000_000, 0);
-    for i in 0..100_000u32 {
-        buffer.add(record((1, i, 0)))?;
-    }
+fn insert_runs(rt: &impl Abort, buffer: &mut hb_buffer_t, back: bool) -> Result<(), BufferError> {
+    add_ones(buffer)?;
     for i in 0..10_000usize {
         if back {
             buffer.sync();
         }
-        assert!(rt; 13 * i <= buffer.len());
-        buffer.move_to(13 * i);
-        for _ in 0..3u32 {
-            buffer.output_glyph(2)?;
-        }
+        go_to(rt, buffer, 13 * i);
+        put_three_out(buffer)?;
     }
-    Ok(buffer)
+    Ok(())
+}
+
+/// Adds a hundred thousand glyphs.
+fn add_ones(buffer: &mut hb_buffer_t) -> Result<(), BufferError> {
+    for i in 0..100_000u32 {
+        buffer.add(record((1, i, 0)))?;
+    }
+    Ok(())
+}
+
+/// Puts three glyphs in before the cursor.
+fn put_three_out(buffer: &mut hb_buffer_t) -> Result<(), BufferError> {
+    for _ in 0..3u32 {
+        buffer.output_glyph(2)?;
+    }
+    Ok(())
+}
+
+/// Asserts what `insert_runs` leaves.
+fn assert_runs(rt: &impl Abort, alloc: Global, back: bool) -> Result<(), BufferError> {
+    let mut buffer = hb_buffer_t::new(alloc, 1_000_000, 0);
+    insert_runs(rt, &mut buffer, back)?;
+    wanted(rt, has_runs(&buffer), "the line with its runs");
+    wanted(
+        rt,
+        buffer.backtrack_len() == 129_990,
+        "the place behind the last run",
+    );
+    Ok(())
 }
 
 /// Whether a line is what `insert_runs` leaves.
@@ -159,15 +240,11 @@ fn has_runs(buffer: &hb_buffer_t) -> bool {
 /// From the front on this takes as many steps as the line is long.
 #[test]
 fn runs_from_front(rt: HostRuntime) -> Result<(), Fail> {
-    let buffer = insert_runs(&rt, rt.alloc(), false)?;
-    assert!(rt; has_runs(&buffer) && buffer.backtrack_len() == 129_990);
-    Ok(())
+    Ok(assert_runs(&rt, rt.alloc(), false)?)
 }
 
 /// With the cursor sent to the front between, each move costs its distance.
 #[test]
 fn runs_from_front_each(rt: HostRuntime) -> Result<(), Fail> {
-    let buffer = insert_runs(&rt, rt.alloc(), true)?;
-    assert!(rt; has_runs(&buffer) && buffer.backtrack_len() == 129_990);
-    Ok(())
+    Ok(assert_runs(&rt, rt.alloc(), true)?)
 }

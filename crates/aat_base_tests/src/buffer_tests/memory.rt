@@ -1,26 +1,35 @@
 //! Growth that is refused, and what needs none.
-use super::{advances_are, clusters_are, masks_are, number_positions, record, remove_deleted};
+use super::lines::{
+    advances_are, clusters_are, copy, go_to, insert, is_at, masks_are, number_positions, pass,
+    record, replace, skip, take_out_deleted,
+};
+use crate::asserting::wanted;
 use aat_buffer::{BufferError, BufferFlags, hb_buffer_t};
 use linked_list_allocator::LocalHeap;
-use std::alloc::{AllocError, Allocator, Global};
+use std::alloc::{Allocator, Global};
+use std::mem::forget;
 use std::process::Abort;
 use std::test::Fail;
 
-/// Takes what is left of a heap.
-fn exhaust<'a>(
-    rt: &impl Abort,
-    alloc: Global,
-    heap: &'a LocalHeap,
-) -> Result<Vec<Vec<u8, &'a LocalHeap>>, AllocError> {
-    let mut hoard = Vec::new(alloc);
+/// Takes what is left of a heap, for good.
+fn exhaust(rt: &impl Abort, heap: &LocalHeap) {
     for _ in 0..1000u32 {
-        match Vec::<u8, &LocalHeap>::with_capacity(heap, 16) {
-            Ok(block) => hoard.push(block)?,
-            Err(_) => break,
+        if !is_taken(heap) {
+            return;
         }
     }
-    assert!(rt; Vec::<u8, &LocalHeap>::with_capacity(heap, 16).is_err());
-    Ok(hoard)
+    wanted(rt, false, "a heap that can be used up");
+}
+
+/// Takes a least block of a heap for good, where there is one.
+fn is_taken(heap: &LocalHeap) -> bool {
+    match Vec::<u8, &LocalHeap>::with_capacity(heap, 16) {
+        Ok(block) => {
+            forget(block);
+            true
+        }
+        Err(_) => false,
+    }
 }
 
 /// A line that has no room for one glyph more, so that the next growth asks for memory.
@@ -30,22 +39,41 @@ fn full_line<'a>(
     heap: &'a LocalHeap,
 ) -> Result<hb_buffer_t<&'a LocalHeap>, Fail> {
     let room = room_of_one(rt, alloc)?;
-    assert!(rt; room <= 100);
     let mut buffer = hb_buffer_t::new(heap, 100, 0);
-    for cluster in 0..room as u32 {
+    add_fives(rt, &mut buffer, room)?;
+    Ok(buffer)
+}
+
+/// Adds so many glyphs.
+fn add_fives<A: Allocator + Copy>(
+    rt: &impl Abort,
+    buffer: &mut hb_buffer_t<A>,
+    count: usize,
+) -> Result<(), BufferError> {
+    assert!(rt; count <= 100);
+    for cluster in 0..count as u32 {
         buffer.add(record((5, cluster, 0)))?;
     }
-    Ok(buffer)
+    Ok(())
 }
 
 /// How many glyphs go into the room that a line has with its first one.
 fn room_of_one(rt: &impl Abort, alloc: Global) -> Result<usize, Fail> {
     let heap = LocalHeap::new(alloc, 4096)?;
     let mut probe = hb_buffer_t::new(&heap, 100, 0);
+    Ok(room_in(rt, &heap, &mut probe)?)
+}
+
+/// How many glyphs go into the room that an empty line over a heap has with its first one.
+fn room_in<A: Allocator + Copy>(
+    rt: &impl Abort,
+    heap: &LocalHeap,
+    probe: &mut hb_buffer_t<A>,
+) -> Result<usize, BufferError> {
     probe.add(record((5, 0, 0)))?;
-    let hoard = exhaust(rt, alloc, &heap)?;
-    add_until_refused(&mut probe);
-    assert!(rt; !probe.is_successful() && hoard.len() > 0);
+    exhaust(rt, heap);
+    add_until_refused(probe);
+    wanted(rt, !probe.is_successful(), "a growth that is refused");
     Ok(probe.len())
 }
 
@@ -70,7 +98,7 @@ enum Growth {
 }
 
 /// The calls that take memory.
-const GROWTHS: [Growth; 5] = [
+static GROWTHS: [Growth; 5] = [
     Growth::Add,
     Growth::Output,
     Growth::Copy,
@@ -87,11 +115,8 @@ fn grow_by<A: Allocator + Copy>(
     match growth {
         Growth::Add => buffer.add(record((6, 0, 0))),
         Growth::Output => buffer.output_glyph(6),
-        Growth::Copy => {
-            assert!(rt; buffer.backtrack_len() < buffer.len());
-            buffer.copy_glyph()
-        }
-        Growth::Insert => buffer.insert_glyphs(&[record((6, 0, 0)), record((7, 0, 0))]),
+        Growth::Copy => copy(rt, buffer),
+        Growth::Insert => insert(buffer, &[record((6, 0, 0)), record((7, 0, 0))]),
         Growth::Positions => buffer.clear_positions(),
     }
 }
@@ -111,11 +136,13 @@ fn assert_growth_refused<A: Allocator + Copy>(
     growth: Growth,
 ) {
     let (len, place) = (buffer.len(), buffer.backtrack_len());
-    assert!(rt; buffer.is_successful());
-    assert!(rt; grow_by(rt, buffer, growth) == Err(BufferError::OutOfMemory));
-    assert!(rt; !buffer.is_successful());
-    assert!(rt; buffer.len() == len && buffer.backtrack_len() == place);
-    assert!(rt; buffer.has_positions() == (growth != Growth::Positions));
+    wanted(rt, buffer.is_successful(), "a line that has not failed");
+    let answer = grow_by(rt, buffer, growth);
+    wanted(rt, answer == Err(BufferError::OutOfMemory), "a refusal");
+    wanted(rt, !buffer.is_successful(), "a line that has failed");
+    wanted(rt, is_at(buffer, len, place), "the length and the cursor");
+    let had_positions = growth != Growth::Positions;
+    wanted(rt, buffer.has_positions() == had_positions, "the positions");
     assert_full(rt, buffer);
 }
 
@@ -127,12 +154,21 @@ fn line_to_grow<'a>(
     growth: Growth,
 ) -> Result<hb_buffer_t<&'a LocalHeap>, Fail> {
     let mut buffer = full_line(rt, alloc, heap)?;
-    if growth != Growth::Positions {
-        number_positions(rt, &mut buffer)?;
-    }
-    assert!(rt; buffer.len() > 1);
-    buffer.move_to(1);
+    number_for(rt, &mut buffer, growth)?;
+    go_to(rt, &mut buffer, 1);
     Ok(buffer)
+}
+
+/// Numbers the positions, but where they are what is asked for.
+fn number_for<A: Allocator + Copy>(
+    rt: &impl Abort,
+    buffer: &mut hb_buffer_t<A>,
+    growth: Growth,
+) -> Result<(), BufferError> {
+    if growth == Growth::Positions {
+        return Ok(());
+    }
+    number_positions(rt, buffer)
 }
 
 /// Asserts that growing a line is refused where its heap has nothing left.
@@ -143,17 +179,16 @@ fn assert_refused_without_memory(
 ) -> Result<(), Fail> {
     let heap = LocalHeap::new(alloc, 4096)?;
     let mut buffer = line_to_grow(rt, alloc, &heap, growth)?;
-    let hoard = exhaust(rt, alloc, &heap)?;
+    exhaust(rt, &heap);
     assert_growth_refused(rt, &mut buffer, growth);
-    assert!(rt; hoard.len() > 0);
     Ok(())
 }
 
 /// What takes memory is refused without it, and leaves the line, the cursor and the positions as they were.
 #[test]
 fn out_of_memory(rt: HostRuntime) -> Result<(), Fail> {
-    for growth in GROWTHS {
-        assert_refused_without_memory(&rt, rt.alloc(), growth)?;
+    for growth in &GROWTHS {
+        assert_refused_without_memory(&rt, rt.alloc(), *growth)?;
     }
     Ok(())
 }
@@ -163,59 +198,82 @@ fn out_of_memory(rt: HostRuntime) -> Result<(), Fail> {
 fn each_growth_refused(rt: HostRuntime) -> Result<(), Fail> {
     let mut refused = false;
     for step in 0..80usize {
-        let heap = LocalHeap::new(rt.alloc(), step * 32)?;
-        let mut buffer = hb_buffer_t::new(&heap, 100, 0);
-        match grow(&mut buffer) {
-            Ok(()) => {
-                assert!(rt; refused && buffer.is_successful() && buffer.len() == 14);
-                return Ok(());
-            }
-            Err(error) => {
-                assert!(rt; error == BufferError::OutOfMemory && !buffer.is_successful());
-                refused = true;
-            }
+        if grows_over(&rt, rt.alloc(), step * 32)? {
+            wanted(&rt, refused, "a growth that was refused before");
+            return Ok(());
         }
+        refused = true;
     }
-    Err(Fail::new("every run was refused"))
+    Err(Fail::new("each heap was too small"))
+}
+
+/// Whether a heap of so many bytes is enough. Without enough memory the line fails for that reason.
+fn grows_over(rt: &impl Abort, alloc: Global, size: usize) -> Result<bool, Fail> {
+    let heap = LocalHeap::new(alloc, size)?;
+    let mut buffer = hb_buffer_t::new(&heap, 100, 0);
+    let answer = grow(&mut buffer);
+    wanted(
+        rt,
+        buffer.is_successful() == answer.is_ok(),
+        "whether the line has failed",
+    );
+    wanted(
+        rt,
+        answer.is_err() || buffer.len() == 14,
+        "the glyphs of the grown line",
+    );
+    wanted(
+        rt,
+        answer.is_ok() || answer == Err(BufferError::OutOfMemory),
+        "want of memory",
+    );
+    Ok(answer.is_ok())
 }
 
 /// Asks for memory in each way.
 fn grow<A: Allocator + Copy>(buffer: &mut hb_buffer_t<A>) -> Result<(), BufferError> {
-    for cluster in 0..10u32 {
-        buffer.add(record((5, cluster, 0)))?;
-    }
-    buffer.output_glyph(6)?;
-    if buffer.backtrack_len() < buffer.len() {
-        buffer.copy_glyph()?;
-    }
-    buffer.insert_glyphs(&[record((7, 0, 0)), record((8, 0, 0))])?;
+    grow_by_glyphs(buffer)?;
+    insert(buffer, &[record((7, 0, 0)), record((8, 0, 0))])?;
     buffer.clear_output()?;
     buffer.clear_positions()
 }
 
-/// Six glyphs with their places as ids and clusters, and with positions.
-fn six_glyphs<'a>(
+/// Adds ten glyphs, puts one in at the front and a copy of the next.
+fn grow_by_glyphs<A: Allocator + Copy>(buffer: &mut hb_buffer_t<A>) -> Result<(), BufferError> {
+    for cluster in 0..10u32 {
+        buffer.add(record((5, cluster, 0)))?;
+    }
+    buffer.output_glyph(6)?;
+    copy_if_any(buffer)
+}
+
+/// Puts a copy of the glyph at the cursor in before it, if there is one.
+fn copy_if_any<A: Allocator + Copy>(buffer: &mut hb_buffer_t<A>) -> Result<(), BufferError> {
+    if buffer.backtrack_len() < buffer.len() {
+        return buffer.copy_glyph();
+    }
+    Ok(())
+}
+
+/// Adds six glyphs with their places as ids and clusters, and with positions.
+fn add_six<A: Allocator + Copy>(
     rt: &impl Abort,
-    heap: &'a LocalHeap,
-) -> Result<hb_buffer_t<&'a LocalHeap>, BufferError> {
-    let mut buffer = hb_buffer_t::new(heap, 100, 0);
+    buffer: &mut hb_buffer_t<A>,
+) -> Result<(), BufferError> {
     for cluster in 0..6u32 {
         buffer.add(record((cluster, cluster, 0)))?;
     }
-    number_positions(rt, &mut buffer)?;
-    Ok(buffer)
+    number_positions(rt, buffer)
 }
 
 /// Turns a line of six glyphs round, passes one and replaces the next.
 fn turn_and_replace<A: Allocator + Copy>(rt: &impl Abort, buffer: &mut hb_buffer_t<A>) {
-    assert!(rt; buffer.len() == 6);
-    buffer.move_to(6);
+    wanted(rt, buffer.len() == 6, "six glyphs");
+    go_to(rt, buffer, 6);
     buffer.reverse();
     buffer.sync();
-    assert!(rt; buffer.backtrack_len() < buffer.len());
-    buffer.next_glyph();
-    assert!(rt; buffer.backtrack_len() < buffer.len());
-    buffer.replace_glyph(0xFFFF);
+    pass(rt, buffer);
+    replace(rt, buffer, 0xFFFF);
 }
 
 /// Marks and merges parts of that line, and takes the replaced glyph out.
@@ -224,50 +282,89 @@ fn mark_and_remove<A: Allocator + Copy>(rt: &impl Abort, buffer: &mut hb_buffer_
     buffer.unsafe_to_concat(Some(5), None);
     buffer.unsafe_to_break(Some(3), None);
     buffer.unsafe_to_break_from_outbuffer(Some(3), Some(5));
-    assert!(rt; buffer.len() == 6);
     buffer.merge_clusters(3, 5);
-    assert!(rt;
-        clusters_are(buffer, &[5, 4, 3, 1, 1, 0]) && masks_are(buffer, &[0, 0, 0, 0, 3, 2])
+    wanted(
+        rt,
+        clusters_are(buffer, &[5, 4, 3, 1, 1, 0]),
+        "clusters that are merged",
     );
-    remove_deleted(buffer);
-    assert!(rt; clusters_are(buffer, &[4, 3, 1, 1, 0]) && advances_are(buffer, &[5, 3, 2, 1, 0]));
+    wanted(rt, masks_are(buffer, &[0, 0, 0, 0, 3, 2]), "masks");
+    take_out_deleted(buffer);
+    wanted(
+        rt,
+        clusters_are(buffer, &[4, 3, 1, 1, 0]),
+        "clusters that are left",
+    );
+    wanted(
+        rt,
+        advances_are(buffer, &[5, 3, 2, 1, 0]),
+        "advances that are left",
+    );
 }
 
 /// Merges what is left, and changes glyphs and positions.
 fn merge_and_change<A: Allocator + Copy>(rt: &impl Abort, buffer: &mut hb_buffer_t<A>) {
     buffer.merge_out_clusters(0, 9);
-    assert!(rt; clusters_are(buffer, &[0, 0, 0, 0, 0]) && buffer.backtrack_len() < buffer.len());
+    wanted(rt, clusters_are(buffer, &[0, 0, 0, 0, 0]), "one cluster");
+    change_at_cursor(rt, buffer);
+    change_first(rt, buffer);
+    wanted(rt, advances_are(buffer, &[6, 3, 2, 1, 0]), "advances");
+}
+
+/// Changes the glyph at the cursor.
+fn change_at_cursor<A: Allocator + Copy>(rt: &impl Abort, buffer: &mut hb_buffer_t<A>) {
+    assert!(rt; buffer.backtrack_len() < buffer.len());
     buffer.cur_mut().cluster = 7;
     assert!(rt; buffer.backtrack_len() < buffer.len() && buffer.cur().cluster == 7);
+}
+
+/// Changes the first glyph and its position.
+fn change_first<A: Allocator + Copy>(rt: &impl Abort, buffer: &mut hb_buffer_t<A>) {
+    assert!(rt; 0 < buffer.len());
     buffer.info_mut(0).mask = 9;
     assert!(rt; buffer.has_positions() && 0 < buffer.len() && buffer.pos(0).x_advance == 5);
     buffer.pos_mut(0).x_advance = 6;
-    assert!(rt; advances_are(buffer, &[6, 3, 2, 1, 0]));
 }
 
 /// Drops the positions and a glyph, goes to the end and back, and puts nothing in.
 fn drop_and_skip<A: Allocator + Copy>(rt: &impl Abort, buffer: &mut hb_buffer_t<A>) {
     buffer.drop_positions();
-    assert!(rt; buffer.backtrack_len() < buffer.len());
-    buffer.skip_glyph();
+    skip(rt, buffer);
     buffer.move_to(buffer.len());
-    assert!(rt; buffer.clear_output() == Ok(()) && buffer.backtrack_len() == 0);
-    assert!(rt; buffer.insert_glyphs(&[]) == Ok(()));
-    assert!(rt; clusters_are(buffer, &[0, 0, 0, 0]) && buffer.all_glyphs_16());
-    assert!(rt; buffer.is_successful());
+    wanted(
+        rt,
+        buffer.clear_output() == Ok(()),
+        "output that is cleared",
+    );
+    wanted(rt, insert(buffer, &[]) == Ok(()), "an empty run");
+    wanted(rt, clusters_are(buffer, &[0, 0, 0, 0]), "four glyphs");
+    wanted(rt, buffer.backtrack_len() == 0, "the front");
+    wanted(
+        rt,
+        buffer.all_glyphs_16() && buffer.is_successful(),
+        "no failure",
+    );
 }
 
 /// What takes no memory does without it.
 #[test]
 fn without_memory(rt: HostRuntime) -> Result<(), Fail> {
     let heap = LocalHeap::new(rt.alloc(), 4096)?;
-    let mut buffer = six_glyphs(&rt, &heap)?;
-    let hoard = exhaust(&rt, rt.alloc(), &heap)?;
-    turn_and_replace(&rt, &mut buffer);
-    mark_and_remove(&rt, &mut buffer);
-    merge_and_change(&rt, &mut buffer);
-    drop_and_skip(&rt, &mut buffer);
-    assert!(rt; hoard.len() > 0);
+    let mut buffer = hb_buffer_t::new(&heap, 100, 0);
+    Ok(assert_without_memory(&rt, &heap, &mut buffer)?)
+}
+
+fn assert_without_memory<A: Allocator + Copy>(
+    rt: &impl Abort,
+    heap: &LocalHeap,
+    buffer: &mut hb_buffer_t<A>,
+) -> Result<(), BufferError> {
+    add_six(rt, buffer)?;
+    exhaust(rt, heap);
+    turn_and_replace(rt, buffer);
+    mark_and_remove(rt, buffer);
+    merge_and_change(rt, buffer);
+    drop_and_skip(rt, buffer);
     Ok(())
 }
 
@@ -277,10 +374,23 @@ fn without_memory(rt: HostRuntime) -> Result<(), Fail> {
 fn output_kept_without_memory(rt: HostRuntime) -> Result<(), Fail> {
     let heap = LocalHeap::new(rt.alloc(), 4096)?;
     let mut buffer = hb_buffer_t::new(&heap, 100, 0);
-    add_twice(&rt, &mut buffer)?;
-    let hoard = exhaust(&rt, rt.alloc(), &heap)?;
-    assert!(rt; buffer.clear_output().is_ok() && hoard.len() > 0);
-    assert!(rt; clusters_are(&buffer, &[0, 0, 1, 1, 2, 2, 3, 3]) && buffer.backtrack_len() == 0);
+    Ok(assert_output_kept(&rt, &heap, &mut buffer)?)
+}
+
+fn assert_output_kept<A: Allocator + Copy>(
+    rt: &impl Abort,
+    heap: &LocalHeap,
+    buffer: &mut hb_buffer_t<A>,
+) -> Result<(), BufferError> {
+    add_twice(rt, buffer)?;
+    exhaust(rt, heap);
+    wanted(rt, buffer.clear_output().is_ok(), "output that is cleared");
+    wanted(
+        rt,
+        clusters_are(buffer, &[0, 0, 1, 1, 2, 2, 3, 3]),
+        "the copies",
+    );
+    wanted(rt, buffer.backtrack_len() == 0, "the front");
     Ok(())
 }
 
@@ -291,10 +401,8 @@ fn add_twice<A: Allocator + Copy>(
 ) -> Result<(), BufferError> {
     for cluster in 0..4u32 {
         buffer.add(record((cluster, cluster, 0)))?;
-        assert!(rt; buffer.backtrack_len() < buffer.len());
-        buffer.copy_glyph()?;
-        assert!(rt; buffer.backtrack_len() < buffer.len());
-        buffer.next_glyph();
+        copy(rt, buffer)?;
+        pass(rt, buffer);
     }
     Ok(())
 }

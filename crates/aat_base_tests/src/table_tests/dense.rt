@@ -27,6 +27,7 @@ fn is_as_listed(lookup: &Lookup, pairs: &[(u16, u16)]) -> bool {
 fn assert_as_listed(rt: &impl Abort, alloc: Global, pairs: &[(u16, u16)]) -> Result<(), Fail> {
     let lookup = Lookup::new(alloc, pairs)?;
     assert!(rt; is_as_listed(&lookup, pairs));
+    drop(lookup);
     Ok(())
 }
 
@@ -85,18 +86,37 @@ fn glyphs_at_the_borders_of_pages(rt: HostRuntime) -> Result<(), Fail> {
 #[test]
 fn refused_pages(rt: HostRuntime) -> Result<(), Fail> {
     let pairs = bordered(rt.alloc(), &[0, 255], 4)?;
-    let mut refused = 0;
-    let mut made = 0;
+    let (refused, made) = last_heaps(&rt, rt.alloc(), &pairs)?;
+    assert!(rt; refused > 0 && made > refused);
+    Ok(())
+}
+
+/// The last of growing heaps that was too small for a lookup, and the last one that was enough.
+fn last_heaps(
+    rt: &impl Abort,
+    alloc: Global,
+    pairs: &[(u16, u16)],
+) -> Result<(usize, usize), AllocError> {
+    let (mut refused, mut made) = (0, 0);
     for step in 0..80usize {
-        let heap = LocalHeap::new(rt.alloc(), step * 64)?;
-        if is_made(&rt, Lookup::new(&heap, &pairs)) {
+        if is_made_within(rt, alloc, pairs, step * 64)? {
             made = step;
         } else {
             refused = step;
         }
     }
-    assert!(rt; refused > 0 && made > refused);
-    Ok(())
+    Ok((refused, made))
+}
+
+/// Whether a lookup is made over a heap of so many bytes.
+fn is_made_within(
+    rt: &impl Abort,
+    alloc: Global,
+    pairs: &[(u16, u16)],
+    size: usize,
+) -> Result<bool, AllocError> {
+    let heap = LocalHeap::new(alloc, size)?;
+    Ok(is_made(rt, Lookup::new(&heap, pairs)))
 }
 
 /// The rule of a state and a class, whose entry tells it apart.
@@ -111,23 +131,41 @@ fn rule(state: u16, class: u16) -> (u16, u16, GenericStateEntry<u16>) {
 
 /// Asks a table of four classes for the entry of each state and class.
 fn is_ruled(rt: &impl Abort, alloc: Global, states: &[u16]) -> Result<(), Fail> {
+    let rules = rules_of(alloc, states)?;
+    let table = ExtendedStateTable::new(alloc, 4, &[], &rules)?;
+    for state in 0..65536u32 {
+        let state = state as u16;
+        assert!(rt;
+            is_ruled_at(&table, state, states.contains(&state)),
+            "at {state}"
+        );
+    }
+    drop(table);
+    Ok(())
+}
+
+/// The rules of classes 0 and 3 of some states.
+fn rules_of(
+    alloc: Global,
+    states: &[u16],
+) -> Result<Vec<(u16, u16, GenericStateEntry<u16>)>, AllocError> {
     let mut rules = Vec::new(alloc);
     for state in states {
         rules.push(rule(*state, 0))?;
         rules.push(rule(*state, 3))?;
     }
-    let table = ExtendedStateTable::new(alloc, 4, &[], &rules)?;
-    for state in 0..65536u32 {
-        let state = state as u16;
-        let is_listed = states.contains(&state);
-        for class in [0, 1, 2, 3, 4, 65535] {
-            let wanted = is_listed && (class == 0 || class == 3);
-            let entry = rule(state, class).2;
-            let found = table.entry(state, class);
-            assert!(rt; found == wanted.then_some(entry), "at {state} {class}");
+    Ok(rules)
+}
+
+/// Whether a state has its rules, where it is listed, and no others.
+fn is_ruled_at(table: &ExtendedStateTable<u16>, state: u16, is_listed: bool) -> bool {
+    for class in [0, 1, 2, 3, 4, 65535] {
+        let wanted = is_listed && (class == 0 || class == 3);
+        if table.entry(state, class) != wanted.then_some(rule(state, class).2) {
+            return false;
         }
     }
-    Ok(())
+    true
 }
 
 #[test]
@@ -152,13 +190,19 @@ fn unknown_classes(rt: HostRuntime) -> Result<(), Fail> {
         let rules = [rule(0, 0), rule(0, 1), rule(1, 0), rule(last, 1)];
         let table = ExtendedStateTable::new(rt.alloc(), 4, &[], &rules)?;
         for class in [4, 5, 65535] {
-            assert!(rt; table.entry(0, class) == Some(rule(0, 1).2), "at {class}");
-            assert!(rt; table.entry(1, class).is_none(), "at {class}");
             assert!(rt;
-                table.entry(last, class) == Some(rule(last, 1).2),
-                "at {class}"
+                is_as_class_one(&table, class, last),
+                "at {class} of {last}"
             );
         }
+        drop(table);
     }
     Ok(())
+}
+
+/// Whether a class is answered as class 1, in the states 0, 1 and the last one.
+fn is_as_class_one(table: &ExtendedStateTable<u16>, class: u16, last: u16) -> bool {
+    table.entry(0, class) == Some(rule(0, 1).2)
+        && table.entry(1, class).is_none()
+        && table.entry(last, class) == Some(rule(last, 1).2)
 }

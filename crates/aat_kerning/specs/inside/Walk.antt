@@ -1,9 +1,9 @@
 -- The walk over a line that finds its pairs from the left, one place after another.
-use Rattle.std.specs.Prelude.{ℕ, ℤ, Bool, ◌&&◌, List, Option, Some, None, option_map, if◌then◌else◌}
+use Rattle.std.specs.Prelude.{ℕ, Bool, ◌&&◌, Option, Some, None, option_map, if◌then◌else◌}
 use Rattle.std.specs.Bool.{then_some}
 use Rattle.std.specs.Option.{option_or}
 use Rattle.aat_buffer.specs.Buffer.{Buffer}
-use Rattle.aat_kerning.specs.PairKerning.{kerned}
+use Rattle.aat_kerning.specs.PairKerning.{PairValues, kerned}
 use Rattle.aat_kerning.specs.Pairs.{Pair}
 
 -- the left glyph of the pairs whose right glyph stands behind place t: a solid t is a wall, and a t whose mask meets
@@ -17,6 +17,6 @@ pair_with is_solid is_asked t left =
     if is_solid && is_asked then option_map (λ i. record { left = i; right = t }) left else None
 
 -- a pair is kerned where there is one
-abbrev pub kerned_where : Bool → List (ℕ × ℕ × ℤ) → Option Pair → Buffer → Buffer
+abbrev pub kerned_where : Bool → PairValues → Option Pair → Buffer → Buffer
 kerned_where is_cross values None b = b
 kerned_where is_cross values (Some p) b = kerned is_cross values p b

@@ -1,5 +1,6 @@
 //! Indexes of lookups at their ends, and the largest number of subtables, through substitution.
 
+use crate::checks::{wanted, wanted_at};
 use aat_layout::buffer::{BufferError, hb_buffer_t, hb_glyph_info_t};
 use aat_layout::font::{
     Chain, ContextualEntryData, ContextualSubtable, Coverage, ExtendedStateTable, FaceTables,
@@ -96,42 +97,56 @@ fn ids_of(buffer: &hb_buffer_t) -> Option<(u32, u32)> {
     }
 }
 
-/// What substitution leaves of two glyphs 5, and its turns.
-fn left_by(alloc: Global, font: &hb_font_t) -> Result<Option<(u32, u32, u64)>, Fail> {
+/// Whether substitution leaves these two glyphs of two glyphs 5, in so many turns.
+fn leaves_of(
+    alloc: Global,
+    font: &hb_font_t,
+    buffer: &mut hb_buffer_t,
+    left: (u32, u32),
+    turns: u64,
+) -> bool {
     let plan = hb_ot_shape_plan_t::new(Vec::new(alloc));
-    let mut buffer = line_of(alloc)?;
-    if !buffer.all_glyphs_16() {
-        return Ok(None);
-    }
-    let turns = hb_aat_layout_substitute(alloc, &plan, font, &mut buffer)?;
-    Ok(match ids_of(&buffer) {
-        Some((first, second)) => Some((first, second, turns)),
-        None => None,
-    })
+    buffer.all_glyphs_16()
+        && hb_aat_layout_substitute(alloc, &plan, font, buffer) == Ok(turns)
+        && ids_of(buffer) == Some(left)
 }
+
+/// Whether substitution leaves these two glyphs of two glyphs 5, in so many turns.
+fn leaves(alloc: Global, font: &hb_font_t, left: (u32, u32), turns: u64) -> Result<bool, Fail> {
+    let mut buffer = line_of(alloc)?;
+    Ok(leaves_of(alloc, font, &mut buffer, left, turns))
+}
+
+/// Whether a contextual subtable leaves these two glyphs of two glyphs 5.
+fn contextual_leaves(
+    alloc: Global,
+    (marked, current): (u16, u16),
+    count: usize,
+    left: (u32, u32),
+) -> Result<bool, Fail> {
+    let font = font_of(alloc, contextual(alloc, marked, current, count)?, 1)?;
+    leaves(alloc, &font, left, 3)
+}
+
+/// An index of a lookup, how many lookups there are, and whether it names the last one.
+const ENDS: [(u16, usize, bool); 6] = [
+    (0, 1, true),
+    (1, 1, false),
+    (65534, 1, false),
+    (65535, 1, false),
+    (65534, 65535, true),
+    (65535, 65536, false),
+];
 
 /// An index that names the last lookup, one behind it, the last one that can be named, and the one that names none.
 #[test]
 fn lookups_at_their_ends(rt: HostRuntime) -> Result<(), Fail> {
-    for (index, count, is_named) in [
-        (0, 1, true),
-        (1, 1, false),
-        (65534, 1, false),
-        (65535, 1, false),
-        (65534, 65535, true),
-        (65535, 65536, false),
-    ] {
+    for (index, count, is_named) in ENDS {
         let after = if is_named { 9 } else { 5 };
-        let marking = font_of(rt.alloc(), contextual(rt.alloc(), index, NONE, count)?, 1)?;
-        assert!(rt;
-            left_by(rt.alloc(), &marking)? == Some((after, 5, 3)),
-            "at {index}"
-        );
-        let current = font_of(rt.alloc(), contextual(rt.alloc(), NONE, index, count)?, 1)?;
-        assert!(rt;
-            left_by(rt.alloc(), &current)? == Some((after, after, 3)),
-            "at {index}"
-        );
+        let marked = contextual_leaves(rt.alloc(), (index, NONE), count, (after, 5))?;
+        wanted_at(&rt, index as usize, marked, "the marked glyph");
+        let current = contextual_leaves(rt.alloc(), (NONE, index), count, (after, after))?;
+        wanted_at(&rt, index as usize, current, "the current glyph");
     }
     Ok(())
 }
@@ -141,6 +156,7 @@ fn lookups_at_their_ends(rt: HostRuntime) -> Result<(), Fail> {
 fn as_many_subtables_as_there_can_be(rt: HostRuntime) -> Result<(), Fail> {
     let last = SubtableKind::NonContextual(Lookup::new(rt.alloc(), &[(5, 9)])?);
     let font = font_of(rt.alloc(), last, 65535)?;
-    assert!(rt; left_by(rt.alloc(), &font)? == Some((9, 9, 131_070)));
+    let is_left = leaves(rt.alloc(), &font, (9, 9), 131_070)?;
+    wanted(&rt, is_left, "two glyphs 9");
     Ok(())
 }

@@ -99,6 +99,7 @@ fn kerx_subtable(alloc: Global, numbers: &mut Numbers) -> Result<KerxSubtable, F
     Ok(KerxSubtable {
         has_cross_stream: numbers.coin(),
         variable: numbers.pick(&[false, false, false, true]),
+        is_last_to_first: numbers.coin(),
         tuple_count: numbers.pick(&TUPLES),
         ..KerxSubtable::new(format(alloc, numbers)?, numbers.pick(&[true, true, false]))
     })

@@ -1,7 +1,8 @@
 use Rattle.aat_kerning.proofs.Walk.{IsWalk}
 use Rattle.aat_kerning.proofs.pair_kerning.kern_pairs.Given as goal
+use Rattle.aat_kerning.specs.inside.Values.{values_of}
 
 abbrev pub invariant-loop-place : goal.invariant-loop-place
 invariant-loop-place g l = record {
-  walk : IsWalk l.fn.run.skips l.fn.run.kern_mask l.fn.run.is_cross_stream l.fn.run.pairs.now l.fn.buffer l.buffer l.left l.place;
+  walk : IsWalk l.fn.run.skips l.fn.run.kern_mask l.fn.run.is_cross_stream (values_of l.fn.run.values) l.fn.buffer l.buffer l.left l.place;
 }

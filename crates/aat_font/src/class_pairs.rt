@@ -1,0 +1,223 @@
+//! Kerning values of pairs of glyphs by classes.
+ghost use Rattle.std.specs.Prelude.{◌≡◌, ◌≤◌, IfOk, IfErr, OnOk, None, false, length, slice_index_or};
+ghost use Rattle.std.specs.Option.{option_or};
+ghost use Rattle.aat_font.specs.Classes.{class_in, kerning_by_classes, value_of_classes};
+ghost use Rattle.aat_font.specs.Keys.{first, first_fall};
+ghost use Rattle.aat_font.specs.TableErrors.{RefusesRising};
+ghost use Rattle.aat_font.specs.inside.Rows.{HoldsRows, IsQuiet, TellRows};
+
+use crate::error::TableError;
+use crate::keys::first_fall;
+use crate::lookup::Lookup;
+use crate::plan::GlyphId;
+use std::alloc::{AllocError, Allocator, Global};
+use std::marker::Model;
+
+/// The kerning values of pairs of glyphs by a class of the left glyph and one of the right glyph, in units of the font.
+/// A glyph for which no class is listed has class 0. A contract sees the table as the record `ClassValues`.
+///
+/// Apple's TrueType Reference Manual, "The 'kern' table", formats 2 and 3, and "The 'kerx' table", formats 2 and 6.
+#[derive(Drop)]
+pub struct ClassPairs<A: Allocator = Global> {
+    left: Lookup<A>,
+    right: Lookup<A>,
+    right_count: u16,
+    values: Vec<i16, A>,
+    /// Whether a left class has a value that is not 0.
+    kerns: Vec<bool, A>,
+}
+
+impl<A: Allocator> Model for ClassPairs<A> {
+    ghost use Rattle.aat_font.specs.Classes.{ClassValues};
+    ghost use Rattle.aat_font.specs.inside.Rows.{TellRows};
+
+    ghost Value = { ClassValues };
+
+    ghost view = { λ m. record {
+      left = m.left;
+      right = m.right;
+      right_count = m.right_count;
+      values = m.values.items;
+    } };
+
+    ghost invariant = { λ m. TellRows m.kerns.items m.values.items m.right_count };
+}
+
+impl<A: Allocator + Copy> ClassPairs<A> {
+    /// Makes the table of pairs of a left glyph and its class, pairs of a right glyph and its class, which both have to
+    /// rise strictly by glyph, the number of right classes, and the values: for each left class, from 0 on, that of each
+    /// right class. A value that is missing is 0, and one more than there are classes is kept and never found.
+    ///
+    /// Refused as 1, `NotRising`, with the place of the first pair that is not above the one before it, of the left
+    /// glyphs first, and else as 5, `OutOfMemory`, where the copies or what stands beside them get no memory.
+    pub fn new(
+        alloc: A,
+        left: &[(u16, u16)],
+        right: &[(u16, u16)],
+        right_count: u16,
+        values: &[i16],
+    ) -> Result<ClassPairs<A>, TableError>
+        ensures ok { IfOk result (λ table. table ≡ record {
+          left = left.now;
+          right = right.now;
+          right_count = right_count;
+          values = values.now;
+        }) }
+        ensures rising { OnOk result (option_or (first_fall first left.now) (first_fall first right.now) ≡ None) }
+        ensures refused { IfErr result
+            (RefusesRising (option_or (first_fall first left.now) (first_fall first right.now))) }
+    {
+        if let Some(place) = first_fall(left) {
+            return Err(TableError::NotRising(place));
+        }
+        if let Some(place) = first_fall(right) {
+            return Err(TableError::NotRising(place));
+        }
+        let left = Lookup::of_rising(alloc, left)?;
+        let right = Lookup::of_rising(alloc, right)?;
+        let values = Vec::from_slice(alloc, values)?;
+        Ok(ClassPairs::from_lookups(alloc, left, right, right_count, values)?)
+    }
+
+    /// Makes the table of the classes of left glyphs and those of right glyphs, as lookups, which may be of segments, the
+    /// number of right classes, and the values, as `new` does. Fails where a flag for each left class gets no memory.
+    pub fn from_lookups(
+        alloc: A,
+        left: Lookup<A>,
+        right: Lookup<A>,
+        right_count: u16,
+        values: Vec<i16, A>,
+    ) -> Result<ClassPairs<A>, AllocError>
+        ensures ok { IfOk result (λ table. table ≡ record {
+          left = left;
+          right = right;
+          right_count = right_count;
+          values = values.items;
+        }) }
+    {
+        let kerns = kerning_rows(alloc, &values, right_count)?;
+        Ok(ClassPairs {
+            left,
+            right,
+            right_count,
+            values,
+            kerns,
+        })
+    }
+}
+
+impl<A: Allocator> ClassPairs<A> {
+    /// The classes of left glyphs.
+    pub fn left(&self) -> &Lookup<A>
+        ensures { result.now ≡ self.now.left }
+    {
+        &self.left
+    }
+
+    /// The classes of right glyphs.
+    pub fn right(&self) -> &Lookup<A>
+        ensures { result.now ≡ self.now.right }
+    {
+        &self.right
+    }
+
+    /// The number of right classes.
+    pub fn right_count(&self) -> u16
+        ensures { result ≡ self.now.right_count }
+    {
+        self.right_count
+    }
+
+    /// The values: for each left class, from 0 on, that of each right class.
+    pub fn values(&self) -> &[i16]
+        ensures { result.now ≡ self.now.values }
+    {
+        &self.values
+    }
+
+    /// The value of a left and a right glyph, which is that of their classes, and 0 where there is none. The class of the
+    /// right glyph is looked up only where the left class has a value that is not 0.
+    pub fn glyphs_kerning(&self, left: GlyphId, right: GlyphId) -> i16
+        ensures { result ≡ kerning_by_classes self.now left.0 right.0 }
+    {
+        let row = class_in(&self.left, left);
+        if !kerns_at(&self.kerns, row) {
+            return 0;
+        }
+        value_at(
+            &self.values,
+            self.right_count,
+            row,
+            class_in(&self.right, right),
+        )
+    }
+}
+
+/// The class of a glyph, 0 where none is listed for it.
+fn class_in<A: Allocator>(classes: &Lookup<A>, glyph: GlyphId) -> u16
+    ensures { result ≡ class_in classes.now glyph.0 }
+{
+    classes.value(glyph).unwrap_or(0)
+}
+
+/// Whether a left class is told to have a value that is not 0.
+fn kerns_at(kerns: &[bool], left: u16) -> bool
+    ensures { result ≡ slice_index_or kerns.now left false }
+{
+    let place = left as usize;
+    place < kerns.len() && kerns[place]
+}
+
+/// The value of a left class and a right class, 0 where there is none.
+fn value_at(values: &[i16], right_count: u16, left: u16, right: u16) -> i16
+    ensures { result ≡ value_of_classes values.now right_count left right }
+{
+    if right >= right_count {
+        return 0;
+    }
+    let place = left as usize * right_count as usize + right as usize;
+    if place >= values.len() {
+        return 0;
+    }
+    values[place]
+}
+
+/// Whether a left class has a value that is not 0.
+fn kerns(values: &[i16], right_count: u16, left: u16) -> bool
+    ensures { result ≡ false → IsQuiet values.now right_count left }
+{
+    for right in 0..right_count {
+        if value_at(values, right_count, left, right) != 0 {
+            return true;
+        }
+    }
+    false
+}
+
+/// The number of left classes that have a value.
+fn row_count(count: usize, right_count: u16) -> usize
+    ensures small { result ≤ 65536 }
+    ensures all { HoldsRows count right_count result }
+{
+    if right_count == 0 {
+        return 0;
+    }
+    (count / right_count as usize).min(65535) + 1
+}
+
+/// Whether each left class has a value that is not 0, from class 0 up to the last one that has a value. Fails where they
+/// get no memory.
+fn kerning_rows<A: Allocator>(
+    alloc: A,
+    values: &[i16],
+    right_count: u16,
+) -> Result<Vec<bool, A>, AllocError>
+    ensures { IfOk result (λ told. TellRows told.items values.now right_count) }
+{
+    let count = row_count(values.len(), right_count);
+    let mut told = Vec::with_capacity(alloc, count)?;
+    for row in 0..count {
+        told.push(kerns(values, right_count, row as u16))?;
+    }
+    Ok(told)
+}

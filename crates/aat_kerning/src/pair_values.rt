@@ -1,0 +1,28 @@
+//! The kerning values of pairs of glyphs, however a table has them.
+ghost use Rattle.std.specs.Prelude.{◌≡◌, ◌≤◌};
+ghost use Rattle.aat_kerning.specs.inside.Values.{values_of};
+
+use aat_font::{ClassPairs, GlyphId, Pairs};
+
+/// The kerning values of pairs of glyphs.
+#[derive(Clone, Copy)]
+pub(crate) enum PairValues<'a> {
+    /// Pairs that are listed.
+    Listed(&'a Pairs),
+    /// Pairs of classes.
+    Classes(&'a ClassPairs),
+}
+
+/// The kerning value of two glyphs, 0 where the table has none.
+pub(crate) fn value_of(values: PairValues, left: u32, right: u32) -> i16
+    requires left_id { left ≤ 65535 }
+    requires right_id { right ≤ 65535 }
+    ensures { result ≡ values_of values.entry left right }
+{
+    let left = GlyphId(left as u16);
+    let right = GlyphId(right as u16);
+    match values {
+        PairValues::Listed(pairs) => pairs.glyphs_kerning(left, right).unwrap_or(0),
+        PairValues::Classes(pairs) => pairs.glyphs_kerning(left, right),
+    }
+}
