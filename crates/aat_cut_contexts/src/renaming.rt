@@ -1,6 +1,6 @@
 //! A context that renames the glyph at the cursor, and counts.
 //!
-//! Three numbers say how. With others than those that stand here it still meets the laws of the driver, but not those of
+//! Three numbers say how. With one of them greater by 1 it still meets the laws of the driver, but not those of
 //! a cut.
 ghost use Rattle.std.specs.Prelude.{◌≡◌, ◌<◌, length};
 ghost use Rattle.aat_buffer.specs.Clusters.{IsSmall};

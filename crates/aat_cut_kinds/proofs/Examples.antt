@@ -10,6 +10,7 @@ use Rattle.aat_kinds.specs.Rearrangement as r
 use Rattle.aat_buffer.specs.Marks.{merged, merged_out}
 use Rattle.aat_kinds.specs.Kinds.{contextual_run, insertion_run, ligature_run, rearrangement_run}
 use Rattle.aat_cut_kinds.specs.CutExamples.{CutExamples}
+use Rattle.aat_cut_kinds.specs.EmptyRunExamples.{EmptyRunExamples}
 use Rattle.aat_cut_kinds.specs.FallExamples.{FallExamples}
 use Rattle.aat_cut_kinds.specs.OtherCutExamples.{InsertionCutExamples, LigatureCutExamples, RearrangementCutExamples}
 
@@ -53,4 +54,14 @@ fall_examples = record {
   a_line_is_cut_from_its_end = record { left = refl; marked = refl; left_of_front = refl; left_of_back = refl };
   the_glyph_before_the_cut_is_marked = record { left = refl; marked = refl; left_of_front = refl; left_of_back = refl };
   a_run_of_no_glyphs_marks = record { marked = refl; marked_of_front = refl; marked_of_back = refl };
+}
+
+pub empty_run_examples : EmptyRunExamples
+unfolding insertion_run machine_run run_to_end run turn by_entry acted marked off is_safe i.act i.at_mark i.at_cursor i.inserted
+empty_run_examples = record {
+  rising_glyphs = record { left = refl; marked = refl; left_of_front = refl; left_of_back = refl };
+  rising_masks = record { marked = refl; marked_of_front = refl; marked_of_back = refl };
+  falling_glyphs = record { left = refl; marked = refl; left_of_front = refl; left_of_back = refl };
+  backward_glyphs = record { left = refl; marked = refl; left_of_front = refl; left_of_back = refl };
+  backward_masks = record { marked = refl; marked_of_front = refl; marked_of_back = refl };
 }

@@ -1,5 +1,5 @@
--- Lines that are cut, and what their parts leave: one of a settled subtable, and for each premise one that shows what
--- it is for. Glyph 4 is of class 4, 5 of class 5 and 6 of class 6; any other is of class 1, out of bounds.
+-- Lines that are cut, and what their parts leave: one of a settled subtable, and five that show what premises are for.
+-- Glyph 4 is of class 4, 5 of class 5 and 6 of class 6; any other is of class 1, out of bounds.
 use Rattle.std.specs.Prelude.{◌≡◌, ◌==◌, ℕ, Bool, true, pos, List, [], ◌∷◌, map, None}
 use Rattle.aat_buffer.specs.Buffer.{Buffer, no_glyph}
 use Rattle.aat_buffer.specs.Examples.{buffer_at, masks_of}

@@ -1,7 +1,7 @@
 -- Where the line of a subtable can be cut. (No chapter of the manual: the marks that say where a line can be broken are
 -- the shaper's own.)
-use Rattle.std.specs.Prelude.{◌≡◌, ◌≢◌, ℕ, ◌-◌, ◌<◌, ◌≤◌, Bool, true, nat_le, List, length, take, drop, reverse, find, All, Option, Some}
-use Rattle.aat_buffer.specs.Buffer.{Buffer, glyph_at, reversed}
+use Rattle.std.specs.Prelude.{◌≡◌, ◌≢◌, ℕ, ◌-◌, ◌<◌, ◌≤◌, Bool, true, nat_le, List, length, map, take, drop, reverse, find, All, Option, Some}
+use Rattle.aat_buffer.specs.Buffer.{Buffer, glyph_at, reversed, with_line}
 use Rattle.aat_buffer.specs.Marks.{cluster_at}
 use Rattle.aat_font.specs.Table.{TableValue}
 use Rattle.aat_font.specs.declared.plan.GlyphId.{GlyphId}
@@ -14,6 +14,14 @@ use Rattle.aat_kinds.specs.Kinds.{contextual_run, insertion_run, noncontextual_r
 use Rattle.aat_cut_laws.specs.Greater.{IsUnflagged, greater_at}
 use Rattle.aat_cut_laws.specs.Parts.{LeftInParts, back_part, front_part}
 use Rattle.aat_cut_kinds.specs.Settled.{HasEntries, IsPlain, IsSettled}
+
+-- a glyph without its mask
+abbrev pub unmasked : hb_glyph_info_t → hb_glyph_info_t
+unmasked g = record g { mask = 0 }
+
+-- a line without its masks
+abbrev pub without_masks : Buffer → Buffer
+without_masks b = with_line b (map unmasked b.line)
 
 module _ (run : Buffer → Outcome) (q : ℕ) (b : Buffer) where
   -- A place q inside the line of b whose glyph starts a cluster, at which the subtable is on. Of the two glyphs at the
@@ -29,6 +37,12 @@ module _ (run : Buffer → Outcome) (q : ℕ) (b : Buffer) where
   -- the run over the line leaves what the runs over its two parts leave, one behind the other, marks included
   abbrev pub LeavesParts : Type 0
   LeavesParts = LeftInParts (run b).buffer (run (front_part q b)).buffer (run (back_part q b)).buffer
+
+  -- the same but for the masks: the glyphs with their clusters, and the budget
+  abbrev pub LeavesPartsButMasks : Type 0
+  LeavesPartsButMasks =
+      let left : Buffer → Buffer = λ d. without_masks (run d).buffer in
+      LeftInParts (left b) (left (front_part q b)) (left (back_part q b))
 
 -- the clusters before place q are lower than c, and those from there on are not
 pub record IsSplitAt (c q : ℕ) (line : List hb_glyph_info_t) : Type 0 where
@@ -129,3 +143,30 @@ BackwardInsertionLeavesParts =
     → HasEntries table reached → IsPlain table
     → IsUnmarkedBackwardRise (reversed_run (insertion_run on table glyphs)) on c q b
     → LeavesParts (reversed_run (insertion_run on table glyphs)) q b
+
+-- any complete insertion subtable leaves the parts of each line, but for the masks, at an unmarked rise
+abbrev pub AnyInsertionLeavesParts : Type 0
+AnyInsertionLeavesParts =
+    (on : ℕ → Bool) (table : TableValue insertion.Entry) (glyphs : List GlyphId) (reached : ℕ → Bool) (c q : ℕ)
+    (b : Buffer)
+    → HasEntries table reached
+    → IsUnmarkedRise (insertion_run on table glyphs) on c q b
+    → LeavesPartsButMasks (insertion_run on table glyphs) q b
+
+-- and at an unmarked fall
+abbrev pub AnyInsertionLeavesPartsAtFall : Type 0
+AnyInsertionLeavesPartsAtFall =
+    (on : ℕ → Bool) (table : TableValue insertion.Entry) (glyphs : List GlyphId) (reached : ℕ → Bool) (c q : ℕ)
+    (b : Buffer)
+    → HasEntries table reached
+    → IsUnmarkedFall (insertion_run on table glyphs) on c q b
+    → LeavesPartsButMasks (insertion_run on table glyphs) q b
+
+-- on the line in the opposite order, at an unmarked rise
+abbrev pub AnyBackwardInsertionLeavesParts : Type 0
+AnyBackwardInsertionLeavesParts =
+    (on : ℕ → Bool) (table : TableValue insertion.Entry) (glyphs : List GlyphId) (reached : ℕ → Bool) (c q : ℕ)
+    (b : Buffer)
+    → HasEntries table reached
+    → IsUnmarkedBackwardRise (reversed_run (insertion_run on table glyphs)) on c q b
+    → LeavesPartsButMasks (reversed_run (insertion_run on table glyphs)) q b

@@ -16,7 +16,7 @@ sets_the_mark = entry_with 1 0x8000 (record { current_insert_index = 0xFFFF; mar
 abbrev pub puts_behind_mark : insertion.Entry
 puts_behind_mark = entry_with 0 1 (record { current_insert_index = 0xFFFF; marked_insert_index = 0 })
 
--- a glyph 1 goes in behind each glyph 4 that a glyph 2 follows
+-- a glyph 1 goes in behind a glyph 4 that a glyph 2 follows
 abbrev pub put_in_between : Buffer → Buffer
 put_in_between =
     put_in_by everywhere

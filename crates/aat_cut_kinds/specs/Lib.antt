@@ -1,5 +1,6 @@
 pub mod CutExamples
 pub mod Cuts
+pub mod EmptyRunExamples
 pub mod FallExamples
 pub mod OtherCutExamples
 pub mod Settled

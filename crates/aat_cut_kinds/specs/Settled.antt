@@ -39,8 +39,8 @@ pub record HasEntries {T : Type 0} (table : TableValue (GenericStateEntry T)) (r
 
 module _ (labels : Labels) (table : TableValue Entry) where
   module _ (lookups : List (List (ℕ × ℕ))) where
-    -- the mark is live where it was set since state 0, and an entry asks for the marked glyph only where it is live,
-    -- and so does one for the end of the text that asks for the last glyph
+    -- the mark is live only where it was set since state 0; an entry asks for the marked glyph only where it is live,
+    -- and so does one for the end of the text for the last glyph
     pub record IsTidy : Type 0 where
       pub first : labels.is_live 0 ≡ false
       pub kept :
@@ -53,8 +53,8 @@ module _ (labels : Labels) (table : TableValue Entry) where
           (s : ℕ) (e : Entry) → labels.is_reached s ≡ true → entry_of table s 0 ≡ Some e
           → is_present e.extra.current_index ≡ true → labels.is_live s ≡ true
 
-  -- an entry that replaces nothing and does as that of state 0 for the same class sets the mark as that one does, or
-  -- leads to where the mark is not live
+  -- an entry and that of state 0 for its class that replace nothing and do the same next set the mark alike, or lead to
+  -- where it is not live
   pub record IsAgreeing : Type 0 where
     pub agreed :
         (s k : ℕ) (e f : Entry) → labels.is_reached s ≡ true → IsClassOfGlyph table k

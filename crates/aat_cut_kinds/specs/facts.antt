@@ -1,8 +1,13 @@
 pub mod BackwardCuts
+pub mod ButMasks
 pub mod ContextualActs
 pub mod ContextualCuts
 pub mod CutSides
+pub mod EmptyRuns
+pub mod FewerMarks
 pub mod FirstFlags
 pub mod InsertionActs
 pub mod InsertionCuts
 pub mod LastFlags
+pub mod PlainRuns
+pub mod PlainTables

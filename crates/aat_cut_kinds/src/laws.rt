@@ -1,10 +1,10 @@
 //! Laws of the definitions as theorems. These calls do nothing: what is proved is their contracts.
 
-ghost use Rattle.aat_cut_kinds.specs.Cuts.{BackwardInsertionLeavesParts, ContextualLeavesParts, InsertionLeavesParts, InsertionLeavesPartsAtFall, NoncontextualLeavesParts, ReversedLeavesParts};
+ghost use Rattle.aat_cut_kinds.specs.Cuts.{AnyBackwardInsertionLeavesParts, AnyInsertionLeavesParts, AnyInsertionLeavesPartsAtFall, BackwardInsertionLeavesParts, ContextualLeavesParts, InsertionLeavesParts, InsertionLeavesPartsAtFall, NoncontextualLeavesParts, ReversedLeavesParts};
 
-/// Where a settled contextual subtable leaves a start of a cluster without the mark, and some of the budget, and is on
-/// there, it leaves the glyphs that it leaves of the line up to there, and behind them those that it leaves of the
-/// rest, with their masks, and of neither part less of the budget.
+/// Where a settled contextual subtable is on at a start of a cluster, and leaves, of the two glyphs there, the one with
+/// the greater cluster without the mark, and some of the budget, it leaves the glyphs that it leaves of the line up to
+/// there, and behind them those that it leaves of the rest, with their masks, and of neither part less of the budget.
 pub fn unmarked_contextual_cut()
     ensures { ContextualLeavesParts }
 {}
@@ -14,16 +14,15 @@ pub fn noncontextual_cut()
     ensures { NoncontextualLeavesParts }
 {}
 
-/// Where a complete insertion subtable leaves the first glyph behind a rise of the clusters without the mark, and some
-/// of the budget, and is on there, it leaves the glyphs that it leaves of the line up to there, and behind them those
-/// that it leaves of the rest, with their masks, and of neither part less of the budget. An entry that puts no glyphs
-/// in has to name no run.
+/// Where all clusters before a place are below some c, none from there on is, and a complete insertion subtable is on
+/// there, and leaves the first glyph not below c unmarked, and some of the budget, it leaves what it leaves of the line
+/// up to there, then of the rest, with masks, and of neither part less of the budget. An entry that puts no glyphs in
+/// has to name no run.
 pub fn unmarked_insertion_cut()
     ensures { InsertionLeavesParts }
 {}
 
-/// The same where the clusters fall, as they do along a line in the opposite order: the glyph that has to be left
-/// without the mark is the last one before the fall.
+/// The same where none before is below c and all from there on are: the last glyph not below c is left unmarked.
 pub fn unmarked_falling_insertion_cut()
     ensures { InsertionLeavesPartsAtFall }
 {}
@@ -34,10 +33,26 @@ pub fn reversed_cut()
     ensures { ReversedLeavesParts }
 {}
 
-/// Where a complete insertion subtable takes the line from its end, and leaves the first glyph behind a rise of the
-/// clusters without the mark, and some of the budget, and is on at the glyph before it, it leaves the glyphs that it
-/// leaves of the line up to there, and behind them those that it leaves of the rest, with their masks, and of neither
+/// Where all clusters before a place are below some c, none from there on is, and a complete insertion subtable takes
+/// the line from its end, and is on at the glyph before the place, and leaves the first glyph not below c unmarked, and
+/// some of the budget, it leaves what it leaves of the line up to there, then of the rest, with masks, and of neither
 /// part less of the budget. An entry that puts no glyphs in has to name no run.
 pub fn unmarked_backward_insertion_cut()
     ensures { BackwardInsertionLeavesParts }
+{}
+
+/// The same as `unmarked_insertion_cut` of any complete insertion subtable, but for the masks: these may be others
+/// where an entry that puts no glyphs in names a run.
+pub fn any_unmarked_insertion_cut()
+    ensures { AnyInsertionLeavesParts }
+{}
+
+/// The same where none before is below c and all from there on are: the last glyph not below c is left unmarked.
+pub fn any_unmarked_falling_insertion_cut()
+    ensures { AnyInsertionLeavesPartsAtFall }
+{}
+
+/// The same as `unmarked_backward_insertion_cut` of any complete insertion subtable, but for the masks.
+pub fn any_unmarked_backward_insertion_cut()
+    ensures { AnyBackwardInsertionLeavesParts }
 {}

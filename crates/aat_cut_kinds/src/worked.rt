@@ -1,10 +1,10 @@
 //! Examples of cuts as theorems. These calls do nothing: what is proved is their contracts.
 ghost use Rattle.aat_cut_kinds.specs.CutExamples.{CutExamples};
+ghost use Rattle.aat_cut_kinds.specs.EmptyRunExamples.{EmptyRunExamples};
 ghost use Rattle.aat_cut_kinds.specs.FallExamples.{FallExamples};
 ghost use Rattle.aat_cut_kinds.specs.OtherCutExamples.{InsertionCutExamples, LigatureCutExamples, RearrangementCutExamples};
 
-/// What a settled contextual subtable leaves of a line and of its parts, and for each premise a line whose parts leave
-/// something else.
+/// What a settled contextual subtable leaves of a line and of its parts, and five lines whose parts leave something else.
 #[tactic(auto, using(crate::proofs::Examples::cut_examples))]
 pub fn cuts_of_lines()
     ensures { CutExamples }
@@ -33,4 +33,11 @@ pub fn insertions_over_cuts()
 #[tactic(auto, using(crate::proofs::Examples::fall_examples))]
 pub fn insertions_where_clusters_fall()
     ensures { FallExamples }
+{}
+
+/// Lines whose parts have the glyphs and the clusters of the whole line and other marks, since an entry that puts no
+/// glyphs in names a run: where the clusters rise, where they fall, and from the end of the line.
+#[tactic(auto, using(crate::proofs::Examples::empty_run_examples))]
+pub fn insertions_of_no_glyphs()
+    ensures { EmptyRunExamples }
 {}

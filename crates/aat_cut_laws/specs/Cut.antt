@@ -45,7 +45,7 @@ module _ {T R : Type 0} (on : ℕ → Bool) (table : TableValue (GenericStateEnt
       pub unmarked : Marked (line_left b) → ⊥
       pub budget : 0 < operations_left (machine_run on table context b).buffer.max_ops
 
-    -- the same by labels, where the front part is one that they speak of
+    -- the same by labels, which admit the front part and the back part
     pub record IsLabelledCut (labels : CutLabels R) (q : ℕ) (b : Buffer) : Type 0 where
       pub place : IsCutPlace (λ line. labels.is_marked line ≡ true) q b
       pub front : labels.is_left (take q b.line) ≡ true

@@ -25,7 +25,7 @@ module _ {R E : Type 0} (m : Machine R E) (fits : R → ℕ → ℕ → Type 0) 
     pub quiet : (r : R) (p n : ℕ) → p < n → m.actionable e r p n ≡ false
 
   -- An act at a glyph depends on nothing behind that glyph, and keeps the cursor before the end. Inside a line the
-  -- entry alone tells whether it is actionable, and one that is not leaves the buffer.
+  -- entry alone tells whether it is actionable; one that is not leaves any buffer.
   pub record IsLocal : Type 0 where
     pub tested :
         (e : E) (r s : R) (p n i k : ℕ) → p < n → i < k → m.actionable e r p n ≡ m.actionable e s i k
@@ -86,7 +86,7 @@ module _ {R E : Type 0} (m : Machine R E) (fits : R → ℕ → ℕ → Type 0) 
         pub advances : m.advances f ≡ m.advances e
 
       -- An act does the same where all places move on, and leaves registers that are alike unless the run ends there.
-      -- Registers at the cut are like fresh ones in state 0, and in state 0 all are that were alike in some state. Idle
+      -- In state 0 registers at the cut are like any at the front, and all are that were alike in some state. Idle
       -- entries of a state and of state 0 that do the same at the cut leave registers that are alike.
       pub record MovesOn : Type 0 where
         pub begun : (r s : R) (n k : ℕ) → fits r (length gs) n → fits s 0 k → Alike 0 r s

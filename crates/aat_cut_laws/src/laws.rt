@@ -10,7 +10,8 @@ ghost use Rattle.aat_cut_laws.specs.Cut.{CutLabels, IsLabelledCut, LeavesItsPart
 
 use aat_run::driver_context_t;
 
-/// Where a machine meets the laws of a cut by labels of its states, and its run leaves the cut without a mark, the line
+/// Where a machine meets the laws of a cut by labels of its states, which admit the two parts, and its run from fresh
+/// registers is on at a place inside the line, and leaves the cut there without a mark, and some of the budget, the line
 /// that the run leaves is that which its front part leaves, and behind it that which its back part leaves, and no less
 /// of the budget is left of either part.
 pub fn unmarked_cut_leaves_parts<T: Copy, C: driver_context_t<T>>()

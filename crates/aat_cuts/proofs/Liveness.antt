@@ -7,7 +7,7 @@ use Rattle.aat_cuts.specs.Labels.{AreLeast, IsMet, asked_by, label_in}
 use Rattle.aat_cuts.specs.Reached.{is_labelled, start_edge}
 use Rattle.aat_cuts.specs.declared.labels.Asked.TheVariants.{Nothing, Same, One}
 use Rattle.aat_cuts.specs.declared.steps.Step.{Step}
-use Rattle.aat_cuts.specs.inside.Steps.{AreFit, IsFit, live_edge, unset_edge}
+use Rattle.aat_cuts.specs.inside.Steps.{AreFit, AreStepsBefore, AreStepsUnset, IsFit, live_edge, unset_edge}
 use Rattle.aat_cuts.proofs.Reaching.{front_all, unmapped}
 
 asked_if : (b : Bool) (m n : ℕ) → (b ≡ true → m ≤ n) → asked_by (if b then Same else Nothing) m ≤ n
@@ -107,6 +107,14 @@ module _ (steps : List Step) (unset : List ℕ) (least : AreLeast (map unset_edg
       let met = All-map (IsMet label) unset_edge steps (All-weaker (IsFit is_live) (λ s. IsMet label (unset_edge s)) (λ s one. asked_if s.keeps (label s.state) (label s.next) (λ keeps. unless_rises (is_live s.state) (is_live s.next) (one.kept keeps))) steps fit.each) in
       fails_above (is_live state) (label_in unset state) (ltb-true 0 (label_in unset state) here) (least.least label (with_start label met (one_not (is_live 0) fit.first)) state)
 
+  -- a run may come there without setting it
+  pub come_unset : (state : ℕ) → is_labelled unset state ≡ true → (states : ℕ → Bool) → AreStepsUnset steps states
+      → states state ≡ true
+  come_unset state here states are =
+      let label = λ (s : ℕ). one_where (states s) in
+      let met = All-map (IsMet label) unset_edge steps (All-weaker (λ s. s.keeps ≡ true → states s.state ≡ true → states s.next ≡ true) (λ s. IsMet label (unset_edge s)) (λ s one. asked_if s.keeps (label s.state) (label s.next) (λ keeps. where_rises (states s.state) (states s.next) (one keeps))) steps are.next) in
+      holds_above (states state) (label_in unset state) (ltb-true 0 (label_in unset state) here) (least.least label (with_start label met (one_here (states 0) are.first)) state)
+
   -- an entry that uses the register where it may not be set
   pub never_fit : (s : Step) → Contains steps s → s.uses ≡ true → is_labelled unset s.state ≡ true
       → (is_live : ℕ → Bool) → AreFit steps is_live → ⊥
@@ -153,6 +161,14 @@ never_agreed steps live least s here differs labelled is_live fit =
     let met = All-map (IsMet label) live_edge steps (All-weaker (IsFit is_live) (λ t. IsMet label (live_edge t)) (λ t one. asked_live t.uses t.keeps (label t.next) (label t.state) (λ uses. one_here (is_live t.state) (one.used uses)) (λ keeps. where_rises (is_live t.next) (is_live t.state) (one.kept keeps))) steps fit.each) in
     let is : is_live s.next ≡ true = holds_above (is_live s.next) (label_in live s.next) (ltb-true 0 (label_in live s.next) labelled) (least.least label met s.next) in
     let clash : true ≡ false = sym is ∙ (All-contains (IsFit is_live) steps s fit.each here).agreed differs in cc
+
+-- where a label says that the register may be used, it may
+pub used_behind : (steps : List Step) (live : List ℕ) → AreLeast (map live_edge steps) live → (state : ℕ)
+    → is_labelled live state ≡ true → (states : ℕ → Bool) → AreStepsBefore steps states → states state ≡ true
+used_behind steps live least state here states are =
+    let label = λ (s : ℕ). one_where (states s) in
+    let met = All-map (IsMet label) live_edge steps (λ i d within. asked_live (get_or steps i d).uses (get_or steps i d).keeps (label (get_or steps i d).next) (label (get_or steps i d).state) (λ uses. one_here (states (get_or steps i d).state) (are.used i d within uses)) (λ keeps. where_rises (states (get_or steps i d).next) (states (get_or steps i d).state) (are.before i d within keeps))) in
+    holds_above (states state) (label_in live state) (ltb-true 0 (label_in live state) here) (least.least label met state)
 
 pub and_true : (a b : Bool) → a && b ≡ true → (a ≡ true) × (b ≡ true)
 and_true true b is = (refl, is)

@@ -7,7 +7,7 @@ use Rattle.std.proofs.lemmas.List.{get_or_past}
 use Rattle.aat_font.specs.Table.{Rule, TableValue, entry_of}
 use Rattle.aat_font.specs.declared.state_table.GenericStateEntry.{GenericStateEntry}
 use Rattle.aat_cuts.specs.Labels.{AreBelow, AreLabels, IsMet, asked_by, label_in}
-use Rattle.aat_cuts.specs.Reached.{AreGathered, AreReachLabels, AreReached, IsCell, IsClosed, IsComplete, IsWhole, follow_edge, is_labelled, start_edge, width}
+use Rattle.aat_cuts.specs.Reached.{AreFollowed, AreGathered, AreReachLabels, AreReached, IsCell, IsClosed, IsComplete, IsReached, IsWhole, follow_edge, is_labelled, start_edge, width}
 use Rattle.aat_cuts.specs.declared.labels.Edge.{Edge}
 
 -- the label 1 of a state that is reached
@@ -31,6 +31,18 @@ unmapped P f (x ∷ xs) all =
 pub front_all : {X : Type 0} (P : X → Type 0) (xs ys : List X) → All P (xs ++ ys) → All P xs
 front_all P xs ys all =
     All-weaker (Contains xs) P (λ x here. All-contains P (xs ++ ys) x all (Contains-append_left xs ys x here)) xs (All-contains_itself xs)
+
+-- complete states are followed
+pub followed_of : {T : Type 0} (table : TableValue (GenericStateEntry T)) (is_reached : ℕ → Bool)
+    → IsComplete table is_reached → AreFollowed table is_reached
+followed_of table is_reached complete = record {
+  first = complete.first;
+  next = λ s k e here is.
+      let (f, there, next) = complete.entries s k here in
+      let equal : Some f ≡ Some e = sym there ∙ is in
+      let same : f ≡ e = cc in
+      subst (λ (g : GenericStateEntry _). is_reached g.new_state ≡ true) same next;
+}
 
 module _ {T : Type 0} (cells : List (Rule (GenericStateEntry T))) (edges : List Edge) (labels : List ℕ)
     (are : edges ≡ map follow_edge cells ++ start_edge ∷ []) where
@@ -86,22 +98,18 @@ contains_filter p (y ∷ ys) x (suc k, below, is) passes =
 
 module _ {T : Type 0} (table : TableValue (GenericStateEntry T)) (cells : List (Rule (GenericStateEntry T)))
     (labels : List ℕ) (gathered : AreGathered table cells 65536) (reach : AreReachLabels cells labels) where
-  closed_by : (is_reached : ℕ → Bool) → IsComplete table is_reached → IsClosed cells is_reached
-  closed_by is_reached complete = All-weaker (IsCell table) (λ c. is_reached c.0 ≡ true → is_reached c.2.new_state ≡ true) (λ c cell here.
-      let (e, is, next) = complete.entries c.0 c.1 here in
-      let equal : Some e ≡ Some c.2 = sym is ∙ cell in
-      let same : e ≡ c.2 = cc in
-      subst (λ (f : GenericStateEntry T). is_reached f.new_state ≡ true) same next) cells gathered.sound
+  closed_by : (states : ℕ → Bool) → AreFollowed table states → IsClosed cells states
+  closed_by states followed = All-weaker (IsCell table) (λ c. states c.0 ≡ true → states c.2.new_state ≡ true) (λ c cell here. followed.next c.0 c.1 c.2 here cell) cells gathered.sound
 
-  least_by : (is_reached : ℕ → Bool) → IsComplete table is_reached → (s : ℕ) → is_labelled labels s ≡ true
-      → is_reached s ≡ true
-  least_by is_reached complete s here = reach.least is_reached complete.first (closed_by is_reached complete) s here
+  -- a state with a label above 0 is reached
+  pub least_by : (s : ℕ) → is_labelled labels s ≡ true → IsReached table s
+  least_by s here states followed = reach.least states followed.first (closed_by states followed) s here
 
   -- a state that is reached and lacks an entry shows that no states are complete
   pub never_complete : (s k : ℕ) → is_labelled labels s ≡ true → entry_of table s k ≡ None
       → (is_reached : ℕ → Bool) → IsComplete table is_reached → ⊥
   never_complete s k here missing is_reached complete =
-      let (e, is, next) = complete.entries s k (least_by is_reached complete s here) in
+      let (e, is, next) = complete.entries s k (least_by s here is_reached (followed_of table is_reached complete)) in
       let equal : Some e ≡ None = sym is ∙ missing in cc
 
   module _ (whole : (s : ℕ) → s < 65536 → is_labelled labels s ≡ true → IsWhole table s) where

@@ -7,15 +7,15 @@ use Rattle.aat_font.specs.Entries.{goes_on}
 use Rattle.aat_font.specs.Keys.{at_key}
 use Rattle.aat_font.specs.Table.{Rule, TableValue, entry_of, known_class, rule_key}
 use Rattle.aat_font.specs.declared.state_table.GenericStateEntry.{GenericStateEntry}
-use Rattle.aat_cuts.specs.Reached.{AreReached, IsCell, IsComplete, is_labelled, width}
-use Rattle.aat_cuts.specs.Settled.{IsClassOfGlyph, IsNeverSetBeforeUse, IsTakenAt, IsTidy, IsUsedAt, Register}
+use Rattle.aat_cuts.specs.Reached.{AreReached, IsCell, IsComplete, IsReached, is_labelled, width}
+use Rattle.aat_cuts.specs.Settled.{AreBeforeUse, AreComeToUnset, IsAgreeing, IsClassOfGlyph, IsRegisterUnsettled, IsTakenAt, IsTidy, IsUsedAt, MayBeUnset, MayBeUsed, Register}
 use Rattle.aat_cuts.specs.declared.steps.Step.{Step}
 use Rattle.aat_cuts.specs.declared.steps.Trouble.{Trouble}
 use Rattle.aat_cuts.specs.declared.steps.Trouble.TheVariants.{Unset, Taken}
-use Rattle.aat_cuts.specs.inside.Steps.{AreClasses, AreFit, IsFit, IsFoundIn, IsFoundOf, differs, is_same, step_of}
+use Rattle.aat_cuts.specs.inside.Steps.{AreClasses, AreFit, AreStepsBefore, AreStepsUnset, IsFit, IsFoundIn, IsFoundOf, differs, is_same, step_of}
 use Rattle.aat_cuts.proofs.Liveness.{and_true}
 use Rattle.aat_cuts.proofs.Raised.{or_true}
-use Rattle.aat_cuts.proofs.Reaching.{unmapped}
+use Rattle.aat_cuts.proofs.Reaching.{followed_of, unmapped}
 
 pub or_second : (a b : Bool) → b ≡ true → a || b ≡ true
 or_second true b is = refl
@@ -134,7 +134,7 @@ module _ {T : Type 0} (table : TableValue (GenericStateEntry T)) where
             let equal : eqb e.new_state f.new_state ≡ true = eq-eqb e.new_state f.new_state next in
             rw is (and_both _ _ (and_both _ _ (and_both _ _ (and_both _ _ idle_e idle_f) equal) (same_of (goes_on e) (goes_on f) on)) other)
 
-        -- a labelling that goes with the entries that were found goes with the machine
+        -- a labelling that goes with the entries that were found is tidy
         pub tidy_found : IsTidy table register (is_labelled labels) is_live
         tidy_found = record {
           first = fit.first;
@@ -148,6 +148,11 @@ module _ {T : Type 0} (table : TableValue (GenericStateEntry T)) where
           kept = λ s k e here of_glyph is live.
               let (n, one, class, first, zero) = found_at s k e here is (cases_lt k (width table)) in
               kept_by s n e (register.sets e) refl (class of_glyph) one live;
+        }
+
+        -- and agreeing
+        pub agreeing_found : IsAgreeing table register (is_labelled labels) is_live
+        agreeing_found = record {
           agreed = λ s k e f here of_glyph is is_first idle_e idle_f next on live.
               let (n, one, class, first, zero) = found_at s k e here is (cases_lt k (width table)) in
               same_by (register.sets e) (register.sets f) (λ other.
@@ -156,7 +161,7 @@ module _ {T : Type 0} (table : TableValue (GenericStateEntry T)) where
         }
 
       module _ (is_reached is_live : ℕ → Bool) (complete : IsComplete table is_reached)
-          (tidy : IsTidy table register is_reached is_live) where
+          (tidy : IsTidy table register is_reached is_live) (agreeing : IsAgreeing table register is_reached is_live) where
         used_by : (s k : ℕ) (e : GenericStateEntry T) → is_reached s ≡ true → entry_of table s k ≡ Some e
             → (register.uses e ≡ true) ⊎ ((eqb k 0 && register.uses_at_end e) ≡ true) → is_live s ≡ true
         used_by s k e here is (inl uses) = tidy.used s k e here is uses
@@ -174,12 +179,12 @@ module _ {T : Type 0} (table : TableValue (GenericStateEntry T)) where
             let (more, on) = and_true _ _ rest in
             let (idle, next) = and_true _ _ more in
             let (idle_e, idle_f) = and_true _ _ idle in
-            other_of (register.sets e) (register.sets f) sets (tidy.agreed s k e f here of_glyph is is_first idle_e idle_f (eqb-true e.new_state f.new_state next) (of_same (goes_on e) (goes_on f) on) live)
+            other_of (register.sets e) (register.sets f) sets (agreeing.agreed s k e f here of_glyph is is_first idle_e idle_f (eqb-true e.new_state f.new_state next) (of_same (goes_on e) (goes_on f) on) live)
 
         fit_by : (c : Rule (GenericStateEntry T)) → is_labelled labels c.0 ≡ true → IsCell table c
             → IsFit is_live (step_of register table classes c)
         fit_by c labelled cell =
-            let here = reached.least is_reached complete c.0 labelled in
+            let here = reached.least c.0 labelled is_reached (followed_of table is_reached complete) in
             record {
               used = λ uses. used_by c.0 c.1 c.2 here cell (or_true (register.uses c.2) (eqb c.1 0 && register.uses_at_end c.2) uses);
               kept = λ keeps live.
@@ -190,7 +195,7 @@ module _ {T : Type 0} (table : TableValue (GenericStateEntry T)) where
                   agreed_by c.0 c.1 c.2 (entry_of table 0 c.1) here (of_glyphs.sound c.1 class) cell refl differ live);
             }
 
-        -- a labelling that goes with the machine goes with the entries that were found
+        -- a labelling that is tidy and agreeing goes with the entries that were found
         pub fit_of_tidy : AreFit steps is_live
         fit_of_tidy = record {
           first = tidy.first;
@@ -198,47 +203,82 @@ module _ {T : Type 0} (table : TableValue (GenericStateEntry T)) where
               let (labelled, cell) = reached.sound i d within in fit_by (get_or cells i d) labelled cell));
         }
 
-      never_by : ((is_live : ℕ → Bool) → AreFit steps is_live → ⊥) → IsNeverSetBeforeUse table register
-      never_by none is_reached is_live complete tidy = none is_live (fit_of_tidy is_reached is_live complete tidy)
+      never_by : ((is_live : ℕ → Bool) → AreFit steps is_live → ⊥) → IsRegisterUnsettled table register
+      never_by none is_reached is_live complete tidy agreeing =
+          none is_live (fit_of_tidy is_reached is_live complete tidy agreeing)
 
-      cell_at : (s : Step) → Contains steps s
-          → (c : Rule (GenericStateEntry T)) × (s ≡ step_of register table classes c) × IsCell table c
-      cell_at s here = All-contains (λ t. (c : Rule (GenericStateEntry T)) × (t ≡ step_of register table classes c) × IsCell table c) steps s (subst (λ (xs : List Step). All (λ t. (c : Rule (GenericStateEntry T)) × (t ≡ step_of register table classes c) × IsCell table c) xs) (sym are) (All-map (λ t. (c : Rule (GenericStateEntry T)) × (t ≡ step_of register table classes c) × IsCell table c) (step_of register table classes) cells (λ i d within. (get_or cells i d, refl, (reached.sound i d within).1)))) here
+      -- an entry whose step is listed
+      abbrev pub HasCell : Step → Type 0
+      HasCell s =
+          (c : Rule (GenericStateEntry T)) × (s ≡ step_of register table classes c) × IsReached table c.0 × IsCell table c
+
+      cell_at : (s : Step) → Contains steps s → HasCell s
+      cell_at s here = All-contains HasCell steps s (subst (λ (xs : List Step). All HasCell xs) (sym are) (All-map HasCell (step_of register table classes) cells (λ i d within.
+          let (labelled, cell) = reached.sound i d within in
+          (get_or cells i d, refl, reached.least (get_or cells i d).0 labelled, cell)))) here
+
+      each_step : (P : Step → Type 0)
+          → ((c : Rule (GenericStateEntry T)) → IsCell table c → P (step_of register table classes c)) → All P steps
+      each_step P by = subst (λ (xs : List Step). All P xs) (sym are) (All-map P (step_of register table classes) cells (λ i d within. by (get_or cells i d) (reached.sound i d within).1))
+
+      -- states to which a run may come without setting the register, as the entries that were found have them
+      steps_unset : (states : ℕ → Bool) → AreComeToUnset table register states → AreStepsUnset steps states
+      steps_unset states unset = record {
+        first = unset.first;
+        next = each_step (λ t. t.keeps ≡ true → states t.state ≡ true → states t.next ≡ true) (λ c cell keeps at.
+            let (class, not_set) = and_true (is_labelled classes c.1) (not (register.sets c.2)) keeps in
+            unset.next c.0 c.1 c.2 at (of_glyphs.sound c.1 class) cell (is_not (register.sets c.2) not_set));
+      }
+
+      -- and those from which it may be used
+      steps_before : (states : ℕ → Bool) → AreBeforeUse table register states → AreStepsBefore steps states
+      steps_before states users = record {
+        used = each_step (λ t. t.uses ≡ true → states t.state ≡ true) (λ c cell uses. users.used c.0 c.1 c.2 cell uses);
+        before = each_step (λ t. t.keeps ≡ true → states t.next ≡ true → states t.state ≡ true) (λ c cell keeps at.
+            let (class, not_set) = and_true (is_labelled classes c.1) (not (register.sets c.2)) keeps in
+            users.before c.0 c.1 c.2 at (of_glyphs.sound c.1 class) cell (is_not (register.sets c.2) not_set));
+      }
 
       used_at : (state class : ℕ) (s : Step) → Contains steps s → s.state ≡ state → s.class ≡ class → s.uses ≡ true
-          → IsUsedAt table register state class
-      used_at state class s here is_state is_class uses =
-          let (c, is, cell) = cell_at s here in
+          → ((states : ℕ → Bool) → AreStepsUnset steps states → states s.state ≡ true)
+          → IsReached table state × IsUsedAt table register state class
+      used_at state class s here is_state is_class uses come =
+          let (c, is, at, cell) = cell_at s here in
           let of_state : c.0 ≡ state = ap (λ (t : Step). t.state) (sym is) ∙ is_state in
           let of_class : c.1 ≡ class = ap (λ (t : Step). t.class) (sym is) ∙ is_class in
           let is_used = ap (λ (t : Step). t.uses) (sym is) ∙ uses in
-          subst (λ (n : ℕ). IsUsedAt table register n class) of_state (subst (λ (n : ℕ). IsUsedAt table register c.0 n) of_class (c.2, cell, is_used))
+          let unset : MayBeUnset table register c.0 = λ states of_run. subst (λ (t : Step). states t.state ≡ true) is (come states (steps_unset states of_run)) in
+          (subst (IsReached table) of_state at, subst (λ (n : ℕ). IsUsedAt table register n class) of_state (subst (λ (n : ℕ). IsUsedAt table register c.0 n) of_class (c.2, cell, is_used, unset)))
 
       taken_of : (s k : ℕ) (e : GenericStateEntry T) (first : Option (GenericStateEntry T)) → entry_of table s k ≡ Some e
-          → entry_of table 0 k ≡ first → differs register e first ≡ true → IsTakenAt table register s k
-      taken_of s k e None is is_first other = let clash : false ≡ true = other in cc
-      taken_of s k e (Some f) is is_first other =
+          → entry_of table 0 k ≡ first → differs register e first ≡ true → MayBeUsed table register e.new_state
+          → IsClassOfGlyph table k → IsTakenAt table register s k
+      taken_of s k e None is is_first other used of_glyph = let clash : false ≡ true = other in cc
+      taken_of s k e (Some f) is is_first other used of_glyph =
           let (rest, sets) = and_true _ _ other in
           let (more, on) = and_true _ _ rest in
           let (idle, next) = and_true _ _ more in
-          (e, f, is, is_first, eqb-true e.new_state f.new_state next, other_of (register.sets e) (register.sets f) sets)
+          let (idle_e, idle_f) = and_true _ _ idle in
+          (e, f, is, is_first, idle_e, idle_f, eqb-true e.new_state f.new_state next, of_same (goes_on e) (goes_on f) on, other_of (register.sets e) (register.sets f) sets, used, of_glyph)
 
       taken_at : (state class : ℕ) (s : Step) → Contains steps s → s.state ≡ state → s.class ≡ class → s.differs ≡ true
-          → IsTakenAt table register state class
-      taken_at state class s here is_state is_class other =
-          let (c, is, cell) = cell_at s here in
+          → ((states : ℕ → Bool) → AreStepsBefore steps states → states s.next ≡ true)
+          → IsReached table state × IsTakenAt table register state class
+      taken_at state class s here is_state is_class other come =
+          let (c, is, at, cell) = cell_at s here in
           let of_state : c.0 ≡ state = ap (λ (t : Step). t.state) (sym is) ∙ is_state in
           let of_class : c.1 ≡ class = ap (λ (t : Step). t.class) (sym is) ∙ is_class in
           let both = ap (λ (t : Step). t.differs) (sym is) ∙ other in
           let (class_is, differ) = and_true (is_labelled classes c.1) (differs register c.2 (entry_of table 0 c.1)) both in
-          let here_taken = taken_of c.0 c.1 c.2 (entry_of table 0 c.1) cell refl differ in
-          subst (λ (n : ℕ). IsTakenAt table register n class) of_state (subst (λ (n : ℕ). IsTakenAt table register c.0 n) of_class here_taken)
+          let used : MayBeUsed table register c.2.new_state = λ states of_run. subst (λ (t : Step). states t.next ≡ true) is (come states (steps_before states of_run)) in
+          let here_taken = taken_of c.0 c.1 c.2 (entry_of table 0 c.1) cell refl differ used (of_glyphs.sound c.1 class_is) in
+          (subst (IsReached table) of_state at, subst (λ (n : ℕ). IsTakenAt table register n class) of_state (subst (λ (n : ℕ). IsTakenAt table register c.0 n) of_class here_taken))
 
       -- what was found of the entries was found of the machine
       pub found_in : (found : Option Trouble) → IsFoundOf steps found
           → IsFoundIn table register (is_labelled labels) found
-      found_in None (is_live, fit) = (is_live, tidy_found is_live fit)
-      found_in (Some (Unset state class)) (none, s, here, is_state, is_class, uses) =
-          (never_by none, used_at state class s here is_state is_class uses)
-      found_in (Some (Taken state class)) (none, s, here, is_state, is_class, other) =
-          (never_by none, taken_at state class s here is_state is_class other)
+      found_in None (is_live, fit) = (is_live, tidy_found is_live fit, agreeing_found is_live fit)
+      found_in (Some (Unset state class)) (none, s, here, is_state, is_class, uses, come) =
+          let (at, used) = used_at state class s here is_state is_class uses come in (never_by none, at, used)
+      found_in (Some (Taken state class)) (none, s, here, is_state, is_class, other, come) =
+          let (at, taken) = taken_at state class s here is_state is_class other come in (never_by none, at, taken)

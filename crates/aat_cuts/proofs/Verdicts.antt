@@ -7,31 +7,32 @@ use Rattle.aat_font.specs.Table.{Rule, TableValue, entry_of}
 use Rattle.aat_font.specs.declared.morx.SubtableKind.{SubtableKind}
 use Rattle.aat_font.specs.declared.morx.SubtableKind.TheVariants.{Rearrangement, Contextual, Ligature, NonContextual, Insertion}
 use Rattle.aat_font.specs.declared.state_table.GenericStateEntry.{GenericStateEntry}
-use Rattle.aat_cuts.specs.Kinds.{IsQuietAtEnd, IsRearrangementSettled, IsSettled, IsVerdictOn, Shows, moves_and_ends, reason_of}
-use Rattle.aat_cuts.specs.Reached.{AreReached, IsCell, is_labelled, width}
-use Rattle.aat_cuts.specs.Settled.{IsNeverSetBeforeUse, Register}
+use Rattle.aat_cuts.specs.Kinds.{IsQuietAtEnd, IsRearrangementSettled, IsSettled, IsVerdictOn, Shows, moves_and_ends, reason_of, state_of}
+use Rattle.aat_cuts.specs.Reached.{AreReached, IsCell, IsReached, is_labelled, width}
+use Rattle.aat_cuts.specs.Settled.{IsRegisterUnsettled, Register}
 use Rattle.aat_cuts.specs.declared.steps.Trouble.{Trouble}
 use Rattle.aat_cuts.specs.declared.steps.Trouble.TheVariants.{Unset, Taken}
 use Rattle.aat_cuts.specs.declared.unsettled.UsedRegister.{UsedRegister}
 use Rattle.aat_cuts.specs.inside.Steps.{IsFoundIn}
 use Rattle.aat_cuts.proofs.Liveness.{and_true}
+use Rattle.aat_cuts.proofs.Reaching.{followed_of}
 use Rattle.aat_cuts.proofs.Settling.{cell_of}
 
 module _ {T : Type 0} (table : TableValue (GenericStateEntry T)) (named : UsedRegister → Option (Register T))
     (moves : GenericStateEntry T → Bool) (is_reached : ℕ → Bool) (r : UsedRegister) (register : Register T)
-    (is : named r ≡ Some register) (settled : Type 0) (never : IsNeverSetBeforeUse table register → settled → ⊥) where
+    (is : named r ≡ Some register) (settled : Type 0) (never : IsRegisterUnsettled table register → settled → ⊥) where
   -- trouble with a register that a reason names
   pub trouble_shown : (trouble : Trouble) → IsFoundIn table register is_reached (Some trouble)
-      → (settled → ⊥) × Shows table named moves (reason_of r trouble)
-  trouble_shown (Unset state class) (none, used) = (never none, (register, is, used))
-  trouble_shown (Taken state class) (none, taken) = (never none, (register, is, taken))
+      → (settled → ⊥) × IsReached table (state_of (reason_of r trouble)) × Shows table named moves (reason_of r trouble)
+  trouble_shown (Unset state class) (none, here, used) = (never none, here, (register, is, used))
+  trouble_shown (Taken state class) (none, here, taken) = (never none, here, (register, is, taken))
 
 module _ (table : TableValue (GenericStateEntry (Unit {0}))) (labels : List ℕ)
     (cells : List (Rule (GenericStateEntry (Unit {0})))) (reached : AreReached table labels cells) where
   -- an entry that moves glyphs at the end of the text
   pub moves_shown : (state : ℕ) (c : Rule (GenericStateEntry (Unit {0}))) → Contains cells c → c.0 ≡ state
       → (eqb c.1 0 && moves_and_ends c.2) ≡ true
-      → (IsRearrangementSettled table → ⊥)
+      → (IsRearrangementSettled table → ⊥) × IsReached table state
       × ((e : GenericStateEntry (Unit {0})) × (entry_of table state 0 ≡ Some e) × (moves_and_ends e ≡ true))
   moves_shown state c here of_state both =
       let (zero, moves) = and_true (eqb c.1 0) (moves_and_ends c.2) both in
@@ -39,7 +40,8 @@ module _ (table : TableValue (GenericStateEntry (Unit {0}))) (labels : List ℕ)
       let class : c.1 ≡ 0 = eqb-true c.1 0 zero in
       let at_zero : entry_of table c.0 0 ≡ Some c.2 = subst (λ (n : ℕ). entry_of table c.0 n ≡ Some c.2) class cell in (
         λ (is_reached, complete, start, end, quiet).
-            let clash : true ≡ false = sym moves ∙ quiet c.0 c.2 (reached.least is_reached complete c.0 labelled) at_zero in cc,
+            let clash : true ≡ false = sym moves ∙ quiet c.0 c.2 (reached.least c.0 labelled is_reached (followed_of table is_reached complete)) at_zero in cc,
+        subst (IsReached table) of_state (reached.least c.0 labelled),
         (c.2, subst (λ (n : ℕ). entry_of table n 0 ≡ Some c.2) of_state at_zero, moves),
       )
 

@@ -8,9 +8,9 @@ use Rattle.aat_font.specs.declared.entries.InsertionEntryData.{InsertionEntryDat
 use Rattle.aat_font.specs.declared.morx.SubtableKind.{SubtableKind}
 use Rattle.aat_font.specs.declared.morx.SubtableKind.TheVariants.{Rearrangement, Contextual, Ligature, NonContextual, Insertion}
 use Rattle.aat_font.specs.declared.state_table.GenericStateEntry.{GenericStateEntry}
-use Rattle.aat_cuts.specs.Held.{IsLigatureSettled}
-use Rattle.aat_cuts.specs.Reached.{IsComplete}
-use Rattle.aat_cuts.specs.Settled.{IsSetBeforeUse, IsTakenAt, IsUsedAt, Register, the_end_set_by, the_mark}
+use Rattle.aat_cuts.specs.Held.{HoldsOver, IsLigatureSettled, IsPushTakenAt, most_held}
+use Rattle.aat_cuts.specs.Reached.{IsComplete, IsReached}
+use Rattle.aat_cuts.specs.Settled.{IsRegisterSettled, IsTakenAt, IsUsedAt, Register, the_end_set_by, the_mark}
 use Rattle.aat_cuts.specs.declared.steps.Trouble.{Trouble}
 use Rattle.aat_cuts.specs.declared.steps.Trouble.TheVariants.{Unset, Taken}
 use Rattle.aat_cuts.specs.declared.unsettled.Unsettled.{Unsettled}
@@ -18,12 +18,12 @@ use Rattle.aat_cuts.specs.declared.unsettled.Unsettled.TheVariants.{MissingEntry
 use Rattle.aat_cuts.specs.declared.unsettled.UsedRegister.{UsedRegister}
 use Rattle.aat_cuts.specs.declared.unsettled.UsedRegister.TheVariants.{Components, Mark, SpanEnd, SpanStart}
 
--- contextual, with so many lookups: the mark is set before it is used
+-- contextual, with so many lookups: complete, and of the mark tidy and agreeing
 abbrev pub IsContextualSettled : TableValue (GenericStateEntry ContextualEntryData) → ℕ → Type 0
 IsContextualSettled table lookups =
-    (is_reached : ℕ → Bool) × IsComplete table is_reached × IsSetBeforeUse table (the_mark lookups) is_reached
+    (is_reached : ℕ → Bool) × IsComplete table is_reached × IsRegisterSettled table (the_mark lookups) is_reached
 
--- insertion: each entry is there
+-- insertion: complete
 abbrev pub IsInsertionSettled : TableValue (GenericStateEntry InsertionEntryData) → Type 0
 IsInsertionSettled table = (is_reached : ℕ → Bool) × IsComplete table is_reached
 
@@ -37,11 +37,11 @@ IsQuietAtEnd table is_reached =
     (s : ℕ) (e : GenericStateEntry (Unit {0})) → is_reached s ≡ true → entry_of table s 0 ≡ Some e
     → moves_and_ends e ≡ false
 
--- rearrangement: start and end of the span are set before they are used
+-- rearrangement: complete, and of the start and the end of the span tidy and agreeing
 abbrev pub IsRearrangementSettled : TableValue (GenericStateEntry (Unit {0})) → Type 0
 IsRearrangementSettled table =
-    (is_reached : ℕ → Bool) × IsComplete table is_reached × IsSetBeforeUse table (the_end_set_by 0x8000) is_reached
-    × IsSetBeforeUse table (the_end_set_by 0x2000) is_reached × IsQuietAtEnd table is_reached
+    (is_reached : ℕ → Bool) × IsComplete table is_reached × IsRegisterSettled table (the_end_set_by 0x8000) is_reached
+    × IsRegisterSettled table (the_end_set_by 0x2000) is_reached × IsQuietAtEnd table is_reached
 
 -- the register of a machine that a reason names
 abbrev pub mark_named : ℕ → UsedRegister → Option (Register ContextualEntryData)
@@ -72,32 +72,44 @@ module _ {T : Type 0} (table : TableValue (GenericStateEntry T)) (named : UsedRe
   Shows (MovesAtEnd state) = (e : GenericStateEntry T) × (entry_of table state 0 ≡ Some e) × (moves e ≡ true)
   Shows (TooFewComponents state) = ⊥
 
--- what was found: that a table is settled, or a reason why it is not
-abbrev pub IsVerdict : Type 0 → (Unsettled → Type 0) → Option Unsettled → Type 0
-IsVerdict settled shows None = settled
-IsVerdict settled shows (Some reason) = (settled → ⊥) × shows reason
+-- the state that a reason names
+abbrev pub state_of : Unsettled → ℕ
+state_of (MissingEntry state class) = state
+state_of (UsedBeforeSet r state class) = state
+state_of (TakenForOne r state class) = state
+state_of (MovesAtEnd state) = state
+state_of (TooFewComponents state) = state
+
+-- what was found: that a table is settled, or a reason why it is not, which names a state that is reached
+abbrev pub IsVerdict : Type 0 → (ℕ → Type 0) → (Unsettled → Type 0) → Option Unsettled → Type 0
+IsVerdict settled reached shows None = settled
+IsVerdict settled reached shows (Some reason) = (settled → ⊥) × reached (state_of reason) × shows reason
 
 abbrev pub IsVerdictOnContextual :
     TableValue (GenericStateEntry ContextualEntryData) → ℕ → Option Unsettled → Type 0
 IsVerdictOnContextual table lookups =
-    IsVerdict (IsContextualSettled table lookups) (Shows table (mark_named lookups) (λ e. false))
+    IsVerdict (IsContextualSettled table lookups) (IsReached table) (Shows table (mark_named lookups) (λ e. false))
 
 abbrev pub IsVerdictOnInsertion : TableValue (GenericStateEntry InsertionEntryData) → Option Unsettled → Type 0
-IsVerdictOnInsertion table = IsVerdict (IsInsertionSettled table) (Shows table none_named (λ e. false))
+IsVerdictOnInsertion table =
+    IsVerdict (IsInsertionSettled table) (IsReached table) (Shows table none_named (λ e. false))
 
 abbrev pub IsVerdictOnRearrangement : TableValue (GenericStateEntry (Unit {0})) → Option Unsettled → Type 0
-IsVerdictOnRearrangement table = IsVerdict (IsRearrangementSettled table) (Shows table end_named moves_and_ends)
+IsVerdictOnRearrangement table =
+    IsVerdict (IsRearrangementSettled table) (IsReached table) (Shows table end_named moves_and_ends)
 
--- what a reason says of a ligature machine: which entry is missing, or pushes otherwise than that of state 0
-abbrev pub ShowsLigature : TableValue (GenericStateEntry ℕ) → Unsettled → Type 0
-ShowsLigature table (MissingEntry state class) = entry_of table state class ≡ None
-ShowsLigature table (UsedBeforeSet r state class) = ⊥
-ShowsLigature table (TakenForOne r state class) = r ≡ Components
-ShowsLigature table (MovesAtEnd state) = ⊥
-ShowsLigature table (TooFewComponents state) = Unit {0}
+-- what a reason says of a ligature machine: which entry is missing or pushes otherwise, or which state would hold more
+-- components than it may
+abbrev pub ShowsLigature : TableValue (GenericStateEntry ℕ) → List ℕ → Unsettled → Type 0
+ShowsLigature table actions (MissingEntry state class) = entry_of table state class ≡ None
+ShowsLigature table actions (UsedBeforeSet r state class) = ⊥
+ShowsLigature table actions (TakenForOne r state class) = (r ≡ Components) × IsPushTakenAt table actions state class
+ShowsLigature table actions (MovesAtEnd state) = ⊥
+ShowsLigature table actions (TooFewComponents state) = HoldsOver table actions state (most_held state)
 
 abbrev pub IsVerdictOnLigature : TableValue (GenericStateEntry ℕ) → List ℕ → Option Unsettled → Type 0
-IsVerdictOnLigature table actions = IsVerdict (IsLigatureSettled table actions) (ShowsLigature table)
+IsVerdictOnLigature table actions =
+    IsVerdict (IsLigatureSettled table actions) (IsReached table) (ShowsLigature table actions)
 
 -- a subtable is settled, by its kind. A noncontextual one always is
 abbrev pub IsSettled : SubtableKind → Type 0

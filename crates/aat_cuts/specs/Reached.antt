@@ -17,6 +17,17 @@ module _ {T : Type 0} (table : TableValue (GenericStateEntry T)) where
         (s k : ℕ) → is_reached s ≡ true
         → (e : GenericStateEntry T) × (entry_of table s k ≡ Some e) × (is_reached e.new_state ≡ true)
 
+  -- state 0 is one of some states, and with each of them each state that an entry of it leads to
+  pub record AreFollowed (states : ℕ → Bool) : Type 0 where
+    pub first : states 0 ≡ true
+    pub next :
+        (s k : ℕ) (e : GenericStateEntry T) → states s ≡ true → entry_of table s k ≡ Some e
+        → states e.new_state ≡ true
+
+  -- a state is reached: it is one of all such states
+  abbrev pub IsReached : ℕ → Type 0
+  IsReached state = (states : ℕ → Bool) → AreFollowed states → states state ≡ true
+
   -- the number of classes that are looked at
   abbrev pub width : ℕ
   width = max table.class_count 2
@@ -43,8 +54,8 @@ module _ {T : Type 0} (table : TableValue (GenericStateEntry T)) where
 abbrev pub is_labelled : List ℕ → ℕ → Bool
 is_labelled labels s = nat_lt 0 (label_in labels s)
 
--- a list of labels and one of entries are those of a complete table: the labelled states are the least ones that go with
--- state 0, and the entries are those of these states
+-- a list of labels and one of entries are those of a complete table: the labelled states are those that are reached, and
+-- the entries are those of these states
 pub record AreReached {T : Type 0} (table : TableValue (GenericStateEntry T)) (labels : List ℕ)
     (cells : List (Rule (GenericStateEntry T))) : Type 0 where
   pub are : AreLabels labels
@@ -54,8 +65,7 @@ pub record AreReached {T : Type 0} (table : TableValue (GenericStateEntry T)) (l
       (s k : ℕ) → is_labelled labels s ≡ true → k < width table
       → (e : GenericStateEntry T) × (entry_of table s k ≡ Some e) × (is_labelled labels e.new_state ≡ true)
       × Contains cells (s, k, e)
-  pub least : (is_reached : ℕ → Bool) → IsComplete table is_reached → (s : ℕ) → is_labelled labels s ≡ true
-      → is_reached s ≡ true
+  pub least : (s : ℕ) → is_labelled labels s ≡ true → IsReached table s
 
 -- the label 1 at state 0, and as much at the state that an entry goes to as at its own
 abbrev pub start_edge : Edge
@@ -81,4 +91,5 @@ pub record AreReachLabels {T : Type 0} (cells : List (Rule (GenericStateEntry T)
 abbrev pub IsFound : {T : Type 0} → TableValue (GenericStateEntry T) → Reach T → Type 0
 IsFound table (Complete found) = AreReached table found.labels.items found.cells.items
 IsFound table (Missing state class) =
-    (entry_of table state class ≡ None) × ((is_reached : ℕ → Bool) → IsComplete table is_reached → ⊥)
+    IsReached table state × (entry_of table state class ≡ None)
+    × ((is_reached : ℕ → Bool) → IsComplete table is_reached → ⊥)

@@ -1,5 +1,5 @@
--- Which subtables are settled: no entry that a run may come to is missing, and no register is used that was not set since
--- the machine was last in state 0. Apple's TrueType Reference Manual, "The 'morx' table", and "Font Tables", section on
+-- Which subtables are settled: each reached state has an entry for each class, and no register is used that was not set
+-- since the machine was last in state 0. Apple's TrueType Reference Manual, "The 'morx' table", and "Font Tables", section on
 -- state tables.
 use Rattle.std.specs.Prelude.{◌≡◌, ◌≢◌, ℕ, ◌==◌, ◌&&◌, ◌||◌, Bool, true, false, not, nat_lt, Some, unwrap_or}
 use Rattle.aat_font.specs.Entries.{goes_on, has_flag, is_present}
@@ -21,10 +21,8 @@ pub record Register (T : Type 0) : Type 0 where
   pub may_idle : GenericStateEntry T → Bool
 
 module _ {T : Type 0} (table : TableValue (GenericStateEntry T)) (register : Register T) (is_reached is_live : ℕ → Bool) where
-  -- a labelling by where the register is live, that is, was set since state 0: an entry uses it only where it is live, and
-  -- it is live behind an entry that sets it, or where it was live before. And where an entry and that of state 0 for the
-  -- same class are taken for one, since neither may act and both do the same next, they set the register alike, or it is
-  -- not live behind them
+  -- tidy: a labelling by where the register is live. An entry uses it only where it is live, and it is live only behind
+  -- an entry that sets it or where it was live before, and not in state 0
   pub record IsTidy : Type 0 where
     pub first : is_live 0 ≡ false
     pub used :
@@ -36,6 +34,10 @@ module _ {T : Type 0} (table : TableValue (GenericStateEntry T)) (register : Reg
     pub kept :
         (s k : ℕ) (e : GenericStateEntry T) → is_reached s ≡ true → IsClassOfGlyph table k → entry_of table s k ≡ Some e
         → is_live e.new_state ≡ true → (register.sets e || is_live s) ≡ true
+
+  -- agreeing: where an entry and that of state 0 for the same class are taken for one, since both may idle and do the
+  -- same next, they set the register alike, or it is not live behind them
+  pub record IsAgreeing : Type 0 where
     pub agreed :
         (s k : ℕ) (e f : GenericStateEntry T) → is_reached s ≡ true → IsClassOfGlyph table k
         → entry_of table s k ≡ Some e → entry_of table 0 k ≡ Some f
@@ -68,23 +70,55 @@ the_end_set_by flag = record {
   may_idle = λ e. true;
 }
 
--- some labelling goes with the states
-abbrev pub IsSetBeforeUse : {T : Type 0} → TableValue (GenericStateEntry T) → Register T → (ℕ → Bool) → Type 0
-IsSetBeforeUse table register is_reached = (is_live : ℕ → Bool) × IsTidy table register is_reached is_live
+-- some labelling of the states by where the register is live is tidy and agreeing
+abbrev pub IsRegisterSettled : {T : Type 0} → TableValue (GenericStateEntry T) → Register T → (ℕ → Bool) → Type 0
+IsRegisterSettled table register is_reached =
+    (is_live : ℕ → Bool) × IsTidy table register is_reached is_live × IsAgreeing table register is_reached is_live
 
--- no labelling does, for no states
-abbrev pub IsNeverSetBeforeUse : {T : Type 0} → TableValue (GenericStateEntry T) → Register T → Type 0
-IsNeverSetBeforeUse table register =
-    (is_reached is_live : ℕ → Bool) → IsComplete table is_reached → IsTidy table register is_reached is_live → ⊥
+-- no labelling of complete states is
+abbrev pub IsRegisterUnsettled : {T : Type 0} → TableValue (GenericStateEntry T) → Register T → Type 0
+IsRegisterUnsettled table register =
+    (is_reached is_live : ℕ → Bool) → IsComplete table is_reached → IsTidy table register is_reached is_live
+    → IsAgreeing table register is_reached is_live → ⊥
 
--- the entry of a state and a class uses the register
+module _ {T : Type 0} (table : TableValue (GenericStateEntry T)) (register : Register T) where
+  -- state 0 is one of some states, and with each of them each state that an entry of it leads to, for a glyph, that does
+  -- not set the register
+  pub record AreComeToUnset (states : ℕ → Bool) : Type 0 where
+    pub first : states 0 ≡ true
+    pub next :
+        (s k : ℕ) (e : GenericStateEntry T) → states s ≡ true → IsClassOfGlyph table k → entry_of table s k ≡ Some e
+        → register.sets e ≡ false → states e.new_state ≡ true
+
+  -- a run may come to a state without setting the register since state 0: it is one of all such states
+  abbrev pub MayBeUnset : ℕ → Type 0
+  MayBeUnset state = (states : ℕ → Bool) → AreComeToUnset states → states state ≡ true
+
+  -- each state with an entry that uses the register is one of some states, and with each of them each state with an entry
+  -- that leads to it, for a glyph, and does not set the register
+  pub record AreBeforeUse (states : ℕ → Bool) : Type 0 where
+    pub used :
+        (s k : ℕ) (e : GenericStateEntry T) → entry_of table s k ≡ Some e
+        → (register.uses e || (k == 0 && register.uses_at_end e)) ≡ true → states s ≡ true
+    pub before :
+        (s k : ℕ) (e : GenericStateEntry T) → states e.new_state ≡ true → IsClassOfGlyph table k
+        → entry_of table s k ≡ Some e → register.sets e ≡ false → states s ≡ true
+
+  -- from a state on a run may use the register before it is set: it is one of all such states
+  abbrev pub MayBeUsed : ℕ → Type 0
+  MayBeUsed state = (states : ℕ → Bool) → AreBeforeUse states → states state ≡ true
+
+-- the entry of a state and a class uses the register, and a run may come to the state that has not set it
 abbrev pub IsUsedAt : {T : Type 0} → TableValue (GenericStateEntry T) → Register T → ℕ → ℕ → Type 0
 IsUsedAt {T} table register state class =
     (e : GenericStateEntry T) × (entry_of table state class ≡ Some e)
-    × ((register.uses e || (class == 0 && register.uses_at_end e)) ≡ true)
+    × ((register.uses e || (class == 0 && register.uses_at_end e)) ≡ true) × MayBeUnset table register state
 
--- the entry of a state and a class goes where that of state 0 goes, and one of the two sets the register
+-- the entry of a state and a glyph's class and that of state 0 are taken for one, and one of the two sets the register,
+-- which may be used behind them
 abbrev pub IsTakenAt : {T : Type 0} → TableValue (GenericStateEntry T) → Register T → ℕ → ℕ → Type 0
 IsTakenAt {T} table register state class =
     (e f : GenericStateEntry T) × (entry_of table state class ≡ Some e) × (entry_of table 0 class ≡ Some f)
-    × (e.new_state ≡ f.new_state) × (register.sets e ≢ register.sets f)
+    × (register.may_idle e ≡ true) × (register.may_idle f ≡ true) × (e.new_state ≡ f.new_state)
+    × (goes_on e ≡ goes_on f) × (register.sets e ≢ register.sets f) × MayBeUsed table register e.new_state
+    × IsClassOfGlyph table class

@@ -10,24 +10,22 @@ use std::alloc::{AllocError, Global};
 
 /// Finds why a subtable is not settled, if it is not.
 ///
-/// `None` says that it is settled. A contextual machine and a rearrangement are settled where each entry is there that
-/// a run from state 0 may come to, and none of them uses a register that may not have been set since state 0, nor may
-/// be taken for the entry of state 0 for the same class where the two set a register differently that is used later. A
-/// settled rearrangement also moves nothing at the end of the text by an entry that ends the span. A ligature machine
-/// is settled where each such entry is there, none takes more components than are surely held since state 0, and none
-/// may be taken for one of state 0 that pushes otherwise where components are used later. An insertion machine needs
-/// its entries alone. Noncontextual subtables have no machine, and are always settled.
+/// `None` says that it is settled. A contextual machine and a rearrangement are settled where each reached state has an
+/// entry for each class, and where states can be labelled with registers, all set there since state 0, so that an entry
+/// uses only those of its state, and none is taken for that of state 0 for its class where the two set one differently
+/// that the next state has. A settled rearrangement also moves nothing at the end of the text by an entry that ends the
+/// span. A ligature machine is settled where each such entry is there, and where states can be labelled with up to 64
+/// components, all held there since state 0, so that none takes more, and none is taken for that of state 0 where only
+/// one of the two pushes and the next state has components. An insertion machine needs its entries alone. Noncontextual
+/// subtables have no machine, and are always settled.
 ///
-/// A reason says that it is not settled. It also shows the entry that it names: the one that is missing, uses the
-/// register, sets it otherwise than that of state 0, or moves glyphs at the end. For ligatures it shows less: an entry
-/// that it names as missing is missing, but `TakenForOne` shows only that it is for the components, and
-/// `TooFewComponents` only that the subtable is not settled.
+/// A reason says that it is not settled, and shows what [`Unsettled`] says of it.
 ///
 /// For each subtable with a machine it walks 65,536 states and the entries of its table. A state has a label of 0 or 1
 /// for each thing that is asked, and for the components of ligatures one of up to 65. For each of these an entry is
-/// looked at once at the start, and once more for each rise of the label of the state that it looks at: twice at most,
-/// and for the components 66 times. Fails where memory is wanting for the labels of 65,536 states, for lists of the
-/// entries, and for a list of states whose labels rose.
+/// looked at once at the start, and once more for each rise of the label of the state that it looks at. Fails where
+/// memory is wanting for labels and links of 65,536 states, or for lists of classes, entries and states whose labels
+/// rose.
 ///
 /// Apple's TrueType Reference Manual, "The 'morx' table", and "Font Tables", section on state tables.
 pub fn find_unsettled(alloc: Global, kind: &SubtableKind) -> Result<Option<Unsettled>, AllocError>

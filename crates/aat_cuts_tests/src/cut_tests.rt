@@ -1,7 +1,9 @@
 //! Small machines drawn at random: where one is settled, its lines are cut at each place without a mark, and the parts
 //! come out as the line does.
 
-use crate::machines::{Cell, contextual, entry, inserted, insertion, ligature, lookups};
+use crate::machines::{
+    Cell, contextual, entry, inserted, insertion, ligature, lookups, rearrangement,
+};
 use aat_buffer::{BufferError, glyph_flag, hb_buffer_t, hb_glyph_info_t};
 use aat_cuts::find_unsettled;
 use aat_font::entry_bits::NO_INDEX;
@@ -18,7 +20,7 @@ struct Draw {
 }
 
 impl Draw {
-    /// A number below one of at most 65,536, which is not 0.
+    /// A number below a limit; 0 where that is 0.
     fn below(&mut self, limit: u16) -> u16 {
         self.state ^= self.state << 13;
         self.state ^= self.state >> 7;
@@ -82,12 +84,27 @@ fn insertion_entry(draw: &mut Draw, state: u16, class: u16) -> Cell<InsertionEnt
     (state, class, entry(draw.below(3), flags, extra))
 }
 
+/// An entry of a rearrangement. Most that lead to another state than 0 set the first glyph, and those with a verb set the
+/// last one.
+fn rearrangement_entry(draw: &mut Draw, state: u16, class: u16) -> Cell<()> {
+    let next = draw.below(3);
+    let mut flags = 0;
+    if draw.is_within(if next > 0 { 97 } else { 30 }) {
+        flags |= 0x8000;
+    }
+    if state > 0 && class > 0 && draw.is_within(40) {
+        flags |= 0x2000 | draw.below(16);
+    }
+    (state, class, entry(next, flags, ()))
+}
+
 /// The kinds of machines that are drawn.
 #[derive(Clone, Copy)]
 enum Drawn {
     Contextual,
     Ligature,
     Insertion,
+    Rearrangement,
 }
 
 /// A machine of a kind.
@@ -96,6 +113,7 @@ fn machine(alloc: Global, draw: &mut Draw, kind: Drawn) -> Result<SubtableKind, 
         Drawn::Contextual => contextual_machine(alloc, draw),
         Drawn::Ligature => ligature_machine(alloc, draw),
         Drawn::Insertion => insertion_machine(alloc, draw),
+        Drawn::Rearrangement => rearrangement_machine(alloc, draw),
     }
 }
 
@@ -124,6 +142,15 @@ fn insertion_machine(alloc: Global, draw: &mut Draw) -> Result<SubtableKind, Fai
         cells.push(insertion_entry(draw, place / 6, place % 6))?;
     }
     insertion(alloc, &CLASSES, &cells)
+}
+
+/// A rearrangement.
+fn rearrangement_machine(alloc: Global, draw: &mut Draw) -> Result<SubtableKind, Fail> {
+    let mut cells = Vec::new(alloc);
+    for place in 0..18u16 {
+        cells.push(rearrangement_entry(draw, place / 6, place % 6))?;
+    }
+    rearrangement(alloc, &CLASSES, &cells)
 }
 
 /// A line of these glyphs, each of a cluster of its own.
@@ -155,15 +182,16 @@ fn run(
     Ok(buffer)
 }
 
-/// Whether the glyphs of a line from a place on are those of another line.
-fn stands_at(line: &hb_buffer_t, place: usize, part: &hb_buffer_t) -> bool {
+/// Whether the glyphs of a line from a place on are those of another line, and their masks too where this is asked.
+fn stands_at(line: &hb_buffer_t, place: usize, part: &hb_buffer_t, with_masks: bool) -> bool {
     for i in 0..part.len() {
         let at = place.saturating_add(i);
         if at >= line.len() {
             return false;
         }
         let (here, there) = (line.info(at), part.info(i));
-        if here.glyph_id != there.glyph_id || here.cluster != there.cluster {
+        let is_same = here.glyph_id == there.glyph_id && here.cluster == there.cluster;
+        if !is_same || (with_masks && here.mask != there.mask) {
             return false;
         }
     }
@@ -186,15 +214,22 @@ fn unmarked_start(line: &hb_buffer_t, cluster: u32) -> Option<usize> {
     start
 }
 
-/// Whether a line is its first part, up to a place, and then its second part.
-fn is_joined(whole: &hb_buffer_t, start: usize, first: &hb_buffer_t, second: &hb_buffer_t) -> bool {
+/// Whether a line is its first part, up to a place, and then its second part, with their masks where this is asked.
+fn is_joined(
+    whole: (&hb_buffer_t, usize),
+    first: &hb_buffer_t,
+    second: &hb_buffer_t,
+    with_masks: bool,
+) -> bool {
+    let (line, start) = whole;
     first.len() == start
-        && start + second.len() == whole.len()
-        && stands_at(whole, 0, first)
-        && stands_at(whole, start, second)
+        && start + second.len() == line.len()
+        && stands_at(line, 0, first, with_masks)
+        && stands_at(line, start, second, with_masks)
 }
 
-/// Whether the two parts of glyphs before and from a place come out as a whole line before and from a start.
+/// Whether the two parts of glyphs before and from a place come out as a whole line before and from a start, those of a
+/// contextual machine with their masks.
 fn is_cut(
     alloc: Global,
     face: &hb_font_t,
@@ -204,7 +239,8 @@ fn is_cut(
 ) -> Result<bool, Fail> {
     let first = run(alloc, face, kind, parts.0)?;
     let second = run(alloc, face, kind, parts.1)?;
-    Ok(is_joined(whole.0, whole.1, &first, &second))
+    let with_masks = matches!(kind, SubtableKind::Contextual(_));
+    Ok(is_joined(whole, &first, &second, with_masks))
 }
 
 /// Cuts a line at each cluster that may be cut before. Answers how many there were, or none where parts differ.
@@ -307,6 +343,13 @@ fn parts_of_ligature_machines(rt: HostRuntime) -> Result<(), Fail> {
 #[test]
 fn parts_of_insertion_machines(rt: HostRuntime) -> Result<(), Fail> {
     let found = tried(rt.alloc(), Drawn::Insertion, 10)?;
+    assert!(rt; found.is_some_and(|cuts| cuts > 0), "{found:?}");
+    Ok(())
+}
+
+#[test]
+fn parts_of_rearrangements(rt: HostRuntime) -> Result<(), Fail> {
+    let found = tried(rt.alloc(), Drawn::Rearrangement, 30)?;
     assert!(rt; found.is_some_and(|cuts| cuts > 0), "{found:?}");
     Ok(())
 }

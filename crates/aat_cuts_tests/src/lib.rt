@@ -1,4 +1,4 @@
-//! The tests of `aat_cuts`: the smallest machine that fails each premise, texts, the machines of the worked rows, and
+//! The tests of `aat_cuts`: a small machine that fails each premise, texts, the machines of the worked rows, and
 //! small machines drawn at random whose lines are cut.
 #![tactic(auto)]
 

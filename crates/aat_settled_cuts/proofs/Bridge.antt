@@ -14,9 +14,10 @@ use Rattle.aat_cuts.specs.Reached.{IsComplete}
 use Rattle.aat_cuts.specs.Settled.{the_mark}
 use Rattle.aat_cut_kinds.specs.Settled.{HasEntries, IsSettled, may_replace}
 use Rattle.aat_cut_kinds.specs.facts.BackwardCuts.{fall_of_rise, turned_leaves_parts}
+use Rattle.aat_cut_kinds.specs.facts.ButMasks.{any_at_fall, any_at_rise, any_backward}
 use Rattle.aat_cut_kinds.specs.facts.ContextualCuts as contextual
 use Rattle.aat_cut_kinds.specs.facts.InsertionCuts.{leaves_parts_at_fall, leaves_parts_at_rise}
-use Rattle.aat_settled_cuts.specs.SettledCuts.{SettledBackwardInsertionLeavesParts, SettledContextualLeavesParts, SettledInsertionLeavesParts, SettledInsertionLeavesPartsAtFall}
+use Rattle.aat_settled_cuts.specs.SettledCuts.{AnySettledBackwardInsertionLeavesParts, AnySettledInsertionLeavesParts, AnySettledInsertionLeavesPartsAtFall, SettledBackwardInsertionLeavesParts, SettledContextualLeavesParts, SettledInsertionLeavesParts, SettledInsertionLeavesPartsAtFall}
 
 -- a complete table has its entries
 has_entries : {T : Type 0} (table : TableValue (GenericStateEntry T)) (reached : ℕ → Bool) → IsComplete table reached → HasEntries table reached
@@ -38,7 +39,7 @@ sets_by_flag lookups e = by_indexes (is_present e.extra.mark_index) (is_present 
 
 -- the two say the same of a contextual subtable
 contextual_settled : (tables : ContextualTables) → question.IsSettled (Contextual tables) → IsSettled tables.state tables.lookups
-contextual_settled tables (reached, complete, (live, tidy)) =
+contextual_settled tables (reached, complete, (live, tidy, agreeing)) =
     let lookups = length tables.lookups in (
       record { is_reached = reached; is_live = live },
       record {
@@ -47,7 +48,7 @@ contextual_settled tables (reached, complete, (live, tidy)) =
         agreeing = record {
           agreed = λ s k e f known class entry from_start none none_start to going alive.
               sym (sets_by_flag lookups e none)
-              ∙ (tidy.agreed s k e f known class entry from_start (idles lookups e none) (idles lookups f none_start) to going alive
+              ∙ (agreeing.agreed s k e f known class entry from_start (idles lookups e none) (idles lookups f none_start) to going alive
               ∙ sets_by_flag lookups f none_start);
         };
       },
@@ -70,3 +71,15 @@ pub settled_backward_insertion_leaves_parts : SettledBackwardInsertionLeavesPart
 settled_backward_insertion_leaves_parts z on tables c q b settled plain cut =
     let run = kind_run z on (Insertion tables) in
     turned_leaves_parts run q b (settled_insertion_leaves_parts_at_fall z on tables c (length b.line - q) (reversed b) settled plain (fall_of_rise run q b on c cut))
+
+pub any_settled_insertion_leaves_parts : AnySettledInsertionLeavesParts
+any_settled_insertion_leaves_parts z on tables c q b settled cut =
+    any_at_rise tables.glyphs on tables.state settled.0 (has_entries tables.state settled.0 settled.1) c q b cut
+
+pub any_settled_insertion_leaves_parts_at_fall : AnySettledInsertionLeavesPartsAtFall
+any_settled_insertion_leaves_parts_at_fall z on tables c q b settled cut =
+    any_at_fall tables.glyphs on tables.state settled.0 (has_entries tables.state settled.0 settled.1) c q b cut
+
+pub any_settled_backward_insertion_leaves_parts : AnySettledBackwardInsertionLeavesParts
+any_settled_backward_insertion_leaves_parts z on tables c q b settled cut =
+    any_backward tables.glyphs on tables.state settled.0 (has_entries tables.state settled.0 settled.1) c q b cut

@@ -1,14 +1,15 @@
 -- A labelling of the first states of a table, tested entry by entry.
-use Rattle.std.proofs.Common.{◌≡◌, ℕ, zero, suc, ◌+◌, ◌*◌, ◌<◌, ◌==◌, ◌&&◌, ◌||◌, not, cond, Bool, true, false, nat_lt, Option, Some, None, option_map, refl, sym, ap, ◌∙◌, arith}
+use Rattle.std.proofs.Common.{◌≡◌, ℕ, zero, suc, ◌+◌, ◌*◌, ◌<◌, ◌≤◌, ◌==◌, ◌&&◌, ◌||◌, not, cond, Bool, true, false, nat_le, nat_lt, List, if◌then◌else◌, Option, Some, None, option_map, refl, sym, ap, ◌∙◌, arith}
 use Rattle.std.proofs.lemmas.Bool.{eq-eqb}
 use Rattle.std.proofs.lemmas.Bool.Decides.{Decides-below_and, nat_tests}
-use Rattle.aat_font.specs.Entries.{goes_on}
+use Rattle.aat_font.specs.Entries.{goes_on, has_flag}
 use Rattle.aat_font.specs.Keys.{at_key}
 use Rattle.aat_font.specs.Table.{Rule, TableValue, entry_of, known_class, rule_key}
 use Rattle.aat_font.specs.declared.state_table.GenericStateEntry.{GenericStateEntry}
+use Rattle.aat_cuts.specs.Held.{IsSufficient, held_behind_push, taken_by}
 use Rattle.aat_cuts.specs.Kinds.{IsQuietAtEnd, moves_and_ends}
 use Rattle.aat_cuts.specs.Reached.{IsComplete}
-use Rattle.aat_cuts.specs.Settled.{IsTidy, Register}
+use Rattle.aat_cuts.specs.Settled.{IsAgreeing, IsTidy, Register}
 use Rattle.aat_cuts.specs.inside.Steps.{is_same}
 
 -- a test of each number below one
@@ -107,6 +108,11 @@ module _ {T : Type 0} (table : TableValue (GenericStateEntry T)) (states : ℕ) 
     inside : (s : ℕ) → nat_lt s states ≡ true → s < states
     inside s is = grind (arith, nat_tests, is)
 
+    -- and of an entry for any class
+    tested : (test : ℕ → ℕ → GenericStateEntry T → Bool) → all_entries test ≡ true → (s k : ℕ) (e : GenericStateEntry T)
+        → nat_lt s states ≡ true → entry_of table s k ≡ Some e → test s (known k) e ≡ true
+    tested test all s k e is here = passed_by (test s (known k)) (entry_of table s k) e here (at_entry test all s k (inside s is))
+
     -- each entry goes to one of the first states
     abbrev pub goes_inside : ℕ → ℕ → GenericStateEntry T → Bool
     goes_inside s k e = nat_lt e.new_state states
@@ -128,30 +134,26 @@ module _ {T : Type 0} (table : TableValue (GenericStateEntry T)) (states : ℕ) 
       abbrev pub is_fit : ℕ → ℕ → GenericStateEntry T → Bool
       is_fit s k e =
           implies (register.uses e || ((k == 0) && register.uses_at_end e)) (live s)
-          && (implies (live e.new_state) (register.sets e || live s) && passes (agrees e) (entry_of table 0 k))
-
-      module _ (all : all_entries is_fit ≡ true) (s k : ℕ) (e : GenericStateEntry T) (is : nat_lt s states ≡ true) (here : entry_of table s k ≡ Some e) where
-        fit : is_fit s (known k) e ≡ true
-        fit = passed_by (is_fit s (known k)) (entry_of table s k) e here (at_entry is_fit all s k (inside s is))
-
-        used_live : (register.uses e || ((known k == 0) && register.uses_at_end e)) ≡ true → live s ≡ true
-        used_live uses = implied _ (live s) (first_of _ _ fit) uses
-
-        kept_live : live e.new_state ≡ true → (register.sets e || live s) ≡ true
-        kept_live alive = implied (live e.new_state) _ (first_of _ _ (second_of _ _ fit)) alive
-
-        agreed_with : (f : GenericStateEntry T) → entry_of table 0 k ≡ Some f → agrees e f ≡ true
-        agreed_with f from = passed_by (agrees e) (entry_of table 0 (known k)) f (same_entry 0 k ∙ from) (second_of _ _ (second_of _ _ fit))
+          && implies (live e.new_state) (register.sets e || live s)
 
       pub tidy_by : live 0 ≡ false → all_entries is_fit ≡ true → IsTidy table register (λ s. nat_lt s states) live
       tidy_by first all = record {
         first = first;
-        used = λ s k e is here uses. used_live all s k e is here (left_of (register.uses e) _ uses);
-        at_end = λ s e is here uses. used_live all s 0 e is here (right_of (register.uses e) _ (both _ _ (eq-eqb (known 0) 0 known_zero) uses));
-        kept = λ s k e is class here alive. kept_live all s k e is here alive;
+        used = λ s k e is here uses. implied _ (live s) (first_of _ _ (tested is_fit all s k e is here)) (left_of (register.uses e) _ uses);
+        at_end = λ s e is here uses. implied _ (live s) (first_of _ _ (tested is_fit all s 0 e is here)) (right_of (register.uses e) _ (both _ _ (eq-eqb (known 0) 0 known_zero) uses));
+        kept = λ s k e is class here alive. implied (live e.new_state) _ (second_of _ _ (tested is_fit all s k e is here)) alive;
+      }
+
+      -- an entry and that of state 0 for its class agree
+      abbrev pub is_agreed : ℕ → ℕ → GenericStateEntry T → Bool
+      is_agreed s k e = passes (agrees e) (entry_of table 0 k)
+
+      pub agreeing_by : all_entries is_agreed ≡ true → IsAgreeing table register (λ s. nat_lt s states) live
+      agreeing_by all = record {
         agreed = λ s k e f is class here from idle idle_start next going alive.
+            let agree = passed_by (agrees e) (entry_of table 0 (known k)) f (same_entry 0 k ∙ from) (tested is_agreed all s k e is here) in
             of_same (register.sets e) (register.sets f)
-            (implied _ _ (agreed_with all s k e is here f from) (both _ _ idle (both _ _ idle_start (both _ _ (eq-eqb e.new_state f.new_state next) (both _ _ (same_of (goes_on e) (goes_on f) going) alive)))));
+            (implied _ _ agree (both _ _ idle (both _ _ idle_start (both _ _ (eq-eqb e.new_state f.new_state next) (both _ _ (same_of (goes_on e) (goes_on f) going) alive)))));
       }
 
 is_not : (b : Bool) → not b ≡ true → b ≡ false
@@ -165,5 +167,34 @@ module _ (table : TableValue (GenericStateEntry (Unit {0}))) (states : ℕ) (som
 
   pub quiet_by : all_entries table states is_quiet ≡ true → IsQuietAtEnd table (λ s. nat_lt s states)
   quiet_by all s e is here =
-      let quiet = passed_by (is_quiet s (known table states some 0)) (entry_of table s 0) e here (at_entry table states some is_quiet all s 0 (inside table states some s is)) in
+      let quiet = tested table states some is_quiet all s 0 e is here in
       is_not (moves_and_ends e) (implied _ _ quiet (eq-eqb (known table states some 0) 0 (known_zero table states some)))
+
+at_most : (m n : ℕ) → nat_le m n ≡ true → m ≤ n
+at_most m n is = grind (arith, nat_tests, is)
+
+module _ (table : TableValue (GenericStateEntry ℕ)) (states : ℕ) (some : 1 < table.class_count) (actions : List ℕ) (is_here : ℕ → Bool) (held : ℕ → ℕ) where
+  -- how many components are held behind the push of an entry
+  abbrev pub behind : ℕ → GenericStateEntry ℕ → ℕ
+  behind s e = held_behind_push (has_flag e 0x8000) (is_here s) (held s)
+
+  -- an entry keeps the newest component the glyph at the cursor
+  abbrev pub keeps_here : ℕ → ℕ → GenericStateEntry ℕ → Bool
+  keeps_here s k e = implies (not (goes_on e)) (implies (has_flag e 0x8000 || is_here s) (is_here e.new_state))
+
+  -- it takes no more components than are held
+  abbrev pub has_enough : ℕ → ℕ → GenericStateEntry ℕ → Bool
+  has_enough s k e = nat_le (taken_by actions e) (behind s e)
+
+  -- and leaves as many as the next state has
+  abbrev pub keeps_held : ℕ → ℕ → GenericStateEntry ℕ → Bool
+  keeps_held s k e = nat_le (held e.new_state + taken_by actions e) (behind s e + (if has_flag e 0x2000 then 1 else 0))
+
+  pub sufficient_by : all_entries table states keeps_here ≡ true → all_entries table states has_enough ≡ true
+      → all_entries table states keeps_held ≡ true → IsSufficient table actions (λ s. nat_lt s states) is_here held
+  sufficient_by all_here all_enough all_kept = record {
+    here = λ s k e is class at stays pushed.
+        implied _ _ (implied _ _ (tested table states some keeps_here all_here s k e is at) (ap not stays)) pushed;
+    enough = λ s k e is class at few. at_most _ _ (tested table states some has_enough all_enough s k e is at);
+    kept = λ s k e is class at few. at_most _ _ (tested table states some keeps_held all_kept s k e is at);
+  }

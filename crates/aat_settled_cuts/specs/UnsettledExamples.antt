@@ -1,6 +1,6 @@
 -- The machines whose lines come out differently in two parts, though no mark says so: which of them are settled, and
 -- which premise each of the others fails. Apple's TrueType Reference Manual, "The 'morx' table".
-use Rattle.std.specs.Prelude.{ℕ, Bool, false, List, [], ◌∷◌, Some}
+use Rattle.std.specs.Prelude.{ℕ, Bool, List, [], ◌∷◌, Some}
 use Rattle.aat_font.specs.Table.{Rule, TableValue}
 use Rattle.aat_font.specs.declared.morx.SubtableKind.{SubtableKind}
 use Rattle.aat_font.specs.declared.morx.SubtableKind.TheVariants.{Contextual, Insertion, Ligature, Rearrangement}
@@ -9,9 +9,10 @@ use Rattle.aat_kinds.specs.Contextual.{Entry}
 use Rattle.aat_kinds.specs.Insertion as insertion
 use Rattle.aat_cut_kinds.specs.CutExamples.{rules_apart, rules_at_end, rules_for_an_end, rules_unanswered, rules_with_a_gap, settled_rules, table_of}
 use Rattle.aat_cut_kinds.specs.OtherCutExamples.{ending_and_moving, moving_deleted, moving_to_start, pushing_apart, pushing_in_start, putting_in_at_end, putting_in_with_a_gap}
+use Rattle.aat_cuts.specs.Held.{IsLigatureAgreeing, IsLigatureTidy}
 use Rattle.aat_cuts.specs.Kinds.{IsSettled, IsVerdictOn}
 use Rattle.aat_cuts.specs.Reached.{IsComplete}
-use Rattle.aat_cuts.specs.Settled.{IsNeverSetBeforeUse, IsSetBeforeUse, Register, the_end_set_by, the_mark}
+use Rattle.aat_cuts.specs.Settled.{IsRegisterUnsettled, IsTidy, Register, the_end_set_by, the_mark}
 use Rattle.aat_cuts.specs.declared.unsettled.Unsettled.{Unsettled}
 use Rattle.aat_cuts.specs.declared.unsettled.Unsettled.TheVariants.{MissingEntry, MovesAtEnd, TakenForOne, TooFewComponents, UsedBeforeSet}
 use Rattle.aat_cuts.specs.declared.unsettled.UsedRegister.TheVariants.{Components, Mark, SpanStart}
@@ -60,29 +61,50 @@ pub record CaseVerdicts : Type 0 where
   pub an_insertion_subtable_is_off : IsSettled (insertion_by putting_in_at_end)
   pub an_insertion_entry_is_missing : IsUnsettledBy (insertion_by putting_in_with_a_gap) (MissingEntry 0 1)
 
--- a register, if no entry were taken for another
-abbrev pub never_taken : {T : Type 0} → Register T → Register T
-never_taken register = record register { may_idle = λ e. false }
-
 module _ {T : Type 0} (table : TableValue (GenericStateEntry T)) where
   -- no states are complete
   abbrev pub IsIncomplete : Type 0
   IsIncomplete = (is_reached : ℕ → Bool) → IsComplete table is_reached → ⊥
 
   module _ (register : Register T) where
-    -- states are complete, but in no labelling the register is set before it is used
-    pub record IsUntidy : Type 0 where
-      pub is_reached : ℕ → Bool
-      pub complete : IsComplete table is_reached
-      pub untidy : IsNeverSetBeforeUse table (never_taken register)
+    -- no labelling of complete states by where the register is live is tidy
+    abbrev pub IsNeverTidy : Type 0
+    IsNeverTidy =
+        (is_reached is_live : ℕ → Bool) → IsComplete table is_reached → IsTidy table register is_reached is_live → ⊥
 
-    -- states are complete, and in some labelling the register is set before it is used, but in none of these do entries
-    -- agree that are taken for one
+    -- states are complete, but no labelling is tidy
+    pub record IsUntidy : Type 0 where
+      pub states : ℕ → Bool
+      pub complete : IsComplete table states
+      pub untidy : IsNeverTidy
+
+    -- states are complete, and some labelling is tidy, but none that is tidy is agreeing
     pub record IsDisagreeing : Type 0 where
-      pub is_reached : ℕ → Bool
-      pub complete : IsComplete table is_reached
-      pub tidy : IsSetBeforeUse table (never_taken register) is_reached
-      pub disagreeing : IsNeverSetBeforeUse table register
+      pub states : ℕ → Bool
+      pub complete : IsComplete table states
+      pub live : ℕ → Bool
+      pub tidy : IsTidy table register states live
+      pub disagreeing : IsRegisterUnsettled table register
+
+module _ (table : TableValue (GenericStateEntry ℕ)) (actions : List ℕ) where
+  -- the same of the components of a ligature machine: states are complete, but no labelling is tidy
+  pub record IsLigatureUntidy : Type 0 where
+    pub states : ℕ → Bool
+    pub complete : IsComplete table states
+    pub untidy :
+        (is_reached is_here : ℕ → Bool) (held : ℕ → ℕ) → IsComplete table is_reached
+        → IsLigatureTidy table actions is_reached is_here held → ⊥
+
+  -- and some labelling is tidy, but none that is tidy is agreeing
+  pub record IsLigatureDisagreeing : Type 0 where
+    pub states : ℕ → Bool
+    pub complete : IsComplete table states
+    pub here : ℕ → Bool
+    pub number : ℕ → ℕ
+    pub tidy : IsLigatureTidy table actions states here number
+    pub disagreeing :
+        (is_reached is_here : ℕ → Bool) (held : ℕ → ℕ) → IsComplete table is_reached
+        → IsLigatureTidy table actions is_reached is_here held → IsLigatureAgreeing table is_reached held → ⊥
 
 -- The premise that each of these machines fails, while those before it hold.
 pub record FailedPremises : Type 0 where
@@ -90,5 +112,7 @@ pub record FailedPremises : Type 0 where
   pub two_entries_set_the_mark_differently : IsDisagreeing (table_of rules_apart) (the_mark 1)
   pub a_contextual_entry_is_missing : IsIncomplete (table_of rules_with_a_gap)
   pub a_missing_lookup_sets_no_mark : IsUntidy (table_of rules_unanswered) (the_mark 1)
+  pub a_component_outlives_the_cut : IsLigatureUntidy pushing_in_start (0xFFFFFFFF ∷ [])
+  pub two_entries_push_differently : IsLigatureDisagreeing pushing_apart (0xBFFFFFFF ∷ [])
   pub the_end_of_the_text_acts : IsUntidy ending_and_moving (the_end_set_by 0x8000)
   pub an_insertion_entry_is_missing : IsIncomplete putting_in_with_a_gap

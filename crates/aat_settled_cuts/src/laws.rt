@@ -1,28 +1,46 @@
 //! Laws of the definitions as theorems. These calls do nothing: what is proved is their contracts.
 
-ghost use Rattle.aat_settled_cuts.specs.SettledCuts.{SettledBackwardInsertionLeavesParts, SettledContextualLeavesParts, SettledInsertionLeavesParts, SettledInsertionLeavesPartsAtFall};
+ghost use Rattle.aat_settled_cuts.specs.SettledCuts.{AnySettledBackwardInsertionLeavesParts, AnySettledInsertionLeavesParts, AnySettledInsertionLeavesPartsAtFall, SettledBackwardInsertionLeavesParts, SettledContextualLeavesParts, SettledInsertionLeavesParts, SettledInsertionLeavesPartsAtFall};
 
-/// Where a contextual subtable is settled as `aat_cuts` says it, and its run leaves a start of a cluster without the
-/// mark, and some of the budget, and is on there, the run leaves the glyphs that it leaves of the line up to there, and
-/// behind them those that it leaves of the rest, with their masks, and of neither part less of the budget.
+/// Where a contextual subtable is settled as `aat_cuts` says it, and is on at a start of a cluster, and its run leaves,
+/// of the two glyphs there, the one with the greater cluster without the mark, and some of the budget, the run leaves the
+/// glyphs that it leaves of the line up to there, and behind them those that it leaves of the rest, with their masks, and
+/// of neither part less of the budget.
 pub fn settled_contextual_cut()
     ensures { SettledContextualLeavesParts }
 {}
 
-/// Where an insertion subtable is settled as `aat_cuts` says it, and its run leaves the first glyph behind a rise of the
-/// clusters without the mark, and some of the budget, and is on there, the run leaves the glyphs that it leaves of the
-/// line up to there, and behind them those that it leaves of the rest, with their masks, and of neither part less of the
+/// Where all clusters before a place are below some c, none from there on is, and an insertion subtable that is settled
+/// as `aat_cuts` says it is on there, and its run leaves the first glyph not below c unmarked, and some of the budget,
+/// the run leaves what it leaves of the line up to there, then of the rest, with masks, and of neither part less of the
 /// budget. An entry that puts no glyphs in has to name no run.
 pub fn settled_insertion_cut()
     ensures { SettledInsertionLeavesParts }
 {}
 
-/// The same where the clusters fall: the glyph that has to be left without the mark is the last one before the fall.
+/// The same where none before is below c and all from there on are: the last glyph not below c is left unmarked.
 pub fn settled_falling_insertion_cut()
     ensures { SettledInsertionLeavesPartsAtFall }
 {}
 
-/// The same as for a rise where the subtable takes the line from its end, and is on at the glyph before the rise.
+/// The same as `settled_insertion_cut` where the subtable takes the line from its end, and is on at the glyph before
+/// the place.
 pub fn settled_backward_insertion_cut()
     ensures { SettledBackwardInsertionLeavesParts }
+{}
+
+/// The same as `settled_insertion_cut` of any settled insertion subtable, but for the masks: these may be others where
+/// an entry that puts no glyphs in names a run.
+pub fn any_settled_insertion_cut()
+    ensures { AnySettledInsertionLeavesParts }
+{}
+
+/// The same where none before is below c and all from there on are: the last glyph not below c is left unmarked.
+pub fn any_settled_falling_insertion_cut()
+    ensures { AnySettledInsertionLeavesPartsAtFall }
+{}
+
+/// The same as `settled_backward_insertion_cut` of any settled insertion subtable, but for the masks.
+pub fn any_settled_backward_insertion_cut()
+    ensures { AnySettledBackwardInsertionLeavesParts }
 {}

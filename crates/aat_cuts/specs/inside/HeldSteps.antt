@@ -70,7 +70,8 @@ abbrev pub IsLacking : List ℕ → List ℕ → List HeldStep → Unsettled →
 IsLacking reached held steps (MissingEntry state class) = ⊥
 IsLacking reached held steps (UsedBeforeSet r state class) = ⊥
 IsLacking reached held steps (TakenForOne r state class) =
-    (r ≡ Components) × (s : HeldStep) × Contains steps s × (is_taken held s ≡ true)
+    (r ≡ Components) × (s : HeldStep) × Contains steps s × (s.state ≡ state) × (s.class ≡ class)
+    × (is_taken held s ≡ true)
 IsLacking reached held steps (MovesAtEnd state) = ⊥
 IsLacking reached held steps (TooFewComponents state) =
-    (0 < label_in held 0) ⊎ (is_over reached held state ≡ true)
+    ((state ≡ 0) × (0 < label_in held 0)) ⊎ (is_over reached held state ≡ true)

@@ -4,8 +4,8 @@ use Rattle.std.specs.List.{All, Contains}
 use Rattle.aat_font.specs.Entries.{goes_on}
 use Rattle.aat_font.specs.Table.{Rule, TableValue, class_of, entry_of}
 use Rattle.aat_font.specs.declared.state_table.GenericStateEntry.{GenericStateEntry}
-use Rattle.aat_cuts.specs.Reached.{is_labelled}
-use Rattle.aat_cuts.specs.Settled.{IsClassOfGlyph, IsNeverSetBeforeUse, IsSetBeforeUse, IsTakenAt, IsUsedAt, Register}
+use Rattle.aat_cuts.specs.Reached.{IsReached, is_labelled}
+use Rattle.aat_cuts.specs.Settled.{IsClassOfGlyph, IsRegisterSettled, IsRegisterUnsettled, IsTakenAt, IsUsedAt, Register}
 use Rattle.aat_cuts.specs.declared.labels.Asked.TheVariants.{Nothing, Same, One}
 use Rattle.aat_cuts.specs.declared.labels.Edge.{Edge}
 use Rattle.aat_cuts.specs.declared.steps.Step.{Step}
@@ -68,14 +68,26 @@ abbrev pub live_edge : Step → Edge
 live_edge s =
     record { from = s.state; to = s.next; asked = if s.uses then One else (if s.keeps then Same else Nothing) }
 
+-- some states go with the entries that may not set the register: state 0, and with each the state that one leads to
+pub record AreStepsUnset (steps : List Step) (states : ℕ → Bool) : Type 0 where
+  pub first : states 0 ≡ true
+  pub next : All (λ s. s.keeps ≡ true → states s.state ≡ true → states s.next ≡ true) steps
+
+-- some states go with the entries that use the register, and with those that lead there and may not set it
+pub record AreStepsBefore (steps : List Step) (states : ℕ → Bool) : Type 0 where
+  pub used : All (λ s. s.uses ≡ true → states s.state ≡ true) steps
+  pub before : All (λ s. s.keeps ≡ true → states s.next ≡ true → states s.state ≡ true) steps
+
 -- no labelling goes with the entries, and an entry of the state and the class shows why
 abbrev pub IsTrouble : List Step → Trouble → Type 0
 IsTrouble steps (Unset state class) =
     ((is_live : ℕ → Bool) → AreFit steps is_live → ⊥)
     × (s : Step) × Contains steps s × (s.state ≡ state) × (s.class ≡ class) × (s.uses ≡ true)
+    × ((states : ℕ → Bool) → AreStepsUnset steps states → states s.state ≡ true)
 IsTrouble steps (Taken state class) =
     ((is_live : ℕ → Bool) → AreFit steps is_live → ⊥)
     × (s : Step) × Contains steps s × (s.state ≡ state) × (s.class ≡ class) × (s.differs ≡ true)
+    × ((states : ℕ → Bool) → AreStepsBefore steps states → states s.next ≡ true)
 
 -- what was found of entries: a labelling, or trouble
 abbrev pub IsFoundOf : List Step → Option Trouble → Type 0
@@ -85,8 +97,8 @@ IsFoundOf steps (Some trouble) = IsTrouble steps trouble
 -- what was found of a register: a labelling for the states, or that there is none
 abbrev pub IsFoundIn :
     {T : Type 0} → TableValue (GenericStateEntry T) → Register T → (ℕ → Bool) → Option Trouble → Type 0
-IsFoundIn table register is_reached None = IsSetBeforeUse table register is_reached
+IsFoundIn table register is_reached None = IsRegisterSettled table register is_reached
 IsFoundIn table register is_reached (Some (Unset state class)) =
-    IsNeverSetBeforeUse table register × IsUsedAt table register state class
+    IsRegisterUnsettled table register × IsReached table state × IsUsedAt table register state class
 IsFoundIn table register is_reached (Some (Taken state class)) =
-    IsNeverSetBeforeUse table register × IsTakenAt table register state class
+    IsRegisterUnsettled table register × IsReached table state × IsTakenAt table register state class

@@ -15,12 +15,12 @@ returns-in-Some c =
 pub returns-in-Some-start : goal.returns-in-Some-start
 returns-in-Some-start c =
     let found = rw c.in-Some-start.is at c.in_ok-start.ensures in
-    rw c.reason_of.ensures (trouble_shown c.args.table.now end_named moves_and_ends (is_labelled c.args.reached.now.labels.items) SpanStart (the_end_set_by 0x8000) refl (IsRearrangementSettled c.args.table.now) (λ never (is_reached, complete, (live, tidy), end, quiet). never is_reached live complete tidy) c.in-Some-start.trouble found)
+    rw c.reason_of.ensures (trouble_shown c.args.table.now end_named moves_and_ends (is_labelled c.args.reached.now.labels.items) SpanStart (the_end_set_by 0x8000) refl (IsRearrangementSettled c.args.table.now) (λ never (is_reached, complete, (live, tidy, agreeing), end, quiet). never is_reached live complete tidy agreeing) c.in-Some-start.trouble found)
 
 pub returns-in-Some-end : goal.returns-in-Some-end
 returns-in-Some-end c =
     let found = rw c.in-Some-end.is at c.in_ok-end.ensures in
-    rw c.reason_of-in-Some-end.ensures (trouble_shown c.args.table.now end_named moves_and_ends (is_labelled c.args.reached.now.labels.items) SpanEnd (the_end_set_by 0x2000) refl (IsRearrangementSettled c.args.table.now) (λ never (is_reached, complete, start, (live, tidy), quiet). never is_reached live complete tidy) c.in-Some-end.trouble found)
+    rw c.reason_of-in-Some-end.ensures (trouble_shown c.args.table.now end_named moves_and_ends (is_labelled c.args.reached.now.labels.items) SpanEnd (the_end_set_by 0x2000) refl (IsRearrangementSettled c.args.table.now) (λ never (is_reached, complete, start, (live, tidy, agreeing), quiet). never is_reached live complete tidy agreeing) c.in-Some-end.trouble found)
 
 pub returns : goal.returns
 returns c =

@@ -4,8 +4,8 @@ use Rattle.aat_cuts.proofs.settled.find_in_insertion.Goals as goal
 
 pub returns-in-Missing : goal.returns-in-Missing
 returns-in-Missing c =
-    let (none, never) = rw c.in-Missing.is at c.in_ok-reach.ensures in
-    (λ (is_reached, complete). never is_reached complete, none)
+    let (here, none, never) = rw c.in-Missing.is at c.in_ok-reach.ensures in
+    (λ (is_reached, complete). never is_reached complete, here, none)
 
 pub returns-in-Complete : goal.returns-in-Complete
 returns-in-Complete c =

@@ -16,4 +16,4 @@ pub returns : goal.returns
 returns c =
     let count = length c.args.lookups.now in
     let found = rw c.in-Some.is at c.in_ok-found.ensures in
-    rw c.reason_of.ensures (trouble_shown c.args.table.now (mark_named count) (λ e. false) (is_labelled c.args.reached.now.labels.items) Mark (the_mark count) refl (IsContextualSettled c.args.table.now count) (λ never (is_reached, complete, (live, tidy)). never is_reached live complete tidy) c.in-Some.trouble found)
+    rw c.reason_of.ensures (trouble_shown c.args.table.now (mark_named count) (λ e. false) (is_labelled c.args.reached.now.labels.items) Mark (the_mark count) refl (IsContextualSettled c.args.table.now count) (λ never (is_reached, complete, (live, tidy, agreeing)). never is_reached live complete tidy agreeing) c.in-Some.trouble found)
