@@ -12,7 +12,8 @@ use Rattle.aat_font.specs.declared.morx.Subtable.{Subtable}
 use Rattle.aat_reader.specs.ChainFeatures.{whole_features}
 use Rattle.aat_reader.specs.ChainSubtables.{subtable_at}
 use Rattle.aat_reader.specs.Chains.{ChainStart, ChainValue, chain_at, chain_value_at, start_behind}
-use Rattle.aat_reader.specs.InTurn.{end_at, in_turn}
+use Rattle.aat_machine_reader.specs.InTurn.{in_turn}
+use Rattle.aat_reader.specs.InTurn.{end_at}
 use Rattle.aat_reader.specs.Reaches.{allowance}
 use Rattle.aat_chain_writer.specs.ChainBytes.{ChainContent, chain_bytes, chain_header, chain_size, count_subtables, feature_bytes, subtable_bytes, subtable_size}
 use Rattle.aat_morx_writer.specs.MachineLaws.{IsLong}

@@ -14,7 +14,8 @@ use Rattle.aat_font.specs.declared.morx.Subtable.{Subtable}
 use Rattle.aat_font.specs.declared.morx.SubtableKind.{SubtableKind}
 use Rattle.aat_machine_reader.specs.SubtableKinds.{subtable_kind_at}
 use Rattle.aat_reader.specs.ChainSubtables.{coverage_at, flags_at, is_known, kind_at, subtable_at}
-use Rattle.aat_reader.specs.InTurn.{end_at, in_turn}
+use Rattle.aat_machine_reader.specs.InTurn.{in_turn}
+use Rattle.aat_reader.specs.InTurn.{end_at}
 use Rattle.aat_chain_writer.specs.ChainBytes.{SubtableContent, coverage_number, subtable_bytes, subtable_header, subtable_size}
 use Rattle.aat_morx_writer.specs.MachineLaws.{IsLong}
 use Rattle.aat_chain_writer.specs.ChainLaws.{DoesAsRead, IsReadable, IsSameSubtable, IsSubtable}

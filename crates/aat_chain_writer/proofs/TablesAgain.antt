@@ -6,7 +6,7 @@ use Rattle.std.proofs.lemmas.Bool.{le-ltb, leb-false, ltb-false}
 use Rattle.std.proofs.lemmas.List.{append-nil, length-append}
 use Rattle.aat_bytes.specs.Numbers.{be16, be32}
 use Rattle.aat_reader.specs.Chains.{ChainValue, chain_at, first_chain, morx_of}
-use Rattle.aat_reader.specs.InTurn.{in_turn}
+use Rattle.aat_machine_reader.specs.InTurn.{in_turn}
 use Rattle.aat_writer.specs.Words.{long_bytes, word_bytes}
 use Rattle.aat_writer.specs.facts.WordPlaces.{AreWords, length_words, word_at}
 use Rattle.aat_chain_writer.specs.ChainBytes.{ChainContent, chain_bytes, chain_size, count_subtables, table_bytes, table_size}

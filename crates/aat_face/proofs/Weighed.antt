@@ -85,7 +85,7 @@ values_light value (suc n) =
     ∙ ap (cells_beside (suc n)) (span_is value n) in
     omega (arith, long, cells, cells_light (suc n))
 
--- faults of nine tables
+-- faults of twelve tables
 join_light : {X : Type 0} (o : Option X) (xs : List (Option X)) (n : ℕ)
     → length (filter_map (λ x. x) xs) ≤ n → length (filter_map (λ x. x) (o ∷ xs)) ≤ suc n
 join_light None xs n few = omega (arith, few)
@@ -99,7 +99,7 @@ abbrev all_faults : Tables → List (Option Fault)
 all_faults tables =
     fault_in tables.maxp ∷ fault_in tables.head ∷ fault_in tables.hhea ∷ fault_in tables.hmtx
     ∷ fault_in tables.cmap ∷ fault_in tables.gdef ∷ fault_in tables.name ∷ fault_in tables.feat
-    ∷ fault_in tables.morx ∷ []
+    ∷ fault_in tables.morx ∷ fault_in tables.kerx ∷ fault_in tables.kern ∷ fault_in tables.ankr ∷ []
 
 -- a table that is found has bytes, and what is read of them
 found_ok : {X : Type 0} (r : Result X Fault) (x : X)
@@ -246,7 +246,7 @@ module _ (file : List ℕ) (index : ℕ) (directory : Directory) (is : directory
       (λ metrics found. values_light (λ glyph. unwrap_or (advance_of metrics glyph) 0) n) in
       let properties = light (λ (classes : GlyphClasses). property_pairs classes n) pairs_size (8 * n) (found_in tables.gdef)
       (λ classes found. values_light (properties_of classes) n) in
-      let faults : length (faults_of tables) ≤ 9 = few_of (all_faults tables) in
+      let faults : length (faults_of tables) ≤ 12 = few_of (all_faults tables) in
       let features = features_weigh (face_of_tables tables).font.feat in
       (omega (arith, advances, properties, faults, features, chains_fit n), features_fit)
 

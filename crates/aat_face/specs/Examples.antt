@@ -1,5 +1,5 @@
 -- Worked examples of faces.
-use Rattle.std.specs.Prelude.{◌≡◌, ℕ, List, [], ◌∷◌, ◌++◌, Some, None, Ok, Err}
+use Rattle.std.specs.Prelude.{◌≡◌, ℕ, false, List, [], ◌∷◌, ◌++◌, Some, None, Ok, Err}
 use Rattle.aat_bytes.specs.Faults.{fault_at}
 use Rattle.aat_bytes.specs.declared.error.FaultKind.TheVariants.{PastEnd, Missing}
 use Rattle.aat_font.specs.declared.morx.Subtable.{Subtable}
@@ -31,7 +31,9 @@ FaultsAreListed =
       names = None;
       features = None;
       font = empty_font;
+      has_gpos = false;
       faults = fault_at HEAD PastEnd 0 ∷ [];
+      left_out = [];
     }))
     × (face_of example_file 1 ≡ Err (fault_at SFNT Missing 0))
     × (face_of [] 0 ≡ Err (fault_at SFNT PastEnd 0))
@@ -70,7 +72,9 @@ ChainsAreOfTheFont = face_of example_chains_file 0 ≡ Ok (record {
   font = record empty_font {
     morx = Some (record { default_flags = 1; features = []; subtables = example_subtable_of_chain ∷ [] } ∷ []);
   };
+  has_gpos = false;
   faults = [];
+  left_out = [];
 })
 
 -- marks of class 3 from glyph 1 to 2, of which glyph 2 has the class 9 among marks
@@ -118,7 +122,9 @@ example_face = record {
   names = Some example_feature_names;
   features = Some example_feat;
   font = empty_font;
+  has_gpos = false;
   faults = [];
+  left_out = [];
 }
 
 -- a feature and a setting have the texts of their names, where these are there

@@ -8,8 +8,8 @@ use Rattle.aat_face.specs.Weights.{face_weight}
 abbrev pub count_features : FaceValue → ℕ
 count_features face = option_map_or length face.font.feat 0
 
--- it takes at most 24 bytes of memory for each byte of the file, 16 for each glyph, 6 for each feature, and 1,000. A
--- feature has 12 bytes of the file
+-- besides its tables of kerning it takes at most 24 bytes of memory for each byte of the file, 16 for each glyph, 6 for
+-- each feature, and 1,000. A feature has 12 bytes of the file
 abbrev pub FaceMemoryIsBounded : Type 0
 FaceMemoryIsBounded =
     (file : List ℕ) (index : ℕ) (face : FaceValue)

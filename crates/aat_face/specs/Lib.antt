@@ -4,6 +4,7 @@ pub mod Examples
 pub mod FaceLaws
 pub mod Faces
 pub mod Features
+pub mod Kerning
 pub mod Lists
 pub mod Tables
 pub mod Weights

@@ -32,7 +32,7 @@ features_weight features = option_map_or (λ names. FEATURE_NAME_SIZE * length n
 abbrev pub chains_weight : List ℕ → ℕ → Option (List ChainValue) → ℕ
 chains_weight bytes glyph_count chains = option_map_or (λ _. morx_weight bytes glyph_count) chains 0
 
--- a face of the font at an index of a file
+-- a face of the font at an index of a file, besides its tables of kerning
 abbrev pub face_weight : List ℕ → ℕ → FaceValue → ℕ
 face_weight file index face =
     FACE_SIZE + FAULT_SIZE * length face.faults

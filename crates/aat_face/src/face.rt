@@ -6,6 +6,7 @@ ghost use Rattle.aat_face.specs.Faces.{advances_in, face_of, face_of_tables, fau
 
 use crate::chains::{chains_in, layer_tables};
 use crate::features::{feature_bytes, features_in};
+use crate::kerning::{ankr_in, has_gpos_in, kern_in, kerx_in, kerx_parts, with_kerning};
 use crate::lists::{advance_lookup, property_lookup};
 use crate::tables::{
     Tables, characters_in, classes_in, fault_in, found_in, glyph_count_in, long_metric_count_in,
@@ -14,6 +15,7 @@ use crate::tables::{
 use crate::text::{NameText, english_text};
 use aat_bytes::{Fault, ReadError};
 use aat_font::{GlyphId, Lookup, hb_font_t};
+use aat_kerx_reader::LeftOutSubtable;
 use aat_lookup_reader::{feature_name_id, setting_name_id};
 use aat_sfnt::{Cmap, FontFile, Names};
 use std::alloc::{AllocError, Global};
@@ -30,7 +32,9 @@ pub struct Face<'a> {
     names: Option<Names<'a>>,
     features: Option<&'a [u8]>,
     font: hb_font_t,
+    has_gpos: bool,
     faults: Vec<Fault>,
+    left_out: Vec<LeftOutSubtable>,
 }
 
 impl<'a> Model for Face<'a> {
@@ -46,7 +50,9 @@ impl<'a> Model for Face<'a> {
       names = m.names;
       features = option_copied m.features;
       font = font_value m.font;
+      has_gpos = m.has_gpos;
       faults = m.faults.items;
+      left_out = m.left_out.items;
     } };
 }
 
@@ -58,6 +64,9 @@ fn tables_in<'a>(alloc: Global, file: &FontFile<'a>) -> Result<Tables<'a>, Alloc
     let maxp = glyph_count_in(file);
     let glyph_count = number_in(&maxp);
     let morx = chains_in(alloc, file, glyph_count)?;
+    let kerx = kerx_in(alloc, file, glyph_count)?;
+    let kern = kern_in(alloc, file)?;
+    let ankr = ankr_in(alloc, file, glyph_count)?;
     let hhea = long_metric_count_in(file);
     Ok(Tables {
         hmtx: metrics_in(file, number_in(&hhea), glyph_count),
@@ -69,6 +78,10 @@ fn tables_in<'a>(alloc: Global, file: &FontFile<'a>) -> Result<Tables<'a>, Alloc
         name: names_in(file),
         feat,
         morx,
+        kerx,
+        kern,
+        ankr,
+        has_gpos: has_gpos_in(file),
     })
 }
 
@@ -86,6 +99,9 @@ fn faults_of(alloc: Global, tables: &Tables<'_>) -> Result<Vec<Fault>, AllocErro
         fault_in(&tables.name),
         fault_in(&tables.feat),
         fault_in(&tables.morx),
+        fault_in(&tables.kerx),
+        fault_in(&tables.kern),
+        fault_in(&tables.ankr),
     ];
     faults.iter().filter_map(|fault| *fault).collect(alloc)
 }
@@ -131,14 +147,23 @@ impl<'a> Face<'a> {
         let glyph_count = number_in(&tables.maxp);
         let advances = advances_of(alloc, &tables, glyph_count)?;
         let properties = properties_of(alloc, &tables, glyph_count)?;
+        let (kerx, left_out) = kerx_parts(alloc, tables.kerx);
+        let kern = found_in(tables.kern);
+        let ankr = found_in(tables.ankr);
         Ok(Face {
             glyph_count,
             units_per_em: found_in(tables.head).unwrap_or(1000),
             characters: found_in(tables.cmap),
             names: found_in(tables.name),
             features: feature_bytes(&tables.feat),
-            font: hb_font_t::new(layer_tables(tables.morx, tables.feat), properties, advances),
+            font: hb_font_t::new(
+                with_kerning(layer_tables(tables.morx, tables.feat), kerx, kern, ankr),
+                properties,
+                advances,
+            ),
+            has_gpos: tables.has_gpos,
             faults,
+            left_out,
         })
     }
 
@@ -147,8 +172,9 @@ impl<'a> Face<'a> {
     /// A table that has a fault is not read, and the face lists its first fault; the other tables stand. A table that
     /// is missing is no fault: without `maxp` the font has no glyphs, without `head` 1,000 units of the em, without
     /// `hmtx` no advances, without `hhea` advances of 0, without `cmap` no characters, without `GDEF` no properties,
-    /// without `feat` or `name` no names of features, and without `morx` no chains. `morx` is read as that of a font of
-    /// so many glyphs as `maxp` has, and its subtables reach as far as `read_morx` says.
+    /// without `feat` or `name` no names of features, without `morx` no chains, and without `kerx`, `kern` or `ankr` no
+    /// such tables. `morx`, `kerx` and `ankr` are read as those of a font of so many glyphs as `maxp` has, and the
+    /// subtables of `morx` reach as far as `read_morx` says.
     ///
     /// Refused as the fault of the directory that `FontFile::read` tells, and as `OutOfMemory` only where the
     /// directory has no fault; `OutOfMemory` says nothing of the faults of tables.
@@ -219,8 +245,9 @@ impl<'a> Face<'a> {
         }
     }
 
-    /// The font for the layer, with the tables `morx` and `feat` where they are read, the advances of its glyphs in
-    /// units of the font, and the properties of their classes. It has no `kerx`, `kern` and `ankr`.
+    /// The font for the layer, with the tables `morx`, `kerx`, `kern`, `feat` and `ankr` where they are read, the advances
+    /// of its glyphs in units of the font, and the properties of their classes. `Shaper` kerns by `kerx`, and by `kern`
+    /// where there is no `kerx`.
     pub fn font(&self) -> &hb_font_t
         ensures { font_value result.now ≡ self.now.font }
     {
@@ -234,11 +261,26 @@ impl<'a> Face<'a> {
         self.font
     }
 
+    /// Whether the file has the whole table `GPOS`, another layer's. Without `kerx` HarfBuzz kerns by its feature `kern`,
+    /// and only without that by the table `kern`, as `Shaper` does in any case.
+    pub fn has_gpos(&self) -> bool
+        ensures { result ≡ self.now.has_gpos }
+    {
+        self.has_gpos
+    }
+
     /// The faults of tables, at most one of each, in the order `maxp`, `head`, `hhea`, `hmtx`, `cmap`, `GDEF`, `name`,
-    /// `feat`, `morx`.
+    /// `feat`, `morx`, `kerx`, `kern`, `ankr`.
     pub fn faults(&self) -> &[Fault]
         ensures { result.now ≡ self.now.faults }
     {
         &self.faults
+    }
+
+    /// The subtables of `kerx` that are left out, in their order, since the layer has nothing for them.
+    pub fn left_out(&self) -> &[LeftOutSubtable]
+        ensures { result.now ≡ self.now.left_out }
+    {
+        &self.left_out
     }
 }

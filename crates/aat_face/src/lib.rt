@@ -5,6 +5,7 @@ mod chains;
 mod encoding;
 mod face;
 mod features;
+mod kerning;
 #[doc(hidden)]
 pub mod laws;
 mod lists;

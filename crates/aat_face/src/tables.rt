@@ -6,6 +6,8 @@ ghost use Rattle.aat_face.specs.Tables.{characters_in, classes_in, fault_in, fou
 use crate::chains::Chains;
 use crate::features::Features;
 use aat_bytes::{Fault, FaultKind, Tag};
+use aat_font::{Ankr, Kern};
+use aat_kerx_reader::KerxRead;
 use aat_sfnt::tags::{CMAP, GDEF, HEAD, HHEA, HMTX, MAXP, NAME};
 use aat_sfnt::{Cmap, FontFile, GlyphClasses, Metrics, Names};
 
@@ -139,4 +141,8 @@ pub struct Tables<'a> {
     pub name: Result<Option<Names<'a>>, Fault>,
     pub feat: Result<Option<Features<'a>>, Fault>,
     pub morx: Result<Option<Chains>, Fault>,
+    pub kerx: Result<Option<KerxRead>, Fault>,
+    pub kern: Result<Option<Kern>, Fault>,
+    pub ankr: Result<Option<Ankr>, Fault>,
+    pub has_gpos: bool,
 }

@@ -1,5 +1,5 @@
 //! What an entry of a machine has behind its flags, as text.
-use aat_font::{ContextualEntryData, InsertionEntryData};
+use aat_font::{ContextualEntryData, EntryData, InsertionEntryData, KernEntryData};
 use std::io::{self, Write};
 
 /// What an entry has behind its flags.
@@ -39,5 +39,17 @@ impl EntryText for InsertionEntryData {
     fn write_text<W: Write>(&self, out: &mut W) -> io::Result<()> {
         write_index(out, "marked", self.marked_insert_index)?;
         write_index(out, "current", self.current_insert_index)
+    }
+}
+
+impl EntryText for EntryData {
+    fn write_text<W: Write>(&self, out: &mut W) -> io::Result<()> {
+        write_index(out, "action", self.action_index)
+    }
+}
+
+impl EntryText for KernEntryData {
+    fn write_text<W: Write>(&self, out: &mut W) -> io::Result<()> {
+        write_index(out, "value", self.value_index)
     }
 }

@@ -3,12 +3,20 @@ use aat_face::Face;
 use aat_font::GlyphId;
 use std::io::{self, Write};
 
-/// Writes the number of glyphs, the units of the em, and the faults of tables.
+/// Writes the number of glyphs, the units of the em, the faults of tables, the subtables that are left out, and whether
+/// the file has `GPOS`.
 pub(crate) fn write_font<W: Write>(out: &mut W, face: &Face<'_>) -> io::Result<()> {
     writeln!(out, "glyphs {}", face.glyph_count())?;
     writeln!(out, "units per em {}", face.units_per_em())?;
     for fault in face.faults() {
         writeln!(out, "fault {fault}")?;
+    }
+    for subtable in face.left_out() {
+        let (number, fault) = (subtable.number, subtable.fault);
+        writeln!(out, "left out subtable {number}: {fault}")?;
+    }
+    if face.has_gpos() {
+        writeln!(out, "table GPOS, by which another layer kerns")?;
     }
     Ok(())
 }

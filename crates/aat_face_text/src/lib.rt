@@ -5,10 +5,12 @@ mod chains;
 mod entries;
 mod features;
 mod font;
+mod kerning;
 mod kinds;
 mod lookups;
 mod machines;
 mod names;
+mod pairs;
 
 use aat_face::Face;
 pub use font::write_characters;
@@ -16,14 +18,16 @@ use std::alloc::Global;
 use std::io::{self, Write};
 
 /// Writes a face as text, a line for each fact: how many glyphs it has, the units of its em, the faults of its tables,
-/// the advance and the properties of each glyph, the features with their names, and the chains of `morx` with all that
-/// their subtables have. Of glyphs, of the pairs of a lookup and of the rules of a machine the first 1,000 are written,
-/// and how many more there are.
+/// the subtables of `kerx` that are left out, whether it has `GPOS`, the advance and the properties of each glyph, the
+/// features with their names, the chains of `morx` and the subtables of `kerx` and `kern` with all that they have, and
+/// anchor points. Of glyphs, kerning pairs, values and rules of a machine the first 1,000 are written, and how many
+/// more there are.
 ///
 /// An error is that of the writer, or `OutOfMemory`. A part of the text may be written then.
 pub fn write_face<W: Write>(alloc: Global, out: &mut W, face: &Face<'_>) -> io::Result<()> {
     font::write_font(out, face)?;
     font::write_glyphs(out, face)?;
     features::write_features(alloc, out, face)?;
-    chains::write_chains(alloc, out, face.font())
+    chains::write_chains(alloc, out, face.font())?;
+    kerning::write_kerning(alloc, out, face.font())
 }

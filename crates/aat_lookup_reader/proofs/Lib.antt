@@ -3,7 +3,6 @@ pub mod Extents
 pub mod Faultless
 pub mod UnitPlaces
 pub mod Values
-pub mod NameFalls
 pub mod Rises
 pub mod SegmentLists
 pub mod LayoutsRise
@@ -12,3 +11,4 @@ pub mod SoundUnits
 pub mod ReadLayouts
 pub mod SizeBounds
 pub mod KeptCounts
+pub mod RowLists

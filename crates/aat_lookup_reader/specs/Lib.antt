@@ -5,6 +5,7 @@ pub mod Layouts
 pub mod LookupExamples
 pub mod LookupLaws
 pub mod Lookups
+pub mod Rows
 pub mod Segments
 pub mod SizeExamples
 pub mod SizeLaws

@@ -1,1 +1,2 @@
+pub mod ListFalls
 pub mod Singles

@@ -11,6 +11,7 @@ mod kept;
 pub mod laws;
 mod layout;
 mod lookup;
+mod rows;
 mod segment;
 mod size;
 mod units;
@@ -19,4 +20,5 @@ pub mod worked;
 
 pub use feat::{FEAT, feature_name_id, read_feat, setting_name_id};
 pub use lookup::{read_lookup, read_pairs};
+pub use rows::read_rows;
 pub use size::{lookup_bytes, lookup_size};

@@ -29,7 +29,7 @@ fn append_units<A: Allocator>(
 }
 
 /// The pairs of a layout, in memory of their own size.
-fn pairs_of<A: Allocator>(
+pub(crate) fn pairs_of<A: Allocator>(
     alloc: A,
     layout: Layout,
     bytes: &[u8],
@@ -61,7 +61,7 @@ pub fn read_pairs<A: Allocator>(
 }
 
 /// The lookup of pairs. Fails only where it gets no memory.
-fn lookup_of_pairs<A: Allocator + Copy>(
+pub(crate) fn lookup_of_pairs<A: Allocator + Copy>(
     alloc: A,
     pairs: &[(u16, u16)],
 ) -> Result<Lookup<A>, AllocError>
@@ -76,7 +76,7 @@ fn lookup_of_pairs<A: Allocator + Copy>(
 }
 
 /// The lookup of segments. Fails only where it gets no memory.
-fn lookup_of_segments<A: Allocator + Copy>(
+pub(crate) fn lookup_of_segments<A: Allocator + Copy>(
     alloc: A,
     segments: &[LookupSegment],
 ) -> Result<Lookup<A>, AllocError>

@@ -89,7 +89,7 @@ module _ {T : Type 0} (extra_at : List ℕ → ℕ → T) where
       let array = parts (state_array_at table bytes place size) _ t is in (array.0, array.1)
 
   -- a machine has a rule for two bytes
-  machine_fits : (size : ℕ) (table : Tag) (bytes : List ℕ) (place glyph_count : ℕ) (t : TableValue (GenericStateEntry T))
+  pub machine_fits : (size : ℕ) (table : Tag) (bytes : List ℕ) (place glyph_count : ℕ) (t : TableValue (GenericStateEntry T))
       → machine_at size extra_at table bytes place glyph_count ≡ Ok t → 2 * length t.rules ≤ length bytes - place
   unfolding machine_at
   machine_fits size table bytes place glyph_count t is =

@@ -1,6 +1,6 @@
 -- What entries hold beside a state and flags. Apple's TrueType Reference Manual, "The 'morx' table" and "The 'kerx'
 -- table".
-use Rattle.std.specs.Prelude.{ℕ, ◌+◌, List}
+use Rattle.std.specs.Prelude.{ℕ, ◌+◌, ◌/◌, ◌==◌, List, if◌then◌else◌}
 use Rattle.aat_bytes.specs.Numbers.{be16}
 use Rattle.aat_font.specs.declared.entries.ContextualEntryData.{ContextualEntryData}
 use Rattle.aat_font.specs.declared.entries.EntryData.{EntryData}
@@ -24,3 +24,11 @@ insertion_at bytes place =
 -- the machines of `kerx`: the action
 abbrev pub action_at : List ℕ → ℕ → EntryData
 action_at bytes place = record { action_index = be16 bytes place }
+
+-- the values of a machine of `kerx` with a stack are named by bytes, of which each has two, and 0xFFFF names none
+abbrev pub value_index : ℕ → ℕ
+value_index byte = if byte == 65535 then 65535 else byte / 2
+
+-- such a machine: the place of its first value
+abbrev pub stack_action_at : List ℕ → ℕ → EntryData
+stack_action_at bytes place = record { action_index = value_index (be16 bytes place) }

@@ -1,5 +1,6 @@
 pub mod Contextual
 pub mod Entries
+pub mod InTurn
 pub mod Kinds
 pub mod Lists
 pub mod Lookups

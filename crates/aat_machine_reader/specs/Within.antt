@@ -13,3 +13,8 @@ RefusesWithin read errors.OutOfMemory = Unit {0}
 abbrev pub GivesWithin : {X : Type 0} → Result X ReadError → Result X Fault → Type 0
 GivesWithin (Ok x) read = read ≡ Ok x
 GivesWithin (Err e) read = RefusesWithin read e
+
+-- a call gives what the bytes say, as it is seen by a view, or wants memory before their first fault is met
+abbrev pub GivesAs : {X Y : Type 0} → (X → Y) → Result X ReadError → Result Y Fault → Type 0
+GivesAs view (Ok x) read = read ≡ Ok (view x)
+GivesAs view (Err e) read = RefusesWithin read e

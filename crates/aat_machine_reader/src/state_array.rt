@@ -236,7 +236,7 @@ impl<'a> StateArray<'a> {
 
     /// The rule of a cell.
     #[tactic(auto, unfolding(crate::specs::StateArray::has_entry))]
-    fn rule<T: EntryRead>(&self, cell: usize) -> (u16, u16, GenericStateEntry<T>)
+    pub(crate) fn rule<T: EntryRead>(&self, cell: usize) -> (u16, u16, GenericStateEntry<T>)
         requires few { cell < 65536 * self.now.class_count }
         requires size { self.now.entry_size ≡ 4 + T.SIZE }
         requires indexed { has_index self.now cell ≡ true }

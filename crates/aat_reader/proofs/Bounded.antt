@@ -12,26 +12,16 @@ use Rattle.aat_reader.specs.ChainFeatures.{feature_at}
 use Rattle.aat_reader.specs.ChainSubtables.{kind_at, subtable_at}
 use Rattle.aat_reader.specs.Chains.{ChainStart, ChainValue, chain_at, chain_value_at, first_chain}
 use Rattle.aat_reader.specs.ChainsOfBytes.{feature_place}
-use Rattle.aat_reader.specs.InTurn.{in_turn}
+use Rattle.aat_machine_reader.specs.InTurn.{in_turn, weight_in_turn}
+use Rattle.aat_machine_reader.specs.facts.Turns.{turn, weight_more}
 use Rattle.aat_reader.specs.MorxLaws.{MemoryIsBounded}
 use Rattle.aat_reader.specs.Reaches.{allowance}
-use Rattle.aat_reader.specs.Weights.{chain_reach, chain_weight, subtable_weight, subtables_weight, weight_in_turn}
+use Rattle.aat_reader.specs.Weights.{chain_reach, chain_weight, subtable_weight, subtables_weight}
 use Rattle.aat_reader.specs.declared.reach.Reach.{Reach}
-use Rattle.aat_reader.proofs.ReadParts.{chain_parts, ends, features_parts, subtable_parts, table_parts, taken_low, turn, turn_parts}
+use Rattle.aat_reader.proofs.ReadParts.{chain_parts, ends, features_parts, subtable_parts, table_parts, taken_low, turn_parts}
 
 not_none : (n : ℕ) → (suc n == 0) ≡ false
 not_none n = grind (arith, nat_tests)
-
--- records in turn that are read
-module _ {S X : Type 0} (read : S → Result (X × S) Fault) (weight : S → X → S → ℕ) where
-  weight_more : (count : ℕ) (start next : S) (x : X) → read start ≡ Ok (x, next)
-      → weight_in_turn read weight (suc count) start ≡ weight start x next + weight_in_turn read weight count next
-  weight_more count start next x is =
-      ap (λ (r : Result (X × S) Fault). elim r [
-        | Ok record_and_next ↦ weight start record_and_next.0 record_and_next.1
-            + weight_in_turn read weight count record_and_next.1
-        | Err fault ↦ 0
-      ]) is
 
 module _ (bytes : List ℕ) (glyph_count : ℕ) where
   -- a subtable weighs at most 77 bytes for four of its own and 76 for four of the allowance

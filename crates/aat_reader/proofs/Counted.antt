@@ -7,10 +7,11 @@ use Rattle.aat_bytes.specs.facts.Parts.{ok_parts}
 use Rattle.aat_reader.specs.ChainSubtables.{subtable_at}
 use Rattle.aat_reader.specs.Chains.{ChainStart, ChainValue, chain_at, chain_value_at, first_chain}
 use Rattle.aat_reader.specs.ChainsOfBytes.{feature_place}
-use Rattle.aat_reader.specs.InTurn.{in_turn}
+use Rattle.aat_machine_reader.specs.InTurn.{in_turn}
+use Rattle.aat_machine_reader.specs.facts.Turns.{counted, turn}
 use Rattle.aat_reader.specs.MorxLaws.{ChainsAreCounted}
 use Rattle.aat_reader.specs.Weights.{chain_reach}
-use Rattle.aat_reader.proofs.ReadParts.{chain_parts, counted, table_parts, turn, turn_parts}
+use Rattle.aat_reader.proofs.ReadParts.{chain_parts, table_parts, turn_parts}
 
 module _ (bytes : List ℕ) (glyph_count : ℕ) where
   -- a chain has no more subtables than it may

@@ -2,4 +2,3 @@ pub mod Bounded
 pub mod Counted
 pub mod OfBytes
 pub mod ReadParts
-pub mod Turns

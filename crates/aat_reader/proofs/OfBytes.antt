@@ -14,12 +14,13 @@ use Rattle.aat_machine_reader.specs.SubtableKinds.{subtable_kind_at}
 use Rattle.aat_reader.specs.ChainFeatures.{feature_at, features_at}
 use Rattle.aat_reader.specs.ChainSubtables.{kind_at, subtable_at}
 use Rattle.aat_reader.specs.Chains.{ChainStart, ChainValue, chain_at, chain_value_at, first_chain}
-use Rattle.aat_reader.specs.ChainsOfBytes.{AreInOrder, IsChainAt, IsSubtableAt, end_by, feature_place, place_in_turn}
-use Rattle.aat_reader.specs.InTurn.{in_turn}
+use Rattle.aat_reader.specs.ChainsOfBytes.{IsChainAt, IsSubtableAt, feature_place}
+use Rattle.aat_machine_reader.specs.InTurn.{AreInOrder, end_by, in_turn, place_in_turn}
+use Rattle.aat_machine_reader.specs.facts.Turns.{counted, turn}
 use Rattle.aat_reader.specs.MorxLaws.{ChainsAreThoseOfBytes}
 use Rattle.aat_reader.specs.Weights.{chain_reach}
 use Rattle.aat_reader.specs.declared.reach.Reach.{Reach}
-use Rattle.aat_reader.proofs.ReadParts.{chain_parts, counted, ends, features_parts, subtable_parts, table_parts, taken_low, turn, turn_parts}
+use Rattle.aat_reader.proofs.ReadParts.{chain_parts, ends, features_parts, subtable_parts, table_parts, taken_low, turn_parts}
 
 -- bytes before a cut
 part_taken : (bytes : List ℕ) (end place size : ℕ) → place + size ≤ end → take size (drop place (take end bytes)) ≡ take size (drop place bytes)

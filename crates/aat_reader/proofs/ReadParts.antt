@@ -13,43 +13,11 @@ use Rattle.aat_machine_reader.specs.SubtableKinds.{subtable_kind_at}
 use Rattle.aat_reader.specs.ChainFeatures.{features_at, whole_features}
 use Rattle.aat_reader.specs.ChainSubtables.{coverage_at, flags_at, kind_at, subtable_at, subtables_at}
 use Rattle.aat_reader.specs.Chains.{ChainStart, ChainValue, chain_at, chain_value_at, first_chain, morx_of, start_behind}
-use Rattle.aat_reader.specs.ChainsOfBytes.{end_by, feature_place}
-use Rattle.aat_reader.specs.InTurn.{end_at, in_turn}
+use Rattle.aat_reader.specs.ChainsOfBytes.{feature_place}
+use Rattle.aat_machine_reader.specs.InTurn.{end_by, in_turn}
+use Rattle.aat_reader.specs.InTurn.{end_at}
 use Rattle.aat_reader.specs.Weights.{chain_reach}
 use Rattle.aat_reader.specs.declared.reach.Reach.{Reach}
-
--- the first of records that are read in turn, and those behind it
-pub record Turn {S X : Type 0} (read : S → Result (X × S) Fault) (count : ℕ) (start : S) (xs : List X) : Type 0 where
-  pub one : X
-  pub next : S
-  pub others : List X
-  pub first : read start ≡ Ok (one, next)
-  pub rest : in_turn read count next ≡ Ok others
-  pub whole : one ∷ others ≡ xs
-
-pub turn :
-    {S X : Type 0} (read : S → Result (X × S) Fault) (count : ℕ) (start : S) (xs : List X)
-    → in_turn read (suc count) start ≡ Ok xs → Turn read count start xs
-turn read count start xs is =
-    let one = parts (read start) (λ r. after (in_turn read count r.1) (λ ys. Ok (r.0 ∷ ys))) xs is in
-    let more = parts (in_turn read count one.0.1) (λ ys. Ok (one.0.0 ∷ ys)) xs one.2 in
-    record {
-      one = one.0.0;
-      next = one.0.1;
-      others = more.0;
-      first = one.1;
-      rest = more.1;
-      whole = ok_parts (one.0.0 ∷ more.0) xs more.2;
-    }
-
--- as many records are read as are asked for
-pub counted :
-    {S X : Type 0} (read : S → Result (X × S) Fault) (count : ℕ) (start : S) (xs : List X)
-    → in_turn read count start ≡ Ok xs → length xs ≡ count
-counted read zero start xs is = ap length (sym (ok_parts [] xs is))
-counted read (suc count) start xs is =
-    let t = turn read count start xs is in
-    sym (ap length t.whole) ∙ ap (λ n. suc n) (counted read count t.next t.others t.rest)
 
 -- bytes that are cut
 pub taken_low : (bytes : List ℕ) (n : ℕ) → length (take n bytes) ≤ n

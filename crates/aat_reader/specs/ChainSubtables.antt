@@ -6,7 +6,8 @@ use Rattle.aat_bytes.specs.declared.error.Fault.{Fault}
 use Rattle.aat_font.specs.declared.morx.Coverage.{Coverage}
 use Rattle.aat_font.specs.declared.morx.Subtable.{Subtable}
 use Rattle.aat_machine_reader.specs.SubtableKinds.{subtable_kind_at}
-use Rattle.aat_reader.specs.InTurn.{end_at, in_turn}
+use Rattle.aat_machine_reader.specs.InTurn.{in_turn}
+use Rattle.aat_reader.specs.InTurn.{end_at}
 use Rattle.aat_reader.specs.declared.reach.Reach.{Reach}
 
 -- the kind is the lowest byte of the coverage

@@ -12,7 +12,8 @@ use Rattle.aat_font.specs.declared.morx.Subtable.{Subtable}
 use Rattle.aat_machine_reader.specs.declared.kinds.TheConstants.{MORX}
 use Rattle.aat_reader.specs.ChainFeatures.{whole_features}
 use Rattle.aat_reader.specs.ChainSubtables.{subtables_at}
-use Rattle.aat_reader.specs.InTurn.{end_at, in_turn}
+use Rattle.aat_machine_reader.specs.InTurn.{in_turn}
+use Rattle.aat_reader.specs.InTurn.{end_at}
 use Rattle.aat_reader.specs.Reaches.{allowance}
 use Rattle.aat_reader.specs.declared.reach.Reach.{Reach}
 

@@ -1,26 +1,14 @@
 -- The chains of a table in the words of its bytes. Apple's TrueType Reference Manual, "The 'morx' table".
-use Rattle.std.specs.Prelude.{◌≡◌, ℕ, zero, suc, ◌+◌, ◌*◌, ◌≤◌, List, length, take, Some, Ok, slice_get}
+use Rattle.std.specs.Prelude.{◌≡◌, ℕ, ◌+◌, ◌*◌, ◌≤◌, List, length, take, Ok}
 use Rattle.aat_bytes.specs.Numbers.{be32}
 use Rattle.aat_font.specs.declared.morx.Subtable.{Subtable}
+use Rattle.aat_machine_reader.specs.InTurn.{AreInOrder, end_by, place_in_turn}
 use Rattle.aat_machine_reader.specs.SubtableKinds.{subtable_kind_at}
 use Rattle.aat_reader.specs.ChainFeatures.{feature_at}
 use Rattle.aat_reader.specs.ChainSubtables.{coverage_at, flags_at, kind_at}
 use Rattle.aat_reader.specs.Chains.{ChainValue}
 use Rattle.aat_reader.specs.Weights.{chain_reach}
 use Rattle.aat_reader.specs.declared.reach.Reach.{Reach}
-
--- so many elements in order, of each of which something holds with its index
-abbrev pub AreInOrder : {X : Type 0} → List X → ℕ → (ℕ → X → Type 0) → Type 0
-AreInOrder {X} xs count P = (length xs ≡ count) × ((i : ℕ) (x : X) → slice_get xs i ≡ Some x → P i x)
-
--- where a record ends: its length is the number of 32 bits that stands so many bytes behind its place
-abbrev pub end_by : List ℕ → ℕ → ℕ → ℕ
-end_by bytes field place = place + be32 bytes (place + field)
-
--- where records start: the first one at a place, and each other one where the one before it ends
-abbrev pub place_in_turn : List ℕ → ℕ → ℕ → ℕ → ℕ
-place_in_turn bytes field first zero = first
-place_in_turn bytes field first (suc i) = end_by bytes field (place_in_turn bytes field first i)
 
 -- the chains start behind a header of 8 bytes, and have their length at 4
 abbrev pub chain_place : List ℕ → ℕ → ℕ

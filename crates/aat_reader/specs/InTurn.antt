@@ -1,7 +1,7 @@
--- Records that stand one behind the other. Apple's TrueType Reference Manual, "The 'morx' table", chain header and
+-- Where a record ends. Apple's TrueType Reference Manual, "The 'morx' table", chain header and
 -- metamorphosis subtables.
-use Rattle.std.specs.Prelude.{ℕ, zero, suc, ◌+◌, List, [], ◌∷◌, length, Result, Ok, Err, if◌then◌else◌, nat_lt}
-use Rattle.aat_bytes.specs.Faults.{after, fault_at}
+use Rattle.std.specs.Prelude.{ℕ, ◌+◌, List, length, Result, Ok, Err, if◌then◌else◌, nat_lt}
+use Rattle.aat_bytes.specs.Faults.{fault_at}
 use Rattle.aat_bytes.specs.Numbers.{be32}
 use Rattle.aat_bytes.specs.declared.error.Fault.{Fault}
 use Rattle.aat_bytes.specs.declared.error.FaultKind.TheVariants.{PastEnd, ShortLength}
@@ -15,8 +15,3 @@ end_at bytes place header field =
     if nat_lt (be32 bytes (place + field)) header then Err (fault_at MORX ShortLength (place + field)) else
     if nat_lt (length bytes) (place + be32 bytes (place + field)) then Err (fault_at MORX PastEnd (place + field)) else
     Ok (place + be32 bytes (place + field))
-
--- so many records, each of which says where the next one starts, or the first fault
-abbrev pub in_turn : {S X : Type 0} → (S → Result (X × S) Fault) → ℕ → S → Result (List X) Fault
-in_turn read zero start = Ok []
-in_turn read (suc count) start = after (read start) (λ r. after (in_turn read count r.1) (λ xs. Ok (r.0 ∷ xs)))

@@ -2,7 +2,6 @@ pub mod ChainFeatures
 pub mod Chains
 pub mod ChainsOfBytes
 pub mod ChainSubtables
-pub mod GivesAs
 pub mod InTurn
 pub mod MorxExamples
 pub mod MorxLaws

@@ -1,8 +1,9 @@
 -- What a table has that is read. Apple's TrueType Reference Manual, "The 'morx' table".
 use Rattle.std.specs.Prelude.{◌≡◌, ℕ, ◌≤◌, List, length, sum_by, ◌*◌, Ok}
 use Rattle.aat_bytes.specs.Numbers.{be32}
+use Rattle.aat_machine_reader.specs.InTurn.{AreInOrder}
 use Rattle.aat_reader.specs.Chains.{ChainValue, morx_of}
-use Rattle.aat_reader.specs.ChainsOfBytes.{AreInOrder, IsChainAt, chain_place}
+use Rattle.aat_reader.specs.ChainsOfBytes.{IsChainAt, chain_place}
 use Rattle.aat_reader.specs.Weights.{morx_weight}
 
 -- it has the chains of its bytes, in their order, as many as the number at 4 says

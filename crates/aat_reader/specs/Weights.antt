@@ -1,24 +1,14 @@
 -- What a table that is read weighs: the bytes of memory that its chains, features and subtables take.
-use Rattle.std.specs.Prelude.{ℕ, zero, suc, ◌+◌, ◌*◌, ◌-◌, List, length, take, Result, Ok, Err}
+use Rattle.std.specs.Prelude.{ℕ, ◌+◌, ◌*◌, ◌-◌, List, length, take}
 use Rattle.aat_bytes.specs.Numbers.{be32}
-use Rattle.aat_bytes.specs.declared.error.Fault.{Fault}
 use Rattle.aat_font.specs.declared.morx.Subtable.{Subtable}
+use Rattle.aat_machine_reader.specs.InTurn.{weight_in_turn}
 use Rattle.aat_machine_reader.specs.Weights.{kind_weight}
 use Rattle.aat_reader.specs.Chains.{ChainStart, ChainValue, chain_at, first_chain}
 use Rattle.aat_reader.specs.ChainSubtables.{subtable_at}
 use Rattle.aat_reader.specs.Reaches.{allowance}
 use Rattle.aat_reader.specs.declared.reach.Reach.{Reach}
 use Rattle.aat_reader.specs.declared.weights.TheConstants.{CHAIN_SIZE, FEATURE_SIZE, SUBTABLE_SIZE}
-
--- what so many records in turn weigh, each by where it starts, what it has and where the next one starts. From a fault
--- on there is nothing
-abbrev pub weight_in_turn : {S X : Type 0} → (S → Result (X × S) Fault) → (S → X → S → ℕ) → ℕ → S → ℕ
-weight_in_turn read weight zero start = 0
-weight_in_turn read weight (suc count) start = elim (read start) [
-  | Ok record_and_next ↦ weight start record_and_next.0 record_and_next.1
-      + weight_in_turn read weight count record_and_next.1
-  | Err fault ↦ 0
-]
 
 -- a subtable that starts at a place and ends at another, with what it does
 abbrev pub subtable_weight : List ℕ → ℕ → Reach → ℕ → Subtable → ℕ → ℕ

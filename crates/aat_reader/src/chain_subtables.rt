@@ -2,7 +2,7 @@
 ghost use Rattle.std.specs.Prelude.{◌≡◌, ◌+◌, ◌≤◌, length, vec_len, IfOk};
 ghost use Rattle.aat_machine_reader.specs.Within.{GivesWithin};
 ghost use Rattle.aat_reader.specs.ChainSubtables.{coverage_at, flags_at, kind_at, subtable_at, subtables_at};
-ghost use Rattle.aat_reader.specs.GivesAs.{GivesAs};
+ghost use Rattle.aat_machine_reader.specs.Within.{GivesAs};
 
 use crate::in_turn::end_at;
 use crate::reach::{Reach, up_to};

@@ -2,8 +2,8 @@
 ghost use Rattle.std.specs.Prelude.{◌≡◌, ◌+◌, ◌≤◌, length, map, vec_len, IfOk};
 ghost use Rattle.aat_font.specs.Chains.{subtable_count};
 ghost use Rattle.aat_reader.specs.Chains.{ChainStart, chain_at, chain_value_at, first_chain, morx_of, value_and_next, value_of_chain, values_of_morx};
-ghost use Rattle.aat_reader.specs.GivesAs.{GivesAs};
-ghost use Rattle.aat_reader.specs.InTurn.{in_turn};
+ghost use Rattle.aat_machine_reader.specs.Within.{GivesAs};
+ghost use Rattle.aat_machine_reader.specs.InTurn.{in_turn};
 
 use crate::chain_features::whole_features;
 use crate::chain_subtables::subtables;

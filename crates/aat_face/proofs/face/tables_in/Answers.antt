@@ -5,6 +5,10 @@ pub returns : goal.returns
 returns c =
     rw (
       c.in_ok-morx.ensures,
+      c.in_ok-kerx.ensures,
+      c.in_ok-kern.ensures,
+      c.in_ok-ankr.ensures,
+      c.has_gpos_in.ensures,
       c.in_ok-feat.ensures,
       c.metrics_in.ensures,
       c.number_in.ensures,

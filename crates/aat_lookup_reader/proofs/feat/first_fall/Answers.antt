@@ -1,7 +1,7 @@
 use Rattle.std.proofs.Common.{arith}
 use Rattle.aat_font.specs.FeatureNames.{kind_of}
 use Rattle.aat_lookup_reader.specs.Features.{feature_name}
-use Rattle.aat_lookup_reader.proofs.NameFalls.{falls, from_second, goes_on, none_falls}
+use Rattle.aat_lookup_reader.specs.facts.ListFalls.{falls, from_second, goes_on, none_falls}
 use Rattle.aat_lookup_reader.proofs.feat.first_fall.Goals as goal
 
 pub loop-i-init : goal.loop-i-init

@@ -2,7 +2,7 @@ use Rattle.std.proofs.Common.{◌≡◌}
 use Rattle.aat_font.specs.FeatureNames.{kind_of}
 use Rattle.aat_font.specs.Keys.{first_fall}
 use Rattle.aat_lookup_reader.specs.Features.{feature_name, feature_names}
-use Rattle.aat_lookup_reader.proofs.NameFalls.{falls_from}
+use Rattle.aat_lookup_reader.specs.facts.ListFalls.{falls_from}
 use Rattle.aat_lookup_reader.proofs.feat.first_fall.Given as goal
 
 abbrev pub invariant-loop-i : goal.invariant-loop-i

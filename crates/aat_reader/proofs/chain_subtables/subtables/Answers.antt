@@ -1,8 +1,8 @@
 use Rattle.std.proofs.Common.{rules, ◌≡◌, ◌+◌, vec_len, Ok, ◌∙◌, arith}
 use Rattle.aat_machine_reader.specs.Within.{RefusesWithin}
 use Rattle.aat_reader.specs.ChainSubtables.{subtable_at}
-use Rattle.aat_reader.specs.InTurn.{in_turn}
-use Rattle.aat_reader.proofs.Turns.{behind, fails, goes_on, refuses}
+use Rattle.aat_machine_reader.specs.InTurn.{in_turn}
+use Rattle.aat_machine_reader.specs.facts.Turns.{behind, fails, goes_on, refuses}
 use Rattle.aat_reader.proofs.chain_subtables.subtables.Goals as goal
 
 pub returns-in_err-subtable-clause-gives : goal.returns-in_err-subtable-clause-gives

@@ -1,7 +1,7 @@
 use Rattle.std.proofs.Common.{◌≡◌, ◌≤◌, vec_len}
 use Rattle.aat_reader.specs.ChainSubtables.{subtable_at}
-use Rattle.aat_reader.specs.InTurn.{in_turn}
-use Rattle.aat_reader.proofs.Turns.{behind}
+use Rattle.aat_machine_reader.specs.InTurn.{in_turn}
+use Rattle.aat_machine_reader.specs.facts.Turns.{behind}
 use Rattle.aat_reader.proofs.chain_subtables.subtables.Given as goal
 
 abbrev pub invariant-loop : goal.invariant-loop

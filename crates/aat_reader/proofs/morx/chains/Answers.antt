@@ -5,8 +5,8 @@ use Rattle.aat_font.specs.Chains.{subtable_count}
 use Rattle.aat_font.specs.declared.morx.Chain.{Chain}
 use Rattle.aat_machine_reader.specs.Within.{RefusesWithin}
 use Rattle.aat_reader.specs.Chains.{ChainStart, chain_at, first_chain, start_behind, value_of_chain}
-use Rattle.aat_reader.specs.InTurn.{in_turn}
-use Rattle.aat_reader.proofs.Turns.{behind, fails, goes_on, refuses}
+use Rattle.aat_machine_reader.specs.InTurn.{in_turn}
+use Rattle.aat_machine_reader.specs.facts.Turns.{behind, fails, goes_on, refuses}
 use Rattle.aat_reader.proofs.morx.chains.Goals as goal
 
 pub returns-in_err-chain-clause-gives : goal.returns-in_err-chain-clause-gives

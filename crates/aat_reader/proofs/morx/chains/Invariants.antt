@@ -1,8 +1,8 @@
 use Rattle.std.proofs.Common.{◌≡◌, ◌+◌, ◌≤◌, length, map}
 use Rattle.aat_font.specs.Chains.{subtable_count}
 use Rattle.aat_reader.specs.Chains.{ChainStart, chain_at, first_chain, value_of_chain}
-use Rattle.aat_reader.specs.InTurn.{in_turn}
-use Rattle.aat_reader.proofs.Turns.{behind}
+use Rattle.aat_machine_reader.specs.InTurn.{in_turn}
+use Rattle.aat_machine_reader.specs.facts.Turns.{behind}
 use Rattle.aat_reader.proofs.morx.chains.Given as goal
 
 abbrev pub invariant-loop : goal.invariant-loop

@@ -1,0 +1,7 @@
+//! The tests of the kerning tables that are read from bytes.
+#![tactic(auto)]
+
+#[cfg(test)]
+mod kern_tests;
+#[cfg(test)]
+mod pair_tests;

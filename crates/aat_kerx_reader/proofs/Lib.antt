@@ -1,0 +1,4 @@
+pub mod AnchorRows
+pub mod MachinesBounded
+pub mod ReadSubtables
+pub mod TableBounded

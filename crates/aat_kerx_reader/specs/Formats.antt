@@ -1,0 +1,51 @@
+-- What a subtable of the extended kerning table does, by its format. Apple's TrueType Reference Manual, "The 'kerx'
+-- table", subtable formats.
+use Rattle.std.specs.Prelude.{ℕ, ◌+◌, ◌%◌, List, length, Bool, Result, Ok, Err, if◌then◌else◌, nat_lt, nat_le, ◌==◌, ◌&&◌}
+use Rattle.aat_bytes.specs.Faults.{after, fault_at}
+use Rattle.aat_bytes.specs.Numbers.{be32}
+use Rattle.aat_bytes.specs.declared.error.Fault.{Fault}
+use Rattle.aat_bytes.specs.declared.error.FaultKind.TheVariants.{PastEnd, UnknownFormat}
+use Rattle.aat_font.specs.declared.kerx.KerxFormat.{KerxFormat}
+use Rattle.aat_font.specs.declared.kerx.KerxFormat.TheVariants.{Format0, Format1, Format2Classes, Format4, Format6Classes}
+use Rattle.aat_pair_reader.specs.KerxClasses.{kerx_arrays_at, kerx_classes_at}
+use Rattle.aat_pair_reader.specs.ListedPairs.{kerx_pairs_at}
+use Rattle.aat_pair_reader.specs.declared.values.TheConstants.{KERX}
+use Rattle.aat_kerx_reader.specs.Machines.{action_type, anchor_tables_at, stack_tables_at}
+use Rattle.aat_kerx_reader.specs.declared.formats.FormatRead.{FormatRead}
+use Rattle.aat_kerx_reader.specs.declared.formats.FormatRead.TheVariants.{Kerns, LeftOut}
+
+-- what comes of the tables of a format
+abbrev pub as_format : {X : Type 0} → (X → KerxFormat) → Result X Fault → Result FormatRead Fault
+as_format format tables = after tables (λ x. Ok (Kerns (format x)))
+
+-- what is left out, for a format that stands at a place
+abbrev pub left_out_at : ℕ → Result FormatRead Fault
+left_out_at place = Ok (LeftOut (fault_at KERX UnknownFormat place))
+
+-- format 4 behind the header of a subtable. By control points or coordinates it is left out
+unfoldable pub anchor_format_at : List ℕ → ℕ → ℕ → Result FormatRead Fault
+anchor_format_at bytes place glyph_count =
+    if nat_lt (length bytes) (place + 20) then Err (fault_at KERX PastEnd place) else
+    if action_type bytes place == 1 then as_format Format4 (anchor_tables_at bytes place glyph_count) else
+    left_out_at (place + 16)
+
+-- whether the lowest of the flags of a subtable of format 6 is set, so that its values and lookups have 32 bits
+abbrev pub is_long : List ℕ → ℕ → Bool
+is_long bytes place = nat_le (place + 16) (length bytes) && (be32 bytes (place + 12) % 2 == 1)
+
+-- format 6. With values of 32 bits it is left out
+unfoldable pub arrays_format_at : List ℕ → ℕ → ℕ → ℕ → Result FormatRead Fault
+arrays_format_at bytes place glyph_count tuple_count =
+    if is_long bytes place then left_out_at (place + 12) else
+    as_format Format6Classes (kerx_arrays_at bytes place glyph_count tuple_count)
+
+-- the subtable of a format that starts at a place, for a font of so many glyphs, with tuples of so many values. One of
+-- another format is left out. Its header has 12 bytes, with the coverage at 4
+unfoldable pub format_at : List ℕ → ℕ → ℕ → ℕ → ℕ → Result FormatRead Fault
+format_at bytes place format glyph_count tuple_count =
+    if format == 0 then as_format Format0 (kerx_pairs_at bytes place tuple_count) else
+    if format == 1 then as_format Format1 (stack_tables_at bytes (place + 12) glyph_count) else
+    if format == 2 then as_format Format2Classes (kerx_classes_at bytes place glyph_count tuple_count) else
+    if format == 4 then anchor_format_at bytes (place + 12) glyph_count else
+    if format == 6 then arrays_format_at bytes place glyph_count tuple_count else
+    left_out_at (place + 4)

@@ -1,0 +1,10 @@
+pub mod AnchorExamples
+pub mod AnchorLaws
+pub mod Anchors
+pub mod Formats
+pub mod KerxExamples
+pub mod KerxLaws
+pub mod KerxSubtables
+pub mod KerxTables
+pub mod Machines
+pub mod Weights

@@ -1,0 +1,17 @@
+//! The extended kerning table and its anchor points, read from bytes.
+#![tactic(auto)]
+
+mod ankr;
+mod formats;
+mod kerx;
+#[doc(hidden)]
+pub mod laws;
+mod machines;
+mod subtables;
+pub mod weights;
+#[doc(hidden)]
+pub mod worked;
+
+pub use ankr::{ANKR, read_ankr};
+pub use kerx::{KerxRead, read_kerx};
+pub use subtables::LeftOutSubtable;

@@ -1,0 +1,9 @@
+pub mod ClassTables
+pub mod KernClasses
+pub mod KernIndexes
+pub mod KerningValues
+pub mod KerxClasses
+pub mod ListedPairs
+pub mod PairExamples
+pub mod PairLaws
+pub mod inside

@@ -1,0 +1,20 @@
+//! Readers of kerning values of pairs of glyphs: the subtables of `kern` and `kerx` that have no machine.
+#![tactic(auto)]
+
+mod class_table;
+mod kern_classes;
+mod kern_indexes;
+mod kerx_classes;
+#[doc(hidden)]
+pub mod laws;
+mod listed;
+mod made;
+mod values;
+#[doc(hidden)]
+pub mod worked;
+
+pub use kern_classes::read_kern_classes;
+pub use kern_indexes::read_kern_indexes;
+pub use kerx_classes::{read_kerx_arrays, read_kerx_classes};
+pub use listed::{read_kern_pairs, read_kerx_pairs};
+pub use values::{KERN, KERX};

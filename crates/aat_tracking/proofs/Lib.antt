@@ -1,0 +1,4 @@
+pub mod Bounds
+pub mod Interpolated
+pub mod TrackedApart
+pub mod TrackedSteps

@@ -1,0 +1,18 @@
+//! Worked examples of tracks and of lines that are tracked as theorems. These calls do nothing: what is proved is their
+//! contracts.
+ghost use Rattle.aat_tracking.specs.LineExamples.{FirstGlyphsAreWider, HalvesAreCut};
+ghost use Rattle.aat_tracking.specs.TrackExamples.{HalvesGoUp, IntervalsAreFound, TracksAreInterpolated, ValuesAreCounted};
+
+/// The definitions of tracks compute to the examples.
+pub fn tracks()
+    ensures halves { HalvesGoUp }
+    ensures interpolated { TracksAreInterpolated }
+    ensures intervals { IntervalsAreFound }
+    ensures counted { ValuesAreCounted }
+{}
+
+/// The definition of a line that is tracked computes to the examples.
+pub fn lines()
+    ensures wider { FirstGlyphsAreWider }
+    ensures halves { HalvesAreCut }
+{}

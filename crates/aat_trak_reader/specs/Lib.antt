@@ -1,0 +1,4 @@
+pub mod Trak
+pub mod TrakExamples
+pub mod TrakLaws
+pub mod inside

@@ -1,0 +1,16 @@
+//! The tracking table from bytes.
+//!
+//! The table is checked before any memory is asked for, and takes at most 4 bytes of memory for each of its bytes.
+#![tactic(auto)]
+
+mod fault;
+/// The law of reading, as a theorem.
+#[doc(hidden)]
+pub mod laws;
+mod trak;
+/// Worked examples, as theorems.
+#[doc(hidden)]
+pub mod worked;
+
+pub use fault::TRAK;
+pub use trak::read_trak;
