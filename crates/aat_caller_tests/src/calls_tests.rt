@@ -1,5 +1,6 @@
 //! A caller of the layer call by call: a font's tables, a line of glyphs, a request over a part of it, substitution,
 //! and what comes out. Its one error takes those of all calls by `?`.
+use crate::asserting::wanted;
 use aat_layout::buffer::{BufferError, hb_buffer_t, hb_glyph_info_t};
 use aat_layout::font::{
     Chain, ChainFeature, Coverage, FaceTables, Feat, Feature, FeatureName, Lookup, Morx, Subtable,
@@ -49,12 +50,27 @@ const GIVEN: Given = Given {
     glyphs: &[(5, 0), (5, 1), (6, 2), (5, 3)],
 };
 
-/// The substitution table of the font.
-fn morx_of(alloc: Global, given: &Given) -> Result<Morx, CallerError> {
+/// The line that is left of it, and the turns that the font takes.
+const LEFT: [(u32, u32); 4] = [(5, 0), (9, 1), (6, 2), (5, 3)];
+
+const TURNS: Turns = 4;
+
+/// The subtable of small capitals.
+fn subtables_of(alloc: Global, given: &Given) -> Result<Vec<Subtable>, CallerError> {
     let kind = SubtableKind::NonContextual(Lookup::new(alloc, given.small_capitals)?);
     let subtable = Subtable::new(kind, Coverage::ALL_DIRECTIONS, 1);
-    let setting = ChainFeature::new(37, 1, 1, 0xFFFF_FFFF);
-    let chain = Chain::new(0, vec![in alloc; setting]?, vec![in alloc; subtable]?);
+    Ok(vec![in alloc; subtable]?)
+}
+
+/// The chain that small capitals turn on.
+fn chain_of(alloc: Global, given: &Given) -> Result<Chain, CallerError> {
+    let settings = vec![in alloc; ChainFeature::new(37, 1, 1, 0xFFFF_FFFF)]?;
+    Ok(Chain::new(0, settings, subtables_of(alloc, given)?))
+}
+
+/// The substitution table of the font.
+fn morx_of(alloc: Global, given: &Given) -> Result<Morx, CallerError> {
+    let chain = chain_of(alloc, given)?;
     Ok(Morx::new(vec![in alloc; chain]?)?)
 }
 
@@ -72,12 +88,16 @@ const NAMES: [FeatureName; 2] = [
     },
 ];
 
+/// A font of these tables.
+fn font_with(feat: Feat, morx: Morx) -> hb_font_t {
+    let tables = FaceTables::default().with_morx(morx).with_feat(feat);
+    hb_font_t::new(tables, None, None)
+}
+
 /// The font.
 fn font_of(alloc: Global, given: &Given) -> Result<hb_font_t, CallerError> {
-    let morx = morx_of(alloc, given)?;
     let feat = Feat::new(alloc, &NAMES)?;
-    let tables = FaceTables::default().with_morx(morx).with_feat(feat);
-    Ok(hb_font_t::new(tables, None, None))
+    Ok(font_with(feat, morx_of(alloc, given)?))
 }
 
 /// The plan.
@@ -91,12 +111,18 @@ fn plan_of(alloc: Global, given: &Given) -> Result<hb_ot_shape_plan_t, CallerErr
     })
 }
 
+/// Adds the glyphs to the line.
+fn add_all(buffer: &mut hb_buffer_t, glyphs: &[(u32, u32)]) -> Result<(), BufferError> {
+    for (id, cluster) in glyphs {
+        buffer.add(hb_glyph_info_t::new(*id, *cluster))?;
+    }
+    Ok(())
+}
+
 /// The line.
 fn buffer_of(alloc: Global, given: &Given) -> Result<hb_buffer_t, CallerError> {
     let mut buffer = hb_buffer_t::new(alloc, given.max_len as usize, 16384);
-    for (id, cluster) in given.glyphs {
-        buffer.add(hb_glyph_info_t::new(*id, *cluster))?;
-    }
+    add_all(&mut buffer, given.glyphs)?;
     Ok(buffer)
 }
 
@@ -113,37 +139,48 @@ fn substitute(
     Ok(hb_aat_layout_substitute(alloc, plan, font, buffer)?)
 }
 
-/// The line that a font leaves, and the turns that it took.
-fn substituted_by(
+/// Whether a line has these glyphs, each with its cluster.
+fn is_line(buffer: &hb_buffer_t, glyphs: &[(u32, u32)]) -> bool {
+    for (i, wanted) in glyphs.iter().enumerate() {
+        if i >= buffer.len() {
+            return false;
+        }
+        let glyph = buffer.info(i);
+        if (glyph.glyph_id, glyph.cluster) != *wanted {
+            return false;
+        }
+    }
+    buffer.len() == glyphs.len()
+}
+
+/// Substitutes the line, and says whether that took the turns and left the line that are wanted.
+fn with_plan(
     alloc: Global,
     given: &Given,
     font: &hb_font_t,
-) -> Result<(hb_buffer_t, Turns), CallerError> {
-    let plan = plan_of(alloc, given)?;
+    plan: &hb_ot_shape_plan_t,
+) -> Result<bool, CallerError> {
     let mut buffer = buffer_of(alloc, given)?;
-    let turns = substitute(alloc, &plan, font, &mut buffer)?;
-    Ok((buffer, turns))
+    let turns = substitute(alloc, plan, font, &mut buffer)?;
+    Ok(turns == TURNS && is_line(&buffer, &LEFT))
 }
 
-/// The line that the font leaves, and the turns that it took.
-fn substituted(alloc: Global, given: &Given) -> Result<(hb_buffer_t, Turns), CallerError> {
+/// The same, with the plan.
+fn with_font(alloc: Global, given: &Given, font: &hb_font_t) -> Result<bool, CallerError> {
+    let plan = plan_of(alloc, given)?;
+    with_plan(alloc, given, font, &plan)
+}
+
+/// The same, with the font and the plan.
+fn is_substituted(alloc: Global, given: &Given) -> Result<bool, CallerError> {
     let font = font_of(alloc, given)?;
-    substituted_by(alloc, given, &font)
+    with_font(alloc, given, &font)
 }
 
 #[test]
-fn calls_one_by_one(rt: HostRuntime) -> Result<(), Fail> {
-    let (buffer, turns) = substituted(rt.alloc(), &GIVEN)?;
-    let glyphs = [(5, 0), (9, 1), (6, 2), (5, 3)];
-    assert_eq!(&rt; buffer.len(), glyphs.len());
-    for (i, (id, cluster)) in glyphs.iter().enumerate() {
-        if i < buffer.len() {
-            let glyph = buffer.info(i);
-            assert!(&rt; (glyph.glyph_id, glyph.cluster) == (*id, *cluster));
-        }
-    }
-    assert_eq!(&rt; turns, 4);
-    Ok(())
+fn calls_one_by_one(rt: HostRuntime) {
+    let answer = is_substituted(rt.alloc(), &GIVEN);
+    wanted(&rt, answer == Ok(true), "the line that is left");
 }
 
 /// Asserts why the caller fails, and the text of that.
@@ -151,13 +188,12 @@ fn assert_fails(
     rt: &impl Abort,
     alloc: Global,
     given: &Given,
-    wanted: CallerError,
+    error: CallerError,
     text: &str,
 ) -> Result<(), Fail> {
-    let error = substituted(alloc, given).err();
-    assert_eq!(rt; error, Some(wanted));
-    let shown = format!(in alloc; "{wanted}")?;
-    assert_eq!(rt; shown.as_str(), text);
+    wanted(rt, is_substituted(alloc, given) == Err(error), text);
+    let shown = format!(in alloc; "{error}")?;
+    wanted(rt, shown.as_str() == text, text);
     Ok(())
 }
 

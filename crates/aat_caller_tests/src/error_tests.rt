@@ -1,4 +1,6 @@
 //! The texts of the errors, by value.
+use crate::asserting::wanted;
+use aat_features::FeatureError;
 use aat_layout::AatError;
 use aat_layout::buffer::BufferError;
 use aat_layout::font::TableError;
@@ -15,7 +17,7 @@ fn assert_text(
     text: &str,
 ) -> Result<(), Fail> {
     let shown = format!(in alloc; "{error}")?;
-    assert_eq!(rt; shown.as_str(), text);
+    wanted(rt, shown.as_str() == text, text);
     Ok(())
 }
 
@@ -51,16 +53,50 @@ const LAYOUT_ERRORS: [(AatError, &str); 4] = [
     (AatError::BufferFailed, "the buffer had failed before"),
 ];
 
-#[test]
-fn each_error_has_its_text(rt: HostRuntime) -> Result<(), Fail> {
-    for (error, text) in BUFFER_ERRORS {
-        assert_text(&rt, rt.alloc(), error, text)?;
-    }
-    for (error, text) in TABLE_ERRORS {
-        assert_text(&rt, rt.alloc(), error, text)?;
-    }
-    for (error, text) in LAYOUT_ERRORS {
-        assert_text(&rt, rt.alloc(), error, text)?;
+const FEATURE_ERRORS: [(FeatureError, &str); 7] = [
+    (FeatureError::NoTag(1), "no tag begins at byte 1"),
+    (
+        FeatureError::TagLength(2),
+        "the tag at byte 2 has not the length of a tag",
+    ),
+    (
+        FeatureError::MissingQuote(3),
+        "the closing quote is missing at byte 3",
+    ),
+    (
+        FeatureError::MissingBracket(4),
+        "the closing bracket is missing at byte 4",
+    ),
+    (
+        FeatureError::NumberTooLarge(5),
+        "the number at byte 5 is above 4294967295",
+    ),
+    (
+        FeatureError::MissingValue(6),
+        "the value is missing at byte 6",
+    ),
+    (
+        FeatureError::TrailingText(7),
+        "there is something else at byte 7",
+    ),
+];
+
+/// Asserts the text of each error of a table.
+fn assert_texts<E: Display + Drop + Copy>(
+    rt: &impl Abort,
+    alloc: Global,
+    errors: &[(E, &str)],
+) -> Result<(), Fail> {
+    for (error, text) in errors {
+        assert_text(rt, alloc, *error, text)?;
     }
     Ok(())
+}
+
+#[test]
+fn each_error_has_its_text(rt: HostRuntime) -> Result<(), Fail> {
+    assert_texts(&rt, rt.alloc(), &BUFFER_ERRORS)?;
+    assert_texts(&rt, rt.alloc(), &TABLE_ERRORS)?;
+    assert_texts(&rt, rt.alloc(), &LAYOUT_ERRORS)?;
+    assert_texts(&rt, rt.alloc(), &FEATURE_ERRORS)
 }

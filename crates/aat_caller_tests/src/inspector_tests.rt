@@ -1,4 +1,5 @@
 //! The inspector on fonts of one and of two chains.
+use crate::asserting::wanted;
 use aat_inspector::{InspectedRange, Table, inspect};
 use aat_layout::AatError;
 use aat_layout::font::{
@@ -9,15 +10,29 @@ use std::alloc::Global;
 use std::process::Abort;
 use std::test::Fail;
 
-/// A chain with these default flags and subtables of these feature flags, in which common ligatures set the bit 2.
-fn chain_of(alloc: Global, default_flags: u32, feature_flags: &[u32]) -> Result<Chain, Fail> {
+/// A subtable of these feature flags.
+fn subtable_of(alloc: Global, feature_flags: u32) -> Result<Subtable, Fail> {
+    let kind = SubtableKind::NonContextual(Lookup::new(alloc, &[(5, 9)])?);
+    Ok(Subtable::new(kind, Coverage::ALL_DIRECTIONS, feature_flags))
+}
+
+/// Subtables of these feature flags.
+fn subtables_of(alloc: Global, feature_flags: &[u32]) -> Result<Vec<Subtable>, Fail> {
     let mut subtables = Vec::new(alloc);
     for flags in feature_flags {
-        let kind = SubtableKind::NonContextual(Lookup::new(alloc, &[(5, 9)])?);
-        subtables.push(Subtable::new(kind, Coverage::ALL_DIRECTIONS, *flags))?;
+        subtables.push(subtable_of(alloc, *flags)?)?;
     }
-    let ligatures = ChainFeature::new(1, 2, 2, 0xFFFF_FFFF);
-    Ok(Chain::new(default_flags, vec![in alloc; ligatures]?, subtables))
+    Ok(subtables)
+}
+
+/// A chain with these default flags and subtables of these feature flags, in which common ligatures set the bit 2.
+fn chain_of(alloc: Global, default_flags: u32, feature_flags: &[u32]) -> Result<Chain, Fail> {
+    let ligatures = vec![in alloc; ChainFeature::new(1, 2, 2, 0xFFFF_FFFF)]?;
+    Ok(Chain::new(
+        default_flags,
+        ligatures,
+        subtables_of(alloc, feature_flags)?,
+    ))
 }
 
 /// The settings of ligatures and of character alternatives.
@@ -34,47 +49,44 @@ const NAMES: [FeatureName; 2] = [
     },
 ];
 
-/// The tables of a font of these chains.
-fn tables_of(chains: Vec<Chain>) -> Result<FaceTables, Fail> {
-    Ok(FaceTables::default().with_morx(Morx::new(chains)?))
+/// Chains with these default flags, and subtables of these feature flags.
+fn chains_of(alloc: Global, chains: &[(u32, &[u32])]) -> Result<Vec<Chain>, Fail> {
+    let mut made = Vec::new(alloc);
+    for (default_flags, feature_flags) in chains {
+        made.push(chain_of(alloc, *default_flags, feature_flags)?)?;
+    }
+    Ok(made)
 }
 
 /// A font of these chains, with names of features.
-fn font_of(alloc: Global, chains: Vec<Chain>) -> Result<hb_font_t, Fail> {
-    let tables = tables_of(chains)?;
-    Ok(hb_font_t::from_tables(tables.with_feat(Feat::new(alloc, &NAMES)?)))
+fn font_of(alloc: Global, chains: &[(u32, &[u32])]) -> Result<hb_font_t, Fail> {
+    let feat = Feat::new(alloc, &NAMES)?;
+    let morx = Morx::new(chains_of(alloc, chains)?)?;
+    Ok(hb_font_t::from_tables(FaceTables::default().with_morx(morx).with_feat(feat)))
 }
 
-/// A font of one chain, whose default flags are 1.
-fn font_of_one(alloc: Global, feature_flags: &[u32]) -> Result<hb_font_t, Fail> {
-    let chain = chain_of(alloc, 1, feature_flags)?;
-    font_of(alloc, vec![in alloc; chain]?)
-}
-
-/// Two chains.
-fn two_chains(alloc: Global) -> Result<Vec<Chain>, Fail> {
-    let first = chain_of(alloc, 1, &[1])?;
-    let mut chains = vec![in alloc; first]?;
-    chains.push(chain_of(alloc, 0, &[4, 2, 6])?)?;
-    Ok(chains)
-}
-
-/// The text of the table of a font, with ligatures over the clusters 3 and 4.
-fn text_of(alloc: Global, font: &hb_font_t) -> Result<String, Fail> {
+/// Asserts the text of the table of a font, with ligatures over the clusters 3 and 4.
+fn assert_text(rt: &impl Abort, alloc: Global, font: &hb_font_t, text: &str) -> Result<(), Fail> {
     let ligatures = Feature::new(hb_tag_t::from_bytes(b"liga"), 1, 3..5);
     let ranges = inspect(alloc, font, &[ligatures])?;
-    Ok(format!(in alloc; "{}", Table(&ranges))?)
+    assert_table(rt, alloc, &ranges, text)
 }
 
-/// Asserts the text of the table of a font.
-fn assert_text(rt: &impl Abort, alloc: Global, font: &hb_font_t, wanted: &str) -> Result<(), Fail> {
-    assert_eq!(rt; text_of(alloc, font)?.as_str(), wanted);
+/// Asserts the text of a table.
+fn assert_table(
+    rt: &impl Abort,
+    alloc: Global,
+    ranges: &[InspectedRange],
+    text: &str,
+) -> Result<(), Fail> {
+    let shown = format!(in alloc; "{}", Table(ranges))?;
+    wanted(rt, shown.as_str() == text, text);
     Ok(())
 }
 
 #[test]
 fn ligatures_are_on_over_two_clusters(rt: HostRuntime) -> Result<(), Fail> {
-    let font = font_of_one(rt.alloc(), &[1, 2])?;
+    let font = font_of(rt.alloc(), &[(1, &[1, 2])])?;
     let wanted = "\
 chain       first        last       flags  on
     0           0           2  0x00000001  0
@@ -85,7 +97,7 @@ chain       first        last       flags  on
 
 #[test]
 fn each_chain_has_all_clusters(rt: HostRuntime) -> Result<(), Fail> {
-    let font = font_of(rt.alloc(), two_chains(rt.alloc())?)?;
+    let font = font_of(rt.alloc(), &[(1, &[1]), (0, &[4, 2, 6])])?;
     let wanted = "\
 chain       first        last       flags  on
     0           0           2  0x00000001  0
@@ -99,9 +111,18 @@ chain       first        last       flags  on
 
 #[test]
 fn a_value_that_is_no_setting_is_refused(rt: HostRuntime) -> Result<(), Fail> {
-    let font = font_of_one(rt.alloc(), &[1])?;
-    let alternates = Feature::new(hb_tag_t::from_bytes(b"aalt"), 65536, 0..u32::MAX);
-    let refused = inspect(rt.alloc(), &font, &[alternates]).err();
-    assert_eq!(&rt; refused, Some(AatError::AaltValue(65536)));
+    let font = font_of(rt.alloc(), &[(1, &[1])])?;
+    assert_refused(&rt, rt.alloc(), &font);
     Ok(())
+}
+
+/// Asserts that an alternate that is no setting is refused.
+fn assert_refused(rt: &impl Abort, alloc: Global, font: &hb_font_t) {
+    let alternates = Feature::new(hb_tag_t::from_bytes(b"aalt"), 65536, 0..u32::MAX);
+    let refused = inspect(alloc, font, &[alternates]).err();
+    wanted(
+        rt,
+        refused == Some(AatError::AaltValue(65536)),
+        "an alternate that is no setting",
+    );
 }

@@ -1,8 +1,8 @@
 //! A font that joins two glyphs, deletes one and kerns.
 use aat_layout::font::{
-    Chain, ChainFeature, Coverage, ExtendedStateTable, FaceTables, Feat, FeatureName,
-    GenericStateEntry, GlyphId, Kern, KernKind, KernSubtable, LigatureSubtable, Lookup, Morx,
-    Pairs, Subtable, SubtableKind, hb_font_t,
+    Chain, Coverage, ExtendedStateTable, FaceTables, Feat, FeatureName, GenericStateEntry, GlyphId,
+    Kern, KernKind, KernSubtable, LigatureSubtable, Lookup, Morx, Pairs, Subtable, SubtableKind,
+    hb_font_t,
 };
 use std::alloc::Global;
 use std::test::Fail;
@@ -52,22 +52,30 @@ const NAMES: [FeatureName; 2] = [
     },
 ];
 
+/// The machine that joins. The glyph 10 has the class 4, and 11 the class 5.
+fn machine(alloc: Global) -> Result<ExtendedStateTable<u16>, Fail> {
+    Ok(ExtendedStateTable::new(alloc, 6, &[(10, 4), (11, 5)], &RULES)?)
+}
+
 /// The glyphs 10 and 11 become 20, and 11 is deleted.
-fn joining(alloc: Global) -> Result<Subtable, Fail> {
-    let tables = LigatureSubtable {
-        state: ExtendedStateTable::new(alloc, 6, &[(10, 4), (11, 5)], &RULES)?,
+fn joining(alloc: Global) -> Result<LigatureSubtable, Fail> {
+    Ok(LigatureSubtable {
         ligature_actions: Vec::from_slice(alloc, &[0x3FFFFFF6, 0xBFFFFFF6])?,
         components: Vec::from_slice(alloc, &[0, 0])?,
         ligatures: Vec::from_slice(alloc, &[GlyphId(20)])?,
-    };
-    let kind = SubtableKind::Ligature(tables);
-    Ok(Subtable::new(kind, Coverage::ALL_DIRECTIONS, 1))
+        state: machine(alloc)?,
+    })
 }
 
-/// A substitution table of one chain that joins.
-fn morx_with(alloc: Global, default_flags: u32, features: Vec<ChainFeature>) -> Result<Morx, Fail> {
-    let subtables = vec![in alloc; joining(alloc)?]?;
-    let chain = Chain::new(default_flags, features, subtables);
+/// The subtable that joins.
+fn subtables_of(alloc: Global) -> Result<Vec<Subtable>, Fail> {
+    let kind = SubtableKind::Ligature(joining(alloc)?);
+    Ok(vec![in alloc; Subtable::new(kind, Coverage::ALL_DIRECTIONS, 1)]?)
+}
+
+/// A substitution table of one chain, which joins by default and has no feature.
+fn morx_of(alloc: Global) -> Result<Morx, Fail> {
+    let chain = Chain::new(1, Vec::new(alloc), subtables_of(alloc)?);
     Ok(Morx::new(vec![in alloc; chain]?)?)
 }
 
@@ -78,18 +86,17 @@ fn kern_of(alloc: Global) -> Result<Kern, Fail> {
     Ok(Kern::new(vec![in alloc; subtable]?)?)
 }
 
-/// A font of a substitution table, of the kerning table and of advances.
-fn font_with(alloc: Global, morx: Morx, advances: &[(u16, u16)]) -> Result<hb_font_t, Fail> {
-    let tables = FaceTables::default()
-        .with_morx(morx)
-        .with_kern(kern_of(alloc)?)
-        .with_feat(Feat::new(alloc, &NAMES)?);
-    let advances = Lookup::new(alloc, advances)?;
-    Ok(hb_font_t::new(tables, None, Some(advances)))
+/// The tables of the font but for its names of features.
+fn tables_of(alloc: Global) -> Result<FaceTables, Fail> {
+    let kern = kern_of(alloc)?;
+    let morx = morx_of(alloc)?;
+    Ok(FaceTables::default().with_morx(morx).with_kern(kern))
 }
 
 /// The font of row 38a, which joins by default and has no feature in its chain; it has names of features besides.
 pub fn font_of_row_38a(alloc: Global) -> Result<hb_font_t, Fail> {
-    let morx = morx_with(alloc, 1, Vec::new(alloc))?;
-    font_with(alloc, morx, &[(12, 400), (20, 600), (65535, 300)])
+    let advances = Lookup::new(alloc, &[(12, 400), (20, 600), (65535, 300)])?;
+    let feat = Feat::new(alloc, &NAMES)?;
+    let tables = tables_of(alloc)?.with_feat(feat);
+    Ok(hb_font_t::new(tables, None, Some(advances)))
 }

@@ -1,4 +1,5 @@
 //! The line breaker on lines of four glyphs.
+use crate::asserting::wanted;
 use aat_layout::buffer::{BufferError, Direction, hb_buffer_t, hb_glyph_info_t};
 use aat_layout::font::{
     FaceTables, Kern, KernKind, KernSubtable, Pairs, hb_font_t, hb_ot_shape_plan_t,
@@ -12,11 +13,36 @@ use std::test::Fail;
 /// A buffer of glyphs with their clusters, which all ask for kerning by the bit 8.
 fn glyphs_of(alloc: Global, glyphs: &[(u32, u32)]) -> Result<hb_buffer_t, BufferError> {
     let mut buffer = hb_buffer_t::new(alloc, 16384, 16384);
+    add_all(&mut buffer, glyphs)?;
+    Ok(buffer)
+}
+
+/// Adds glyphs with their clusters.
+fn add_all(buffer: &mut hb_buffer_t, glyphs: &[(u32, u32)]) -> Result<(), BufferError> {
     for (glyph_id, cluster) in glyphs {
         let glyph = hb_glyph_info_t::new(*glyph_id, *cluster);
         buffer.add(hb_glyph_info_t { mask: 8, ..glyph })?;
     }
-    Ok(buffer)
+    Ok(())
+}
+
+/// Gives the glyph at a place an advance of 500, which goes down in a column.
+fn advance(rt: &impl Abort, buffer: &mut hb_buffer_t, place: usize) {
+    assert!(rt; buffer.has_positions() && place < buffer.len());
+    if buffer.direction().is_horizontal() {
+        buffer.pos_mut(place).x_advance = 500;
+    } else {
+        buffer.pos_mut(place).y_advance = -500;
+    }
+}
+
+/// Gives each glyph its advance.
+fn advance_all(rt: &impl Abort, buffer: &mut hb_buffer_t) -> Result<(), BufferError> {
+    buffer.clear_positions()?;
+    for place in 0..buffer.len() {
+        advance(rt, buffer, place);
+    }
+    Ok(())
 }
 
 /// A line of these glyphs, each with an advance of 500, which goes down in a column.
@@ -28,15 +54,7 @@ fn line_of(
 ) -> Result<hb_buffer_t, BufferError> {
     let mut buffer = glyphs_of(alloc, glyphs)?;
     buffer.set_direction(direction);
-    buffer.clear_positions()?;
-    for i in 0..buffer.len() {
-        assert!(rt; buffer.has_positions() && i < buffer.len());
-        if direction.is_horizontal() {
-            buffer.pos_mut(i).x_advance = 500;
-        } else {
-            buffer.pos_mut(i).y_advance = -500;
-        }
-    }
+    advance_all(rt, &mut buffer)?;
     Ok(buffer)
 }
 
@@ -65,25 +83,22 @@ fn cut<A: Allocator + Copy>(
     limit: i64,
     buffer: &mut hb_buffer_t<A>,
 ) -> Result<Option<usize>, AatError> {
-    assert!(rt; buffer.all_glyphs_16());
-    assert!(rt; buffer.has_positions());
-    assert!(rt; has_kern_pairs_alone(font));
+    assert!(rt; buffer.all_glyphs_16() && buffer.has_positions() && has_kern_pairs_alone(font));
     kern_and_cut(&plan_of(alloc), font, limit, buffer)
 }
 
-/// The advance and the offset in x at each place of a buffer.
-fn expect_positions<A: Allocator + Copy>(
-    rt: &impl Abort,
-    buffer: &hb_buffer_t<A>,
-    wanted: &[(i32, i32)],
-) {
-    assert_eq!(rt; buffer.len(), wanted.len());
-    for (i, (x_advance, x_offset)) in wanted.iter().enumerate() {
-        assert!(rt; buffer.has_positions() && i < buffer.len());
-        let position = *buffer.pos(i);
-        assert_eq!(rt; position.x_advance, *x_advance);
-        assert_eq!(rt; position.x_offset, *x_offset);
+/// Whether these are the advance and the offset in x at each place of a buffer.
+fn are_positions<A: Allocator + Copy>(buffer: &hb_buffer_t<A>, wanted: &[(i32, i32)]) -> bool {
+    for (i, place) in wanted.iter().enumerate() {
+        if !buffer.has_positions() || i >= buffer.len() {
+            return false;
+        }
+        let position = buffer.pos(i);
+        if (position.x_advance, position.x_offset) != *place {
+            return false;
+        }
     }
+    buffer.len() == wanted.len()
 }
 
 /// A line that is kerned and broken.
@@ -146,34 +161,66 @@ const LINES: [Line; 7] = [
     },
 ];
 
-/// Asserts where a line may be cut, and where its glyphs stand.
-fn assert_cut(rt: &impl Abort, alloc: Global, font: &hb_font_t, line: &Line) -> Result<(), Fail> {
+/// Asserts where a line may be cut, and where its glyphs stand. A failure tells the number of the line.
+fn assert_cut(
+    rt: &impl Abort,
+    alloc: Global,
+    font: &hb_font_t,
+    number: usize,
+    line: &Line,
+) -> Result<(), Fail> {
     let mut buffer = line_of(rt, alloc, line.direction, line.glyphs)?;
-    assert!(rt; cut(rt, alloc, font, line.limit, &mut buffer) == Ok(line.place));
-    expect_positions(rt, &buffer, line.positions);
+    let place = cut(rt, alloc, font, line.limit, &mut buffer);
+    let is_cut = place == Ok(line.place) && are_positions(&buffer, line.positions);
+    assert!(rt; is_cut, "line {number}");
+    Ok(())
+}
+
+/// Asserts so of each line.
+fn assert_cuts(rt: &impl Abort, alloc: Global, font: &hb_font_t) -> Result<(), Fail> {
+    for (number, line) in LINES.iter().enumerate() {
+        assert_cut(rt, alloc, font, number, line)?;
+    }
     Ok(())
 }
 
 #[test]
 fn lines_are_cut(rt: HostRuntime) -> Result<(), Fail> {
     let font = font_of(rt.alloc())?;
-    for line in &LINES {
-        assert_cut(&rt, rt.alloc(), &font, line)?;
-    }
-    Ok(())
+    assert_cuts(&rt, rt.alloc(), &font)
+}
+
+/// Kerns a line, and says whether that succeeds.
+fn is_kerned(rt: &impl Abort, alloc: Global, font: &hb_font_t, line: &mut hb_buffer_t) -> bool {
+    assert!(rt; line.all_glyphs_16() && line.has_positions());
+    hb_aat_layout_position(&plan_of(alloc), font, line).is_ok()
+}
+
+/// The last place where a line may be cut.
+fn cut_within(rt: &impl Abort, limit: i64, line: &hb_buffer_t) -> Option<usize> {
+    assert!(rt; line.has_positions());
+    last_cut(limit, KERX_SKIPS, line)
 }
 
 /// Asserts where a column may be cut.
 fn assert_column_cut(rt: &impl Abort, alloc: Global, font: &hb_font_t) -> Result<(), Fail> {
     let mut line = line_of(rt, alloc, Direction::TopToBottom, WHOLE.glyphs)?;
-    assert!(rt; line.all_glyphs_16() && line.has_positions());
-    assert!(rt; hb_aat_layout_position(&plan_of(alloc), font, &mut line).is_ok());
-    assert!(rt; last_cut(499, KERX_SKIPS, &line).is_none());
-    assert!(rt; last_cut(600, KERX_SKIPS, &line) == Some(1));
+    wanted(
+        rt,
+        is_kerned(rt, alloc, font, &mut line),
+        "a column is kerned",
+    );
+    wanted(rt, cut_within(rt, 499, &line).is_none(), "no glyph goes in");
+    wanted(
+        rt,
+        cut_within(rt, 600, &line) == Some(1),
+        "one glyph goes in",
+    );
     Ok(())
 }
 
 #[test]
 fn a_column_goes_down(rt: HostRuntime) -> Result<(), Fail> {
-    assert_column_cut(&rt, rt.alloc(), &font_of(rt.alloc())?)
+    let font = font_of(rt.alloc())?;
+    assert_column_cut(&rt, rt.alloc(), &font)
 }

@@ -1,6 +1,7 @@
 //! What is printed, and what a failed write does.
 mod row_texts;
 
+use crate::asserting::wanted;
 use aat_shape::run;
 use row_texts::ROWS;
 use std::alloc::Global;
@@ -62,9 +63,19 @@ fn assert_prints(
     text: &str,
 ) -> Vec<usize> {
     let mut out = Refusing::new(alloc, usize::MAX);
-    assert_eq!(rt; run(alloc, words, &mut out), status);
-    assert!(rt; out.text.as_slice() == text.as_bytes());
+    let ended = run(alloc, words, &mut out);
+    wanted(
+        rt,
+        ended == status && out.text.as_slice() == text.as_bytes(),
+        text,
+    );
     out.lengths
+}
+
+/// Whether so many bytes of a text stand there, and no write followed the refused one.
+fn ends_at(out: &Refusing, text: &str, length: usize) -> bool {
+    out.lengths.len() == out.refused.saturating_add(1)
+        && text.as_bytes().get(..length) == Some(out.text.as_slice())
 }
 
 /// Runs the program over words with one write refused, and asserts that it ends with status 1, with so many bytes of
@@ -78,9 +89,24 @@ fn assert_refused(
     length: usize,
 ) {
     let mut out = Refusing::new(alloc, refused);
-    assert_eq!(rt; run(alloc, words, &mut out), 1, "without write {refused}");
-    assert_eq!(rt; out.lengths.len(), refused.saturating_add(1));
-    assert!(rt; text.as_bytes().get(..length) == Some(out.text.as_slice()));
+    let status = run(alloc, words, &mut out);
+    let is_refused = status == 1 && ends_at(&out, text, length);
+    assert!(rt; is_refused, "without write {refused} of {text}");
+}
+
+/// Each write is refused in turn, of which there are some.
+fn assert_refused_in_turn(
+    rt: &impl Abort,
+    alloc: Global,
+    words: &[String],
+    status: u8,
+    text: &str,
+) {
+    let lengths = assert_prints(rt, alloc, words, status, text);
+    for (refused, length) in lengths.iter().enumerate() {
+        assert_refused(rt, alloc, words, refused, text, *length);
+    }
+    wanted(rt, !lengths.is_empty(), text);
 }
 
 /// The text of all rows.
@@ -92,16 +118,25 @@ fn whole_text(alloc: Global) -> Result<String, Fail> {
     Ok(whole)
 }
 
+/// Each row prints its text.
+fn assert_rows_print(rt: &impl Abort, alloc: Global) -> Result<(), Fail> {
+    for (number, text) in ROWS {
+        let words = words_of(alloc, &[number])?;
+        assert_prints(rt, alloc, &words, 0, text);
+    }
+    Ok(())
+}
+
 #[test]
 fn each_row_prints_its_text(rt: HostRuntime) -> Result<(), Fail> {
-    for (number, text) in ROWS {
-        let words = words_of(rt.alloc(), &[number])?;
-        assert_prints(&rt, rt.alloc(), &words, 0, text);
-    }
+    assert_rows_print(&rt, rt.alloc())?;
     let whole = whole_text(rt.alloc())?;
     assert_prints(&rt, rt.alloc(), &[], 0, whole.as_str());
     Ok(())
 }
+
+/// What the program says where it does not know the words.
+const UNKNOWN: &str = "unknown row\n";
 
 #[test]
 fn other_words_are_unknown(rt: HostRuntime) -> Result<(), Fail> {
@@ -118,24 +153,9 @@ fn other_words_are_unknown(rt: HostRuntime) -> Result<(), Fail> {
     ];
     for wrong in wrong {
         let words = words_of(rt.alloc(), wrong)?;
-        assert_prints(&rt, rt.alloc(), &words, 2, "unknown row\n");
+        assert_prints(&rt, rt.alloc(), &words, 2, UNKNOWN);
     }
     Ok(())
-}
-
-/// Each write is refused in turn. Answers the number of writes.
-fn assert_refused_in_turn(
-    rt: &impl Abort,
-    alloc: Global,
-    words: &[String],
-    status: u8,
-    text: &str,
-) -> usize {
-    let lengths = assert_prints(rt, alloc, words, status, text);
-    for (refused, length) in lengths.iter().enumerate() {
-        assert_refused(rt, alloc, words, refused, text, *length);
-    }
-    lengths.len()
 }
 
 /// Each write of each row is refused in turn, and so is the one of unknown words.
@@ -143,10 +163,10 @@ fn assert_refused_in_turn(
 fn a_refused_write_ends_with_1(rt: HostRuntime) -> Result<(), Fail> {
     for (number, text) in ROWS {
         let words = words_of(rt.alloc(), &[number])?;
-        assert!(&rt; assert_refused_in_turn(&rt, rt.alloc(), &words, 0, text) > 0);
+        assert_refused_in_turn(&rt, rt.alloc(), &words, 0, text);
     }
     let words = words_of(rt.alloc(), &["0"])?;
-    assert!(&rt; assert_refused_in_turn(&rt, rt.alloc(), &words, 2, "unknown row\n") > 0);
+    assert_refused_in_turn(&rt, rt.alloc(), &words, 2, UNKNOWN);
     Ok(())
 }
 
@@ -162,11 +182,20 @@ fn write_at(lengths: &[usize], length: usize) -> Option<usize> {
 
 /// Asserts that the rows before some byte of the text are printed, where the first write behind them is refused.
 fn assert_refused_at(rt: &impl Abort, alloc: Global, lengths: &[usize], text: &str, start: usize) {
-    let refused = write_at(lengths, start);
-    assert!(rt; refused.is_some());
-    if let Some(refused) = refused {
-        assert_refused(rt, alloc, &[], refused, text, start);
+    match write_at(lengths, start) {
+        Some(refused) => assert_refused(rt, alloc, &[], refused, text, start),
+        None => assert!(rt; false, "no write begins at byte {start}"),
     }
+}
+
+/// Asserts so of each row of the text of all rows.
+fn assert_each_row_refused(rt: &impl Abort, alloc: Global, lengths: &[usize], whole: &str) {
+    let mut start = 0usize;
+    for (_, text) in ROWS {
+        assert_refused_at(rt, alloc, lengths, whole, start);
+        start = start.saturating_add(text.len());
+    }
+    wanted(rt, start == whole.len(), "the length of all rows");
 }
 
 /// Where all rows are printed the first write of each is refused in turn.
@@ -174,11 +203,6 @@ fn assert_refused_at(rt: &impl Abort, alloc: Global, lengths: &[usize], text: &s
 fn a_refused_row_ends_the_text(rt: HostRuntime) -> Result<(), Fail> {
     let whole = whole_text(rt.alloc())?;
     let lengths = assert_prints(&rt, rt.alloc(), &[], 0, whole.as_str());
-    let mut start = 0usize;
-    for (_, text) in ROWS {
-        assert_refused_at(&rt, rt.alloc(), &lengths, whole.as_str(), start);
-        start = start.saturating_add(text.len());
-    }
-    assert_eq!(&rt; start, whole.len());
+    assert_each_row_refused(&rt, rt.alloc(), &lengths, whole.as_str());
     Ok(())
 }

@@ -12,7 +12,7 @@ const GLYPHS: [u16; 5] = [0, 1, 2, 3, 4];
 const CHARACTERS: [char; 4] = ['A', 'B', '\u{301}', 'C'];
 
 /// The answers of a face.
-#[derive(Clone, Copy, PartialEq, Eq, Debug)]
+#[derive(Clone, Copy, PartialEq, Eq)]
 pub(crate) struct Answers {
     pub(crate) glyph_count: u16,
     pub(crate) units_per_em: u16,

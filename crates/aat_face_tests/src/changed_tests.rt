@@ -4,7 +4,7 @@
 use crate::answers::{Answers, answers_of};
 use crate::files::{set_byte, small_font};
 use crate::numbers::Numbers;
-use aat_bytes::ReadError;
+use crate::outcomes::{Outcome, assert_often, count, outcome_of};
 use std::alloc::Global;
 use std::test::Fail;
 
@@ -13,16 +13,6 @@ const SEED: u64 = 1;
 
 /// The number of copies.
 const COPIES: u64 = 2000;
-
-/// What comes of a copy.
-#[derive(Clone, Copy)]
-enum Outcome {
-    Whole,
-    Faulty,
-    Refused,
-    /// An answer is one that no face gives.
-    Broken,
-}
 
 /// Changes one to four bytes, and cuts every fourth file short.
 pub(crate) fn change(numbers: &mut Numbers, file: &mut Vec<u8>) {
@@ -44,34 +34,41 @@ fn is_possible(answers: &Answers) -> bool {
         && (answers.glyph_count > 4 || answers.advances[4] == 0 && answers.properties[4] == 0)
 }
 
+/// What comes of a file whose face gives these answers.
+fn judge(answers: &Answers) -> Outcome {
+    if !is_possible(answers) {
+        Outcome::Broken
+    } else if answers.fault_count == 0 {
+        Outcome::Whole
+    } else {
+        Outcome::Faulty
+    }
+}
+
+/// Makes a copy.
+fn copy_of(alloc: Global, copy: u64) -> Result<Vec<u8>, Fail> {
+    let mut file = small_font(alloc)?;
+    change(&mut Numbers::new(SEED, copy), &mut file);
+    Ok(file)
+}
+
 /// Reads a copy, and asks its face for all that it answers.
 fn run(alloc: Global, copy: u64) -> Result<Outcome, Fail> {
-    let mut numbers = Numbers::new(SEED, copy);
-    let mut file = small_font(alloc)?;
-    change(&mut numbers, &mut file);
+    let file = copy_of(alloc, copy)?;
     match answers_of(alloc, &file) {
-        Ok(answers) if !is_possible(&answers) => Ok(Outcome::Broken),
-        Ok(answers) if answers.fault_count == 0 => Ok(Outcome::Whole),
-        Ok(_) => Ok(Outcome::Faulty),
-        Err(ReadError::Fault(_)) => Ok(Outcome::Refused),
-        Err(ReadError::OutOfMemory) => Err(Fail::new("out of memory")),
+        Ok(answers) => Ok(judge(&answers)),
+        Err(error) => outcome_of(error),
     }
 }
 
 /// Every copy is read or refused, every face answers, and each outcome comes often.
 #[test]
 fn changed_copies_are_read_or_refused(rt: HostRuntime) -> Result<(), Fail> {
-    let mut counts = [0u32; 3];
+    let mut counts = [0; 3];
     for copy in 0..COPIES {
-        match run(rt.alloc(), copy)? {
-            Outcome::Whole => counts[0] = counts[0].saturating_add(1),
-            Outcome::Faulty => counts[1] = counts[1].saturating_add(1),
-            Outcome::Refused => counts[2] = counts[2].saturating_add(1),
-            Outcome::Broken => assert!(rt; false, "copy {copy} of seed {SEED}"),
-        }
+        let outcome = run(rt.alloc(), copy)?;
+        count(&rt, &mut counts, outcome, SEED, copy);
     }
-    for count in counts {
-        assert!(rt; count >= 100, "{} {} {}", counts[0], counts[1], counts[2]);
-    }
+    assert_often(&rt, &counts, 100);
     Ok(())
 }

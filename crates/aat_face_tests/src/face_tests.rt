@@ -1,11 +1,13 @@
 //! The small font, and its faults: tables that are missing or past the end, and a directory that is cut short.
 
 use crate::answers::{Answers, answers_of};
+use crate::asserting::wanted;
 use crate::files::{CAPITALS, LIGATURES, set_byte, small_font};
 use aat_bytes::{Fault, FaultKind, ReadError, Tag};
 use aat_font::GlyphId;
 use aat_lookup_reader::FEAT;
 use aat_sfnt::tags::{CMAP, GDEF, HEAD, HHEA, HMTX, MAXP, NAME, SFNT};
+use std::alloc::Global;
 use std::test::Fail;
 
 /// What the small font answers.
@@ -22,52 +24,74 @@ const WHOLE: Answers = Answers {
     first_fault: None,
 };
 
+/// Without `GDEF` no glyph has properties.
+const UNCLASSED: Answers = Answers {
+    properties: [0; 5],
+    ..WHOLE
+};
+
+/// Without `cmap` no character has a glyph.
+const UNMAPPED: Answers = Answers {
+    glyphs: [None; 4],
+    ..WHOLE
+};
+
+/// Without `name` no feature has one.
+const UNNAMED: Answers = Answers {
+    is_named: false,
+    ..WHOLE
+};
+
+/// Without `feat` there is no feature.
+const FEATURELESS: Answers = Answers {
+    features: [None; 2],
+    ..UNNAMED
+};
+
+/// Without `head` the em has 1,000 units.
+const WITHOUT_UNITS: Answers = Answers {
+    units_per_em: 1000,
+    ..WHOLE
+};
+
+/// Without `hhea` or `hmtx` no glyph has an advance.
+const NARROW: Answers = Answers {
+    advances: [0; 5],
+    ..WHOLE
+};
+
+/// Without `maxp` there are no glyphs.
+const EMPTY: Answers = Answers {
+    glyph_count: 0,
+    advances: [0; 5],
+    ..UNCLASSED
+};
+
 /// The tables in the order of the directory, each with what the font answers without it.
-fn without_each() -> [(Tag, Answers); 8] {
-    let (advances, properties) = ([0; 5], [0; 5]);
-    let unmapped = Answers {
-        glyphs: [None; 4],
-        ..WHOLE
-    };
-    let unnamed = Answers {
-        is_named: false,
-        ..WHOLE
-    };
-    let default_units = Answers {
-        units_per_em: 1000,
-        ..WHOLE
-    };
-    let narrow = Answers { advances, ..WHOLE };
-    let unclassed = Answers {
-        properties,
-        ..WHOLE
-    };
-    let empty = Answers {
-        glyph_count: 0,
-        advances,
-        ..unclassed
-    };
-    let featureless = Answers {
-        features: [None; 2],
-        ..unnamed
-    };
-    [
-        (GDEF, unclassed),
-        (CMAP, unmapped),
-        (FEAT, featureless),
-        (HEAD, default_units),
-        (HHEA, narrow),
-        (HMTX, narrow),
-        (MAXP, empty),
-        (NAME, unnamed),
-    ]
+const WITHOUT_EACH: [(Tag, Answers); 8] = [
+    (GDEF, UNCLASSED),
+    (CMAP, UNMAPPED),
+    (FEAT, FEATURELESS),
+    (HEAD, WITHOUT_UNITS),
+    (HHEA, NARROW),
+    (HMTX, NARROW),
+    (MAXP, EMPTY),
+    (NAME, UNNAMED),
+];
+
+/// What the small font answers with another byte at a place.
+fn answers_with(alloc: Global, place: usize, value: u8) -> Result<Answers, Fail> {
+    let mut file = small_font(alloc)?;
+    set_byte(&mut file, place, value);
+    Ok(answers_of(alloc, &file)?)
 }
 
 /// Every value that was put in comes out.
 #[test]
 fn a_whole_font(rt: HostRuntime) -> Result<(), Fail> {
     let file = small_font(rt.alloc())?;
-    assert_eq!(rt; answers_of(rt.alloc(), &file)?, WHOLE);
+    let answers = answers_of(rt.alloc(), &file);
+    wanted(&rt, answers == Ok(WHOLE), "the whole font");
     Ok(())
 }
 
@@ -75,47 +99,50 @@ fn a_whole_font(rt: HostRuntime) -> Result<(), Fail> {
 #[test]
 fn a_missing_table(rt: HostRuntime) -> Result<(), Fail> {
     let mut record = 12usize;
-    for (tag, answers) in without_each() {
-        let mut file = small_font(rt.alloc())?;
-        set_byte(&mut file, record, b'x');
-        assert_eq!(rt; answers_of(rt.alloc(), &file)?, answers, "without {tag}");
+    for (tag, answers) in &WITHOUT_EACH {
+        let given = answers_with(rt.alloc(), record, b'x')?;
+        assert!(rt; given == *answers, "without {tag}");
         record = record.saturating_add(16);
     }
     Ok(())
+}
+
+/// The answers of a font whose table is past the end.
+fn past_the_end(tag: Tag, answers: Answers) -> Answers {
+    Answers {
+        fault_count: 1,
+        first_fault: Some(Fault::new(tag, FaultKind::PastEnd, 0)),
+        ..answers
+    }
 }
 
 /// A table past the end of the file is a fault, and else the font answers as without it.
 #[test]
 fn a_table_past_the_end(rt: HostRuntime) -> Result<(), Fail> {
     let mut record = 12usize;
-    for (tag, answers) in without_each() {
-        let mut file = small_font(rt.alloc())?;
-        set_byte(&mut file, record.saturating_add(8), 1);
-        let answers = Answers {
-            fault_count: 1,
-            first_fault: Some(Fault::new(tag, FaultKind::PastEnd, 0)),
-            ..answers
-        };
-        assert_eq!(rt;
-            answers_of(rt.alloc(), &file)?,
-            answers,
-            "{tag} past the end"
-        );
+    for (tag, answers) in &WITHOUT_EACH {
+        let given = answers_with(rt.alloc(), record.saturating_add(8), 1)?;
+        assert!(rt; given == past_the_end(*tag, *answers), "{tag} past the end");
         record = record.saturating_add(16);
     }
     Ok(())
+}
+
+/// What the first bytes of the small font answer.
+fn answers_cut(alloc: Global, length: usize) -> Result<Result<Answers, ReadError>, Fail> {
+    let mut file = small_font(alloc)?;
+    file.truncate(length);
+    Ok(answers_of(alloc, &file))
 }
 
 /// A directory of 12 bytes and eight records of 16 is refused where bytes of it are not there.
 #[test]
 fn a_directory_cut_short(rt: HostRuntime) -> Result<(), Fail> {
     for (length, place) in [(0, 0), (3, 0), (4, 0), (11, 0), (12, 12), (139, 12)] {
-        let mut file = small_font(rt.alloc())?;
-        file.truncate(length);
         let fault = Fault::new(SFNT, FaultKind::PastEnd, place);
-        assert_eq!(rt;
-            answers_of(rt.alloc(), &file).err(),
-            Some(ReadError::Fault(fault)),
+        let answers = answers_cut(rt.alloc(), length)?;
+        assert!(rt;
+            answers == Err(ReadError::Fault(fault)),
             "of {length} bytes"
         );
     }

@@ -4,13 +4,19 @@
 #[cfg(test)]
 mod answers;
 #[cfg(test)]
+mod asserting;
+#[cfg(test)]
 mod changed_tests;
+#[cfg(test)]
+mod error_tests;
 #[cfg(test)]
 mod face_tests;
 #[cfg(test)]
 mod files;
 #[cfg(test)]
 mod numbers;
+#[cfg(test)]
+mod outcomes;
 #[cfg(test)]
 mod text_tests;
 #[cfg(test)]

@@ -1,10 +1,11 @@
 //! The text of the example font, and of changed copies of it, which seeds make. A copy is made of its number and a seed
 //! alone, and a failure tells both.
 
+use crate::asserting::wanted;
 use crate::changed_tests::change;
 use crate::numbers::Numbers;
+use crate::outcomes::{Outcome, assert_often, count, outcome_of};
 use crate::texts::EXAMPLE;
-use aat_bytes::ReadError;
 use aat_example_font::example_font;
 use aat_face::Face;
 use aat_face_text::write_face;
@@ -16,18 +17,6 @@ use std::test::Fail;
 /// The number of copies of a seed. All seeds together make 2,000.
 const COPIES: u64 = 500;
 
-/// What comes of a copy.
-#[derive(Clone, Copy)]
-enum Outcome {
-    /// No table has a fault.
-    Whole,
-    /// A table has a fault.
-    Faulty,
-    Refused,
-    /// A face has no text.
-    Empty,
-}
-
 /// The text of a face.
 fn text_of(alloc: Global, face: &Face<'_>) -> io::Result<Vec<u8>> {
     let mut text = Vec::new(alloc);
@@ -35,11 +24,10 @@ fn text_of(alloc: Global, face: &Face<'_>) -> io::Result<Vec<u8>> {
     Ok(text)
 }
 
-/// Prints a face.
+/// Prints a face. Each face has some text.
 fn print(alloc: Global, face: &Face<'_>) -> Result<Outcome, Fail> {
-    let text = text_of(alloc, face)?;
-    if text.is_empty() {
-        return Ok(Outcome::Empty);
+    if text_of(alloc, face)?.is_empty() {
+        return Ok(Outcome::Broken);
     }
     if face.faults().is_empty() {
         return Ok(Outcome::Whole);
@@ -47,33 +35,47 @@ fn print(alloc: Global, face: &Face<'_>) -> Result<Outcome, Fail> {
     Ok(Outcome::Faulty)
 }
 
-/// Reads a copy of a font, and prints its face.
-fn print_copy(alloc: Global, font: &[u8], seed: u64, copy: u64) -> Result<Outcome, Fail> {
-    let mut numbers = Numbers::new(seed, copy);
-    let mut file = Vec::from_slice(alloc, font)?;
-    change(&mut numbers, &mut file);
-    match Face::read(alloc, &file, 0) {
+/// Prints the face of a file.
+fn print_file(alloc: Global, file: &[u8]) -> Result<Outcome, Fail> {
+    match Face::read(alloc, file, 0) {
         Ok(face) => print(alloc, &face),
-        Err(ReadError::Fault(_)) => Ok(Outcome::Refused),
-        Err(ReadError::OutOfMemory) => Err(Fail::new("out of memory")),
+        Err(error) => outcome_of(error),
     }
 }
 
-/// Asserts that every copy of a seed is printed or refused, and that each outcome comes often.
+/// Reads a copy of a font, and prints its face.
+fn print_copy(alloc: Global, font: &[u8], seed: u64, copy: u64) -> Result<Outcome, Fail> {
+    let mut file = Vec::from_slice(alloc, font)?;
+    change(&mut Numbers::new(seed, copy), &mut file);
+    print_file(alloc, &file)
+}
+
+/// Asserts that every copy of a font is printed or refused, and that each outcome comes often.
+fn assert_copies(rt: &impl Abort, alloc: Global, font: &[u8], seed: u64) -> Result<(), Fail> {
+    let mut counts = [0; 3];
+    for copy in 0..COPIES {
+        let outcome = print_copy(alloc, font, seed, copy)?;
+        count(rt, &mut counts, outcome, seed, copy);
+    }
+    assert_often(rt, &counts, 10);
+    Ok(())
+}
+
+/// Asserts so of the example font.
 fn assert_printed(rt: &impl Abort, alloc: Global, seed: u64) -> Result<(), Fail> {
     let font = example_font(alloc)?;
-    let mut counts = [0u32; 3];
-    for copy in 0..COPIES {
-        match print_copy(alloc, &font, seed, copy)? {
-            Outcome::Whole => counts[0] = counts[0].saturating_add(1),
-            Outcome::Faulty => counts[1] = counts[1].saturating_add(1),
-            Outcome::Refused => counts[2] = counts[2].saturating_add(1),
-            Outcome::Empty => assert!(rt; false, "copy {copy} of seed {seed}"),
-        }
-    }
-    for count in counts {
-        assert!(rt; count >= 10, "{} {} {}", counts[0], counts[1], counts[2]);
-    }
+    assert_copies(rt, alloc, &font, seed)
+}
+
+/// Asserts the text of the face of a file.
+fn assert_text(rt: &impl Abort, alloc: Global, file: &[u8], text: &str) -> Result<(), Fail> {
+    let face = Face::read(alloc, file, 0)?;
+    let shown = text_of(alloc, &face)?;
+    wanted(
+        rt,
+        shown.as_slice() == text.as_bytes(),
+        "the text of a face",
+    );
     Ok(())
 }
 
@@ -81,10 +83,7 @@ fn assert_printed(rt: &impl Abort, alloc: Global, seed: u64) -> Result<(), Fail>
 #[test]
 fn the_example_font_is_printed(rt: HostRuntime) -> Result<(), Fail> {
     let file = example_font(rt.alloc())?;
-    let face = Face::read(rt.alloc(), &file, 0)?;
-    let text = text_of(rt.alloc(), &face)?;
-    assert_eq!(rt; str::from_utf8(&text)?, EXAMPLE);
-    Ok(())
+    assert_text(&rt, rt.alloc(), &file, EXAMPLE)
 }
 
 #[test]

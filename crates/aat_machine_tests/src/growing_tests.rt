@@ -1,6 +1,7 @@
 //! The contexts that join glyphs and put glyphs in, run by the driver: a ring that has wrapped, numbers at 65,535, runs
 //! that leave the list, the budget, and long lines.
 
+use crate::asserting::{self, wanted};
 use aat_buffer::{BufferError, hb_buffer_t, hb_glyph_info_t};
 use aat_font::{
     ExtendedStateTable, GenericStateEntry, GlyphId, InsertionEntryData, LigatureSubtable,
@@ -243,10 +244,13 @@ fn ligate_by(
     buffer: &mut hb_buffer_t,
 ) -> Result<Option<Result<u64, AatError>>, Fail> {
     let subtable = ligatures_of(alloc, data)?;
-    if data.has_three_slots {
-        return Ok(ligate_in_three(&subtable, buffer));
-    }
-    Ok(ligate(&subtable, buffer))
+    let answer = if data.has_three_slots {
+        ligate_in_three(&subtable, buffer)
+    } else {
+        ligate(&subtable, buffer)
+    };
+    drop(subtable);
+    Ok(answer)
 }
 
 /// Asserts what becomes of a line of these ids, in so many turns, and what is left of the budget.
@@ -261,9 +265,9 @@ fn assert_ligates(
 ) -> Result<(), Fail> {
     let mut buffer = line_of(alloc, 100, BUDGET, ids)?;
     let answer = ligate_by(alloc, data, &mut buffer)?;
-    assert!(rt; answer == Some(Ok(turns)));
-    assert!(rt; buffer.max_ops() == left);
-    assert!(rt; joined(alloc, &buffer)?.as_slice() == wanted);
+    let is_paid = answer == Some(Ok(turns)) && buffer.max_ops() == left;
+    asserting::wanted(rt, is_paid, "the turns and the budget");
+    asserting::wanted(rt, joined(alloc, &buffer)?.as_slice() == wanted, "the line");
     Ok(())
 }
 
@@ -345,14 +349,18 @@ fn numbers_at_65535_in_ligatures(rt: HostRuntime) -> Result<(), Fail> {
     ];
     for (action_count, component_count, id) in cases {
         let subtable = ligatures_by_the_last(rt.alloc(), action_count, component_count)?;
-        let mut buffer = line_of(rt.alloc(), 100, BUDGET, &[14])?;
-        assert!(rt; ligate(&subtable, &mut buffer) == Some(Ok(2)));
-        assert!(rt;
-            placed(rt.alloc(), &buffer)?.as_slice() == [(id, 0)].as_slice(),
-            "glyph {id}"
-        );
+        let is_turned = turns_14_into(rt.alloc(), &subtable, id);
+        drop(subtable);
+        assert!(rt; is_turned?, "glyph {id}");
     }
     Ok(())
+}
+
+/// Whether a subtable turns the glyph 14 into this one, in two turns.
+fn turns_14_into(alloc: Global, subtable: &LigatureSubtable, id: u32) -> Result<bool, Fail> {
+    let mut buffer = line_of(alloc, 100, BUDGET, &[14])?;
+    let answer = ligate(subtable, &mut buffer);
+    Ok(answer == Some(Ok(2)) && placed(alloc, &buffer)?.as_slice() == [(id, 0)].as_slice())
 }
 
 /// A ligature at every second glyph of ten thousand.
@@ -360,14 +368,18 @@ fn numbers_at_65535_in_ligatures(rt: HostRuntime) -> Result<(), Fail> {
 fn ligatures_along_a_long_line(rt: HostRuntime) -> Result<(), Fail> {
     let mut buffer = long_line(rt.alloc(), 10, 2, 11)?;
     let answer = ligate_by(rt.alloc(), &PAIR, &mut buffer)?;
-    assert!(rt; answer == Some(Ok(10_001)));
-    let glyphs = placed(rt.alloc(), &buffer)?;
-    assert!(rt; glyphs.len() == 10_000);
+    wanted(&rt, answer == Some(Ok(10_001)), "the turns");
+    assert_ligatures(&rt, &placed(rt.alloc(), &buffer)?);
+    Ok(())
+}
+
+/// Asserts a ligature and a deleted glyph by turns.
+fn assert_ligatures(rt: &impl Abort, glyphs: &[Placed]) {
+    wanted(rt, glyphs.len() == 10_000, "the number of glyphs");
     for (i, (found, cluster)) in glyphs.iter().enumerate() {
         let id = if i % 2 == 0 { 202 } else { DELETED };
         assert!(rt; *found == id && *cluster as usize == i - i % 2, "place {i}");
     }
-    Ok(())
 }
 
 fn insertion_entry(
@@ -449,9 +461,17 @@ fn assert_changes(
 ) -> Result<(), Fail> {
     let mut buffer = line_of(alloc, change.max_len, change.budget, change.ids)?;
     let answer = insert(table, glyphs, &mut buffer);
-    assert!(rt; answer == Some(Ok(change.turns)) && buffer.is_successful());
-    assert!(rt; buffer.max_ops() == change.left);
-    assert!(rt; placed(alloc, &buffer)?.as_slice() == change.wanted);
+    let is_paid = answer == Some(Ok(change.turns)) && buffer.max_ops() == change.left;
+    wanted(
+        rt,
+        is_paid && buffer.is_successful(),
+        "the turns and the budget",
+    );
+    wanted(
+        rt,
+        placed(alloc, &buffer)?.as_slice() == change.wanted,
+        "the line",
+    );
     Ok(())
 }
 
@@ -465,7 +485,9 @@ fn assert_inserts(
 ) -> Result<(), Fail> {
     let entry = insertion_entry(entry.flags, entry.current, entry.marked);
     let table = inserting_at_20(alloc, entry)?;
-    assert_changes(rt, alloc, &table, glyphs, change)
+    let answer = assert_changes(rt, alloc, &table, glyphs, change);
+    drop(table);
+    answer
 }
 
 /// An entry with a current run that begins at this index.
@@ -553,7 +575,9 @@ fn records_are_those_of_the_place(rt: HostRuntime) -> Result<(), Fail> {
         ids: &[10, 11],
         ..met_first(BUDGET, BUDGET - 2, &wanted)
     };
-    assert_changes(&rt, rt.alloc(), &ending, &glyphs, &change)
+    let answer = assert_changes(&rt, rt.alloc(), &ending, &glyphs, &change);
+    drop(ending);
+    answer
 }
 
 /// An entry that stays leaves the cursor before what goes in, and pays for the stay, too. It is met again behind that,
@@ -640,17 +664,23 @@ fn at_place(i: usize, is_before: bool) -> (bool, usize) {
 /// A run at every tenth glyph of ten thousand.
 fn assert_inserts_along(rt: &impl Abort, alloc: Global, flags: u16) -> Result<(), Fail> {
     let glyphs = [GlyphId(30), GlyphId(31), GlyphId(32)];
-    let table = inserting_at_20(alloc, insertion_entry(flags, 0, NONE))?;
     let mut buffer = long_line(alloc, 20, 10, 10)?;
-    assert!(rt; insert(&table, &glyphs, &mut buffer) == Some(Ok(10_001)));
-    assert!(rt; buffer.max_ops() == BUDGET - 3_000);
-    let glyphs = placed(alloc, &buffer)?;
-    assert!(rt; glyphs.len() == 13_000);
+    let table = inserting_at_20(alloc, insertion_entry(flags, 0, NONE))?;
+    let answer = insert(&table, &glyphs, &mut buffer);
+    drop(table);
+    wanted(rt, answer == Some(Ok(10_001)), "the turns");
+    wanted(rt, buffer.max_ops() == BUDGET - 3_000, "the budget");
+    assert_runs(rt, &placed(alloc, &buffer)?, flags & CURRENT_BEFORE != 0);
+    Ok(())
+}
+
+/// Asserts a run beside every tenth glyph.
+fn assert_runs(rt: &impl Abort, glyphs: &[Placed], is_before: bool) {
+    wanted(rt, glyphs.len() == 13_000, "the number of glyphs");
     for (i, (id, cluster)) in glyphs.iter().enumerate() {
-        let wanted = at_place(i, flags & CURRENT_BEFORE != 0);
+        let wanted = at_place(i, is_before);
         assert!(rt; (*id >= 30, *cluster as usize) == wanted, "place {i}");
     }
-    Ok(())
 }
 
 #[test]

@@ -1,6 +1,7 @@
 //! The contexts in place, run by the driver: each verb by the manual's table, the longest span, numbers at 65,535, and
 //! a long line at each cluster level.
 
+use crate::asserting::wanted;
 use aat_buffer::{BufferError, hb_buffer_t, hb_glyph_info_t};
 use aat_font::{
     ContextualEntryData, ContextualSubtable, ExtendedStateTable, FaceTables, GenericStateEntry,
@@ -152,11 +153,13 @@ fn substitute(
     }
     let face = hb_font_t::from_tables(FaceTables::default());
     let mut context = ContextualCtx::new(&face, subtable);
-    Some(run_machine(&subtable.state, &mut context, buffer, &[], 1))
+    let answer = run_machine(&subtable.state, &mut context, buffer, &[], 1);
+    drop(face);
+    Some(answer)
 }
 
 /// The order of the span 10 to 15 behind each verb.
-const MOVED: [[u32; 6]; 16] = [
+static MOVED: [[u32; 6]; 16] = [
     [10, 11, 12, 13, 14, 15],
     [11, 12, 13, 14, 15, 10],
     [15, 10, 11, 12, 13, 14],
@@ -191,12 +194,24 @@ fn moved_line(alloc: Global, verb: u16, moved: &[u32]) -> Result<Vec<Seen>, Allo
 
 /// Asserts what a verb makes of a line longer than its span.
 fn assert_moves(rt: &impl Abort, alloc: Global, verb: u16, moved: &[u32]) -> Result<(), Fail> {
-    let table = span_table(alloc, 10, 15, verb)?;
     let mut buffer = line_of(alloc, &[1, 2, 10, 11, 12, 13, 14, 15, 3, 4])?;
-    assert!(rt; rearrange(&table, &mut buffer) == Some(Ok(11)));
-    let line = moved_line(alloc, verb, moved)?;
-    assert!(rt; seen(alloc, &buffer)? == line, "verb {verb}");
+    let table = span_table(alloc, 10, 15, verb)?;
+    let answer = rearrange(&table, &mut buffer);
+    drop(table);
+    wanted(rt, answer == Some(Ok(11)), "the turns");
+    assert!(rt; is_moved(alloc, &buffer, verb, moved)?, "verb {verb}");
     Ok(())
+}
+
+/// Whether a line is what a verb makes of it.
+fn is_moved(
+    alloc: Global,
+    buffer: &hb_buffer_t,
+    verb: u16,
+    moved: &[u32],
+) -> Result<bool, AllocError> {
+    let line = moved_line(alloc, verb, moved)?;
+    Ok(seen(alloc, buffer)? == line)
 }
 
 #[test]
@@ -221,18 +236,52 @@ fn span_of(alloc: Global, len: u32) -> Result<hb_buffer_t, BufferError> {
 
 #[test]
 fn only_short_spans_move(rt: HostRuntime) -> Result<(), Fail> {
-    let alloc = rt.alloc();
-    let table = span_table(alloc, 10, 15, 3)?;
-    assert!(rt; MAX_CONTEXT_LENGTH == 64);
+    wanted(&rt, MAX_CONTEXT_LENGTH == 64, "the longest span");
+    let table = span_table(rt.alloc(), 10, 15, 3)?;
+    let answer = assert_spans(&rt, rt.alloc(), &table);
+    drop(table);
+    answer
+}
+
+/// Asserts which spans move.
+fn assert_spans(
+    rt: &impl Abort,
+    alloc: Global,
+    table: &ExtendedStateTable<()>,
+) -> Result<(), Fail> {
     for (len, last) in [(64, (10, 0, 0)), (65, (15, 64, 0))] {
-        let mut buffer = span_of(alloc, len)?;
-        assert!(rt; rearrange(&table, &mut buffer) == Some(Ok(u64::from(len) + 1)));
-        assert_ends_with(&rt, alloc, &buffer, &[last])?;
+        assert_span(rt, alloc, table, len, last)?;
     }
-    // a span of 65 glyphs moves where it may have 65
+    assert_longer_span(rt, alloc, table)
+}
+
+/// Asserts the last glyph of a span of so many glyphs.
+fn assert_span(
+    rt: &impl Abort,
+    alloc: Global,
+    table: &ExtendedStateTable<()>,
+    len: u32,
+    last: Seen,
+) -> Result<(), Fail> {
+    let mut buffer = span_of(alloc, len)?;
+    let answer = rearrange(table, &mut buffer);
+    wanted(rt, answer == Some(Ok(u64::from(len) + 1)), "the turns");
+    assert_ends_with(rt, alloc, &buffer, &[last])
+}
+
+/// A span of 65 glyphs moves where it may have 65.
+fn assert_longer_span(
+    rt: &impl Abort,
+    alloc: Global,
+    table: &ExtendedStateTable<()>,
+) -> Result<(), Fail> {
     let mut buffer = span_of(alloc, 65)?;
-    assert!(rt; rearrange_up_to_65(&table, &mut buffer) == Some(Ok(66)));
-    assert_ends_with(&rt, alloc, &buffer, &[(10, 0, 0)])
+    wanted(
+        rt,
+        rearrange_up_to_65(table, &mut buffer) == Some(Ok(66)),
+        "the turns",
+    );
+    assert_ends_with(rt, alloc, &buffer, &[(10, 0, 0)])
 }
 
 /// A line of 65,537 glyphs, of which 7, at place 65,535, and 8 are the last.
@@ -259,9 +308,11 @@ fn table_with_last_state(alloc: Global) -> Result<ExtendedStateTable<()>, TableE
 
 #[test]
 fn a_span_at_65535(rt: HostRuntime) -> Result<(), Fail> {
-    let table = table_with_last_state(rt.alloc())?;
     let mut buffer = line_past_16_bits(rt.alloc())?;
-    assert!(rt; rearrange(&table, &mut buffer) == Some(Ok(65_538)));
+    let table = table_with_last_state(rt.alloc())?;
+    let answer = rearrange(&table, &mut buffer);
+    drop(table);
+    wanted(&rt, answer == Some(Ok(65_538)), "the turns");
     let wanted = [(1, 65_534, 0), (8, 65_535, 0), (7, 65_535, 0)];
     assert_ends_with(&rt, rt.alloc(), &buffer, &wanted)
 }
@@ -291,9 +342,11 @@ fn two_lookups(alloc: Global, first: (u16, u16), second: (u16, u16)) -> Result<V
 
 #[test]
 fn a_mark_at_65535(rt: HostRuntime) -> Result<(), Fail> {
-    let subtable = subtable_with_last_state(rt.alloc())?;
     let mut buffer = line_past_16_bits(rt.alloc())?;
-    assert!(rt; substitute(&subtable, &mut buffer) == Some(Ok(65_538)));
+    let subtable = subtable_with_last_state(rt.alloc())?;
+    let answer = substitute(&subtable, &mut buffer);
+    drop(subtable);
+    wanted(&rt, answer == Some(Ok(65_538)), "the turns");
     let wanted = [(1, 65_534, 0), (9, 65_535, 0), (65_535, 65_536, 3)];
     assert_ends_with(&rt, rt.alloc(), &buffer, &wanted)
 }
@@ -324,12 +377,38 @@ fn long_line(alloc: Global, level: u8) -> Result<hb_buffer_t, BufferError> {
 #[test]
 fn long_lines_are_rearranged(rt: HostRuntime) -> Result<(), Fail> {
     let table = span_table(rt.alloc(), 5, 6, 1)?;
-    // at level 2 the clusters stay apart, and the greater one is marked
+    let answer = assert_each_rearranged(&rt, rt.alloc(), &table);
+    drop(table);
+    answer
+}
+
+/// Asserts what becomes of long lines at each level. At level 2 the clusters stay apart, and the greater one is marked.
+fn assert_each_rearranged(
+    rt: &impl Abort,
+    alloc: Global,
+    table: &ExtendedStateTable<()>,
+) -> Result<(), Fail> {
     for (level, first) in [(0, (6, 0, 0)), (1, (6, 0, 0)), (2, (6, 1, 3))] {
-        let mut buffer = long_line(rt.alloc(), level)?;
-        assert!(rt; rearrange(&table, &mut buffer) == Some(Ok(10_001)));
-        assert_pairs(&rt, &seen(rt.alloc(), &buffer)?, first, (5, 0, 0));
+        assert_rearranged(rt, alloc, table, level, first)?;
     }
+    Ok(())
+}
+
+/// Asserts what becomes of the pairs of a long line at a cluster level.
+fn assert_rearranged(
+    rt: &impl Abort,
+    alloc: Global,
+    table: &ExtendedStateTable<()>,
+    level: u8,
+    first: Seen,
+) -> Result<(), Fail> {
+    let mut buffer = long_line(alloc, level)?;
+    wanted(
+        rt,
+        rearrange(table, &mut buffer) == Some(Ok(10_001)),
+        "the turns",
+    );
+    assert_pairs(rt, &seen(alloc, &buffer)?, first, (5, 0, 0));
     Ok(())
 }
 
@@ -350,10 +429,36 @@ fn subtable_of_pairs(alloc: Global) -> Result<ContextualSubtable, Fail> {
 #[test]
 fn long_lines_are_substituted(rt: HostRuntime) -> Result<(), Fail> {
     let subtable = subtable_of_pairs(rt.alloc())?;
+    let answer = assert_each_substituted(&rt, rt.alloc(), &subtable);
+    drop(subtable);
+    answer
+}
+
+/// Asserts what becomes of long lines at each level.
+fn assert_each_substituted(
+    rt: &impl Abort,
+    alloc: Global,
+    subtable: &ContextualSubtable,
+) -> Result<(), Fail> {
     for level in 0..3u8 {
-        let mut buffer = long_line(rt.alloc(), level)?;
-        assert!(rt; substitute(&subtable, &mut buffer) == Some(Ok(10_001)));
-        assert_pairs(&rt, &seen(rt.alloc(), &buffer)?, (9, 0, 0), (8, 1, 3));
+        assert_substituted(rt, alloc, subtable, level)?;
     }
+    Ok(())
+}
+
+/// Asserts what becomes of the pairs of a long line at a cluster level.
+fn assert_substituted(
+    rt: &impl Abort,
+    alloc: Global,
+    subtable: &ContextualSubtable,
+    level: u8,
+) -> Result<(), Fail> {
+    let mut buffer = long_line(alloc, level)?;
+    wanted(
+        rt,
+        substitute(subtable, &mut buffer) == Some(Ok(10_001)),
+        "the turns",
+    );
+    assert_pairs(rt, &seen(alloc, &buffer)?, (9, 0, 0), (8, 1, 3));
     Ok(())
 }

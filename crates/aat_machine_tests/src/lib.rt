@@ -2,6 +2,8 @@
 #![tactic(auto)]
 
 #[cfg(test)]
+mod asserting;
+#[cfg(test)]
 mod driver_tests;
 #[cfg(test)]
 mod growing_tests;

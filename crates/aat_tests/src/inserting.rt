@@ -118,9 +118,9 @@ pub(crate) fn inserting_font(
     at_end: GenericStateEntry<InsertionEntryData>,
     at_20: GenericStateEntry<InsertionEntryData>,
 ) -> Result<Inserting, Fail> {
-    let face = face_of(alloc, subtable_of(alloc, at_end, at_20)?)?;
     let table = table_of(alloc, at_end, at_20)?;
     let glyphs = longest_run(alloc)?;
+    let face = face_of(alloc, subtable_of(alloc, at_end, at_20)?)?;
     Ok(Inserting {
         table,
         glyphs,

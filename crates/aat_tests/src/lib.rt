@@ -1,6 +1,8 @@
 //! The tests of the layer as a whole, through its public paths.
 #![tactic(auto)]
 
+#[cfg(test)]
+mod asserting;
 pub mod callers;
 #[cfg(test)]
 mod inserting;

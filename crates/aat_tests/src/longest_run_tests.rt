@@ -1,6 +1,7 @@
 //! The longest runs of insertion, by each public call: on each side of a glyph, at the end of the text, and in an empty
 //! line.
 
+use crate::asserting;
 use crate::inserting::{
     BUDGET, CALLS, CURRENT_BEFORE, Call, Inserting, LONGEST_CURRENT, LONGEST_MARKED, NONE, Outcome,
     Seen, UNSAFE, add_all, empty_line, entry_of, inserting_font, outcome_by, push_glyphs,
@@ -46,8 +47,13 @@ fn outcome_of(
 
 /// Asserts that one of the longest runs is paid for, and leaves this line.
 fn assert_outcome(rt: &impl Abort, outcome: &Outcome, wanted: &[Seen], turns: u64) {
-    assert!(rt; outcome.answer == Ok(turns) && outcome.is_successful);
-    assert!(rt; outcome.left == BUDGET - 31 && outcome.line.as_slice() == wanted);
+    asserting::wanted(
+        rt,
+        outcome.answer == Ok(turns) && outcome.is_successful,
+        "the turns",
+    );
+    asserting::wanted(rt, outcome.left == BUDGET - 31, "the budget");
+    asserting::wanted(rt, outcome.line.as_slice() == wanted, "the line");
 }
 
 /// Asserts what each call makes of a line of these ids, where one of the longest runs is paid for.
@@ -77,9 +83,11 @@ fn assert_inserted(
 ) -> Result<(), Fail> {
     let at_end = entry_of(at_end.0, at_end.1, at_end.2);
     let at_20 = entry_of(at_20.0, at_20.1, at_20.2);
-    let font = inserting_font(alloc, at_end, at_20)?;
     let wanted = line_of(alloc, parts)?;
-    assert_by_each_call(rt, alloc, &font, ids, &wanted, turns)
+    let font = inserting_font(alloc, at_end, at_20)?;
+    let answer = assert_by_each_call(rt, alloc, &font, ids, &wanted, turns);
+    drop(font);
+    answer
 }
 
 /// The longest run on each side of the glyph at the cursor and of the marked one, which is the first. The glyph 20 is

@@ -46,6 +46,7 @@ pub use aat_layout::feature_range_t;
 pub use aat_layout::font::Ankr;
 pub use aat_layout::font::Chain;
 pub use aat_layout::font::ChainFeature;
+pub use aat_layout::font::ClassPairs;
 pub use aat_layout::font::ContextualEntryData;
 pub use aat_layout::font::ContextualSubtable;
 pub use aat_layout::font::Coverage;

@@ -3,6 +3,7 @@
 
 ghost use Rattle.std.specs.Prelude.{◌<◌};
 
+use crate::asserting::wanted;
 use aat_layout::buffer::{BufferError, Direction, hb_buffer_t, hb_glyph_info_t};
 use aat_layout::font::{
     Chain, ChainFeature, Coverage, ExtendedStateTable, FaceTables, Feat, Feature, FeatureName,
@@ -88,10 +89,10 @@ fn turns_of(
     requests: &[Request],
     buffer: &mut hb_buffer_t,
 ) -> Result<Option<u64>, Fail> {
-    let plan = plan_of(alloc, requests)?;
     if !buffer.all_glyphs_16() {
         return Ok(None);
     }
+    let plan = plan_of(alloc, requests)?;
     Ok(hb_aat_layout_substitute(alloc, &plan, font, buffer).ok())
 }
 
@@ -174,11 +175,13 @@ const ALSO_ELSEWHERE: [Request; 2] = [(0, 1, 2), (0, 7, 9)];
 /// A request for a feature off over one cluster leaves that one glyph, on a line whose clusters fall.
 #[test]
 fn requests_act_on_falling_clusters(rt: HostRuntime) -> Result<(), Fail> {
-    let font = ligating_font(rt.alloc())?;
     let line = [(5, 2), (5, 1), (5, 0)];
     let wanted = [(9, 2), (5, 1), (9, 0)];
     let buffer = line_of(rt.alloc(), Direction::LeftToRight, 16384, &line)?;
-    assert_substituted(&rt, rt.alloc(), &font, &HERE, buffer, 3, &wanted)
+    let font = ligating_font(rt.alloc())?;
+    let answer = assert_substituted(&rt, rt.alloc(), &font, &HERE, buffer, 3, &wanted);
+    drop(font);
+    answer
 }
 
 /// The line 5 at 0, 5 at 1, 5 at 2 after substitution, which takes three turns.
@@ -200,17 +203,34 @@ fn rising_line(
 /// Asserts that a request acts on a line whose clusters rise, and as well beside a further one where no glyph is.
 fn assert_rising(rt: &impl Abort, alloc: Global, font: &hb_font_t) -> Result<(), Fail> {
     let buffer = rising_line(rt, alloc, font, &ALSO_ELSEWHERE)?;
-    assert!(rt; is_line(&buffer, &[(9, 0), (5, 1), (9, 2)]) && buffer.max_ops() == 16384);
-    let alone = rising_line(rt, alloc, font, &HERE)?;
-    assert!(rt; are_one_line(&alone, &buffer) && alone.max_ops() == buffer.max_ops());
+    wanted(rt, is_line(&buffer, &[(9, 0), (5, 1), (9, 2)]), "the line");
+    wanted(rt, buffer.max_ops() == 16384, "the budget");
+    wanted(
+        rt,
+        is_same_alone(rt, alloc, font, &buffer)?,
+        "the request alone",
+    );
     Ok(())
+}
+
+/// Whether a request alone leaves a line as this one, and its budget.
+fn is_same_alone(
+    rt: &impl Abort,
+    alloc: Global,
+    font: &hb_font_t,
+    buffer: &hb_buffer_t,
+) -> Result<bool, Fail> {
+    let alone = rising_line(rt, alloc, font, &HERE)?;
+    Ok(are_one_line(&alone, buffer) && alone.max_ops() == buffer.max_ops())
 }
 
 /// A request for a feature off over one cluster leaves that one glyph, on a line whose clusters rise.
 #[test]
 fn requests_act_on_rising_clusters(rt: HostRuntime) -> Result<(), Fail> {
     let font = ligating_font(rt.alloc())?;
-    assert_rising(&rt, rt.alloc(), &font)
+    let answer = assert_rising(&rt, rt.alloc(), &font);
+    drop(font);
+    answer
 }
 
 /// A font of two chains, of which common ligatures switch the first one off and the second one on.
@@ -226,11 +246,13 @@ fn two_chains(alloc: Global) -> Result<hb_font_t, Fail> {
 /// second chain acts alone, elsewhere the first.
 #[test]
 fn each_chain_has_its_ranges(rt: HostRuntime) -> Result<(), Fail> {
-    let font = two_chains(rt.alloc())?;
     let line = [(5, 3), (5, 2), (5, 1), (5, 0)];
     let wanted = [(9, 3), (8, 2), (8, 1), (9, 0)];
     let buffer = line_of(rt.alloc(), Direction::RightToLeft, 16384, &line)?;
-    assert_substituted(&rt, rt.alloc(), &font, &[(1, 1, 3)], buffer, 8, &wanted)
+    let font = two_chains(rt.alloc())?;
+    let answer = assert_substituted(&rt, rt.alloc(), &font, &[(1, 1, 3)], buffer, 8, &wanted);
+    drop(font);
+    answer
 }
 
 /// A font of two chains for horizontal text and a third one for vertical text.
@@ -249,9 +271,11 @@ fn three_chains(alloc: Global) -> Result<hb_font_t, Fail> {
 /// Of two chains for horizontal text and a third one for vertical text the third alone acts on a vertical line.
 #[test]
 fn orientation_is_asked_in_each_chain(rt: HostRuntime) -> Result<(), Fail> {
-    let font = three_chains(rt.alloc())?;
     let line = line_of(rt.alloc(), Direction::TopToBottom, 16384, &[(5, 0), (6, 1)])?;
-    assert_substituted(&rt, rt.alloc(), &font, &[], line, 2, &[(9, 0), (6, 1)])
+    let font = three_chains(rt.alloc())?;
+    let answer = assert_substituted(&rt, rt.alloc(), &font, &[], line, 2, &[(9, 0), (6, 1)]);
+    drop(font);
+    answer
 }
 
 /// An entry that goes to state 1: with two glyphs before the cursor, where it stays, or with none.
@@ -294,18 +318,12 @@ fn inserting_font(alloc: Global, count: u64) -> Result<hb_font_t, Fail> {
 
 /// Asserts that so many of those subtables take four turns each over a 6 with a budget of 2, and leave three glyphs.
 fn assert_bounds_met(rt: &impl Abort, alloc: Global, count: u64) -> Result<(), Fail> {
-    let font = inserting_font(alloc, count)?;
     let line = line_of(alloc, Direction::LeftToRight, 2, &[(6, 0)])?;
-    let turns = count.saturating_mul(4);
-    assert_substituted(
-        rt,
-        alloc,
-        &font,
-        &[],
-        line,
-        turns,
-        &[(5, 0), (5, 0), (6, 0)],
-    )
+    let (turns, wanted) = (count.saturating_mul(4), [(5, 0), (5, 0), (6, 0)]);
+    let font = inserting_font(alloc, count)?;
+    let answer = assert_substituted(rt, alloc, &font, &[], line, turns, &wanted);
+    drop(font);
+    answer
 }
 
 /// So many of those subtables take four turns each over a 6 with a budget of 2, and leave three glyphs: as many turns
@@ -384,7 +402,16 @@ fn moving_font(alloc: Global) -> Result<hb_font_t, Fail> {
 #[test]
 fn sizes_are_named(rt: HostRuntime) -> Result<(), Fail> {
     let font = moving_font(rt.alloc())?;
-    assert!(rt; runs_with::<3>(rt.alloc(), &font, &[(11, 0), (12, 0), (10, 0)])?);
-    assert!(rt; runs_with::<2>(rt.alloc(), &font, &[(10, 0), (11, 1), (12, 2)])?);
+    let answer = assert_sizes(&rt, rt.alloc(), &font);
+    drop(font);
+    answer
+}
+
+/// Asserts what becomes of a span of three glyphs by the longest span.
+fn assert_sizes(rt: &impl Abort, alloc: Global, font: &hb_font_t) -> Result<(), Fail> {
+    let moved = runs_with::<3>(alloc, font, &[(11, 0), (12, 0), (10, 0)])?;
+    wanted(rt, moved, "spans of three");
+    let stayed = runs_with::<2>(alloc, font, &[(10, 0), (11, 1), (12, 2)])?;
+    wanted(rt, stayed, "spans of two");
     Ok(())
 }

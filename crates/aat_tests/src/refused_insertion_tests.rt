@@ -1,6 +1,7 @@
 //! Insertion where memory or length is wanting, by each public call: a refused run leaves the line as it was before
 //! that run, with the runs before it in it, and a failed buffer.
 
+use crate::asserting::wanted;
 use crate::inserting::{
     BUDGET, CALLS, CURRENT_BEFORE, Call, Inserting, LONGEST_CURRENT, LONGEST_MARKED, NONE, Outcome,
     Seen, UNSAFE, add_all, empty_line, entry_of, inserting_font, outcome_by, push_glyphs,
@@ -255,7 +256,7 @@ impl<'a> Trial<'a> {
     ) -> Result<Outcome, AllocError> {
         let hoard = exhaust(rt, self.alloc, heap)?;
         let outcome = self.run(rt, buffer)?;
-        assert!(rt; hoard.len() > 0);
+        wanted(rt, hoard.len() > 0, "a heap that was used up");
         Ok(outcome)
     }
 
@@ -276,9 +277,10 @@ impl<'a> Trial<'a> {
 
     /// Asserts that all runs went in.
     fn assert_whole(&self, rt: &impl Abort, outcome: &Outcome, runs: u32) -> Result<(), Fail> {
-        assert!(rt; outcome.answer == Ok(self.turns_over(self.scene.glyphs as usize)));
-        assert!(rt; outcome.left == self.scene.left);
-        assert!(rt; self.is_line_with(&outcome.line, runs)?);
+        let turns = self.turns_over(self.scene.glyphs as usize);
+        wanted(rt, outcome.answer == Ok(turns), "the turns");
+        wanted(rt, outcome.left == self.scene.left, "the budget");
+        wanted(rt, self.is_line_with(&outcome.line, runs)?, "the line");
         Ok(())
     }
 
@@ -308,21 +310,37 @@ impl<'a> Trial<'a> {
     /// Asserts that the call gives the whole result over a line that is equal to one that was refused behind some runs.
     fn assert_whole_from(&self, rt: &impl Abort, line: &[Seen], done: u32) -> Result<(), Fail> {
         let outcome = self.run_from(rt, line)?;
-        assert!(rt; outcome.answer == Ok(self.turns_over(line.len())));
-        assert!(rt; outcome.is_successful && outcome.left == self.scene.left);
-        assert!(rt; self.is_repeated_line(&outcome.line, done)?);
+        wanted(
+            rt,
+            outcome.answer == Ok(self.turns_over(line.len())),
+            "the turns",
+        );
+        wanted(
+            rt,
+            outcome.is_successful && outcome.left == self.scene.left,
+            "the budget",
+        );
+        wanted(rt, self.is_repeated_line(&outcome.line, done)?, "the line");
         Ok(())
     }
 
     /// Asserts what the call made again over a failed buffer did, with ample memory: it is driven as any other, and
     /// refused by the calls above the driver.
     fn assert_repeated(&self, rt: &impl Abort, outcome: &Outcome) -> Result<(), Fail> {
-        assert!(rt; !outcome.is_successful);
+        wanted(rt, !outcome.is_successful, "a failed line");
         if self.call == Call::Drive {
             return self.assert_whole(rt, outcome, self.all_runs());
         }
-        assert!(rt; outcome.answer == Err(AatError::BufferFailed));
-        assert!(rt; self.is_line_with(&outcome.line, 0)?);
+        wanted(
+            rt,
+            outcome.answer == Err(AatError::BufferFailed),
+            "a refusal",
+        );
+        wanted(
+            rt,
+            self.is_line_with(&outcome.line, 0)?,
+            "the line as it was",
+        );
         Ok(())
     }
 
@@ -332,7 +350,11 @@ impl<'a> Trial<'a> {
             self.assert_whole(rt, outcome, self.all_runs())?;
             return Ok(self.all_runs());
         }
-        assert!(rt; outcome.answer == Err(AatError::OutOfMemory));
+        wanted(
+            rt,
+            outcome.answer == Err(AatError::OutOfMemory),
+            "want of memory",
+        );
         let done = self.runs_before_refusal(rt, outcome)?;
         self.assert_whole_from(rt, &outcome.line, done)?;
         Ok(done)
@@ -386,8 +408,12 @@ impl<'a> Trial<'a> {
         refused: &Outcome,
         repeated: &Outcome,
     ) -> Result<(), Fail> {
-        assert!(rt; refused.answer == Err(AatError::OutOfMemory));
-        assert!(rt; self.runs_before_refusal(rt, refused)? == 0);
+        wanted(
+            rt,
+            refused.answer == Err(AatError::OutOfMemory),
+            "want of memory",
+        );
+        wanted(rt, self.runs_before_refusal(rt, refused)? == 0, "no run");
         self.assert_whole_from(rt, &refused.line, 0)?;
         self.assert_repeated(rt, repeated)
     }
@@ -415,7 +441,11 @@ impl<'a> Trial<'a> {
     /// A line that may grow by so many glyphs has so many runs in it before one that is too long.
     fn assert_too_long(&self, rt: &impl Abort, spare: u32, runs: u32) -> Result<(), Fail> {
         let outcome = self.run_with_room(rt, spare)?;
-        assert!(rt; outcome.answer == Err(AatError::TooLong));
+        wanted(
+            rt,
+            outcome.answer == Err(AatError::TooLong),
+            "a line that is too long",
+        );
         assert!(rt;
             self.runs_before_refusal(rt, &outcome)? == runs,
             "room for {spare}"
@@ -441,14 +471,14 @@ impl<'a> Trial<'a> {
     ) -> Result<(), Fail> {
         let outcome = self.refused_outcome(rt, spare)?;
         assert!(rt; outcome.answer == Err(error), "room for {spare}");
-        assert!(rt; self.runs_before_refusal(rt, &outcome)? == 0);
+        wanted(rt, self.runs_before_refusal(rt, &outcome)? == 0, "no run");
         Ok(())
     }
 
     /// The greatest length is met exactly by two runs.
     fn assert_met_exactly(&self, rt: &impl Abort, spare: u32) -> Result<(), Fail> {
         let outcome = self.run_with_room(rt, spare)?;
-        assert!(rt; outcome.is_successful);
+        wanted(rt, outcome.is_successful, "a line that has not failed");
         self.assert_whole(rt, &outcome, 2)
     }
 
@@ -497,8 +527,13 @@ fn exhaust<'a>(
     for size in [1024, 128, 16usize] {
         take_blocks(heap, size, &mut hoard)?;
     }
-    assert!(rt; Vec::<u8, &LocalHeap>::with_capacity(heap, 16).is_err());
+    wanted(rt, is_used_up(heap), "a heap that is used up");
     Ok(hoard)
+}
+
+/// Whether a heap has not one block left.
+fn is_used_up(heap: &LocalHeap) -> bool {
+    Vec::<u8, &LocalHeap>::with_capacity(heap, 16).is_err()
 }
 
 /// What is asserted of each scene.
@@ -549,7 +584,9 @@ fn assert_scenes(
 ) -> Result<(), Fail> {
     for scene in scenes {
         let font = font_of(alloc, scene)?;
-        assert_by_each_call(rt, alloc, scene, &font, assertion)?;
+        let answer = assert_by_each_call(rt, alloc, scene, &font, assertion);
+        drop(font);
+        answer?;
     }
     Ok(())
 }

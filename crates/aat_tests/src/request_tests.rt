@@ -1,4 +1,5 @@
 //! Requests over ranges, each call once with ample memory, and refused memory.
+use crate::asserting::wanted;
 use aat_layout::buffer::{hb_buffer_t, hb_glyph_info_t};
 use aat_layout::font::{
     Chain, ChainFeature, Coverage, FaceTables, Feat, Feature, FeatureName, Lookup, Morx, Subtable,
@@ -84,9 +85,18 @@ fn is_line(buffer: &hb_buffer_t, wanted: [u32; 3]) -> bool {
 /// A builder with a request for the common ligatures over 3 to 4.
 fn builder_of_one(rt: &impl Abort, alloc: Global, face: &hb_font_t) -> hb_aat_map_builder_t {
     let mut builder = hb_aat_map_builder_t::default(alloc);
-    assert!(rt; builder.range() == (0, u32::MAX) && builder.features().is_empty());
-    assert!(rt; builder.add_feature(face, &liga(1, 3, 5)) == Ok(Some(())));
-    assert!(rt; builder.features().len() == 1);
+    wanted(
+        rt,
+        builder.range() == (0, u32::MAX),
+        "the range of a new builder",
+    );
+    wanted(rt, builder.features().is_empty(), "no request");
+    wanted(
+        rt,
+        builder.add_feature(face, &liga(1, 3, 5)) == Ok(Some(())),
+        "a request",
+    );
+    wanted(rt, builder.features().len() == 1, "one request");
     builder
 }
 
@@ -98,20 +108,40 @@ fn compiled(
     builder: &mut hb_aat_map_builder_t,
 ) -> hb_aat_map_t {
     let mut map = hb_aat_map_t::default(alloc);
-    assert!(rt; map.is_whole() && map.chain_flags().is_empty());
-    assert!(rt; builder.compile(face, &mut map) == Ok(()));
-    assert!(rt; builder.range() == (5, 4294967295) && builder.current_features().is_empty());
+    wanted(
+        rt,
+        map.is_whole() && map.chain_flags().is_empty(),
+        "an empty map",
+    );
+    wanted(rt, builder.compile(face, &mut map) == Ok(()), "compiling");
+    wanted(rt, builder.range() == (5, 4294967295), "the last range");
+    wanted(
+        rt,
+        builder.current_features().is_empty(),
+        "no request there",
+    );
     map
 }
 
 /// Asserts that a map has one chain, with the ranges of one request over 3 to 4.
 fn assert_ranges(rt: &impl Abort, map: &hb_aat_map_t) {
-    let wanted = [(0, 1), (2, 1), (3, 3), (4, 3), (5, 1), (u32::MAX, 1)];
-    for (cluster, flags) in wanted {
-        assert!(rt; map.flags_at(0, cluster) == Some(flags), "at {cluster}");
+    for (cluster, flags) in &FLAGS {
+        assert!(rt; map.flags_at(0, *cluster) == Some(*flags), "at {cluster}");
     }
-    assert!(rt; map.flags_at(1, 0).is_none() && map.is_whole());
-    assert!(rt; map.chain_flags().len() == 1 && map.chain_flags()[0].len() == 3);
+    wanted(
+        rt,
+        map.flags_at(1, 0).is_none() && map.is_whole(),
+        "one chain",
+    );
+    wanted(rt, has_three_ranges(map), "three ranges");
+}
+
+/// Clusters, and the flags there where one request is made over 3 to 4.
+static FLAGS: [(u32, u32); 6] = [(0, 1), (2, 1), (3, 3), (4, 3), (5, 1), (u32::MAX, 1)];
+
+/// Whether a map has one list, of three ranges.
+fn has_three_ranges(map: &hb_aat_map_t) -> bool {
+    map.chain_flags().len() == 1 && map.chain_flags()[0].len() == 3
 }
 
 /// A map with the ranges of one request over 3 to 4.
@@ -120,6 +150,7 @@ fn a_request_has_its_own_range(rt: HostRuntime) -> Result<(), Fail> {
     let face = face(rt.alloc(), &[ligatures(2, 2, u32::MAX)])?;
     let mut builder = builder_of_one(&rt, rt.alloc(), &face);
     assert_ranges(&rt, &compiled(&rt, rt.alloc(), &face, &mut builder));
+    drop(face);
     Ok(())
 }
 
@@ -130,14 +161,22 @@ fn assert_flags_compiled(rt: &impl Abort, alloc: Global, without: &hb_font_t, wi
     assert!(rt; compile_flags(without, &builder, &mut map) == Ok(None));
     assert!(rt; map.chain_flags().is_empty());
     assert!(rt; compile_flags(with, &builder, &mut map) == Ok(Some(())) && map.is_whole());
-    assert!(rt; map.flags_at(0, 7) == Some(1));
+    wanted(rt, map.flags_at(0, 7) == Some(1), "the flags");
 }
 
 #[test]
 fn a_range_of_a_builder_is_compiled(rt: HostRuntime) -> Result<(), Fail> {
     let without = alternates_face(rt.alloc())?;
-    let with = face(rt.alloc(), &[ligatures(2, 2, u32::MAX)])?;
-    assert_flags_compiled(&rt, rt.alloc(), &without, &with);
+    let answer = assert_compiled_beside(&rt, rt.alloc(), &without);
+    drop(without);
+    answer
+}
+
+/// The same beside a font without the table.
+fn assert_compiled_beside(rt: &impl Abort, alloc: Global, without: &hb_font_t) -> Result<(), Fail> {
+    let with = face(alloc, &[ligatures(2, 2, u32::MAX)])?;
+    assert_flags_compiled(rt, alloc, without, &with);
+    drop(with);
     Ok(())
 }
 
@@ -151,25 +190,30 @@ fn applied(
     let map = hb_aat_map_t::default(alloc);
     assert!(rt; buffer.all_glyphs_16() && map.is_whole());
     let mut context = hb_aat_apply_context_t::new(face, buffer);
-    assert!(rt; context.turns == 0 && context.subtable_flags == 0 && context.range_flags.is_none());
+    let is_new = context.turns == 0 && context.subtable_flags == 0 && context.range_flags.is_none();
+    wanted(rt, is_new, "a new context");
     let answer = apply(&mut context, &map);
     (answer, context.turns)
 }
 
 #[test]
 fn an_empty_map_has_each_subtable_on(rt: HostRuntime) -> Result<(), Fail> {
-    let face = face(rt.alloc(), &[ligatures(3, 0, 0)])?;
     let mut buffer = buffer_of_fives(rt.alloc())?;
-    assert!(rt; applied(&rt, rt.alloc(), &face, &mut buffer) == (Ok(Some(())), 3));
-    assert!(rt; is_line(&buffer, [9, 9, 9]));
+    let face = face(rt.alloc(), &[ligatures(3, 0, 0)])?;
+    let answer = applied(&rt, rt.alloc(), &face, &mut buffer);
+    drop(face);
+    wanted(&rt, answer == (Ok(Some(())), 3), "the turns");
+    wanted(&rt, is_line(&buffer, [9, 9, 9]), "the line");
     Ok(())
 }
 
 #[test]
 fn a_font_without_the_table_answers_none(rt: HostRuntime) -> Result<(), Fail> {
-    let face = alternates_face(rt.alloc())?;
     let mut buffer = buffer_of_fives(rt.alloc())?;
-    assert!(rt; applied(&rt, rt.alloc(), &face, &mut buffer) == (Ok(None), 0));
+    let face = alternates_face(rt.alloc())?;
+    let answer = applied(&rt, rt.alloc(), &face, &mut buffer);
+    drop(face);
+    wanted(&rt, answer == (Ok(None), 0), "the answer");
     Ok(())
 }
 
@@ -187,43 +231,82 @@ fn turns_without_ligatures(
 
 #[test]
 fn a_feature_acts_where_it_was_asked_for(rt: HostRuntime) -> Result<(), Fail> {
-    let face = face(rt.alloc(), &[ligatures(3, 0, 0)])?;
     let mut buffer = buffer_of_fives(rt.alloc())?;
-    assert!(rt; turns_without_ligatures(&rt, rt.alloc(), &face, &mut buffer)? == 3);
-    assert!(rt; is_line(&buffer, [9, 5, 9]));
+    let face = face(rt.alloc(), &[ligatures(3, 0, 0)])?;
+    let turns = turns_without_ligatures(&rt, rt.alloc(), &face, &mut buffer);
+    drop(face);
+    wanted(&rt, turns? == 3, "the turns");
+    wanted(&rt, is_line(&buffer, [9, 5, 9]), "the line");
     Ok(())
 }
 
 /// Asserts that an alternate of more than 16 bits is refused, and one of 16 bits appended.
 fn assert_alternates(rt: &impl Abort, face: &hb_font_t, builder: &mut hb_aat_map_builder_t) {
     let refused = builder.add_feature(face, &aalt(65536));
-    assert!(rt; refused == Err(AatError::AaltValue(65536)) && builder.features().is_empty());
-    assert!(rt; builder.add_feature(face, &aalt(65535)) == Ok(None));
-    assert!(rt; builder.features().len() == 1);
+    wanted(
+        rt,
+        refused == Err(AatError::AaltValue(65536)),
+        "more than 16 bits",
+    );
+    wanted(rt, builder.features().is_empty(), "no request");
+    wanted(
+        rt,
+        builder.add_feature(face, &aalt(65535)) == Ok(None),
+        "16 bits",
+    );
+    wanted(rt, is_longest_alternate(builder), "the alternate");
+}
+
+/// Whether the only request of a builder is for the alternate 65,535.
+fn is_longest_alternate(builder: &hb_aat_map_builder_t) -> bool {
+    if builder.features().len() != 1 {
+        return false;
+    }
     let info = builder.features()[0].info;
-    assert!(rt; info.kind == 17 && info.setting == 65535 && info.is_exclusive);
+    info.kind == 17 && info.setting == 65535 && info.is_exclusive
 }
 
 /// Asserts that features make their requests in one call, and that the first alternate of more than 16 bits is refused.
 fn assert_in_one_call(rt: &impl Abort, alloc: Global, face: &hb_font_t) -> Result<(), Fail> {
     let builder = hb_aat_map_builder_t::with_features(alloc, face, &[aalt(65535), aalt(1)])?;
-    assert!(rt; builder.range() == (0, u32::MAX) && builder.features().len() == 2);
-    assert!(rt;
-        builder.features()[0].info.setting == 65535 && builder.features()[1].info.setting == 1
-    );
-    let refused = hb_aat_map_builder_t::with_features(alloc, face, &[aalt(1), aalt(65536)]).err();
-    assert!(rt; refused == Some(AatError::AaltValue(65536)));
+    wanted(rt, builder.range() == (0, u32::MAX), "the range");
+    wanted(rt, are_two_alternates(&builder), "both alternates");
     Ok(())
+}
+
+/// Whether the requests of a builder are for the alternates 65,535 and 1.
+fn are_two_alternates(builder: &hb_aat_map_builder_t) -> bool {
+    builder.features().len() == 2
+        && builder.features()[0].info.setting == 65535
+        && builder.features()[1].info.setting == 1
+}
+
+/// Why alternates are refused in one call, if they are.
+fn fault_of(alloc: Global, face: &hb_font_t, values: [u32; 2]) -> Option<AatError> {
+    let features = [aalt(values[0]), aalt(values[1])];
+    hb_aat_map_builder_t::with_features(alloc, face, &features).err()
 }
 
 #[test]
 fn alternates(rt: HostRuntime) -> Result<(), Fail> {
     let face = alternates_face(rt.alloc())?;
-    let mut builder = hb_aat_map_builder_t::default(rt.alloc());
-    assert_alternates(&rt, &face, &mut builder);
-    assert_in_one_call(&rt, rt.alloc(), &face)?;
-    assert!(rt; AatError::AaltValue(65536).number() == 1);
-    Ok(())
+    assert_one_by_one(&rt, rt.alloc(), &face);
+    let answer = assert_in_one_call(&rt, rt.alloc(), &face);
+    let refused = fault_of(rt.alloc(), &face, [1, 65536]);
+    drop(face);
+    wanted(
+        &rt,
+        refused == Some(AatError::AaltValue(65536)),
+        "the first that is too long",
+    );
+    wanted(&rt, AatError::AaltValue(65536).number() == 1, "its number");
+    answer
+}
+
+/// Asserts of a new builder what it does with an alternate of more than 16 bits and one of 16 bits.
+fn assert_one_by_one(rt: &impl Abort, alloc: Global, face: &hb_font_t) {
+    let mut builder = hb_aat_map_builder_t::default(alloc);
+    assert_alternates(rt, face, &mut builder);
 }
 
 #[test]
@@ -239,39 +322,91 @@ fn groups(rt: HostRuntime) {
         is_exclusive: true,
         ..on
     };
-    assert!(rt; feature_order(&on, &off) == Ordering::Equal);
-    assert!(rt; feature_order(&on, &other) == Ordering::Less);
-    assert!(rt; feature_order(&exclusive, &off) == Ordering::Greater);
-    assert!(rt; feature_order(&feature_info_t { kind: 2, ..on }, &on) == Ordering::Greater);
+    wanted(
+        &rt,
+        feature_order(&on, &off) == Ordering::Equal,
+        "on and off",
+    );
+    wanted(
+        &rt,
+        feature_order(&on, &other) == Ordering::Less,
+        "another setting",
+    );
+    wanted(
+        &rt,
+        feature_order(&exclusive, &off) == Ordering::Greater,
+        "exclusive",
+    );
+    let second = feature_info_t { kind: 2, ..on };
+    wanted(
+        &rt,
+        feature_order(&second, &on) == Ordering::Greater,
+        "another type",
+    );
 }
 
 #[test]
 fn names(rt: HostRuntime) -> Result<(), Fail> {
     let feat = Feat::new(rt.alloc(), &[name(1), name(3), name(37)])?;
     assert!(rt; feat.find(3) == Some(name(3)) && feat.find(2).is_none());
+    drop(feat);
+    Ok(())
+}
+
+#[test]
+fn refused_names(rt: HostRuntime) {
     let falls = Feat::new(rt.alloc(), &[name(1), name(3), name(3)]).err();
     assert!(rt; falls == Some(TableError::NotRising(2)));
-    assert_eq!(rt; feature_mappings.len(), 78);
+}
+
+#[test]
+fn first_mapping(rt: HostRuntime) {
+    wanted(&rt, feature_mappings.len() == 78, "the number of rows");
     let first = feature_mappings[0];
-    assert!(rt; first.ot_feature_tag == hb_tag_t::from_bytes(b"afrc"));
-    assert!(rt; (first.aat_feature_type, first.selector_to_enable) == (11, 1));
-    Ok(())
+    wanted(
+        &rt,
+        first.ot_feature_tag == hb_tag_t::from_bytes(b"afrc"),
+        "the tag",
+    );
+    let numbers = (first.aat_feature_type, first.selector_to_enable);
+    wanted(&rt, numbers == (11, 1), "the numbers");
 }
 
 /// Adds an alternate over a heap, and says whether it was appended. A refusal leaves the builder as
 /// it was, and the call made again is refused again.
 fn adds_over(rt: &impl Abort, heap: &LocalHeap, face: &hb_font_t) -> bool {
     let mut builder = hb_aat_map_builder_t::default(heap);
+    adds_alternate(rt, &mut builder, face)
+}
+
+/// Adds an alternate to a new builder, and says whether it was appended.
+fn adds_alternate(
+    rt: &impl Abort,
+    builder: &mut hb_aat_map_builder_t<&LocalHeap>,
+    face: &hb_font_t,
+) -> bool {
     let answer = builder.add_feature(face, &aalt(65535));
     if answer == Ok(None) {
-        assert!(rt; builder.features().len() == 1);
+        wanted(rt, builder.features().len() == 1, "one request");
         return true;
     }
-    assert!(rt; answer == Err(AatError::OutOfMemory) && AatError::OutOfMemory.number() == 3);
-    assert!(rt; builder.features().is_empty() && builder.current_features().is_empty());
-    assert!(rt; builder.range() == (0, u32::MAX));
-    assert!(rt; builder.add_feature(face, &aalt(65535)) == Err(AatError::OutOfMemory));
+    wanted(rt, answer == Err(AatError::OutOfMemory), "want of memory");
+    wanted(rt, AatError::OutOfMemory.number() == 3, "its number");
+    wanted(rt, is_new(builder), "a builder as it was");
+    let again = builder.add_feature(face, &aalt(65535));
+    wanted(
+        rt,
+        again == Err(AatError::OutOfMemory),
+        "want of memory again",
+    );
     false
+}
+
+/// Whether a builder is without requests, over the whole text.
+fn is_new(builder: &hb_aat_map_builder_t<&LocalHeap>) -> bool {
+    builder.features().is_empty()
+        && builder.current_features().is_empty()
+        && builder.range() == (0, u32::MAX)
 }
 
 /// Requests three ranges, and says whether none of them was refused.
@@ -293,12 +428,18 @@ fn compiles<'h>(
     map: &mut hb_aat_map_t<&'h LocalHeap>,
 ) -> bool {
     let answer = builder.compile(face, map);
-    assert!(rt; builder.features().len() == 3);
+    wanted(rt, builder.features().len() == 3, "the requests");
     if answer == Ok(()) {
-        assert!(rt; map.flags_at(0, 4) == Some(3) && map.flags_at(0, 5) == Some(5));
+        wanted(
+            rt,
+            map.flags_at(0, 4) == Some(3),
+            "the flags in the third range",
+        );
+        wanted(rt, map.flags_at(0, 5) == Some(5), "the flags behind it");
         return true;
     }
-    assert!(rt; answer == Err(AatError::OutOfMemory) && map.chain_flags().is_empty());
+    wanted(rt, answer == Err(AatError::OutOfMemory), "want of memory");
+    wanted(rt, map.chain_flags().is_empty(), "an empty map");
     false
 }
 
@@ -353,34 +494,53 @@ fn compiles_within(
 /// Each growth of a request is refused in turn, by a heap that is too small for it.
 fn assert_requests_refused(rt: &impl Abort, alloc: Global) -> Result<(), Fail> {
     let face = alternates_face(alloc)?;
+    let found = found_over_heaps(rt, alloc, &face);
+    drop(face);
+    wanted(rt, found? == (1, 1), "heaps that are enough, and too small");
+    Ok(())
+}
+
+/// Adds an alternate over growing heaps, and says whether one was enough, and one too small.
+fn found_over_heaps(
+    rt: &impl Abort,
+    alloc: Global,
+    face: &hb_font_t,
+) -> Result<(u32, u32), AllocError> {
     let mut found = (0, 0);
     for step in 0..128usize {
-        if adds_within(rt, alloc, &face, step * 16)? {
+        if adds_within(rt, alloc, face, step * 16)? {
             found.0 = 1;
         } else {
             found.1 = 1;
         }
     }
-    assert!(rt; found == (1, 1));
-    Ok(())
+    Ok(found)
 }
 
 /// Each growth of compiling is refused in turn.
 fn assert_compiling_refused(rt: &impl Abort, alloc: Global) -> Result<(), Fail> {
-    let face = face(
-        alloc,
-        &[ligatures(2, 2, u32::MAX), ligatures(3, 4, u32::MAX)],
-    )?;
+    let face = switched_face(alloc)?;
+    let found = compiled_over_heaps(rt, alloc, &face);
+    drop(face);
+    wanted(rt, found? == (1, 1), "heaps that are enough, and too small");
+    Ok(())
+}
+
+/// Compiles over growing heaps, and says whether one was enough, and one too small.
+fn compiled_over_heaps(
+    rt: &impl Abort,
+    alloc: Global,
+    face: &hb_font_t,
+) -> Result<(u32, u32), AllocError> {
     let mut found = (0, 0);
     for step in 0..128usize {
-        match compiles_within(rt, alloc, &face, step * 16)? {
+        match compiles_within(rt, alloc, face, step * 16)? {
             Some(true) => found.0 = 1,
             Some(false) => found.1 = 1,
             None => {}
         }
     }
-    assert!(rt; found == (1, 1));
-    Ok(())
+    Ok(found)
 }
 
 #[test]
@@ -424,21 +584,31 @@ fn assert_many(rt: &impl Abort, map: &hb_aat_map_t, clusters: u32) {
         let cluster = ten.saturating_mul(10);
         let later = cluster.saturating_add(5);
         let (first, then) = if ten & 1 == 0 { (5, 3) } else { (3, 5) };
-        assert!(rt; map.flags_at(0, cluster) == Some(first), "at {cluster}");
-        assert!(rt; map.flags_at(0, later) == Some(then), "at {later}");
+        let found = (map.flags_at(0, cluster), map.flags_at(0, later));
+        assert!(rt; found == (Some(first), Some(then)), "at {cluster}");
     }
-    assert!(rt; map.flags_at(0, u32::MAX) == Some(1) && map.is_whole());
+    wanted(
+        rt,
+        map.flags_at(0, u32::MAX) == Some(1) && map.is_whole(),
+        "the last flags",
+    );
 }
 
 /// Compiles so many requests over so many clusters, and asks flags in each ten of them.
 fn compile_many(rt: &impl Abort, alloc: Global, count: u32, clusters: u32) -> Result<(), Fail> {
     let face = switched_face(alloc)?;
-    let mut builder = hb_aat_map_builder_t::default(alloc);
-    add_many(rt, &face, &mut builder, count, clusters);
-    let mut map = hb_aat_map_t::default(alloc);
-    assert!(rt; builder.compile(&face, &mut map) == Ok(()));
-    assert_many(rt, &map, clusters);
+    compile_many_of(rt, alloc, &face, count, clusters);
+    drop(face);
     Ok(())
+}
+
+/// The same of a font.
+fn compile_many_of(rt: &impl Abort, alloc: Global, face: &hb_font_t, count: u32, clusters: u32) {
+    let mut builder = hb_aat_map_builder_t::default(alloc);
+    add_many(rt, face, &mut builder, count, clusters);
+    let mut map = hb_aat_map_t::default(alloc);
+    wanted(rt, builder.compile(face, &mut map) == Ok(()), "compiling");
+    assert_many(rt, &map, clusters);
 }
 
 #[test]

@@ -1,5 +1,6 @@
 //! Each call of substitution once with ample memory, and refusals.
 
+use crate::asserting::{self, wanted};
 use aat_layout::buffer::{BufferError, hb_buffer_t, hb_glyph_info_t};
 use aat_layout::font::{
     Chain, ChainFeature, Coverage, FaceTables, Lookup, Morx, Subtable, SubtableKind, hb_font_t,
@@ -95,8 +96,10 @@ fn assert_substitutes(
     turns: u64,
 ) -> Result<(), Fail> {
     let mut buffer = buffer_5_6_5(alloc)?;
-    assert!(rt; substitute(rt, alloc, face, apply_morx, &mut buffer) == Ok(turns));
-    assert!(rt; is_line(&buffer, wanted) && buffer.max_ops() == 16384);
+    let answer = substitute(rt, alloc, face, apply_morx, &mut buffer);
+    asserting::wanted(rt, answer == Ok(turns), "the turns");
+    asserting::wanted(rt, is_line(&buffer, wanted), "the line");
+    asserting::wanted(rt, buffer.max_ops() == 16384, "the budget");
     Ok(())
 }
 
@@ -118,7 +121,9 @@ fn substitutes(rt: HostRuntime) -> Result<(), Fail> {
         (vertical, false, same, 0),
     ] {
         let face = face(rt.alloc(), coverage, feature_flags)?;
-        assert_substitutes(&rt, rt.alloc(), &face, apply_morx, &wanted, turns)?;
+        let answer = assert_substitutes(&rt, rt.alloc(), &face, apply_morx, &wanted, turns);
+        drop(face);
+        answer?;
     }
     Ok(())
 }
@@ -126,27 +131,50 @@ fn substitutes(rt: HostRuntime) -> Result<(), Fail> {
 #[test]
 fn a_font_without_a_table_substitutes_nothing(rt: HostRuntime) -> Result<(), Fail> {
     let same = [(5, 0, 0), (6, 1, 0), (5, 2, 0)];
-    assert_substitutes(&rt, rt.alloc(), &empty_face(), true, &same, 0)
+    let face = empty_face();
+    let answer = assert_substitutes(&rt, rt.alloc(), &face, true, &same, 0);
+    drop(face);
+    answer
 }
 
 /// A buffer that has failed, with the line 5 at 0.
 fn failed_buffer(rt: &impl Abort, alloc: Global) -> Result<hb_buffer_t, BufferError> {
     let mut buffer = hb_buffer_t::new(alloc, 1, 16384);
-    assert!(rt; buffer.is_empty() && buffer.is_successful());
+    wanted(
+        rt,
+        buffer.is_empty() && buffer.is_successful(),
+        "an empty line",
+    );
     buffer.add(hb_glyph_info_t::new(5, 0))?;
     let refused = buffer.add(hb_glyph_info_t::new(5, 1));
-    assert!(rt; refused == Err(BufferError::TooLong) && BufferError::TooLong.number() == 1);
-    assert!(rt; is_line(&buffer, &[(5, 0, 0)]) && !buffer.is_successful());
+    wanted(
+        rt,
+        refused == Err(BufferError::TooLong),
+        "a line that is too long",
+    );
+    wanted(rt, BufferError::TooLong.number() == 1, "its number");
+    wanted(
+        rt,
+        is_line(&buffer, &[(5, 0, 0)]) && !buffer.is_successful(),
+        "a failed line",
+    );
     Ok(buffer)
 }
 
 #[test]
 fn a_failed_buffer_is_refused(rt: HostRuntime) -> Result<(), Fail> {
-    let face = face(rt.alloc(), Coverage::ALL_DIRECTIONS, 1)?;
     let mut buffer = failed_buffer(&rt, rt.alloc())?;
+    let face = face(rt.alloc(), Coverage::ALL_DIRECTIONS, 1)?;
     let answer = substitute(&rt, rt.alloc(), &face, true, &mut buffer);
-    assert!(rt; answer == Err(AatError::BufferFailed) && AatError::BufferFailed.number() == 4);
-    assert!(rt; is_line(&buffer, &[(5, 0, 0)]) && buffer.max_ops() == 16384);
+    drop(face);
+    wanted(
+        &rt,
+        answer == Err(AatError::BufferFailed),
+        "a failed buffer",
+    );
+    wanted(&rt, AatError::BufferFailed.number() == 4, "its number");
+    wanted(&rt, is_line(&buffer, &[(5, 0, 0)]), "the line as it was");
+    wanted(&rt, buffer.max_ops() == 16384, "the budget");
     Ok(())
 }
 
@@ -154,20 +182,40 @@ fn a_failed_buffer_is_refused(rt: HostRuntime) -> Result<(), Fail> {
 fn positions_are_dropped(rt: HostRuntime) -> Result<(), Fail> {
     let mut buffer = buffer_5_6_5(rt.alloc())?;
     buffer.clear_positions()?;
-    assert!(rt; buffer.has_positions());
-    assert!(rt; substitute(&rt, rt.alloc(), &empty_face(), true, &mut buffer) == Ok(0));
-    assert!(rt; !buffer.has_positions());
+    let face = empty_face();
+    assert_positions_dropped(&rt, rt.alloc(), &face, &mut buffer);
+    drop(face);
     Ok(())
+}
+
+/// Asserts that substitution by a font without a table drops the positions.
+fn assert_positions_dropped(
+    rt: &impl Abort,
+    alloc: Global,
+    face: &hb_font_t,
+    buffer: &mut hb_buffer_t,
+) {
+    wanted(rt, buffer.has_positions(), "positions");
+    wanted(
+        rt,
+        substitute(rt, alloc, face, true, buffer) == Ok(0),
+        "no turn",
+    );
+    wanted(rt, !buffer.has_positions(), "no positions");
 }
 
 #[test]
 fn properties_follow_the_classes(rt: HostRuntime) -> Result<(), Fail> {
-    let face = classifying_face(rt.alloc())?;
     let mut buffer = buffer_5_6_5(rt.alloc())?;
-    assert!(rt; substitute(&rt, rt.alloc(), &face, true, &mut buffer) == Ok(3));
-    assert!(rt; buffer.len() == 3);
-    if buffer.len() == 3 {
-        assert!(rt; buffer.info(0).glyph_props == 8 && buffer.info(1).glyph_props == 0);
-    }
+    let face = classifying_face(rt.alloc())?;
+    let answer = substitute(&rt, rt.alloc(), &face, true, &mut buffer);
+    drop(face);
+    wanted(&rt, answer == Ok(3), "the turns");
+    wanted(&rt, has_one_mark(&buffer), "the properties");
     Ok(())
+}
+
+/// Whether the first of three glyphs is a mark, and the second is not.
+fn has_one_mark(buffer: &hb_buffer_t) -> bool {
+    buffer.len() == 3 && buffer.info(0).glyph_props == 8 && buffer.info(1).glyph_props == 0
 }

@@ -1,6 +1,7 @@
 //! The calls of the buffer that take memory, again and again over one line with positions. Before each call the heap is
 //! filled, and where the call is refused it is emptied and the call made again.
 
+use crate::asserting::wanted;
 use crate::refusal_tests::hoard::{HEAP, Hoard};
 use crate::refusal_tests::rows::{Settings, line_over};
 use aat_layout::buffer::{
@@ -139,8 +140,10 @@ impl Before {
 
     /// Asserts that a line, its cursor and its settings are as before.
     fn assert_same(&self, rt: &impl Abort, buffer: &Line) {
-        assert!(rt; buffer.len() == self.glyphs.len() && buffer.backtrack_len() == self.cursor);
-        assert!(rt; buffer.max_ops() == MAX_OPS && Settings::of(buffer) == self.settings);
+        wanted(rt, buffer.len() == self.glyphs.len(), "the length");
+        wanted(rt, buffer.backtrack_len() == self.cursor, "the cursor");
+        wanted(rt, buffer.max_ops() == MAX_OPS, "the budget");
+        wanted(rt, Settings::of(buffer) == self.settings, "the settings");
         for place in 0..buffer.len() {
             assert!(rt; *buffer.info(place) == self.at(place));
         }
@@ -149,10 +152,19 @@ impl Before {
     /// Asserts that a line has the glyph that a call puts in, and no positions.
     fn assert_longer(&self, rt: &impl Abort, buffer: &Line, call: Call) {
         let moved = if call == Call::Add { 0 } else { 1 };
-        assert!(rt; buffer.backtrack_len() == self.cursor.saturating_add(moved));
-        assert!(rt; buffer.len() == self.glyphs.len().saturating_add(1));
-        assert!(rt; !buffer.has_positions() && buffer.max_ops() == MAX_OPS);
-        assert!(rt; Settings::of(buffer) == self.settings);
+        wanted(
+            rt,
+            buffer.backtrack_len() == self.cursor.saturating_add(moved),
+            "the cursor",
+        );
+        wanted(
+            rt,
+            buffer.len() == self.glyphs.len().saturating_add(1),
+            "the length",
+        );
+        wanted(rt, !buffer.has_positions(), "no positions");
+        wanted(rt, buffer.max_ops() == MAX_OPS, "the budget");
+        wanted(rt, Settings::of(buffer) == self.settings, "the settings");
         for place in 0..buffer.len() {
             assert!(rt; *buffer.info(place) == self.glyph_after(call, place));
         }
@@ -171,10 +183,10 @@ impl Before {
     /// Asserts what a call that was refused leaves: all as before, but that the buffer has failed, and that
     /// `clear_positions` leaves no positions.
     fn assert_refused(&self, rt: &impl Abort, buffer: &Line, call: Call) {
-        assert!(rt; !buffer.is_successful());
+        wanted(rt, !buffer.is_successful(), "a failed line");
         self.assert_same(rt, buffer);
         if call == Call::Positions {
-            assert!(rt; !buffer.has_positions());
+            wanted(rt, !buffer.has_positions(), "no positions");
         } else {
             assert_positions(rt, buffer, 1);
         }
@@ -192,7 +204,7 @@ fn call_filled<'h>(
 ) -> Result<Result<(), BufferError>, AllocError> {
     let hoard = Hoard::but(alloc, heap, blocks)?;
     let answer = call_once(rt, buffer, call);
-    assert!(rt; hoard.is_filled());
+    wanted(rt, hoard.is_filled(), "a filled heap");
     Ok(answer)
 }
 
@@ -209,9 +221,15 @@ fn is_refused<'h>(
     let before = Before::of(alloc, buffer)?;
     let answer = call_filled(rt, alloc, heap, buffer, call, blocks)?;
     if let Err(error) = answer {
-        assert!(rt; error == BufferError::OutOfMemory && error.number() == 2);
+        wanted(rt, error == BufferError::OutOfMemory, "want of memory");
+        wanted(rt, error.number() == 2, "its number");
         before.assert_refused(rt, buffer, call);
-        assert!(rt; call_once(rt, buffer, call) == Ok(()) && !buffer.is_successful());
+        wanted(
+            rt,
+            call_once(rt, buffer, call) == Ok(()),
+            "the call made again",
+        );
+        wanted(rt, !buffer.is_successful(), "a line that stays failed");
     }
     before.assert_done(rt, buffer, call);
     Ok(answer.is_err())

@@ -1,11 +1,12 @@
 //! The calls of the builder and of maps that take memory, over heaps of which so many blocks are left.
 
+use crate::asserting;
 use crate::refusal_tests::hoard::{HEAP, Hoard};
 use crate::refusal_tests::rows::{
     RANGES_OF_ROW_5, face_of_row_5, face_of_row_7b, request, requests_of_row_5,
 };
 use aat_layout::font::hb_font_t;
-use aat_layout::{AatError, compile_flags, hb_aat_map_builder_t, hb_aat_map_t};
+use aat_layout::{AatError, compile_flags, feature_range_t, hb_aat_map_builder_t, hb_aat_map_t};
 use linked_list_allocator::LocalHeap;
 use std::alloc::{AllocError, Global};
 use std::process::Abort;
@@ -22,13 +23,27 @@ const MOST: usize = 200;
 
 /// Asserts that a builder has so many requests of row 7b, and that nothing was compiled.
 fn assert_alternates(rt: &impl Abort, builder: &Builder, count: usize) {
-    assert!(rt; builder.features().len() == count && builder.current_features().is_empty());
-    assert!(rt; builder.range() == (0, u32::MAX));
+    asserting::wanted(rt, builder.features().len() == count, "the requests");
+    asserting::wanted(
+        rt,
+        builder.current_features().is_empty(),
+        "nothing compiled",
+    );
+    asserting::wanted(rt, builder.range() == (0, u32::MAX), "the range");
     for request in builder.features() {
-        assert!(rt; request.start == 0 && request.end == u32::MAX);
-        let info = request.info;
-        assert!(rt; info.kind == 17 && info.setting == 65535 && info.is_exclusive);
+        assert!(rt; is_alternate(request));
     }
+}
+
+/// Whether a request is that of row 7b.
+fn is_alternate(request: &feature_range_t) -> bool {
+    (request.start, request.end) == (0, u32::MAX) && is_info(request, 17, 65535, true)
+}
+
+/// Whether a request is for this feature type and setting.
+fn is_info(request: &feature_range_t, kind: u16, setting: u16, is_exclusive: bool) -> bool {
+    let info = request.info;
+    info.kind == kind && info.setting == setting && info.is_exclusive == is_exclusive
 }
 
 /// Adds the request of row 7b while so many blocks are left of the heap.
@@ -42,7 +57,7 @@ fn add_filled<'h>(
 ) -> Result<Result<Option<()>, AatError>, AllocError> {
     let hoard = Hoard::but(alloc, heap, blocks)?;
     let answer = builder.add_feature(face, &request(b"aalt", 65535, 0, u32::MAX));
-    assert!(rt; hoard.is_filled());
+    asserting::wanted(rt, hoard.is_filled(), "a filled heap");
     Ok(answer)
 }
 
@@ -59,10 +74,11 @@ fn is_addition_refused<'h>(
 ) -> Result<bool, AllocError> {
     let answer = add_filled(rt, alloc, heap, face, builder, blocks)?;
     if let Err(error) = answer {
-        assert!(rt; error == AatError::OutOfMemory && error.number() == 3);
+        asserting::wanted(rt, error == AatError::OutOfMemory, "want of memory");
+        asserting::wanted(rt, error.number() == 3, "its number");
         assert_alternates(rt, builder, count);
         let again = builder.add_feature(face, &request(b"aalt", 65535, 0, u32::MAX));
-        assert!(rt; again == Ok(None));
+        asserting::wanted(rt, again == Ok(None), "the call made again");
     }
     assert_alternates(rt, builder, count.saturating_add(1));
     Ok(answer.is_err())
@@ -90,8 +106,19 @@ fn refusals_of_additions(
 #[test]
 fn each_growth_of_requests_refused(rt: HostRuntime) -> Result<(), Fail> {
     let face = face_of_row_7b(rt.alloc())?;
+    let answer = assert_requests_refused(&rt, rt.alloc(), &face);
+    drop(face);
+    Ok(answer?)
+}
+
+/// Asserts how often requests are refused while few blocks are left of a heap.
+fn assert_requests_refused(
+    rt: &impl Abort,
+    alloc: Global,
+    face: &hb_font_t,
+) -> Result<(), AllocError> {
     for blocks in 0..3usize {
-        assert!(&rt; refusals_of_additions(&rt, rt.alloc(), &face, blocks)? >= 3);
+        assert!(rt; refusals_of_additions(rt, alloc, face, blocks)? >= 3);
     }
     Ok(())
 }
@@ -108,11 +135,10 @@ fn builder_of_row_5<'h>(heap: &'h LocalHeap, face: &hb_font_t) -> Result<Builder
 /// Asserts that a builder has the requests of row 5.
 fn assert_requests(rt: &impl Abort, builder: &Builder) {
     let wanted = [(2, 0, 10), (3, 1, 10), (2, 2, 5)];
-    assert!(rt; builder.features().len() == 3);
+    asserting::wanted(rt, builder.features().len() == 3, "three requests");
     for (request, (setting, start, end)) in builder.features().iter().zip(&wanted) {
-        assert!(rt; request.start == *start && request.end == *end);
-        let info = request.info;
-        assert!(rt; info.kind == 1 && info.setting == *setting && !info.is_exclusive);
+        let is_there = (request.start, request.end) == (*start, *end);
+        assert!(rt; is_there && is_info(request, 1, *setting, false));
     }
 }
 
@@ -122,8 +148,8 @@ fn assert_ranges(rt: &impl Abort, map: &Map, wanted: &[(u32, u32, u32)]) {
     let ranges = map.ranges(0);
     assert!(rt; ranges.len() == wanted.len());
     for (range, (first, last, flags)) in ranges.iter().zip(wanted) {
-        assert!(rt; range.cluster_first == *first && range.cluster_last == *last);
-        assert!(rt; range.flags == *flags);
+        let found = (range.cluster_first, range.cluster_last, range.flags);
+        assert!(rt; found == (*first, *last, *flags));
     }
 }
 
@@ -165,7 +191,7 @@ fn compile_filled<'h>(
 ) -> Result<Result<(), AatError>, AllocError> {
     let hoard = Hoard::but(alloc, heap, blocks)?;
     let answer = compile_by(rt, call, face, builder, map);
-    assert!(rt; hoard.is_filled());
+    asserting::wanted(rt, hoard.is_filled(), "a filled heap");
     Ok(answer)
 }
 
@@ -182,18 +208,34 @@ fn is_compiling_refused<'h>(
 ) -> Result<bool, AllocError> {
     let mut map = hb_aat_map_t::default(heap);
     let answer = compile_filled(rt, alloc, heap, call, face, builder, &mut map, blocks)?;
-    assert_requests(rt, builder);
-    if answer.is_err() {
-        assert!(rt; answer == Err(AatError::OutOfMemory) && map.chain_flags().is_empty());
-    } else if call == Call::CompileFlags {
-        assert_ranges(rt, &map, &[(0, u32::MAX, 1)]);
-    }
+    assert_compiled(rt, call, answer, builder, &map);
     if answer.is_err() || call == Call::CompileFlags {
-        assert!(rt; builder.compile(face, &mut map) == Ok(()));
+        asserting::wanted(
+            rt,
+            builder.compile(face, &mut map) == Ok(()),
+            "ample memory",
+        );
     }
     assert_requests(rt, builder);
     assert_ranges(rt, &map, &RANGES_OF_ROW_5);
     Ok(answer.is_err())
+}
+
+/// Asserts what a call that compiles leaves.
+fn assert_compiled(
+    rt: &impl Abort,
+    call: Call,
+    answer: Result<(), AatError>,
+    builder: &Builder,
+    map: &Map,
+) {
+    assert_requests(rt, builder);
+    if answer.is_err() {
+        asserting::wanted(rt, answer == Err(AatError::OutOfMemory), "want of memory");
+        asserting::wanted(rt, map.chain_flags().is_empty(), "an empty map");
+    } else if call == Call::CompileFlags {
+        assert_ranges(rt, map, &[(0, u32::MAX, 1)]);
+    }
 }
 
 /// Compiles the requests of row 5 by a call over a heap of which so many blocks are left. Says whether it was refused.
@@ -230,7 +272,16 @@ fn blocks_to_compile(
 #[test]
 fn each_growth_of_compiling_refused(rt: HostRuntime) -> Result<(), Fail> {
     let face = face_of_row_5(rt.alloc())?;
-    assert!(&rt; blocks_to_compile(&rt, rt.alloc(), Call::Compile, &face)? >= 12);
-    assert!(&rt; blocks_to_compile(&rt, rt.alloc(), Call::CompileFlags, &face)? >= 2);
+    let answer = assert_compiling_refused(&rt, rt.alloc(), &face);
+    drop(face);
+    answer
+}
+
+/// Asserts how many blocks the calls that compile take.
+fn assert_compiling_refused(rt: &impl Abort, alloc: Global, face: &hb_font_t) -> Result<(), Fail> {
+    let compiling = blocks_to_compile(rt, alloc, Call::Compile, face)?;
+    asserting::wanted(rt, compiling >= 12, "the lists of compiling");
+    let flags = blocks_to_compile(rt, alloc, Call::CompileFlags, face)?;
+    asserting::wanted(rt, flags >= 2, "the lists of flags");
     Ok(())
 }

@@ -217,7 +217,6 @@ pub(crate) fn assert_line<A: Allocator + Copy>(
     assert!(rt; buffer.len() == glyphs.len() && buffer.max_ops() == max_ops);
     for place in 0..buffer.len() {
         let glyph = *buffer.info(place);
-        let (glyph_id, cluster, mask) = glyphs[place];
-        assert!(rt; glyph.glyph_id == glyph_id && glyph.cluster == cluster && glyph.mask == mask);
+        assert!(rt; (glyph.glyph_id, glyph.cluster, glyph.mask) == glyphs[place]);
     }
 }

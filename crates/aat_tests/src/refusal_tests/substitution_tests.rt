@@ -1,5 +1,6 @@
 //! Substitution over heaps of which so many blocks are left, and the run of a compiled map without any memory.
 
+use crate::asserting::wanted;
 use crate::refusal_tests::hoard::{HEAP, Hoard};
 use crate::refusal_tests::rows::{
     Glyph, MAX_LEN, Settings, assert_line, face_of_row_12, face_of_row_13, glyphs_of, line_over,
@@ -78,7 +79,7 @@ impl Shaping {
     ) -> Result<Result<u64, AatError>, AllocError> {
         let hoard = Hoard::but(alloc, heap, blocks)?;
         let answer = self.run(rt, memory, buffer);
-        assert!(rt; hoard.is_filled());
+        wanted(rt, hoard.is_filled(), "a filled heap");
         Ok(answer)
     }
 
@@ -90,8 +91,10 @@ impl Shaping {
         buffer: &mut hb_buffer_t<A>,
     ) {
         assert_line(rt, buffer, &FIVE, TWO);
-        assert!(rt; buffer.backtrack_len() == 0 && !buffer.has_positions());
-        assert!(rt; self.run(rt, memory, buffer) == Ok(2) && buffer.is_successful());
+        wanted(rt, buffer.backtrack_len() == 0, "the front");
+        wanted(rt, !buffer.has_positions(), "no positions");
+        wanted(rt, self.run(rt, memory, buffer) == Ok(2), "the turns");
+        wanted(rt, buffer.is_successful(), "a line that has not failed");
         assert_line(rt, buffer, &SEVEN_EIGHT_FIVE, 0);
     }
 
@@ -110,12 +113,19 @@ impl Shaping {
             buffer.backtrack_len(),
             Settings::of(buffer),
         );
-        assert!(rt; buffer.all_glyphs_16() && buffer.len() <= MAX_LEN);
-        assert!(rt; self.run(rt, memory, buffer) == Err(AatError::BufferFailed));
-        assert!(rt; AatError::BufferFailed.number() == 4 && !buffer.is_successful());
+        wanted(
+            rt,
+            buffer.all_glyphs_16() && buffer.len() <= MAX_LEN,
+            "a line within its bounds",
+        );
+        let answer = self.run(rt, memory, buffer);
+        wanted(rt, answer == Err(AatError::BufferFailed), "a failed buffer");
+        wanted(rt, AatError::BufferFailed.number() == 4, "its number");
+        wanted(rt, !buffer.is_successful(), "a line that stays failed");
         assert_line(rt, buffer, &left, budget);
-        assert!(rt; buffer.backtrack_len() == cursor && !buffer.has_positions());
-        assert!(rt; Settings::of(buffer) == settings);
+        wanted(rt, buffer.backtrack_len() == cursor, "the cursor");
+        wanted(rt, !buffer.has_positions(), "no positions");
+        wanted(rt, Settings::of(buffer) == settings, "the settings");
         Ok(())
     }
 
@@ -132,12 +142,12 @@ impl Shaping {
     ) -> Result<Refused, AllocError> {
         let settings = Settings::of(buffer);
         let answer = self.run_filled(rt, alloc, heap, memory, buffer, blocks)?;
-        assert!(rt; Settings::of(buffer) == settings);
+        wanted(rt, Settings::of(buffer) == settings, "the settings");
         if answer == Ok(2) {
             assert_line(rt, buffer, &SEVEN_EIGHT_FIVE, 0);
             return Ok(Refused::Nowhere);
         }
-        assert!(rt; answer == Err(AatError::OutOfMemory));
+        wanted(rt, answer == Err(AatError::OutOfMemory), "want of memory");
         if buffer.is_successful() {
             self.assert_row_13a(rt, memory, buffer);
             return Ok(Refused::Before);
@@ -219,12 +229,19 @@ fn refusals_of_row_13a(
 #[test]
 fn each_growth_of_substitution_refused(rt: HostRuntime) -> Result<(), Fail> {
     let shaping = Shaping::of_row_13(rt.alloc())?;
-    let (before, inside) = refusals_of_row_13a(&rt, rt.alloc(), &shaping, Use::Map)?;
-    assert!(&rt; before >= 3 && inside == 0);
-    let (before, inside) = refusals_of_row_13a(&rt, rt.alloc(), &shaping, Use::Line)?;
-    assert!(&rt; before == 0 && inside >= 3);
-    let (before, inside) = refusals_of_row_13a(&rt, rt.alloc(), &shaping, Use::Both)?;
-    assert!(&rt; before >= 3 && inside >= 1);
+    let answer = assert_each_refused(&rt, rt.alloc(), &shaping);
+    drop(shaping);
+    answer
+}
+
+/// Asserts where row 13a is refused, over a heap for each use.
+fn assert_each_refused(rt: &impl Abort, alloc: Global, shaping: &Shaping) -> Result<(), Fail> {
+    let (before, inside) = refusals_of_row_13a(rt, alloc, shaping, Use::Map)?;
+    wanted(rt, before >= 3 && inside == 0, "the map");
+    let (before, inside) = refusals_of_row_13a(rt, alloc, shaping, Use::Line)?;
+    wanted(rt, before == 0 && inside >= 3, "the line");
+    let (before, inside) = refusals_of_row_13a(rt, alloc, shaping, Use::Both)?;
+    wanted(rt, before >= 3 && inside >= 1, "both");
     Ok(())
 }
 
@@ -272,7 +289,11 @@ fn apply_map<A: Allocator + Copy>(
     assert!(rt; buffer.all_glyphs_16() && map.is_whole());
     let mut context = hb_aat_apply_context_t::new(face, buffer);
     let answer = apply(&mut context, map)?;
-    assert!(rt; answer == Some(()) && context.range_flags.is_none());
+    wanted(
+        rt,
+        answer == Some(()) && context.range_flags.is_none(),
+        "an answer",
+    );
     Ok(context.turns)
 }
 
@@ -320,8 +341,14 @@ fn assert_without_memory(
     let map = map_over(&heap, face, run.is_requested)?;
     let mut buffer = line_over(&heap, run.before, run.budget)?;
     let hoard = Hoard::but(alloc, &heap, 0)?;
-    assert!(rt; apply_map(rt, face, &map, &mut buffer) == Ok(run.turns));
-    assert!(rt; buffer.is_successful() && hoard.is_filled() && heap.free() == 0);
+    let answer = apply_map(rt, face, &map, &mut buffer);
+    wanted(rt, answer == Ok(run.turns), "the turns");
+    wanted(rt, buffer.is_successful(), "a line that has not failed");
+    wanted(
+        rt,
+        hoard.is_filled() && heap.free() == 0,
+        "a heap without memory",
+    );
     assert_line(rt, &buffer, run.after, run.left);
     Ok(())
 }
@@ -330,7 +357,15 @@ fn assert_without_memory(
 #[test]
 fn applied_without_memory(rt: HostRuntime) -> Result<(), Fail> {
     let ligatures = face_of_row_12(rt.alloc())?;
-    assert_without_memory(&rt, rt.alloc(), &ligatures, &ROW_12)?;
+    let answer = assert_without_memory(&rt, rt.alloc(), &ligatures, &ROW_12);
+    drop(ligatures);
+    answer
+}
+
+#[test]
+fn unpaid_without_memory(rt: HostRuntime) -> Result<(), Fail> {
     let unpaid = face_of_row_13(rt.alloc())?;
-    assert_without_memory(&rt, rt.alloc(), &unpaid, &ROW_13B)
+    let answer = assert_without_memory(&rt, rt.alloc(), &unpaid, &ROW_13B);
+    drop(unpaid);
+    answer
 }

@@ -1,5 +1,6 @@
 //! Each table whose rows are copied, over heaps of more and more room.
 
+use crate::asserting::wanted;
 use aat_layout::font::{
     ExtendedStateTable, Feat, FeatureName, GenericStateEntry, GlyphId, Lookup, Pairs, TableError,
 };
@@ -126,11 +127,12 @@ fn is_made_within(
 ) -> Result<bool, AllocError> {
     let heap = LocalHeap::new(alloc, blocks.saturating_mul(16))?;
     let answer = made_over(&heap, made);
-    assert!(rt; heap.used() == 0);
+    wanted(rt, heap.used() == 0, "a heap that holds nothing");
     if answer == Ok(true) {
         return Ok(true);
     }
-    assert!(rt; answer == Err(TableError::OutOfMemory) && TableError::OutOfMemory.number() == 5);
+    wanted(rt, answer == Err(TableError::OutOfMemory), "want of memory");
+    wanted(rt, TableError::OutOfMemory.number() == 5, "its number");
     Ok(false)
 }
 
