@@ -149,6 +149,7 @@ fn apple(rt: HostRuntime) -> Result<(), Fail> {
     };
     check_machine(machine)?;
     assert!(rt; left_out_of_kern(rt.alloc(), &bytes)?.is_empty());
+    assert!(rt; bytes.len() == 80);
     bytes[29] = 4;
     let left_out = left_out_of_kern(rt.alloc(), &bytes)?;
     assert!(rt; left_out.as_slice() == [1].as_slice());
