@@ -1,40 +1,16 @@
 -- Lines of ligature, rearrangement and insertion subtables that cannot be cut, though no mark says so: what the whole
--- line's run leaves, and what those of its parts leave. A glyph is an id and a cluster.
-use Rattle.std.specs.Prelude.{◌≡◌, ◌==◌, ℕ, Bool, List, [], ◌∷◌, ◌++◌, map}
+-- line's run leaves, and what those of its parts leave.
+use Rattle.std.specs.Prelude.{◌==◌, ℕ, Bool, List, [], ◌∷◌}
 use Rattle.aat_buffer.specs.Buffer.{Buffer}
-use Rattle.aat_buffer.specs.Examples.{masks_of}
 use Rattle.aat_font.specs.Table.{Rule, TableValue}
 use Rattle.aat_font.specs.declared.state_table.GenericStateEntry.{GenericStateEntry}
 use Rattle.aat_kinds.specs.Insertion as insertion
 use Rattle.aat_kinds.specs.Kinds.{insertion_run, ligature_run, rearrangement_run, reversed_run}
-use Rattle.aat_cut_laws.specs.Parts.{back_part, front_part}
-use Rattle.aat_cut_kinds.specs.CutExamples.{everywhere, line_of}
-
--- the glyphs along a line
-abbrev pub glyphs_of : Buffer → List (ℕ × ℕ)
-glyphs_of b = map (λ g. (g.glyph_id, g.cluster)) b.line
-
--- what a run over a line leaves, over its glyphs before place q, and over those from there on
-pub record LeavesGlyphs (run : Buffer → Buffer) (q : ℕ) (line whole front back : List (ℕ × ℕ)) (masks : List ℕ) : Type 0
-  where
-    pub left : glyphs_of (run (line_of line)) ≡ whole
-    pub marked : masks_of (run (line_of line)) ≡ masks
-    pub left_of_front : glyphs_of (run (front_part q (line_of line))) ≡ front
-    pub left_of_back : glyphs_of (run (back_part q (line_of line))) ≡ back
+use Rattle.aat_cut_kinds.specs.CutExamples.{Leaves, everywhere, line_of, table_with}
 
 -- an entry to a state, with flags and what else it holds
 abbrev pub entry_with : {T : Type 0} → ℕ → ℕ → T → GenericStateEntry T
 entry_with state flags extra = record { new_state = state; flags = flags; extra = extra }
-
--- one entry for each class of states 0 and 1
-abbrev pub all_idle : {E : Type 0} → E → List (Rule E)
-all_idle e =
-    (0, 0, e) ∷ (0, 1, e) ∷ (0, 2, e) ∷ (0, 3, e) ∷ (0, 4, e) ∷ (1, 0, e) ∷ (1, 1, e) ∷ (1, 2, e) ∷ (1, 3, e)
-    ∷ (1, 4, e) ∷ []
-
--- a table of five classes with these rules, and else the same entry everywhere
-abbrev pub table_with : {E : Type 0} → List (ℕ × ℕ) → List (Rule E) → E → TableValue E
-table_with classes rules e = record { class_count = 5; classes = classes; rules = rules ++ all_idle e }
 
 -- a ligature table of five classes, whose other entries do nothing
 abbrev pub ligature_table : List (ℕ × ℕ) → List (Rule (GenericStateEntry ℕ)) → TableValue (GenericStateEntry ℕ)
@@ -110,30 +86,31 @@ put_in_by on table b = (insertion_run on table (record { 0 = 1 } ∷ []) b).buff
 -- a component that was pushed before the cut is taken behind it; and two entries are taken for one of which one pushes
 pub record LigatureCutExamples : Type 0 where
   pub a_component_outlives_the_cut :
-      LeavesGlyphs (ligatures_by pushing_in_start 0xFFFFFFFF (0 ∷ 0 ∷ 1 ∷ 0 ∷ [])) 1 ((4, 5) ∷ (3, 6) ∷ (1, 7) ∷ [])
-      ((3, 5) ∷ (3, 6) ∷ (1, 7) ∷ []) ((4, 5) ∷ []) ((3, 6) ∷ (1, 7) ∷ []) (0 ∷ 0 ∷ 3 ∷ [])
+      Leaves (ligatures_by pushing_in_start 0xFFFFFFFF (0 ∷ 0 ∷ 1 ∷ 0 ∷ [])) 1
+      (line_of ((4, 5) ∷ (3, 6) ∷ (1, 7) ∷ []))
+      ((3, 5, 0) ∷ (3, 6, 0) ∷ (1, 7, 3) ∷ []) ((4, 5, 0) ∷ []) ((3, 6, 0) ∷ (1, 7, 3) ∷ [])
   pub two_entries_are_taken_for_one :
-      LeavesGlyphs (ligatures_by pushing_apart 0xBFFFFFFF (0 ∷ 0 ∷ [])) 1 ((2, 2) ∷ (3, 3) ∷ (1, 4) ∷ [])
-      ((3, 2) ∷ (3, 3) ∷ (1, 4) ∷ []) ((2, 2) ∷ []) ((3, 3) ∷ (1, 4) ∷ []) (0 ∷ 0 ∷ 3 ∷ [])
+      Leaves (ligatures_by pushing_apart 0xBFFFFFFF (0 ∷ 0 ∷ [])) 1 (line_of ((2, 2) ∷ (3, 3) ∷ (1, 4) ∷ []))
+      ((3, 2, 0) ∷ (3, 3, 0) ∷ (1, 4, 3) ∷ []) ((2, 2, 0) ∷ []) ((3, 3, 0) ∷ (1, 4, 3) ∷ [])
 
 -- the end of the text ends a span by itself; a marked glyph moves inside its cluster; and a merge splits a cluster where
 -- the line is taken backward
 pub record RearrangementCutExamples : Type 0 where
   pub the_end_of_the_text_acts :
-      LeavesGlyphs (rearranged_by ending_and_moving) 2 ((4, 3) ∷ (4, 4) ∷ (2, 5) ∷ []) ((4, 3) ∷ (4, 4) ∷ (2, 5) ∷ [])
-      ((4, 3) ∷ (4, 3) ∷ []) ((2, 5) ∷ []) (0 ∷ 0 ∷ 0 ∷ [])
+      Leaves (rearranged_by ending_and_moving) 2 (line_of ((4, 3) ∷ (4, 4) ∷ (2, 5) ∷ []))
+      ((4, 3, 0) ∷ (4, 4, 0) ∷ (2, 5, 0) ∷ []) ((4, 3, 0) ∷ (4, 3, 0) ∷ []) ((2, 5, 0) ∷ [])
   pub the_marked_glyph_moves :
-      LeavesGlyphs (rearranged_by moving_to_start) 1 ((2, 1) ∷ (3, 3) ∷ (2, 4) ∷ []) ((2, 1) ∷ (2, 3) ∷ (3, 3) ∷ [])
-      ((2, 1) ∷ []) ((3, 3) ∷ (2, 4) ∷ []) (0 ∷ 0 ∷ 3 ∷ [])
+      Leaves (rearranged_by moving_to_start) 1 (line_of ((2, 1) ∷ (3, 3) ∷ (2, 4) ∷ []))
+      ((2, 1, 0) ∷ (2, 3, 0) ∷ (3, 3, 3) ∷ []) ((2, 1, 0) ∷ []) ((3, 3, 0) ∷ (2, 4, 0) ∷ [])
   pub a_merge_splits_a_cluster :
-      LeavesGlyphs (rearranged_backward_by moving_deleted) 1 ((2, 0) ∷ (65535, 2) ∷ (4, 2) ∷ [])
-      ((65535, 0) ∷ (2, 0) ∷ (4, 2) ∷ []) ((2, 0) ∷ []) ((65535, 2) ∷ (4, 2) ∷ []) (0 ∷ 0 ∷ 0 ∷ [])
+      Leaves (rearranged_backward_by moving_deleted) 1 (line_of ((2, 0) ∷ (65535, 2) ∷ (4, 2) ∷ []))
+      ((65535, 0, 0) ∷ (2, 0, 0) ∷ (4, 2, 0) ∷ []) ((2, 0, 0) ∷ []) ((65535, 2, 0) ∷ (4, 2, 0) ∷ [])
 
 -- the glyph behind the cut is off, so that no turn asks; and a missing entry ends the run
 pub record InsertionCutExamples : Type 0 where
   pub no_turn_asks_where_it_is_off :
-      LeavesGlyphs (put_in_by (λ x. x == 6) putting_in_at_end) 1 ((2, 6) ∷ (4, 8) ∷ []) ((2, 6) ∷ (4, 8) ∷ [])
-      ((2, 6) ∷ (1, 6) ∷ []) ((4, 8) ∷ []) (0 ∷ 0 ∷ [])
+      Leaves (put_in_by (λ x. x == 6) putting_in_at_end) 1 (line_of ((2, 6) ∷ (4, 8) ∷ []))
+      ((2, 6, 0) ∷ (4, 8, 0) ∷ []) ((2, 6, 0) ∷ (1, 6, 0) ∷ []) ((4, 8, 0) ∷ [])
   pub a_missing_entry_ends_the_run :
-      LeavesGlyphs (put_in_by everywhere putting_in_with_a_gap) 1 ((4, 0) ∷ (65535, 1) ∷ []) ((4, 0) ∷ (65535, 1) ∷ [])
-      ((4, 0) ∷ []) ((65535, 1) ∷ (1, 1) ∷ []) (0 ∷ 0 ∷ [])
+      Leaves (put_in_by everywhere putting_in_with_a_gap) 1 (line_of ((4, 0) ∷ (65535, 1) ∷ []))
+      ((4, 0, 0) ∷ (65535, 1, 0) ∷ []) ((4, 0, 0) ∷ []) ((65535, 1, 0) ∷ (1, 1, 0) ∷ [])

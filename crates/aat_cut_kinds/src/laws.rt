@@ -14,10 +14,10 @@ pub fn noncontextual_cut()
     ensures { NoncontextualLeavesParts }
 {}
 
-/// Where all clusters before a place are below some c, none from there on is, and a complete insertion subtable is on
-/// there, and leaves the first glyph not below c unmarked, and some of the budget, it leaves what it leaves of the line
-/// up to there, then of the rest, with masks, and of neither part less of the budget. An entry that puts no glyphs in
-/// has to name no run.
+/// Where all clusters before a place inside the line are below some c, none from there on is, and a complete insertion
+/// subtable is on there, and leaves the first glyph not below c unmarked, and some of the budget, it leaves what it
+/// leaves of the line up to there, then of the rest, with masks, and of neither part less of the budget. An entry that
+/// puts no glyphs in has to name no run.
 pub fn unmarked_insertion_cut()
     ensures { InsertionLeavesParts }
 {}
@@ -33,10 +33,10 @@ pub fn reversed_cut()
     ensures { ReversedLeavesParts }
 {}
 
-/// Where all clusters before a place are below some c, none from there on is, and a complete insertion subtable takes
-/// the line from its end, and is on at the glyph before the place, and leaves the first glyph not below c unmarked, and
-/// some of the budget, it leaves what it leaves of the line up to there, then of the rest, with masks, and of neither
-/// part less of the budget. An entry that puts no glyphs in has to name no run.
+/// Where all clusters before a place inside the line are below some c, none from there on is, and a complete insertion
+/// subtable takes the line from its end, and is on at the glyph before the place, and leaves the first glyph not below
+/// c unmarked, and some of the budget, it leaves what it leaves of the line up to there, then of the rest, with masks,
+/// and of neither part less of the budget. An entry that puts no glyphs in has to name no run.
 pub fn unmarked_backward_insertion_cut()
     ensures { BackwardInsertionLeavesParts }
 {}

@@ -3,6 +3,7 @@ ghost use Rattle.aat_cut_kinds.specs.CutExamples.{CutExamples};
 ghost use Rattle.aat_cut_kinds.specs.EmptyRunExamples.{EmptyRunExamples};
 ghost use Rattle.aat_cut_kinds.specs.FallExamples.{FallExamples};
 ghost use Rattle.aat_cut_kinds.specs.OtherCutExamples.{InsertionCutExamples, LigatureCutExamples, RearrangementCutExamples};
+ghost use Rattle.aat_cut_kinds.specs.PremiseExamples.{BackwardPremises, ContextualPremises, FallingPremises, RisingPremises};
 
 /// What a settled contextual subtable leaves of a line and of its parts, and five lines whose parts leave something else.
 #[tactic(auto, using(crate::proofs::Examples::cut_examples))]
@@ -28,8 +29,8 @@ pub fn insertions_over_cuts()
     ensures { InsertionCutExamples }
 {}
 
-/// Lines whose clusters fall as an insertion subtable takes them: two that are cut, one where the mark before the cut
-/// tells that it is not, and one whose parts have other marks, since an entry that puts no glyphs in names a run.
+/// Lines whose clusters fall as an insertion subtable takes them: two that are cut, and one where the mark before the cut
+/// tells that it is not.
 #[tactic(auto, using(crate::proofs::Examples::fall_examples))]
 pub fn insertions_where_clusters_fall()
     ensures { FallExamples }
@@ -40,4 +41,29 @@ pub fn insertions_where_clusters_fall()
 #[tactic(auto, using(crate::proofs::Examples::empty_run_examples))]
 pub fn insertions_of_no_glyphs()
     ensures { EmptyRunExamples }
+{}
+
+/// Lines whose parts leave something else in a settled contextual subtable, since one premise fails and no other: no
+/// cluster starts at the place, the cut is marked, or no budget is left.
+#[tactic(auto, using(crate::proofs::Examples::contextual_premises))]
+pub fn contextual_premises_of_a_place()
+    ensures { ContextualPremises }
+{}
+
+/// The same in insertion subtables, where the clusters rise.
+#[tactic(auto, using(crate::proofs::Examples::rising_premises))]
+pub fn insertion_premises_of_a_place()
+    ensures { RisingPremises }
+{}
+
+/// Where the clusters fall: a missing entry, a subtable that is off, no budget left.
+#[tactic(auto, using(crate::proofs::Examples::falling_premises))]
+pub fn insertion_premises_at_a_fall()
+    ensures { FallingPremises }
+{}
+
+/// From the end of the line: these, no cluster that starts, and a marked cut.
+#[tactic(auto, using(crate::proofs::Examples::backward_premises))]
+pub fn insertion_premises_from_the_end()
+    ensures { BackwardPremises }
 {}

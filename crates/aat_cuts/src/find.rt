@@ -1,4 +1,4 @@
-//! The question of a subtable, and of the subtables of a font.
+//! The question of a subtable.
 ghost use Rattle.std.specs.Prelude.{◌≡◌, ℕ, IfOk, None, Some};
 ghost use Rattle.aat_cuts.specs.Kinds.{IsVerdictOn};
 
@@ -10,14 +10,15 @@ use std::alloc::{AllocError, Global};
 
 /// Finds why a subtable is not settled, if it is not.
 ///
-/// `None` says that it is settled. A contextual machine and a rearrangement are settled where each reached state has an
-/// entry for each class, and where states can be labelled with registers, all set there since state 0, so that an entry
-/// uses only those of its state, and none is taken for that of state 0 for its class where the two set one differently
-/// that the next state has. A settled rearrangement also moves nothing at the end of the text by an entry that ends the
+/// `None` says that it is settled. A contextual machine and a rearrangement are settled where each reached state has
+/// an entry for each class, and where states can be labelled with registers, all set there since state 0, so that an
+/// entry uses only those of its state or, of a rearrangement, that it sets itself (at the end of the text a current
+/// lookup uses the mark), and none is taken for that of state 0 for its class where the two set one differently that
+/// the next state has. A settled rearrangement also moves nothing at the end of the text by an entry that ends the
 /// span. A ligature machine is settled where each such entry is there, and where states can be labelled with up to 64
-/// components, all held there since state 0, so that none takes more, and none is taken for that of state 0 where only
-/// one of the two pushes and the next state has components. An insertion machine needs its entries alone. Noncontextual
-/// subtables have no machine, and are always settled.
+/// components, all held there since state 0, so that none takes more than are held behind its own push, and none is
+/// taken for that of state 0 where only one of the two pushes and the next state has components. An insertion machine
+/// needs its entries alone. Noncontextual subtables have no machine, and are always settled.
 ///
 /// A reason says that it is not settled, and shows what [`Unsettled`] says of it.
 ///

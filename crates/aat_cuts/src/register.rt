@@ -165,7 +165,8 @@ pub(crate) fn steps_of<T: Copy, R: MachineRegister<T>>(
         .collect(alloc)
 }
 
-/// Finds what keeps a register of a machine from being set before it is used, if anything does.
+/// Finds an entry that uses a register of a machine that may not be set, or else one that is taken for that of state
+/// 0, which sets it differently, where it may be used behind them.
 pub(crate) fn find_in_register<T: Copy, R: MachineRegister<T>>(
     alloc: Global,
     register: &R,

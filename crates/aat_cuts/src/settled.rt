@@ -105,7 +105,8 @@ fn is_moving_end(cell: &Cell<()>) -> bool
         && cell.2.flags & rearrangement::MARK_LAST != 0
 }
 
-/// Why one end of the span of a rearrangement is not set before it is used, if it is not.
+/// An entry that uses one end of the span of a rearrangement where it may not be set, or else one that is taken for
+/// that of state 0, which sets it differently, where it may be used behind them.
 fn find_in_end(
     alloc: Global,
     table: &ExtendedStateTable<()>,

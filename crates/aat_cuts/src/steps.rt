@@ -1,4 +1,4 @@
-//! Whether one register of a machine is set before it is used.
+//! Whether one register of a machine is set before it is used, also where an entry is taken for that of state 0.
 ghost use Rattle.std.specs.Prelude.{◌≡◌, ◌≢◌, ◌≤◌, ◌<◌, ◌∷◌, ◌++◌, ℕ, [], None, Some, true, false, Bool, IfOk, IfSome, IfNone, OnOk, map, filter, find, nat_lt, ◌&&◌, not};
 ghost use Rattle.std.specs.List.{All, Contains};
 ghost use Rattle.aat_cuts.specs.Labels.{AreLabels, AreLeast};
@@ -31,7 +31,7 @@ pub(crate) struct Step {
 pub(crate) enum Trouble {
     /// It uses the register, which may not be set.
     Unset(u16, u16),
-    /// It is taken for that of state 0, which sets the register differently, and the register is used behind it.
+    /// It is taken for that of state 0, which sets the register differently, and the register may be used behind it.
     Taken(u16, u16),
 }
 
@@ -150,7 +150,8 @@ fn first_taken(steps: &[Step], labels: &[u8]) -> Option<Step>
     None
 }
 
-/// Finds what keeps a register from being set before it is used, if anything does.
+/// Finds an entry that uses a register that may not be set, or else one that is taken for that of state 0, which sets
+/// it differently, where it may be used behind them.
 pub(crate) fn find_trouble(alloc: Global, steps: &[Step]) -> Result<Option<Trouble>, AllocError>
     ensures { IfOk result (IsFoundOf steps.now) }
 {

@@ -40,6 +40,6 @@ pub enum Unsettled {
     MovesAtEnd(u16),
     /// Wherever as many components are held as actions take, this state holds more than it may: some in state 0, or in
     /// another state more than 64, which is how many slots there are.
-    #[error("more components may be taken from state {0} on than are held")]
+    #[error("state {0} would have to hold more components than it may")]
     TooFewComponents(u16),
 }

@@ -1,5 +1,5 @@
-//! Small machines drawn at random: where one is settled, its lines are cut at each place without a mark, and the parts
-//! come out as the line does.
+//! Small machines drawn at random: where one is settled, its lines are cut at each cluster none of whose glyphs has a
+//! mark, and the parts come out as the line does.
 
 use crate::machines::{
     Cell, contextual, entry, inserted, insertion, ligature, lookups, rearrangement,
@@ -40,9 +40,13 @@ impl Draw {
 /// The classes of the glyphs 1 to 4.
 const CLASSES: [(u16, u16); 4] = [(1, 4), (2, 5), (3, 4), (4, 1)];
 
-/// An entry of a contextual machine.
+/// An entry of a contextual machine. Most that lead to another state than 0 set the mark.
 fn contextual_entry(draw: &mut Draw, state: u16, class: u16) -> Cell<ContextualEntryData> {
-    let flags = if draw.is_within(50) { 0x8000 } else { 0 };
+    let next = draw.below(3);
+    let mut flags = 0;
+    if draw.is_within(if next > 0 { 90 } else { 50 }) {
+        flags = 0x8000;
+    }
     let mark = if state > 0 && draw.is_within(30) {
         0
     } else {
@@ -53,11 +57,7 @@ fn contextual_entry(draw: &mut Draw, state: u16, class: u16) -> Cell<ContextualE
     } else {
         NO_INDEX
     };
-    (
-        state,
-        class,
-        entry(draw.below(3), flags, lookups(mark, current)),
-    )
+    (state, class, entry(next, flags, lookups(mark, current)))
 }
 
 /// An entry of a ligature machine.
@@ -295,61 +295,79 @@ fn cuts_of_lines(
     Ok(Some(cuts))
 }
 
-/// Draws a machine, and cuts lines of it where it is settled. Answers how many cuts were tried, 0 where it is not
-/// settled, or none where one failed.
+/// Draws a machine, and cuts lines of it where it is settled. Answers how many machines were settled and how many cuts
+/// were tried, or none where one failed.
 fn cuts_of_drawn(
     alloc: Global,
     face: &hb_font_t,
     kind: Drawn,
     draw: &mut Draw,
-) -> Result<Option<usize>, Fail> {
+) -> Result<Option<(usize, usize)>, Fail> {
     let subtable = machine(alloc, draw, kind)?;
     if find_unsettled(alloc, &subtable)?.is_some() {
-        return Ok(Some(0));
+        return Ok(Some((0, 0)));
     }
-    cuts_of_lines(alloc, face, &subtable, draw)
+    let Some(cuts) = cuts_of_lines(alloc, face, &subtable, draw)? else {
+        return Ok(None);
+    };
+    Ok(Some((1, cuts)))
 }
 
-/// Tries machines of a kind. Answers how many cuts were tried, or none where one failed.
-fn tried(alloc: Global, kind: Drawn, machines: usize) -> Result<Option<usize>, Fail> {
+/// Tries machines of a kind. Answers how many of them were settled and how many cuts were tried, or none where one
+/// failed.
+fn tried(alloc: Global, kind: Drawn, machines: usize) -> Result<Option<(usize, usize)>, Fail> {
     let face = hb_font_t::from_tables(FaceTables::default());
     let mut draw = Draw {
         state: 0x9E37_79B9_7F4A_7C15,
     };
+    let mut settled: usize = 0;
     let mut cuts: usize = 0;
     for _ in 0..machines {
         let Some(count) = cuts_of_drawn(alloc, &face, kind, &mut draw)? else {
             return Ok(None);
         };
-        cuts = cuts.saturating_add(count);
+        settled = settled.saturating_add(count.0);
+        cuts = cuts.saturating_add(count.1);
     }
-    Ok(Some(cuts))
+    Ok(Some((settled, cuts)))
 }
 
 #[test]
 fn parts_of_contextual_machines(rt: HostRuntime) -> Result<(), Fail> {
-    let found = tried(rt.alloc(), Drawn::Contextual, 50)?;
-    assert!(rt; found.is_some_and(|cuts| cuts > 0), "{found:?}");
+    let found = tried(rt.alloc(), Drawn::Contextual, 40)?;
+    assert!(rt;
+        found.is_some_and(|(settled, cuts)| settled == 31 && cuts > 0),
+        "{found:?}"
+    );
     Ok(())
 }
 
 #[test]
 fn parts_of_ligature_machines(rt: HostRuntime) -> Result<(), Fail> {
     let found = tried(rt.alloc(), Drawn::Ligature, 50)?;
-    assert!(rt; found.is_some_and(|cuts| cuts > 0), "{found:?}");
+    assert!(rt;
+        found.is_some_and(|(settled, cuts)| settled == 28 && cuts > 0),
+        "{found:?}"
+    );
     Ok(())
 }
 
 #[test]
 fn parts_of_insertion_machines(rt: HostRuntime) -> Result<(), Fail> {
-    let found = tried(rt.alloc(), Drawn::Insertion, 10)?;
-    assert!(rt; found.is_some_and(|cuts| cuts > 0), "{found:?}");
+    let found = tried(rt.alloc(), Drawn::Insertion, 30)?;
+    assert!(rt;
+        found.is_some_and(|(settled, cuts)| settled == 30 && cuts > 0),
+        "{found:?}"
+    );
     Ok(())
 }
 
 #[test]
 fn parts_of_rearrangements(rt: HostRuntime) -> Result<(), Fail> {
     let found = tried(rt.alloc(), Drawn::Rearrangement, 30)?;
-    assert!(rt; found.is_some_and(|cuts| cuts > 0), "{found:?}");
+    assert!(rt;
+        found.is_some_and(|(settled, cuts)| settled == 28 && cuts > 0),
+        "{found:?}"
+    );
     Ok(())
 }

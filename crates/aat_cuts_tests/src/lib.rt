@@ -1,5 +1,6 @@
-//! The tests of `aat_cuts`: a small machine that fails each premise, texts, the machines of the worked rows, and
-//! small machines drawn at random whose lines are cut.
+//! The tests of `aat_cuts`: a small machine that fails each premise, texts, the machines of the worked rows, a font, a
+//! long chain of states, and small machines drawn at random whose lines are cut. And that of the context of
+//! `aat_cut_contexts`.
 #![tactic(auto)]
 
 #[cfg(test)]

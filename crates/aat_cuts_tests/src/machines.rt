@@ -92,7 +92,7 @@ pub fn rearrangement(
     Ok(SubtableKind::Rearrangement(table(alloc, classes, cells, ())?))
 }
 
-/// A ligature subtable of one action, whose numbers are all 0 or 1, and one ligature.
+/// A ligature subtable of one action, of four components that are all 0, and of one ligature.
 pub fn ligature(
     alloc: Global,
     classes: &[(u16, u16)],

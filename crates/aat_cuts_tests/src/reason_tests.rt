@@ -1,4 +1,4 @@
-//! The smallest machine that fails each premise, with its reason, and the texts of reasons.
+//! The smallest machine that fails each premise, with its reason, and the texts of all five reasons.
 
 use crate::machines::{contextual, entry, inserted, insertion, ligature, lookups, rearrangement};
 use aat_cuts::{Unsettled, UsedRegister, find_unsettled};
@@ -152,6 +152,21 @@ fn texts(rt: HostRuntime) -> Result<(), Fail> {
         used.as_str() == "the entry of state 1 and class 4 uses the mark, which may not be set"
     );
     let few = format!(in alloc; "{}", Unsettled::TooFewComponents(3))?;
-    assert!(rt; few.as_str() == "more components may be taken from state 3 on than are held");
+    assert!(rt; few.as_str() == "state 3 would have to hold more components than it may");
+    Ok(())
+}
+
+#[test]
+fn texts_of_rearrangement_and_ligatures(rt: HostRuntime) -> Result<(), Fail> {
+    let alloc = rt.alloc();
+    let taken = Unsettled::TakenForOne(UsedRegister::Components, 1, 4);
+    let taken = format!(in alloc; "{taken}")?;
+    let text =
+        "the entry of state 1 and class 4 may be taken for that of state 0, but only one of them sets the components";
+    assert!(rt; taken.as_str() == text);
+    let moves = format!(in alloc; "{}", Unsettled::MovesAtEnd(2))?;
+    let text =
+        "the entry of state 2 for the end of the text sets the end of the span and moves glyphs";
+    assert!(rt; moves.as_str() == text);
     Ok(())
 }

@@ -5,8 +5,12 @@ use Rattle.std.proofs.lemmas.Bool.{cases_lt}
 use Rattle.aat_font.specs.Table.{TableValue, entry_of}
 use Rattle.aat_font.specs.declared.state_table.GenericStateEntry.{GenericStateEntry}
 use Rattle.aat_kinds.specs.Contextual.{Entry}
-use Rattle.aat_cut_kinds.specs.CutExamples.{entry_to, idle_to, marks_to, rules_apart, rules_at_end, rules_for_an_end, rules_unanswered, rules_with_a_gap, settled_rules, table_of}
+use Rattle.aat_cut_kinds.specs.CutExamples.{entry_to, idle_to, marked_till_end, marking_apart, marks_to, missing_a_lookup, replaces_current, replaces_marked, replacing_at_end, replacing_before_five, replacing_with_a_gap}
+use Rattle.aat_cut_kinds.specs.EmptyRunExamples.{naming_a_run, puts_none_at_mark}
+use Rattle.aat_cut_kinds.specs.FallExamples.{putting_in_between}
 use Rattle.aat_cut_kinds.specs.OtherCutExamples.{ending_and_moving, entry_with, moving_deleted, moving_to_start, pushing_apart, pushing_in_start, putting_in_at_end, putting_in_with_a_gap}
+use Rattle.aat_cut_kinds.specs.PremiseExamples.{putting_in_on_return, replacing_on_return}
+use Rattle.aat_cut_kinds.specs.Settled.{IsPlain}
 use Rattle.aat_cuts.specs.Held.{HoldsOver, IsLigatureAgreeing, IsLigatureTidy, IsSufficient}
 use Rattle.aat_cuts.specs.Kinds.{IsContextualSettled, IsInsertionSettled, IsQuietAtEnd, IsRearrangementSettled}
 use Rattle.aat_cuts.specs.Reached.{AreFollowed, IsComplete, IsReached}
@@ -33,29 +37,29 @@ clash : (b : Bool) → b ≡ true → b ≡ false → ⊥
 clash b is is_not = let both : true ≡ false = sym is ∙ is_not in cc
 
 -- contextual: no labelling goes with the entry for the end of the text
-untidy_at_end : IsNeverTidy (table_of rules_at_end) (the_mark 1)
+untidy_at_end : IsNeverTidy marked_till_end (the_mark 1)
 untidy_at_end is_reached is_live complete tidy =
-    let one : is_reached 1 ≡ true = leads (table_of rules_at_end) is_reached complete 0 4 (idle_to 1) complete.first refl in
-    let live : is_live 1 ≡ true = tidy.at_end 1 (entry_to 0 0 0xFFFF 0) one refl refl in
-    clash (is_live 0) (tidy.kept 0 4 (idle_to 1) complete.first (4, refl) refl live) tidy.first
+    let one : is_reached 1 ≡ true = leads marked_till_end is_reached complete 0 4 (idle_to 1) complete.first refl in
+    let live : is_live 1 ≡ true = tidy.at_end 1 replaces_current one refl refl in
+    clash (is_live 0) (tidy.kept 0 4 (idle_to 1) complete.first (2, refl) refl live) tidy.first
 
 -- nor with the one that asks for the mark behind the missing lookup
-untidy_unanswered : IsNeverTidy (table_of rules_unanswered) (the_mark 1)
+untidy_unanswered : IsNeverTidy missing_a_lookup (the_mark 1)
 untidy_unanswered is_reached is_live complete tidy =
-    let one : is_reached 1 ≡ true = leads (table_of rules_unanswered) is_reached complete 0 5 (entry_to 1 0x8000 0xFFFF 9) complete.first refl in
-    let live : is_live 1 ≡ true = tidy.used 1 6 (entry_to 0 0 0 0xFFFF) one refl refl in
-    clash (is_live 0) (tidy.kept 0 5 (entry_to 1 0x8000 0xFFFF 9) complete.first (5, refl) refl live) tidy.first
+    let one : is_reached 1 ≡ true = leads missing_a_lookup is_reached complete 0 3 (entry_to 1 0x8000 0xFFFF 9) complete.first refl in
+    let live : is_live 1 ≡ true = tidy.used 1 4 replaces_marked one refl refl in
+    clash (is_live 0) (tidy.kept 0 3 (entry_to 1 0x8000 0xFFFF 9) complete.first (5, refl) refl live) tidy.first
 
 -- one of two entries that are taken for one sets the mark
-disagreeing_apart : IsRegisterUnsettled (table_of rules_apart) (the_mark 1)
+disagreeing_apart : IsRegisterUnsettled marking_apart (the_mark 1)
 disagreeing_apart is_reached is_live complete tidy agreeing =
-    let one : is_reached 1 ≡ true = leads (table_of rules_apart) is_reached complete 0 1 (marks_to 1) complete.first refl in
-    let live : is_live 1 ≡ true = tidy.used 1 4 (entry_to 0 0 0 0xFFFF) one refl refl in
+    let one : is_reached 1 ≡ true = leads marking_apart is_reached complete 0 1 (marks_to 1) complete.first refl in
+    let live : is_live 1 ≡ true = tidy.used 1 4 replaces_marked one refl refl in
     let both : false ≡ true = agreeing.agreed 1 1 (idle_to 1) (marks_to 1) one (0, refl) refl refl refl refl refl refl live in
     cc
 
-incomplete_contextual : IsIncomplete (table_of rules_with_a_gap)
-incomplete_contextual is_reached complete = lacks_none (table_of rules_with_a_gap) is_reached complete 0 4 complete.first refl
+incomplete_contextual : IsIncomplete replacing_with_a_gap
+incomplete_contextual is_reached complete = lacks_none replacing_with_a_gap is_reached complete 0 3 complete.first refl
 
 incomplete_insertion : IsIncomplete putting_in_with_a_gap
 incomplete_insertion is_reached complete = lacks_none putting_in_with_a_gap is_reached complete 0 1 complete.first refl
@@ -108,13 +112,13 @@ untidy_start is_reached is_live complete tidy = clash (is_live 0) (tidy.used 0 0
 unquiet_at_end : (is_reached : ℕ → Bool) → IsComplete ending_and_moving is_reached → IsQuietAtEnd ending_and_moving is_reached → ⊥
 unquiet_at_end is_reached complete quiet = let both : true ≡ false = quiet 0 (entry_with 0 0x2004 tt) complete.first refl in cc
 
-settled_contextual : IsContextualSettled (table_of settled_rules) 1
+settled_contextual : IsContextualSettled replacing_before_five 1
 settled_contextual =
-    (λ s. nat_lt s 2, complete_by (table_of settled_rules) 2 (lit< tt) refl refl, (λ s. s == 1, tidy_by (table_of settled_rules) 2 (lit< tt) (the_mark 1) (λ s. s == 1) refl refl, agreeing_by (table_of settled_rules) 2 (lit< tt) (the_mark 1) (λ s. s == 1) refl))
+    (λ s. nat_lt s 2, complete_by replacing_before_five 2 (lit< tt) refl refl, (λ s. s == 1, tidy_by replacing_before_five 2 (lit< tt) (the_mark 1) (λ s. s == 1) refl refl, agreeing_by replacing_before_five 2 (lit< tt) (the_mark 1) (λ s. s == 1) refl))
 
-settled_for_an_end : IsContextualSettled (table_of rules_for_an_end) 1
+settled_for_an_end : IsContextualSettled replacing_at_end 1
 settled_for_an_end =
-    (λ s. nat_lt s 2, complete_by (table_of rules_for_an_end) 2 (lit< tt) refl refl, (λ s. s == 1, tidy_by (table_of rules_for_an_end) 2 (lit< tt) (the_mark 1) (λ s. s == 1) refl refl, agreeing_by (table_of rules_for_an_end) 2 (lit< tt) (the_mark 1) (λ s. s == 1) refl))
+    (λ s. nat_lt s 2, complete_by replacing_at_end 2 (lit< tt) refl refl, (λ s. s == 1, tidy_by replacing_at_end 2 (lit< tt) (the_mark 1) (λ s. s == 1) refl refl, agreeing_by replacing_at_end 2 (lit< tt) (the_mark 1) (λ s. s == 1) refl))
 
 settled_to_start : IsRearrangementSettled moving_to_start
 settled_to_start = (
@@ -134,31 +138,39 @@ settled_deleted = (
   quiet_by moving_deleted 2 (lit< tt) refl,
 )
 
+settled_on_return : IsContextualSettled replacing_on_return 1
+settled_on_return =
+    (λ s. nat_lt s 2, complete_by replacing_on_return 2 (lit< tt) refl refl, (λ s. false, tidy_by replacing_on_return 2 (lit< tt) (the_mark 1) (λ s. false) refl refl, agreeing_by replacing_on_return 2 (lit< tt) (the_mark 1) (λ s. false) refl))
+
 settled_at_end : IsInsertionSettled putting_in_at_end
 settled_at_end = (λ s. nat_lt s 1, complete_by putting_in_at_end 1 (lit< tt) refl refl)
 
+-- insertion: the entry for the end of the text names a run and puts no glyphs in
+not_plain_where_named : IsPlain naming_a_run → ⊥
+not_plain_where_named plain = let (marked, current) = plain 0 0 puts_none_at_mark refl refl in let both : true ≡ false = marked in cc
+
 -- state 1 is reached
-one_at_end : IsReached (table_of rules_at_end) 1
+one_at_end : IsReached marked_till_end 1
 one_at_end states followed = followed.next 0 4 (idle_to 1) followed.first refl
 
-one_apart : IsReached (table_of rules_apart) 1
+one_apart : IsReached marking_apart 1
 one_apart states followed = followed.next 0 1 (marks_to 1) followed.first refl
 
-one_unanswered : IsReached (table_of rules_unanswered) 1
-one_unanswered states followed = followed.next 0 5 (entry_to 1 0x8000 0xFFFF 9) followed.first refl
+one_unanswered : IsReached missing_a_lookup 1
+one_unanswered states followed = followed.next 0 3 (entry_to 1 0x8000 0xFFFF 9) followed.first refl
 
 one_pushed : IsReached pushing_apart 1
 one_pushed states followed = followed.next 0 1 (entry_with 1 0x8000 0) followed.first refl
 
 -- and a run may come to it that has not set the mark, or from there on use it
-unset_at_end : MayBeUnset (table_of rules_at_end) (the_mark 1) 1
-unset_at_end states unset = unset.next 0 4 (idle_to 1) unset.first (4, refl) refl refl
+unset_at_end : MayBeUnset marked_till_end (the_mark 1) 1
+unset_at_end states unset = unset.next 0 4 (idle_to 1) unset.first (2, refl) refl refl
 
-unset_unanswered : MayBeUnset (table_of rules_unanswered) (the_mark 1) 1
-unset_unanswered states unset = unset.next 0 5 (entry_to 1 0x8000 0xFFFF 9) unset.first (5, refl) refl refl
+unset_unanswered : MayBeUnset missing_a_lookup (the_mark 1) 1
+unset_unanswered states unset = unset.next 0 3 (entry_to 1 0x8000 0xFFFF 9) unset.first (5, refl) refl refl
 
-used_apart : MayBeUsed (table_of rules_apart) (the_mark 1) 1
-used_apart states users = users.used 1 4 (entry_to 0 0 0 0xFFFF) refl refl
+used_apart : MayBeUsed marking_apart (the_mark 1) 1
+used_apart states users = users.used 1 4 replaces_marked refl refl
 
 -- and a component has to be held in it
 some_by :
@@ -177,13 +189,13 @@ pub case_verdicts : CaseVerdicts
 case_verdicts = record {
   a_settled_table_is_cut = settled_contextual;
   a_mark_outlives_the_cut =
-      (never_contextual (table_of rules_at_end) 1 (never_loose (table_of rules_at_end) (the_mark 1) untidy_at_end), one_at_end, (the_mark 1, refl, (entry_to 0 0 0xFFFF 0, refl, refl, unset_at_end)));
+      (never_contextual marked_till_end 1 (never_loose marked_till_end (the_mark 1) untidy_at_end), one_at_end, (the_mark 1, refl, (replaces_current, refl, refl, unset_at_end)));
   two_entries_set_the_mark_differently =
-      (never_contextual (table_of rules_apart) 1 disagreeing_apart, one_apart, (the_mark 1, refl, (idle_to 1, marks_to 1, refl, refl, refl, refl, refl, refl, λ same. cc, used_apart, (0, refl))));
+      (never_contextual marking_apart 1 disagreeing_apart, one_apart, (the_mark 1, refl, (idle_to 1, marks_to 1, refl, refl, refl, refl, refl, refl, λ same. cc, used_apart, (0, refl))));
   a_contextual_entry_is_missing =
       (λ (is_reached, complete, set). incomplete_contextual is_reached complete, λ states followed. followed.first, refl);
   a_missing_lookup_sets_no_mark =
-      (never_contextual (table_of rules_unanswered) 1 (never_loose (table_of rules_unanswered) (the_mark 1) untidy_unanswered), one_unanswered, (the_mark 1, refl, (entry_to 0 0 0 0xFFFF, refl, refl, unset_unanswered)));
+      (never_contextual missing_a_lookup 1 (never_loose missing_a_lookup (the_mark 1) untidy_unanswered), one_unanswered, (the_mark 1, refl, (replaces_marked, refl, refl, unset_unanswered)));
   a_contextual_subtable_is_off = settled_for_an_end;
   a_component_outlives_the_cut = (
     λ (is_reached, complete, is_here, held, tidy, agreeing). untidy_in_start is_reached is_here held complete tidy,
@@ -210,6 +222,11 @@ case_verdicts = record {
   an_insertion_subtable_is_off = settled_at_end;
   an_insertion_entry_is_missing =
       (λ (is_reached, complete). incomplete_insertion is_reached complete, λ states followed. followed.first, refl);
+  a_contextual_budget_is_spent = settled_on_return;
+  an_insertion_budget_is_spent = (λ s. nat_lt s 2, complete_by putting_in_on_return 2 (lit< tt) refl refl);
+  a_glyph_goes_in_over_the_cut = (λ s. nat_lt s 2, complete_by putting_in_between 2 (lit< tt) refl refl);
+  a_run_of_no_glyphs_is_named = (λ s. nat_lt s 2, complete_by naming_a_run 2 (lit< tt) refl refl);
+  an_entry_is_not_plain = not_plain_where_named;
 }
 
 -- of the machine of two entries that push differently
@@ -233,20 +250,20 @@ pub failed_premises : FailedPremises
 failed_premises = record {
   a_mark_outlives_the_cut = record {
     states = λ s. nat_lt s 2;
-    complete = complete_by (table_of rules_at_end) 2 (lit< tt) refl refl;
+    complete = complete_by marked_till_end 2 (lit< tt) refl refl;
     untidy = untidy_at_end;
   };
   two_entries_set_the_mark_differently = record {
     states = λ s. nat_lt s 2;
-    complete = complete_by (table_of rules_apart) 2 (lit< tt) refl refl;
+    complete = complete_by marking_apart 2 (lit< tt) refl refl;
     live = λ s. s == 1;
-    tidy = tidy_by (table_of rules_apart) 2 (lit< tt) (the_mark 1) (λ s. s == 1) refl refl;
+    tidy = tidy_by marking_apart 2 (lit< tt) (the_mark 1) (λ s. s == 1) refl refl;
     disagreeing = disagreeing_apart;
   };
   a_contextual_entry_is_missing = incomplete_contextual;
   a_missing_lookup_sets_no_mark = record {
     states = λ s. nat_lt s 2;
-    complete = complete_by (table_of rules_unanswered) 2 (lit< tt) refl refl;
+    complete = complete_by missing_a_lookup 2 (lit< tt) refl refl;
     untidy = untidy_unanswered;
   };
   a_component_outlives_the_cut = record {

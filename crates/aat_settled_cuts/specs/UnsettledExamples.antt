@@ -1,14 +1,18 @@
 -- The machines whose lines come out differently in two parts, though no mark says so: which of them are settled, and
 -- which premise each of the others fails. Apple's TrueType Reference Manual, "The 'morx' table".
 use Rattle.std.specs.Prelude.{ℕ, Bool, List, [], ◌∷◌, Some}
-use Rattle.aat_font.specs.Table.{Rule, TableValue}
+use Rattle.aat_font.specs.Table.{TableValue}
 use Rattle.aat_font.specs.declared.morx.SubtableKind.{SubtableKind}
 use Rattle.aat_font.specs.declared.morx.SubtableKind.TheVariants.{Contextual, Insertion, Ligature, Rearrangement}
 use Rattle.aat_font.specs.declared.state_table.GenericStateEntry.{GenericStateEntry}
 use Rattle.aat_kinds.specs.Contextual.{Entry}
 use Rattle.aat_kinds.specs.Insertion as insertion
-use Rattle.aat_cut_kinds.specs.CutExamples.{rules_apart, rules_at_end, rules_for_an_end, rules_unanswered, rules_with_a_gap, settled_rules, table_of}
+use Rattle.aat_cut_kinds.specs.CutExamples.{marked_till_end, marking_apart, missing_a_lookup, replacing_at_end, replacing_before_five, replacing_with_a_gap}
+use Rattle.aat_cut_kinds.specs.EmptyRunExamples.{naming_a_run}
+use Rattle.aat_cut_kinds.specs.FallExamples.{putting_in_between}
 use Rattle.aat_cut_kinds.specs.OtherCutExamples.{ending_and_moving, moving_deleted, moving_to_start, pushing_apart, pushing_in_start, putting_in_at_end, putting_in_with_a_gap}
+use Rattle.aat_cut_kinds.specs.PremiseExamples.{putting_in_on_return, replacing_on_return}
+use Rattle.aat_cut_kinds.specs.Settled.{IsPlain}
 use Rattle.aat_cuts.specs.Held.{IsLigatureAgreeing, IsLigatureTidy}
 use Rattle.aat_cuts.specs.Kinds.{IsSettled, IsVerdictOn}
 use Rattle.aat_cuts.specs.Reached.{IsComplete}
@@ -17,9 +21,9 @@ use Rattle.aat_cuts.specs.declared.unsettled.Unsettled.{Unsettled}
 use Rattle.aat_cuts.specs.declared.unsettled.Unsettled.TheVariants.{MissingEntry, MovesAtEnd, TakenForOne, TooFewComponents, UsedBeforeSet}
 use Rattle.aat_cuts.specs.declared.unsettled.UsedRegister.TheVariants.{Components, Mark, SpanStart}
 
--- the contextual subtable of rules, with one lookup
-abbrev pub contextual_by : List (Rule Entry) → List (ℕ × ℕ) → SubtableKind
-contextual_by rules lookup = Contextual (record { state = table_of rules; lookups = lookup ∷ [] })
+-- the contextual subtable of a table, with one lookup
+abbrev pub contextual_by : TableValue Entry → List (ℕ × ℕ) → SubtableKind
+contextual_by table lookup = Contextual (record { state = table; lookups = lookup ∷ [] })
 
 -- the ligature subtable of a table, with one action and one ligature, glyph 3
 abbrev pub ligature_by : TableValue (GenericStateEntry ℕ) → ℕ → List ℕ → SubtableKind
@@ -38,17 +42,17 @@ insertion_by table = Insertion (record { state = table; glyphs = record { 0 = 1 
 abbrev pub IsUnsettledBy : SubtableKind → Unsettled → Type 0
 IsUnsettledBy kind reason = IsVerdictOn kind (Some reason)
 
--- Of the eleven machines, and of the two others of the contextual examples: which are settled, and why the others are
--- not.
+-- Of the eleven machines, of the two others of the contextual examples, of those of the premises on a cut, and of that
+-- of runs of no glyphs: which are settled, and why the others are not. The last one is not plain.
 pub record CaseVerdicts : Type 0 where
-  pub a_settled_table_is_cut : IsSettled (contextual_by settled_rules ((4, 7) ∷ []))
-  pub a_mark_outlives_the_cut : IsUnsettledBy (contextual_by rules_at_end ((4, 7) ∷ [])) (UsedBeforeSet Mark 1 0)
+  pub a_settled_table_is_cut : IsSettled (contextual_by replacing_before_five ((4, 7) ∷ []))
+  pub a_mark_outlives_the_cut : IsUnsettledBy (contextual_by marked_till_end ((2, 3) ∷ [])) (UsedBeforeSet Mark 1 0)
   pub two_entries_set_the_mark_differently :
-      IsUnsettledBy (contextual_by rules_apart ((1, 7) ∷ [])) (TakenForOne Mark 1 1)
-  pub a_contextual_entry_is_missing : IsUnsettledBy (contextual_by rules_with_a_gap ((1, 7) ∷ [])) (MissingEntry 0 4)
+      IsUnsettledBy (contextual_by marking_apart ((1, 2) ∷ [])) (TakenForOne Mark 1 1)
+  pub a_contextual_entry_is_missing : IsUnsettledBy (contextual_by replacing_with_a_gap ((3, 4) ∷ [])) (MissingEntry 0 3)
   pub a_missing_lookup_sets_no_mark :
-      IsUnsettledBy (contextual_by rules_unanswered ((1, 7) ∷ [])) (UsedBeforeSet Mark 1 6)
-  pub a_contextual_subtable_is_off : IsSettled (contextual_by rules_for_an_end ((1, 7) ∷ []))
+      IsUnsettledBy (contextual_by missing_a_lookup ((1, 7) ∷ [])) (UsedBeforeSet Mark 1 4)
+  pub a_contextual_subtable_is_off : IsSettled (contextual_by replacing_at_end ((1, 3) ∷ []))
   pub a_component_outlives_the_cut :
       IsUnsettledBy (ligature_by pushing_in_start 0xFFFFFFFF (0 ∷ 0 ∷ 1 ∷ 0 ∷ [])) (TooFewComponents 0)
   pub two_entries_push_differently :
@@ -60,6 +64,11 @@ pub record CaseVerdicts : Type 0 where
   pub a_merge_splits_a_cluster : IsSettled (Rearrangement moving_deleted)
   pub an_insertion_subtable_is_off : IsSettled (insertion_by putting_in_at_end)
   pub an_insertion_entry_is_missing : IsUnsettledBy (insertion_by putting_in_with_a_gap) (MissingEntry 0 1)
+  pub a_contextual_budget_is_spent : IsSettled (contextual_by replacing_on_return ((1, 3) ∷ []))
+  pub an_insertion_budget_is_spent : IsSettled (insertion_by putting_in_on_return)
+  pub a_glyph_goes_in_over_the_cut : IsSettled (insertion_by putting_in_between)
+  pub a_run_of_no_glyphs_is_named : IsSettled (insertion_by naming_a_run)
+  pub an_entry_is_not_plain : IsPlain naming_a_run → ⊥
 
 module _ {T : Type 0} (table : TableValue (GenericStateEntry T)) where
   -- no states are complete
@@ -108,10 +117,10 @@ module _ (table : TableValue (GenericStateEntry ℕ)) (actions : List ℕ) where
 
 -- The premise that each of these machines fails, while those before it hold.
 pub record FailedPremises : Type 0 where
-  pub a_mark_outlives_the_cut : IsUntidy (table_of rules_at_end) (the_mark 1)
-  pub two_entries_set_the_mark_differently : IsDisagreeing (table_of rules_apart) (the_mark 1)
-  pub a_contextual_entry_is_missing : IsIncomplete (table_of rules_with_a_gap)
-  pub a_missing_lookup_sets_no_mark : IsUntidy (table_of rules_unanswered) (the_mark 1)
+  pub a_mark_outlives_the_cut : IsUntidy marked_till_end (the_mark 1)
+  pub two_entries_set_the_mark_differently : IsDisagreeing marking_apart (the_mark 1)
+  pub a_contextual_entry_is_missing : IsIncomplete replacing_with_a_gap
+  pub a_missing_lookup_sets_no_mark : IsUntidy missing_a_lookup (the_mark 1)
   pub a_component_outlives_the_cut : IsLigatureUntidy pushing_in_start (0xFFFFFFFF ∷ [])
   pub two_entries_push_differently : IsLigatureDisagreeing pushing_apart (0xBFFFFFFF ∷ [])
   pub the_end_of_the_text_acts : IsUntidy ending_and_moving (the_end_set_by 0x8000)

@@ -10,10 +10,10 @@ pub fn settled_contextual_cut()
     ensures { SettledContextualLeavesParts }
 {}
 
-/// Where all clusters before a place are below some c, none from there on is, and an insertion subtable that is settled
-/// as `aat_cuts` says it is on there, and its run leaves the first glyph not below c unmarked, and some of the budget,
-/// the run leaves what it leaves of the line up to there, then of the rest, with masks, and of neither part less of the
-/// budget. An entry that puts no glyphs in has to name no run.
+/// Where all clusters before a place inside the line are below some c, none from there on is, and an insertion
+/// subtable that is settled as `aat_cuts` says it is on there, and its run leaves the first glyph not below c
+/// unmarked, and some of the budget, the run leaves what it leaves of the line up to there, then of the rest, with
+/// masks, and of neither part less of the budget. An entry that puts no glyphs in has to name no run.
 pub fn settled_insertion_cut()
     ensures { SettledInsertionLeavesParts }
 {}
@@ -24,7 +24,7 @@ pub fn settled_falling_insertion_cut()
 {}
 
 /// The same as `settled_insertion_cut` where the subtable takes the line from its end, and is on at the glyph before
-/// the place.
+/// the place: it need not be on at the one behind it.
 pub fn settled_backward_insertion_cut()
     ensures { SettledBackwardInsertionLeavesParts }
 {}

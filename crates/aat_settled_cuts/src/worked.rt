@@ -2,7 +2,7 @@
 //! their contracts.
 ghost use Rattle.aat_settled_cuts.specs.UnsettledExamples.{CaseVerdicts, FailedPremises};
 
-/// Of the machines of the examples of cuts: which are settled, and why the others are not.
+/// Of the machines of the examples of cuts: which are settled, and why the others are not; and that one is not plain.
 #[tactic(auto, using(crate::proofs::Unsettled::case_verdicts))]
 pub fn verdicts_of_cases()
     ensures { CaseVerdicts }
