@@ -2,6 +2,10 @@
 
 use aat_chain_writer::ChainWriteError;
 use aat_font::TableError;
+use aat_kern_writer::KernWriteError;
+use aat_kerx_writer::{AnkrWriteError, KerxWriteError};
+use aat_tracking::TrackingError;
+use aat_trak_writer::TrakWriteError;
 use aat_writer::WriteError;
 use std::alloc::{AllocError, AllocFailed};
 use thiserror::Error;
@@ -9,12 +13,27 @@ use thiserror::Error;
 /// Why the example font is not made. Each comes only where memory is wanting.
 #[derive(Clone, Copy, PartialEq, Eq, Debug, Error)]
 pub enum ExampleError {
-    /// A lookup, a machine or the table of chains is refused.
+    /// A lookup, a machine, or a table of subtables or of anchor points is refused.
     #[error(transparent)]
     Table(#[from] TableError),
     /// The chains are not written.
     #[error(transparent)]
     Chains(#[from] ChainWriteError),
+    /// The kerning table is not written.
+    #[error(transparent)]
+    Kern(#[from] KernWriteError),
+    /// The extended kerning table is not written.
+    #[error(transparent)]
+    Kerx(#[from] KerxWriteError),
+    /// The anchor points are not written.
+    #[error(transparent)]
+    Anchors(#[from] AnkrWriteError),
+    /// The tracks are refused.
+    #[error(transparent)]
+    Tracks(#[from] TrackingError),
+    /// The tracks are not written.
+    #[error(transparent)]
+    Tracking(#[from] TrakWriteError),
     /// Another table is not written, or the file.
     #[error(transparent)]
     Write(#[from] WriteError),

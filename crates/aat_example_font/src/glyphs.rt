@@ -24,8 +24,9 @@ pub(crate) const SMALL_I: u16 = 7;
 /// The advance of each glyph.
 pub(crate) const ADVANCES: [u16; 8] = [500, 520, 300, 260, 540, 560, 480, 280];
 
-/// The class of each glyph: a base, or a ligature.
-pub(crate) const CLASSES: [u16; 8] = [0, 1, 1, 1, 2, 1, 1, 1];
+/// The class of each glyph: letters have none, since pairs of `kerx` pass over bases and ligatures, the joined `f i` is a
+/// ligature, and small capitals are bases.
+pub(crate) const CLASSES: [u16; 8] = [0, 0, 0, 0, 2, 1, 1, 1];
 
 /// The glyphs of characters.
 pub(crate) const CHARACTERS: [Mapping; 3] = [

@@ -1,4 +1,4 @@
-//! The features of the example font and their English names.
+//! The features of the example font, and the English names of them and of tracks.
 
 use aat_sfnt_writer::{EnglishName, NamedFeature, NamedSetting, write_name, write_named_feat};
 use aat_writer::WriteError;
@@ -24,6 +24,12 @@ pub(crate) const LOWER_CASE: u16 = 37;
 pub(crate) const PLAIN: u16 = 0;
 
 pub(crate) const SMALL_CAPITALS: u16 = 1;
+
+/// The number of the name of the tight track.
+pub(crate) const TIGHT: u16 = 265;
+
+/// The number of the name of the normal track.
+pub(crate) const NORMAL: u16 = 266;
 
 /// A setting and the number of its name.
 macro_rules! named {
@@ -73,7 +79,7 @@ macro_rules! english {
 }
 
 /// The English names.
-const NAMES: [EnglishName<'static>; 9] = [
+const NAMES: [EnglishName<'static>; 11] = [
     english!(256, b"\0L\0i\0g\0a\0t\0u\0r\0e\0s"),
     english!(257, b"\0C\0o\0m\0m\0o\0n\0 \0L\0i\0g\0a\0t\0u\0r\0e\0s"),
     english!(258, b"\0N\0o\0 \0L\0i\0g\0a\0t\0u\0r\0e\0s"),
@@ -86,6 +92,8 @@ const NAMES: [EnglishName<'static>; 9] = [
     english!(262, b"\0L\0o\0w\0e\0r\0 \0C\0a\0s\0e"),
     english!(263, b"\0L\0e\0t\0t\0e\0r\0s"),
     english!(264, b"\0S\0m\0a\0l\0l\0 \0C\0a\0p\0i\0t\0a\0l\0s"),
+    english!(265, b"\0T\0i\0g\0h\0t"),
+    english!(266, b"\0N\0o\0r\0m\0a\0l"),
 ];
 
 /// The bytes of `name`.

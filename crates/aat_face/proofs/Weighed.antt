@@ -18,25 +18,39 @@ use Rattle.aat_font.specs.FeatureNames.{kind_of}
 use Rattle.aat_font.specs.Keys.{first, first_fall}
 use Rattle.aat_font.specs.declared.feat.FeatureName.{FeatureName}
 use Rattle.aat_font.specs.inside.GlyphSpans.{glyph_span}
+use Rattle.aat_kern_reader.specs.Kern.{KernValue, kern_of}
+use Rattle.aat_kern_reader.specs.Weights.{kern_weight}
+use Rattle.aat_kern_reader.proofs.TableBounded.{kern_bounded}
+use Rattle.aat_kerx_reader.specs.AnchorLaws.{points_weight}
+use Rattle.aat_kerx_reader.specs.KerxTables.{KerxValue}
+use Rattle.aat_kerx_reader.specs.Weights.{kerx_weight}
+use Rattle.aat_kerx_reader.specs.declared.ankr.TheConstants.{ANKR}
+use Rattle.aat_kerx_reader.proofs.AnchorRows.{points_bounded}
+use Rattle.aat_kerx_reader.proofs.TableBounded.{kerx_bounded}
 use Rattle.aat_lookup_reader.specs.Features.{feat_of, feature_count, feature_name, feature_names, rising_names}
 use Rattle.aat_lookup_reader.specs.Sizes.{cells_beside, pairs_size}
 use Rattle.aat_lookup_reader.specs.declared.feat.TheConstants.{FEAT}
 use Rattle.aat_machine_reader.specs.declared.kinds.TheConstants.{MORX}
-use Rattle.aat_reader.specs.Chains.{ChainValue}
+use Rattle.aat_pair_reader.specs.declared.values.TheConstants.{KERN, KERX}
 use Rattle.aat_reader.specs.Weights.{morx_weight}
 use Rattle.aat_reader.proofs.Bounded.{memory_bounded}
 use Rattle.aat_sfnt.specs.GlyphClasses.{properties_of}
 use Rattle.aat_sfnt.specs.Metrics.{LongMetrics, advance_of}
 use Rattle.aat_sfnt.specs.declared.gdef.GlyphClasses.{GlyphClasses}
 use Rattle.aat_sfnt.specs.Directory.{Directory, bytes_of_record, directory_at, directory_of, directory_place, is_font_version, record_of, table_of}
-use Rattle.aat_face.specs.Chains.{chain_values_of, chains_in}
-use Rattle.aat_face.specs.FaceLaws.{FaceMemoryIsBounded, count_features}
-use Rattle.aat_face.specs.Faces.{FaceValue, face_of_tables, faults_of, tables_in}
+use Rattle.aat_trak_reader.specs.Trak.{trak_of}
+use Rattle.aat_trak_reader.specs.TrakLaws.{table_size}
+use Rattle.aat_trak_reader.specs.declared.fault.TheConstants.{TRAK}
+use Rattle.aat_trak_reader.proofs.Bounded.{traks_are_bounded}
+use Rattle.aat_face.specs.Chains.{chain_values_of}
+use Rattle.aat_face.specs.FaceLaws.{FaceMemoryIsBounded, IsBounded}
+use Rattle.aat_face.specs.Faces.{face_of_tables, faults_of, tables_in}
 use Rattle.aat_face.specs.Features.{FeatureTable, feature_table_of, features_in}
+use Rattle.aat_face.specs.Kerning.{ankr_values_of, kerx_values_of}
 use Rattle.aat_face.specs.Lists.{advance_pairs, pairs_over, property_pairs}
-use Rattle.aat_face.specs.Tables.{fault_in, found_in, none_if_missing, number_in, glyph_count_in, read_if_found, unless_missing}
+use Rattle.aat_face.specs.Tables.{fault_in, found_in, none_if_missing, number_in, glyph_count_in, read_if_found, table_in, unless_missing}
 use Rattle.aat_face.specs.declared.tables.Tables.{Tables}
-use Rattle.aat_face.specs.Weights.{bytes_of_table, chains_weight, face_weight, features_weight}
+use Rattle.aat_face.specs.Weights.{bytes_of_table, features_weight, plain_weight}
 
 -- a version that is known
 version_passes : {X : Type 0} (b : Bool) (fault : Fault) (r : Result X Fault) (x : X)
@@ -51,6 +65,13 @@ light :
     → option_map_or weight (option_map f o) 0 ≤ bound
 light f weight bound None each = omega arith
 light f weight bound (Some x) each = each x refl
+
+found_light :
+    {X : Type 0} (weight : X → ℕ) (bound : ℕ) (o : Option X)
+    → ((x : X) → o ≡ Some x → weight x ≤ bound)
+    → option_map_or weight o 0 ≤ bound
+found_light weight bound None each = omega arith
+found_light weight bound (Some x) each = each x refl
 
 -- values of so many glyphs: four bytes for each, and four for its cell
 cells_light : (n : ℕ) → cells_beside n n ≤ n
@@ -85,7 +106,7 @@ values_light value (suc n) =
     ∙ ap (cells_beside (suc n)) (span_is value n) in
     omega (arith, long, cells, cells_light (suc n))
 
--- faults of twelve tables
+-- faults of thirteen tables
 join_light : {X : Type 0} (o : Option X) (xs : List (Option X)) (n : ℕ)
     → length (filter_map (λ x. x) xs) ≤ n → length (filter_map (λ x. x) (o ∷ xs)) ≤ suc n
 join_light None xs n few = omega (arith, few)
@@ -99,7 +120,8 @@ abbrev all_faults : Tables → List (Option Fault)
 all_faults tables =
     fault_in tables.maxp ∷ fault_in tables.head ∷ fault_in tables.hhea ∷ fault_in tables.hmtx
     ∷ fault_in tables.cmap ∷ fault_in tables.gdef ∷ fault_in tables.name ∷ fault_in tables.feat
-    ∷ fault_in tables.morx ∷ fault_in tables.kerx ∷ fault_in tables.kern ∷ fault_in tables.ankr ∷ []
+    ∷ fault_in tables.morx ∷ fault_in tables.kerx ∷ fault_in tables.kern ∷ fault_in tables.ankr
+    ∷ fault_in tables.trak ∷ []
 
 -- a table that is found has bytes, and what is read of them
 found_ok : {X : Type 0} (r : Result X Fault) (x : X)
@@ -186,11 +208,19 @@ features_light bytes names is =
     let long : length (feature_names bytes count) ≡ count = length-map-range_with_len (feature_name bytes) 0 count in
     omega (arith, ap length same, long, features_counted bytes count read.1)
 
--- what the law says of a face
-abbrev Bounded : List ℕ → ℕ → FaceValue → Type 0
-Bounded file index face =
-    (face_weight file index face ≤ 24 * length file + 16 * face.glyph_count + 6 * count_features face + 1000)
-    × (12 * count_features face ≤ length file)
+-- what is read of a table weighs so much, whatever a font keeps of it
+mapped_weight : {X Y : Type 0} (f : X → Y) (weight : ℕ) (o : Option X)
+    → option_map_or (λ _. weight) (option_map f o) 0 ≡ option_map_or (λ _. weight) o 0
+mapped_weight f weight None = refl
+mapped_weight f weight (Some x) = refl
+
+-- so is kerning, with its subtables that are left out
+kern_mapped : (o : Option KernValue)
+    → plain_weight (option_map (λ (read : KernValue). read.subtables) o)
+    (option_map_or (λ (read : KernValue). read.left_out) o [])
+    ≡ option_map_or kern_weight o 0
+kern_mapped None = refl
+kern_mapped (Some read) = refl
 
 -- the face of a directory
 module _ (file : List ℕ) (index : ℕ) (directory : Directory) (is : directory_of file index ≡ Ok directory) where
@@ -204,6 +234,11 @@ module _ (file : List ℕ) (index : ℕ) (directory : Directory) (is : directory
 
   bytes_are : (tag : Tag) (bytes : List ℕ) → table_of directory tag ≡ Ok bytes → bytes_of_table file index tag ≡ bytes
   bytes_are tag bytes here =
+      let of : Result (List ℕ) Fault → List ℕ = λ r. elim r [ Ok content ↦ content | Err fault ↦ [] ] in
+      ap (λ (d : Result Directory Fault). of (after d (λ found. table_of found tag))) is ∙ ap of here
+
+  none_is : (tag : Tag) (fault : Fault) → table_of directory tag ≡ Err fault → bytes_of_table file index tag ≡ []
+  none_is tag fault here =
       let of : Result (List ℕ) Fault → List ℕ = λ r. elim r [ Ok content ↦ content | Err fault ↦ [] ] in
       ap (λ (d : Result Directory Fault). of (after d (λ found. table_of found tag))) is ∙ ap of here
 
@@ -225,20 +260,28 @@ module _ (file : List ℕ) (index : ℕ) (directory : Directory) (is : directory
   features_weigh None = refl
   features_weigh (Some names) = refl
 
-  chains_fit : (n : ℕ) → chains_weight (bytes_of_table file index MORX) n (found_in (chains_in directory n)) ≤ 24 * length file
-  chains_fit n = chains_light (found_in (chains_in directory n)) (λ chains found.
-      let there = found_parts (table_of directory MORX) (chain_values_of n) chains found in
-      let few = memory_bounded there.0 n chains there.2 in
-      let inside = within MORX there.0 there.1 in
-      let same = ap (λ (b : List ℕ). morx_weight b n) (bytes_are MORX there.0 there.1) in
-      omega (arith, few, inside, same)) where
-        chains_light : (o : Option (List ChainValue))
-            → ((chains : List ChainValue) → o ≡ Some chains → morx_weight (bytes_of_table file index MORX) n ≤ 24 * length file)
-            → chains_weight (bytes_of_table file index MORX) n o ≤ 24 * length file
-        chains_light None each = omega arith
-        chains_light (Some chains) each = each chains refl
+  -- a table that is read weighs no more than its bytes let it
+  table_light :
+      {X : Type 0} (tag : Tag) (read : List ℕ → Result X Fault) (weight : List ℕ → X → ℕ) (each : ℕ)
+      → ((bytes : List ℕ) (x : X) → read bytes ≡ Ok x → weight bytes x ≤ each * length bytes)
+      → option_map_or (weight (bytes_of_table file index tag)) (found_in (table_in directory tag read)) 0
+      ≤ each * length (bytes_of_table file index tag)
+  table_light tag read weight each light =
+      found_light (weight (bytes_of_table file index tag)) (each * length (bytes_of_table file index tag))
+      (found_in (table_in directory tag read)) (λ x found.
+      let there = found_parts (table_of directory tag) read x found in
+      subst (λ (bytes : List ℕ). weight bytes x ≤ each * length bytes) (sym (bytes_are tag there.0 there.1))
+      (light there.0 x there.2))
 
-  face_light : Bounded file index (face_of_tables (tables_in directory))
+  -- a table has no more bytes than the file
+  table_fits : (tag : Tag) → length (bytes_of_table file index tag) ≤ length file
+  table_fits tag = fits (table_of directory tag) refl where
+    fits : (r : Result (List ℕ) Fault) → table_of directory tag ≡ r
+        → length (bytes_of_table file index tag) ≤ length file
+    fits (Ok bytes) here = omega (arith, ap length (bytes_are tag bytes here), within tag bytes here)
+    fits (Err fault) here = omega (arith, ap length (none_is tag fault here))
+
+  face_light : IsBounded file index (face_of_tables (tables_in directory))
   face_light =
       let tables = tables_in directory in
       let n = number_in (glyph_count_in directory) in
@@ -246,14 +289,33 @@ module _ (file : List ℕ) (index : ℕ) (directory : Directory) (is : directory
       (λ metrics found. values_light (λ glyph. unwrap_or (advance_of metrics glyph) 0) n) in
       let properties = light (λ (classes : GlyphClasses). property_pairs classes n) pairs_size (8 * n) (found_in tables.gdef)
       (λ classes found. values_light (properties_of classes) n) in
-      let faults : length (faults_of tables) ≤ 12 = few_of (all_faults tables) in
+      let faults : length (faults_of tables) ≤ 13 = few_of (all_faults tables) in
       let features = features_weigh (face_of_tables tables).font.feat in
-      (omega (arith, advances, properties, faults, features, chains_fit n), features_fit)
+      let morx = table_light MORX (chain_values_of n) (λ bytes chains. morx_weight bytes n) 24
+      (λ bytes chains. memory_bounded bytes n chains) in
+      let kerx = table_light KERX (kerx_values_of n) (λ bytes read. kerx_weight bytes n) 32
+      (λ bytes read. kerx_bounded bytes n read) in
+      let kern = table_light KERN kern_of (λ bytes read. kern_weight read) 32 kern_bounded in
+      let ankr = table_light ANKR (ankr_values_of n) (λ bytes points. points_weight points) 24
+      (λ bytes points. points_bounded bytes n points) in
+      let trak = table_light TRAK trak_of (λ bytes tracking. table_size tracking) 4 traks_are_bounded in
+      let kerx_same = mapped_weight (λ (read : KerxValue). read.subtables) (kerx_weight (bytes_of_table file index KERX) n) (found_in tables.kerx) in
+      let kern_same = kern_mapped (found_in tables.kern) in
+      let of_morx = table_fits MORX in
+      let of_kerx = table_fits KERX in
+      let of_kern = table_fits KERN in
+      let of_ankr = table_fits ANKR in
+      let of_trak = table_fits TRAK in
+      record {
+        memory = omega (arith, advances, properties, faults, features, morx, kerx, kern, ankr, trak, kerx_same, kern_same);
+        tables = omega (arith, of_morx, of_kerx, of_kern, of_ankr, of_trak);
+        tables_apart = λ apart. omega (arith, apart);
+        features = features_fit;
+      }
 
 -- the law
 pub face_memory_bounded : FaceMemoryIsBounded
 face_memory_bounded file index face is =
     let read = parts (directory_of file index) _ face is in
     let same : face_of_tables (tables_in read.0) ≡ face = ok_parts _ face read.2 in
-    subst (Bounded file index) same
-    (face_light file index read.0 read.1)
+    subst (IsBounded file index) same (face_light file index read.0 read.1)

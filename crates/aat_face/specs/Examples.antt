@@ -1,16 +1,21 @@
 -- Worked examples of faces.
-use Rattle.std.specs.Prelude.{◌≡◌, ℕ, false, List, [], ◌∷◌, ◌++◌, Some, None, Ok, Err}
+use Rattle.std.specs.Prelude.{◌≡◌, ℕ, pos, negsuc, false, List, [], ◌∷◌, ◌++◌, Option, Some, None, Ok, Err}
+use Rattle.aat_bytes.specs.declared.error.Fault.{Fault}
 use Rattle.aat_bytes.specs.Faults.{fault_at}
-use Rattle.aat_bytes.specs.declared.error.FaultKind.TheVariants.{PastEnd, Missing}
+use Rattle.aat_bytes.specs.declared.error.FaultKind.TheVariants.{PastEnd, UnknownFormat, Missing}
 use Rattle.aat_font.specs.declared.morx.Subtable.{Subtable}
 use Rattle.aat_font.specs.declared.morx.SubtableKind.TheVariants.{NonContextual}
 use Rattle.aat_lookup_reader.specs.FeatureExamples.{example_feat}
+use Rattle.aat_pair_reader.specs.declared.values.TheConstants.{KERN}
 use Rattle.aat_reader.specs.MorxExamples.{example_chain, example_table}
 use Rattle.aat_sfnt.specs.Examples.{example_file, example_metrics, example_profile}
 use Rattle.aat_sfnt.specs.Metrics.{metrics_of}
 use Rattle.aat_sfnt.specs.declared.class_definition.ClassDefinition.TheVariants.{Array, Ranges}
 use Rattle.aat_sfnt.specs.declared.gdef.GlyphClasses.{GlyphClasses}
 use Rattle.aat_sfnt.specs.declared.tags.TheConstants.{HEAD, SFNT}
+use Rattle.aat_tracking.specs.Tracks.{TrackingTable}
+use Rattle.aat_trak_reader.specs.TrakExamples.{sizes_and_values, trak_header, two_tracks}
+use Rattle.aat_trak_reader.specs.declared.fault.TheConstants.{TRAK}
 use Rattle.aat_face.specs.English.{english_text, text_in}
 use Rattle.aat_face.specs.Faces.{FaceValue, FontValue, face_of, feature_text, setting_text}
 use Rattle.aat_face.specs.Lists.{advance_pairs, property_pairs}
@@ -31,9 +36,11 @@ FaultsAreListed =
       names = None;
       features = None;
       font = empty_font;
+      tracking = None;
       has_gpos = false;
       faults = fault_at HEAD PastEnd 0 ∷ [];
       left_out = [];
+      left_out_of_kern = [];
     }))
     × (face_of example_file 1 ≡ Err (fault_at SFNT Missing 0))
     × (face_of [] 0 ≡ Err (fault_at SFNT PastEnd 0))
@@ -72,10 +79,66 @@ ChainsAreOfTheFont = face_of example_chains_file 0 ≡ Ok (record {
   font = record empty_font {
     morx = Some (record { default_flags = 1; features = []; subtables = example_subtable_of_chain ∷ [] } ∷ []);
   };
+  tracking = None;
   has_gpos = false;
   faults = [];
   left_out = [];
+  left_out_of_kern = [];
 })
+
+-- a file of one table at 28, of a tag and so many bytes
+abbrev pub file_of_table : List ℕ → ℕ → List ℕ → List ℕ
+file_of_table tag size table =
+    0 ∷ 1 ∷ 0 ∷ 0 ∷ 0 ∷ 1 ∷ 0 ∷ 0 ∷ 0 ∷ 0 ∷ 0 ∷ 0 ∷ [] ++ tag
+    ++ 0 ∷ 0 ∷ 0 ∷ 0 ∷ 0 ∷ 0 ∷ 0 ∷ 28 ∷ 0 ∷ 0 ∷ 0 ∷ size ∷ [] ++ table
+
+-- a file of `trak` alone
+abbrev pub trak_file : ℕ → List ℕ → List ℕ
+trak_file = file_of_table (116 ∷ 114 ∷ 97 ∷ 107 ∷ [])
+
+-- a face of tracking alone, with faults
+abbrev pub tracking_face : Option TrackingTable → List Fault → FaceValue
+tracking_face tracking faults = record {
+  glyph_count = 0;
+  units_per_em = 1000;
+  characters = None;
+  names = None;
+  features = None;
+  font = empty_font;
+  tracking = tracking;
+  has_gpos = false;
+  faults = faults;
+  left_out = [];
+  left_out_of_kern = [];
+}
+
+-- the face has the tracks of the table, and no tracks where the table has a fault, which is listed
+abbrev pub FacesHaveTracks : Type 0
+FacesHaveTracks =
+    (face_of (trak_file 52 (trak_header ++ two_tracks ++ sizes_and_values)) 0
+    ≡ Ok (tracking_face (Some (record {
+      rows = Some (record {
+        sizes = pos 786432 ∷ pos 1572864 ∷ [];
+        tracks = record { value = negsuc 65535; name = 256 } ∷ record { value = pos 0; name = 258 } ∷ [];
+        values = negsuc 14 ∷ negsuc 6 ∷ pos 0 ∷ pos 5 ∷ [];
+      });
+      columns = None;
+    })) []))
+    × (face_of (trak_file 12 (0 ∷ 2 ∷ 0 ∷ 0 ∷ 0 ∷ 0 ∷ 0 ∷ 0 ∷ 0 ∷ 0 ∷ 0 ∷ 0 ∷ [])) 0
+    ≡ Ok (tracking_face None (fault_at TRAK UnknownFormat 0 ∷ [])))
+
+-- a font without glyphs whose kerning has no subtables
+abbrev pub font_of_no_kerning : FontValue
+font_of_no_kerning = record empty_font { kern = Some [] }
+
+-- the subtable of `kern` of format 3 with OpenType's header is left out, and told
+abbrev pub LeftOutsAreTold : Type 0
+LeftOutsAreTold =
+    face_of (file_of_table (107 ∷ 101 ∷ 114 ∷ 110 ∷ []) 10 (0 ∷ 0 ∷ 0 ∷ 1 ∷ 0 ∷ 0 ∷ 0 ∷ 6 ∷ 3 ∷ 1 ∷ [])) 0
+    ≡ Ok (record (tracking_face None []) {
+      font = font_of_no_kerning;
+      left_out_of_kern = record { number = 0; fault = fault_at KERN UnknownFormat 8 } ∷ [];
+    })
 
 -- marks of class 3 from glyph 1 to 2, of which glyph 2 has the class 9 among marks
 abbrev pub example_classes : GlyphClasses
@@ -122,9 +185,11 @@ example_face = record {
   names = Some example_feature_names;
   features = Some example_feat;
   font = empty_font;
+  tracking = None;
   has_gpos = false;
   faults = [];
   left_out = [];
+  left_out_of_kern = [];
 }
 
 -- a feature and a setting have the texts of their names, where these are there

@@ -10,18 +10,21 @@ use Rattle.aat_font.specs.declared.feat.FeatureName.{FeatureName}
 use Rattle.aat_font.specs.declared.kern.KernSubtable.{KernSubtable}
 use Rattle.aat_font.specs.declared.kerx.KerxSubtable.{KerxSubtable}
 use Rattle.aat_font.specs.declared.plan.GlyphId.{GlyphId}
+use Rattle.aat_kern_reader.specs.declared.subtables.LeftOutSubtable.{LeftOutSubtable as LeftOutOfKern}
 use Rattle.aat_kerx_reader.specs.declared.subtables.LeftOutSubtable.{LeftOutSubtable}
 use Rattle.aat_lookup_reader.specs.Features.{feature_name_id, setting_name_id}
 use Rattle.aat_reader.specs.Chains.{ChainValue, values_of_morx}
 use Rattle.aat_sfnt.specs.Characters.{glyph_of}
 use Rattle.aat_sfnt.specs.Directory.{Directory, directory_of}
 use Rattle.aat_sfnt.specs.declared.cmap.Cmap.{Cmap}
+use Rattle.aat_tracking.specs.Tracks.{TrackingTable}
 use Rattle.aat_face.specs.Chains.{chains_in}
 use Rattle.aat_face.specs.English.{Text, english_text}
 use Rattle.aat_face.specs.Features.{feature_bytes, feature_tables, features_in}
-use Rattle.aat_face.specs.Kerning.{ankr_in, has_gpos_in, kern_in, kerx_in, left_out_of}
+use Rattle.aat_face.specs.Kerning.{ankr_in, has_gpos_in, kern_in, kerx_in, left_out_of, left_out_of_kern}
 use Rattle.aat_face.specs.Lists.{advance_pairs, property_pairs}
 use Rattle.aat_face.specs.Tables.{characters_in, classes_in, fault_in, found_in, glyph_count_in, long_metric_count_in, metrics_in, names_in, number_in, units_per_em_in}
+use Rattle.aat_face.specs.Tracking.{trak_in}
 use Rattle.aat_face.specs.declared.tables.Tables.{Tables}
 
 -- the tables of a file as they are read: metrics need the number of long ones and that of glyphs, 0 where it is
@@ -40,6 +43,7 @@ tables_in file = record {
   kerx = kerx_in file (number_in (glyph_count_in file));
   kern = kern_in file;
   ankr = ankr_in file (number_in (glyph_count_in file));
+  trak = trak_in file;
   has_gpos = has_gpos_in file;
 }
 
@@ -48,7 +52,8 @@ abbrev pub faults_of : Tables → List Fault
 faults_of tables = filter_map (λ fault. fault)
     (fault_in tables.maxp ∷ fault_in tables.head ∷ fault_in tables.hhea ∷ fault_in tables.hmtx
     ∷ fault_in tables.cmap ∷ fault_in tables.gdef ∷ fault_in tables.name ∷ fault_in tables.feat
-    ∷ fault_in tables.morx ∷ fault_in tables.kerx ∷ fault_in tables.kern ∷ fault_in tables.ankr ∷ [])
+    ∷ fault_in tables.morx ∷ fault_in tables.kerx ∷ fault_in tables.kern ∷ fault_in tables.ankr
+    ∷ fault_in tables.trak ∷ [])
 
 -- what a font has for the layer: what its tables hold, and the properties and the advances of its glyphs
 pub record FontValue : Type 0 where
@@ -80,9 +85,11 @@ pub record FaceValue : Type 0 where
   pub names : Option (List ℕ)
   pub features : Option (List ℕ)
   pub font : FontValue
+  pub tracking : Option TrackingTable
   pub has_gpos : Bool
   pub faults : List Fault
   pub left_out : List LeftOutSubtable
+  pub left_out_of_kern : List LeftOutOfKern
 
 -- the advances of glyphs, if the font has metrics
 abbrev pub advances_in : Tables → ℕ → Option (List (ℕ × ℕ))
@@ -97,7 +104,7 @@ abbrev pub font_of : Tables → FontValue
 font_of tables = record {
   morx = found_in tables.morx;
   kerx = option_map (λ read. read.subtables) (found_in tables.kerx);
-  kern = found_in tables.kern;
+  kern = option_map (λ read. read.subtables) (found_in tables.kern);
   feat = (feature_tables tables.feat).feat;
   ankr = found_in tables.ankr;
   advances = advances_in tables (number_in tables.maxp);
@@ -113,9 +120,11 @@ face_of_tables tables = record {
   names = found_in tables.name;
   features = feature_bytes tables.feat;
   font = font_of tables;
+  tracking = found_in tables.trak;
   has_gpos = tables.has_gpos;
   faults = faults_of tables;
   left_out = left_out_of tables.kerx;
+  left_out_of_kern = left_out_of_kern tables.kern;
 }
 
 -- the glyph of a character, if the font has one that is not 0

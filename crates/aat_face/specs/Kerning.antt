@@ -4,8 +4,8 @@ use Rattle.std.specs.Prelude.{ℕ, List, [], Option, Bool, Result, is_ok}
 use Rattle.std.specs.Option.{option_map_or}
 use Rattle.aat_bytes.specs.declared.error.Fault.{Fault}
 use Rattle.aat_font.specs.AnchorPoints.{Points}
-use Rattle.aat_font.specs.declared.kern.KernSubtable.{KernSubtable}
-use Rattle.aat_kern_reader.specs.Kern.{kern_of}
+use Rattle.aat_kern_reader.specs.Kern.{KernValue, kern_of}
+use Rattle.aat_kern_reader.specs.declared.subtables.LeftOutSubtable.{LeftOutSubtable as LeftOutOfKern}
 use Rattle.aat_kerx_reader.specs.Anchors.{ankr_of}
 use Rattle.aat_kerx_reader.specs.KerxTables.{KerxValue, kerx_of}
 use Rattle.aat_kerx_reader.specs.declared.ankr.TheConstants.{ANKR}
@@ -28,7 +28,7 @@ abbrev pub kerx_in : Directory → ℕ → Result (Option KerxValue) Fault
 kerx_in file glyph_count = table_in file KERX (kerx_values_of glyph_count)
 
 -- the kerning of a file
-abbrev pub kern_in : Directory → Result (Option (List KernSubtable)) Fault
+abbrev pub kern_in : Directory → Result (Option KernValue) Fault
 kern_in file = table_in file KERN kern_of
 
 -- the anchor points of a file whose font has so many glyphs
@@ -42,3 +42,7 @@ has_gpos_in file = is_ok (table_of file GPOS)
 -- the subtables of extended kerning that are left out
 abbrev pub left_out_of : Result (Option KerxValue) Fault → List LeftOutSubtable
 left_out_of kerx = option_map_or (λ read. read.left_out) (found_in kerx) []
+
+-- the subtables of kerning that are left out
+abbrev pub left_out_of_kern : Result (Option KernValue) Fault → List LeftOutOfKern
+left_out_of_kern kern = option_map_or (λ read. read.left_out) (found_in kern) []

@@ -7,4 +7,5 @@ pub mod Features
 pub mod Kerning
 pub mod Lists
 pub mod Tables
+pub mod Tracking
 pub mod Weights

@@ -4,12 +4,22 @@ use Rattle.std.specs.Prelude.{ℕ, ◌+◌, ◌*◌, List, [], length, Option, O
 use Rattle.std.specs.Option.{option_map_or}
 use Rattle.aat_bytes.specs.Faults.{after}
 use Rattle.aat_bytes.specs.declared.tag.Tag.{Tag}
+use Rattle.aat_font.specs.AnchorPoints.{Points}
 use Rattle.aat_font.specs.declared.feat.FeatureName.{FeatureName}
+use Rattle.aat_font.specs.declared.kern.KernSubtable.{KernSubtable}
+use Rattle.aat_font.specs.declared.kerx.KerxSubtable.{KerxSubtable}
+use Rattle.aat_kern_reader.specs.Weights.{kern_weight}
+use Rattle.aat_kern_reader.specs.declared.subtables.LeftOutSubtable.{LeftOutSubtable}
+use Rattle.aat_kerx_reader.specs.AnchorLaws.{points_weight}
+use Rattle.aat_kerx_reader.specs.Weights.{kerx_weight}
 use Rattle.aat_lookup_reader.specs.Sizes.{pairs_size}
 use Rattle.aat_machine_reader.specs.declared.kinds.TheConstants.{MORX}
+use Rattle.aat_pair_reader.specs.declared.values.TheConstants.{KERX}
 use Rattle.aat_reader.specs.Chains.{ChainValue}
 use Rattle.aat_reader.specs.Weights.{morx_weight}
 use Rattle.aat_sfnt.specs.Directory.{directory_of, table_of}
+use Rattle.aat_tracking.specs.Tracks.{TrackingTable}
+use Rattle.aat_trak_reader.specs.TrakLaws.{table_size}
 use Rattle.aat_face.specs.Faces.{FaceValue}
 use Rattle.aat_face.specs.declared.weights.TheConstants.{FACE_SIZE, FAULT_SIZE, FEATURE_NAME_SIZE}
 
@@ -32,9 +42,34 @@ features_weight features = option_map_or (λ names. FEATURE_NAME_SIZE * length n
 abbrev pub chains_weight : List ℕ → ℕ → Option (List ChainValue) → ℕ
 chains_weight bytes glyph_count chains = option_map_or (λ _. morx_weight bytes glyph_count) chains 0
 
--- a face of the font at an index of a file, besides its tables of kerning
+-- extended kerning of a table of these bytes, with what is told of the subtables that are left out
+abbrev pub extended_weight : List ℕ → ℕ → Option (List KerxSubtable) → ℕ
+extended_weight bytes glyph_count kerx = option_map_or (λ _. kerx_weight bytes glyph_count) kerx 0
+
+-- kerning, with what is told of the subtables that are left out
+abbrev pub plain_weight : Option (List KernSubtable) → List LeftOutSubtable → ℕ
+plain_weight kern left_out =
+    option_map_or (λ subtables. kern_weight (record { subtables = subtables; left_out = left_out })) kern 0
+
+-- anchor points
+abbrev pub anchors_weight : Option Points → ℕ
+anchors_weight ankr = option_map_or points_weight ankr 0
+
+-- tracking
+abbrev pub tracking_weight : Option TrackingTable → ℕ
+tracking_weight tracking = option_map_or table_size tracking 0
+
+-- the tables of kerning and tracking of a face of the font at an index of a file
+abbrev pub kerning_weight : List ℕ → ℕ → FaceValue → ℕ
+kerning_weight file index face =
+    extended_weight (bytes_of_table file index KERX) face.glyph_count face.font.kerx
+    + plain_weight face.font.kern face.left_out_of_kern
+    + anchors_weight face.font.ankr + tracking_weight face.tracking
+
+-- a face of the font at an index of a file
 abbrev pub face_weight : List ℕ → ℕ → FaceValue → ℕ
 face_weight file index face =
     FACE_SIZE + FAULT_SIZE * length face.faults
     + values_weight face.font.advances + values_weight face.font.properties
     + features_weight face.font.feat + chains_weight (bytes_of_table file index MORX) face.glyph_count face.font.morx
+    + kerning_weight file index face

@@ -1,23 +1,27 @@
 //! A font with the list of its faults.
-ghost use Rattle.std.specs.Prelude.{◌≡◌, IfOk, IfErr};
+ghost use Rattle.std.specs.Prelude.{◌≡◌, IfOk, IfErr, option_copied};
 ghost use Rattle.aat_bytes.specs.declared.error.ReadError.TheVariants as errors;
 ghost use Rattle.aat_lookup_reader.specs.Lookups.{Gives};
 ghost use Rattle.aat_face.specs.Faces.{advances_in, face_of, face_of_tables, faults_of, feature_text, font_value, glyph_of_character, name_of, properties_in, setting_text, tables_in};
 
 use crate::chains::{chains_in, layer_tables};
 use crate::features::{feature_bytes, features_in};
-use crate::kerning::{ankr_in, has_gpos_in, kern_in, kerx_in, kerx_parts, with_kerning};
+use crate::kerning::{
+    ankr_in, has_gpos_in, kern_in, kern_parts, kerx_in, kerx_parts, with_kerning,
+};
 use crate::lists::{advance_lookup, property_lookup};
 use crate::tables::{
     Tables, characters_in, classes_in, fault_in, found_in, glyph_count_in, long_metric_count_in,
     metrics_in, names_in, number_in, units_per_em_in,
 };
 use crate::text::{NameText, english_text};
+use crate::tracking::trak_in;
 use aat_bytes::{Fault, ReadError};
 use aat_font::{GlyphId, Lookup, hb_font_t};
 use aat_kerx_reader::LeftOutSubtable;
 use aat_lookup_reader::{feature_name_id, setting_name_id};
 use aat_sfnt::{Cmap, FontFile, Names};
+use aat_tracking::Tracking;
 use std::alloc::{AllocError, Global};
 use std::marker::Model;
 
@@ -32,9 +36,11 @@ pub struct Face<'a> {
     names: Option<Names<'a>>,
     features: Option<&'a [u8]>,
     font: hb_font_t,
+    tracking: Option<Tracking>,
     has_gpos: bool,
     faults: Vec<Fault>,
     left_out: Vec<LeftOutSubtable>,
+    left_out_of_kern: Vec<aat_kern_reader::LeftOutSubtable>,
 }
 
 impl<'a> Model for Face<'a> {
@@ -50,9 +56,11 @@ impl<'a> Model for Face<'a> {
       names = m.names;
       features = option_copied m.features;
       font = font_value m.font;
+      tracking = m.tracking;
       has_gpos = m.has_gpos;
       faults = m.faults.items;
       left_out = m.left_out.items;
+      left_out_of_kern = m.left_out_of_kern.items;
     } };
 }
 
@@ -67,6 +75,7 @@ fn tables_in<'a>(alloc: Global, file: &FontFile<'a>) -> Result<Tables<'a>, Alloc
     let kerx = kerx_in(alloc, file, glyph_count)?;
     let kern = kern_in(alloc, file)?;
     let ankr = ankr_in(alloc, file, glyph_count)?;
+    let trak = trak_in(alloc, file)?;
     let hhea = long_metric_count_in(file);
     Ok(Tables {
         hmtx: metrics_in(file, number_in(&hhea), glyph_count),
@@ -81,6 +90,7 @@ fn tables_in<'a>(alloc: Global, file: &FontFile<'a>) -> Result<Tables<'a>, Alloc
         kerx,
         kern,
         ankr,
+        trak,
         has_gpos: has_gpos_in(file),
     })
 }
@@ -102,6 +112,7 @@ fn faults_of(alloc: Global, tables: &Tables<'_>) -> Result<Vec<Fault>, AllocErro
         fault_in(&tables.kerx),
         fault_in(&tables.kern),
         fault_in(&tables.ankr),
+        fault_in(&tables.trak),
     ];
     faults.iter().filter_map(|fault| *fault).collect(alloc)
 }
@@ -148,7 +159,7 @@ impl<'a> Face<'a> {
         let advances = advances_of(alloc, &tables, glyph_count)?;
         let properties = properties_of(alloc, &tables, glyph_count)?;
         let (kerx, left_out) = kerx_parts(alloc, tables.kerx);
-        let kern = found_in(tables.kern);
+        let (kern, left_out_of_kern) = kern_parts(alloc, tables.kern);
         let ankr = found_in(tables.ankr);
         Ok(Face {
             glyph_count,
@@ -161,9 +172,11 @@ impl<'a> Face<'a> {
                 properties,
                 advances,
             ),
+            tracking: found_in(tables.trak),
             has_gpos: tables.has_gpos,
             faults,
             left_out,
+            left_out_of_kern,
         })
     }
 
@@ -172,9 +185,9 @@ impl<'a> Face<'a> {
     /// A table that has a fault is not read, and the face lists its first fault; the other tables stand. A table that
     /// is missing is no fault: without `maxp` the font has no glyphs, without `head` 1,000 units of the em, without
     /// `hmtx` no advances, without `hhea` advances of 0, without `cmap` no characters, without `GDEF` no properties,
-    /// without `feat` or `name` no names of features, without `morx` no chains, and without `kerx`, `kern` or `ankr` no
-    /// such tables. `morx`, `kerx` and `ankr` are read as those of a font of so many glyphs as `maxp` has, and the
-    /// subtables of `morx` reach as far as `read_morx` says.
+    /// without `feat` or `name` no names of features, without `morx` no chains, without `kerx`, `kern` or `ankr` no such
+    /// tables, and without `trak` no tracking. `morx`, `kerx` and `ankr` are read as those of a font of so many glyphs
+    /// as `maxp` has, and the subtables of `morx` reach as far as `read_morx` says.
     ///
     /// Refused as the fault of the directory that `FontFile::read` tells, and as `OutOfMemory` only where the
     /// directory has no fault; `OutOfMemory` says nothing of the faults of tables.
@@ -261,6 +274,16 @@ impl<'a> Face<'a> {
         self.font
     }
 
+    /// The table `trak`, if it is there and has no fault: how much wider or tighter a text is set at a point size.
+    /// `with_tracking` of `Shaper` takes it; the font of the layer does not have it.
+    ///
+    /// Apple's TrueType Reference Manual, "The 'trak' table".
+    pub fn tracking(&self) -> Option<&Tracking>
+        ensures { option_copied result ≡ self.now.tracking }
+    {
+        self.tracking.as_ref()
+    }
+
     /// Whether the file has the whole table `GPOS`, another layer's. Without `kerx` HarfBuzz kerns by its feature `kern`,
     /// and only without that by the table `kern`, as `Shaper` does in any case.
     pub fn has_gpos(&self) -> bool
@@ -270,7 +293,7 @@ impl<'a> Face<'a> {
     }
 
     /// The faults of tables, at most one of each, in the order `maxp`, `head`, `hhea`, `hmtx`, `cmap`, `GDEF`, `name`,
-    /// `feat`, `morx`, `kerx`, `kern`, `ankr`.
+    /// `feat`, `morx`, `kerx`, `kern`, `ankr`, `trak`.
     pub fn faults(&self) -> &[Fault]
         ensures { result.now ≡ self.now.faults }
     {
@@ -282,5 +305,12 @@ impl<'a> Face<'a> {
         ensures { result.now ≡ self.now.left_out }
     {
         &self.left_out
+    }
+
+    /// The subtables of `kern` that are left out, in their order, since their format is none that is read.
+    pub fn left_out_of_kern(&self) -> &[aat_kern_reader::LeftOutSubtable]
+        ensures { result.now ≡ self.now.left_out_of_kern }
+    {
+        &self.left_out_of_kern
     }
 }

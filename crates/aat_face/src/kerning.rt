@@ -1,13 +1,13 @@
 //! The tables of kerning: `kerx`, `kern` and `ankr`.
 ghost use Rattle.std.specs.Prelude.{◌≡◌, Some, IfOk, option_map};
 ghost use Rattle.aat_kern_reader.specs.Kern.{kern_of};
-ghost use Rattle.aat_face.specs.Kerning.{ankr_in, ankr_values_of, has_gpos_in, kern_in, kerx_in, kerx_values_of, left_out_of};
+ghost use Rattle.aat_face.specs.Kerning.{ankr_in, ankr_values_of, has_gpos_in, kern_in, kerx_in, kerx_values_of, left_out_of, left_out_of_kern};
 ghost use Rattle.aat_face.specs.Tables.{found_in, read_if_found};
 
 use crate::tables::{found_in, optional_table};
 use aat_bytes::{Fault, ReadError, Tag};
 use aat_font::{Ankr, FaceTables, Kern, Kerx};
-use aat_kern_reader::read_kern;
+use aat_kern_reader::{KernRead, read_kern};
 use aat_kerx_reader::{ANKR, KerxRead, LeftOutSubtable, read_ankr, read_kerx};
 use aat_pair_reader::{KERN, KERX};
 use aat_sfnt::FontFile;
@@ -47,7 +47,7 @@ pub fn kerx_in(
 }
 
 /// What is read of the bytes of the table `kern`.
-fn read_plain(alloc: Global, bytes: &[u8]) -> Result<Result<Option<Kern>, Fault>, AllocError>
+fn read_plain(alloc: Global, bytes: &[u8]) -> Result<Result<Option<KernRead>, Fault>, AllocError>
     ensures { IfOk result (λ kern. kern ≡ read_if_found kern_of (Some bytes.now)) }
 {
     match read_kern(alloc, bytes) {
@@ -61,7 +61,7 @@ fn read_plain(alloc: Global, bytes: &[u8]) -> Result<Result<Option<Kern>, Fault>
 pub fn kern_in(
     alloc: Global,
     file: &FontFile<'_>,
-) -> Result<Result<Option<Kern>, Fault>, AllocError>
+) -> Result<Result<Option<KernRead>, Fault>, AllocError>
     ensures { IfOk result (λ kern. kern ≡ kern_in file.now) }
 {
     match optional_table(file, KERN) {
@@ -118,6 +118,20 @@ pub fn kerx_parts(
 {
     match found_in(reading) {
         Some(read) => (Some(read.kerx), read.left_out),
+        None => (None, Vec::new(alloc)),
+    }
+}
+
+/// The kerning that is read, and its subtables that are left out.
+pub fn kern_parts(
+    alloc: Global,
+    reading: Result<Option<KernRead>, Fault>,
+) -> (Option<Kern>, Vec<aat_kern_reader::LeftOutSubtable>)
+    ensures table { result.0 ≡ option_map (λ read. read.subtables) (found_in reading) }
+    ensures left_out { result.1.items ≡ left_out_of_kern reading }
+{
+    match found_in(reading) {
+        Some(read) => (Some(read.kern), read.left_out),
         None => (None, Vec::new(alloc)),
     }
 }

@@ -11,6 +11,7 @@ pub mod laws;
 mod lists;
 mod tables;
 mod text;
+mod tracking;
 pub mod weights;
 #[doc(hidden)]
 pub mod worked;

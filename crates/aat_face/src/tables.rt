@@ -6,10 +6,12 @@ ghost use Rattle.aat_face.specs.Tables.{characters_in, classes_in, fault_in, fou
 use crate::chains::Chains;
 use crate::features::Features;
 use aat_bytes::{Fault, FaultKind, Tag};
-use aat_font::{Ankr, Kern};
+use aat_font::Ankr;
+use aat_kern_reader::KernRead;
 use aat_kerx_reader::KerxRead;
 use aat_sfnt::tags::{CMAP, GDEF, HEAD, HHEA, HMTX, MAXP, NAME};
 use aat_sfnt::{Cmap, FontFile, GlyphClasses, Metrics, Names};
+use aat_tracking::Tracking;
 
 /// The bytes of a table, or nothing where the table is missing.
 pub fn optional_table<'a>(file: &FontFile<'a>, tag: Tag) -> Result<Option<&'a [u8]>, Fault>
@@ -142,7 +144,8 @@ pub struct Tables<'a> {
     pub feat: Result<Option<Features<'a>>, Fault>,
     pub morx: Result<Option<Chains>, Fault>,
     pub kerx: Result<Option<KerxRead>, Fault>,
-    pub kern: Result<Option<Kern>, Fault>,
+    pub kern: Result<Option<KernRead>, Fault>,
     pub ankr: Result<Option<Ankr>, Fault>,
+    pub trak: Result<Option<Tracking>, Fault>,
     pub has_gpos: bool,
 }

@@ -5,8 +5,12 @@ use aat_bytes::{Fault, FaultKind, ReadError};
 use aat_chain_writer::ChainWriteError;
 use aat_example_font::ExampleError;
 use aat_font::TableError;
+use aat_kern_writer::KernWriteError;
+use aat_kerx_writer::{AnkrWriteError, KerxWriteError};
 use aat_morx_writer::MorxWriteError;
 use aat_sfnt::tags::{CMAP, GDEF, HEAD, SFNT};
+use aat_tracking::TrackingError;
+use aat_trak_writer::TrakWriteError;
 use aat_writer::WriteError;
 use std::alloc::Global;
 use std::fmt::Display;
@@ -138,7 +142,7 @@ const CHAIN_WRITE_ERRORS: [(ChainWriteError, &str); 4] = [
 ];
 
 /// The example font passes on the errors of its calls.
-const EXAMPLE_ERRORS: [(ExampleError, &str); 4] = [
+const EXAMPLE_ERRORS: [(ExampleError, &str); 9] = [
     (
         ExampleError::Table(TableError::FewClasses),
         "there are fewer than 4 classes",
@@ -150,6 +154,26 @@ const EXAMPLE_ERRORS: [(ExampleError, &str); 4] = [
     (
         ExampleError::Write(WriteError::TooMany),
         "there are too many elements for the format",
+    ),
+    (
+        ExampleError::Kern(KernWriteError::TooLong),
+        "the subtable is too long for its offsets",
+    ),
+    (
+        ExampleError::Kerx(KerxWriteError::TooLong),
+        "the table has more than 4294967295 bytes",
+    ),
+    (
+        ExampleError::Anchors(AnkrWriteError::TooManyPoints(8)),
+        "the row at place 8 has more than 65536 points",
+    ),
+    (
+        ExampleError::Tracks(TrackingError::ValueCount),
+        "there is not one value for each track and size",
+    ),
+    (
+        ExampleError::Tracking(TrakWriteError::ColumnsTooFar),
+        "the tracks for columns stand past place 65535",
     ),
     (ExampleError::OutOfMemory, "out of memory"),
 ];
@@ -167,7 +191,7 @@ fn assert_text(
 }
 
 /// Asserts the text of each error of a table.
-fn assert_texts<E: Display + Drop + Copy>(
+pub(crate) fn assert_texts<E: Display + Drop + Copy>(
     rt: &impl Abort,
     alloc: Global,
     errors: &[(E, &str)],

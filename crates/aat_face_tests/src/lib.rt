@@ -1,4 +1,5 @@
-//! The tests of a face that is read of the bytes of a file, and of changed copies of such a file.
+//! The tests of a face that is read of the bytes of a file, of texts that are shaped with it, and of changed copies of such
+//! a file.
 #![tactic(auto)]
 
 #[cfg(test)]
@@ -13,6 +14,10 @@ mod error_tests;
 mod face_tests;
 #[cfg(test)]
 mod files;
+#[cfg(test)]
+mod kerned_tests;
+#[cfg(test)]
+mod kerning_error_tests;
 #[cfg(test)]
 mod numbers;
 #[cfg(test)]

@@ -1,12 +1,12 @@
-//! The text of the example font, and of changed copies of it, which seeds make. A copy is made of its number and a seed
-//! alone, and a failure tells both.
+//! The texts of the example fonts, and of changed copies of them, which seeds make. A copy is made of its number and a
+//! seed alone, and a failure tells both.
 
 use crate::asserting::wanted;
 use crate::changed_tests::change;
 use crate::numbers::Numbers;
 use crate::outcomes::{Outcome, assert_often, count, outcome_of};
-use crate::texts::EXAMPLE;
-use aat_example_font::example_font;
+use crate::texts::{BOTH, BY_KERN, BY_KERX};
+use aat_example_font::{example_font, example_font_with_kern};
 use aat_face::Face;
 use aat_face_text::write_face;
 use std::alloc::Global;
@@ -14,7 +14,7 @@ use std::io;
 use std::process::Abort;
 use std::test::Fail;
 
-/// The number of copies of a seed. All seeds together make 2,000.
+/// The number of copies of a seed. Those of the example font together make 2,000.
 const COPIES: u64 = 500;
 
 /// The text of a face.
@@ -67,13 +67,15 @@ fn assert_printed(rt: &impl Abort, alloc: Global, seed: u64) -> Result<(), Fail>
     assert_copies(rt, alloc, &font, seed)
 }
 
-/// Asserts the text of the face of a file.
-fn assert_text(rt: &impl Abort, alloc: Global, file: &[u8], text: &str) -> Result<(), Fail> {
+/// Asserts the text of the face of an example font, which ends with this one of its kerning.
+fn assert_text(rt: &impl Abort, alloc: Global, file: &[u8], kerning: &str) -> Result<(), Fail> {
     let face = Face::read(alloc, file, 0)?;
     let shown = text_of(alloc, &face)?;
+    let mut text = Vec::from_slice(alloc, BOTH.as_bytes())?;
+    text.extend_from_slice(kerning.as_bytes())?;
     wanted(
         rt,
-        shown.as_slice() == text.as_bytes(),
+        shown.as_slice() == text.as_slice(),
         "the text of a face",
     );
     Ok(())
@@ -83,7 +85,14 @@ fn assert_text(rt: &impl Abort, alloc: Global, file: &[u8], text: &str) -> Resul
 #[test]
 fn the_example_font_is_printed(rt: HostRuntime) -> Result<(), Fail> {
     let file = example_font(rt.alloc())?;
-    assert_text(&rt, rt.alloc(), &file, EXAMPLE)
+    assert_text(&rt, rt.alloc(), &file, BY_KERX)
+}
+
+/// So is each of the font with `kern`.
+#[test]
+fn the_font_with_kern_is_printed(rt: HostRuntime) -> Result<(), Fail> {
+    let file = example_font_with_kern(rt.alloc())?;
+    assert_text(&rt, rt.alloc(), &file, BY_KERN)
 }
 
 #[test]
@@ -104,4 +113,10 @@ fn copies_of_seed_4_are_printed(rt: HostRuntime) -> Result<(), Fail> {
 #[test]
 fn copies_of_seed_5_are_printed(rt: HostRuntime) -> Result<(), Fail> {
     assert_printed(&rt, rt.alloc(), 5)
+}
+
+#[test]
+fn copies_of_the_font_with_kern_are_printed(rt: HostRuntime) -> Result<(), Fail> {
+    let font = example_font_with_kern(rt.alloc())?;
+    assert_copies(&rt, rt.alloc(), &font, 6)
 }

@@ -1,22 +1,48 @@
 //! What a font has as a whole.
+use aat_bytes::Fault;
 use aat_face::Face;
 use aat_font::GlyphId;
 use std::io::{self, Write};
 
-/// Writes the number of glyphs, the units of the em, the faults of tables, the subtables that are left out, and whether
-/// the file has `GPOS`.
+/// Writes the faults of tables.
+fn write_faults<W: Write>(out: &mut W, faults: &[Fault]) -> io::Result<()> {
+    for fault in faults {
+        writeln!(out, "fault {fault}")?;
+    }
+    Ok(())
+}
+
+/// Writes that a subtable of a number is left out, with the fault, which names the table.
+fn write_left_out<W: Write>(out: &mut W, number: u32, fault: Fault) -> io::Result<()> {
+    writeln!(out, "left out subtable {number}: {fault}")
+}
+
+/// Writes the subtables of `kerx` that are left out.
+fn write_left_out_of_kerx<W: Write>(out: &mut W, face: &Face<'_>) -> io::Result<()> {
+    for subtable in face.left_out() {
+        write_left_out(out, subtable.number, subtable.fault)?;
+    }
+    Ok(())
+}
+
+/// Writes the subtables of `kern` that are left out.
+fn write_left_out_of_kern<W: Write>(out: &mut W, face: &Face<'_>) -> io::Result<()> {
+    for subtable in face.left_out_of_kern() {
+        write_left_out(out, subtable.number, subtable.fault)?;
+    }
+    Ok(())
+}
+
+/// Writes the number of glyphs, the units of the em, the faults of tables, the subtables of `kerx` and of `kern` that
+/// are left out, and whether the file has `GPOS` and no `kerx`.
 pub(crate) fn write_font<W: Write>(out: &mut W, face: &Face<'_>) -> io::Result<()> {
     writeln!(out, "glyphs {}", face.glyph_count())?;
     writeln!(out, "units per em {}", face.units_per_em())?;
-    for fault in face.faults() {
-        writeln!(out, "fault {fault}")?;
-    }
-    for subtable in face.left_out() {
-        let (number, fault) = (subtable.number, subtable.fault);
-        writeln!(out, "left out subtable {number}: {fault}")?;
-    }
-    if face.has_gpos() {
-        writeln!(out, "table GPOS, by which another layer kerns")?;
+    write_faults(out, face.faults())?;
+    write_left_out_of_kerx(out, face)?;
+    write_left_out_of_kern(out, face)?;
+    if face.has_gpos() && face.font().tables().kerx.is_none() {
+        writeln!(out, "table GPOS, by which another layer may kern")?;
     }
     Ok(())
 }

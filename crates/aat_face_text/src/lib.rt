@@ -11,6 +11,7 @@ mod lookups;
 mod machines;
 mod names;
 mod pairs;
+mod tracking;
 
 use aat_face::Face;
 pub use font::write_characters;
@@ -18,10 +19,10 @@ use std::alloc::Global;
 use std::io::{self, Write};
 
 /// Writes a face as text, a line for each fact: how many glyphs it has, the units of its em, the faults of its tables,
-/// the subtables of `kerx` that are left out, whether it has `GPOS`, the advance and the properties of each glyph, the
-/// features with their names, the chains of `morx` and the subtables of `kerx` and `kern` with all that they have, and
-/// anchor points. Of glyphs, kerning pairs, values and rules of a machine the first 1,000 are written, and how many
-/// more there are.
+/// the subtables of `kerx` and of `kern` that are left out, whether it has `GPOS` and no `kerx`, the advance and the properties of
+/// each glyph, the features with their names, the chains of `morx` and the subtables of `kerx` and `kern` with all that
+/// they have, anchor points, and the tracks of `trak` with their names and their value at each size. Of glyphs, kerning
+/// pairs, values, rules of a machine, tracks and sizes the first 1,000 are written, and how many more there are.
 ///
 /// An error is that of the writer, or `OutOfMemory`. A part of the text may be written then.
 pub fn write_face<W: Write>(alloc: Global, out: &mut W, face: &Face<'_>) -> io::Result<()> {
@@ -29,5 +30,6 @@ pub fn write_face<W: Write>(alloc: Global, out: &mut W, face: &Face<'_>) -> io::
     font::write_glyphs(out, face)?;
     features::write_features(alloc, out, face)?;
     chains::write_chains(alloc, out, face.font())?;
-    kerning::write_kerning(alloc, out, face.font())
+    kerning::write_kerning(alloc, out, face.font())?;
+    tracking::write_tracking(alloc, out, face)
 }

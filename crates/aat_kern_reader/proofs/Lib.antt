@@ -1,2 +1,7 @@
+pub mod ClassSizes
 pub mod Closing
-pub mod Unread
+pub mod Counts
+pub mod Entries
+pub mod MachinesBounded
+pub mod ReadSubtables
+pub mod TableBounded

@@ -1,5 +1,6 @@
 -- The kerning table. Apple's TrueType Reference Manual, "The 'kern' table".
-use Rattle.std.specs.Prelude.{ℕ, [], ◌+◌, ◌-◌, List, length, take, Bool, false, not, Result, Ok, Err, if◌then◌else◌, nat_lt, ◌==◌, slice_index, bit_and}
+use Rattle.std.specs.Prelude.{ℕ, ◌+◌, ◌-◌, List, Vec, length, take, Bool, false, not, Option, Some, None, Result, Ok, Err, if◌then◌else◌, nat_lt, ◌==◌, ◌||◌, slice_index, bit_and}
+use Rattle.std.specs.List.{filter_map}
 use Rattle.aat_bytes.specs.Faults.{after, fault_at}
 use Rattle.aat_bytes.specs.Numbers.{be16, be32}
 use Rattle.aat_bytes.specs.declared.error.Fault.{Fault}
@@ -11,6 +12,9 @@ use Rattle.aat_kern_reader.specs.KernMachines.{kern_machine_at}
 use Rattle.aat_kern_reader.specs.declared.header.KernHeader.{KernHeader}
 use Rattle.aat_kern_reader.specs.declared.header.KernList.{KernList}
 use Rattle.aat_kern_reader.specs.declared.header.KernHeader.TheVariants.{Apple, OpenType}
+use Rattle.aat_kern_reader.specs.declared.subtables.LeftOutSubtable.{LeftOutSubtable}
+use Rattle.aat_kern_reader.specs.declared.subtables.SubtableRead.{SubtableRead}
+use Rattle.aat_kern_reader.specs.declared.subtables.SubtableRead.TheVariants.{Kerns, LeftOut}
 use Rattle.aat_machine_reader.specs.InTurn.{in_turn}
 use Rattle.aat_pair_reader.specs.KernClasses.{kern_classes_at}
 use Rattle.aat_pair_reader.specs.KernIndexes.{kern_indexes_at}
@@ -38,6 +42,11 @@ abbrev pub format_at : List ℕ → KernHeader → ℕ → ℕ
 format_at bytes Apple place = slice_index bytes (place + 5)
 format_at bytes OpenType place = slice_index bytes (place + 4)
 
+-- where the format of a subtable stands
+abbrev pub format_place : KernHeader → ℕ → ℕ
+format_place Apple place = place + 5
+format_place OpenType place = place + 4
+
 -- the coverage of a subtable
 abbrev pub coverage_at : List ℕ → KernHeader → ℕ → ℕ
 coverage_at bytes Apple place = slice_index bytes (place + 4)
@@ -63,22 +72,19 @@ is_variable OpenType coverage = false
 abbrev pub as_kind : {X : Type 0} → (X → KernKind) → Result X Fault → Result KernKind Fault
 as_kind kind read = after read (λ x. Ok (kind x))
 
--- how a subtable kerns that goes on at a place, by a format that only Apple's header has: machines and indexes. One of
--- another format has no pairs
-abbrev pub other_kind_at : List ℕ → KernHeader → ℕ → ℕ → Result KernKind Fault
-other_kind_at bytes OpenType place format = Ok (Pairs [])
-other_kind_at bytes Apple place format =
-    if format == 1 then as_kind Machine (kern_machine_at bytes place) else
-    if format == 3 then as_kind Classes (kern_indexes_at bytes place) else
-    Ok (Pairs [])
+-- the formats that are read with a header: 0 and 2, and with Apple's 1 and 3
+abbrev pub is_read : KernHeader → ℕ → Bool
+is_read Apple format = nat_lt format 4
+is_read OpenType format = (format == 0) || (format == 2)
 
--- how the subtable at a place kerns, by its format
+-- how the subtable at a place kerns, by its format of those that are read
 unfoldable pub kern_kind_at : List ℕ → KernHeader → ℕ → ℕ → Result KernKind Fault
 kern_kind_at bytes header place format =
     let behind = place + header_size header in
     if format == 0 then as_kind Pairs (kern_pairs_at bytes behind) else
+    if format == 1 then as_kind Machine (kern_machine_at bytes behind) else
     if format == 2 then as_kind Classes (kern_classes_at bytes place behind) else
-    other_kind_at bytes header behind format
+    as_kind Classes (kern_indexes_at bytes behind)
 
 -- where a subtable starts, and how many there are from it on
 pub record KernStart : Type 0 where
@@ -105,16 +111,37 @@ with_coverage header coverage kind = record {
   variable = is_variable header coverage;
 }
 
--- a subtable, and where the next one starts, from where it ends
-abbrev pub value_and_next : ℕ → KernSubtable × ℕ → KernSubtable × KernStart
-value_and_next left read = (read.0, record { place = read.1; left = left - 1 })
+-- the subtable of a header
+abbrev pub subtable_of : List ℕ → KernHeader → ℕ → KernKind → KernSubtable
+subtable_of bytes header place kind = with_coverage header (coverage_at bytes header place) kind
 
--- the subtable that starts there, which reaches to its end, and where the next one starts
-unfoldable pub subtable_at : List ℕ → KernHeader → KernStart → Result (KernSubtable × KernStart) Fault
-subtable_at bytes header start =
-    after (end_at bytes header start) (λ end.
-    after (kern_kind_at (take end bytes) header start.place (format_at bytes header start.place)) (λ kind.
-    Ok (value_and_next start.left (with_coverage header (coverage_at bytes header start.place) kind, end))))
+-- a subtable that is left out, with its number, from 0 on, and the place of its format
+abbrev pub left_out_at : KernList → KernStart → LeftOutSubtable
+left_out_at list start = record {
+  number = list.count - start.left;
+  fault = fault_at KERN UnknownFormat (format_place list.header start.place);
+}
+
+-- what the subtable of a list is read as that starts there and reaches to its end. One of a format that is not read is
+-- left out
+unfoldable pub read_up_to : List ℕ → KernList → KernStart → ℕ → Result SubtableRead Fault
+read_up_to bytes list start end =
+    let format = format_at bytes list.header start.place in
+    if is_read list.header format then
+    after (kern_kind_at (take end bytes) list.header start.place format) (λ kind.
+    Ok (Kerns (subtable_of bytes list.header start.place kind)))
+    else Ok (LeftOut (left_out_at list start))
+
+-- what is read, and where the next subtable starts, from where this one ends
+abbrev pub read_and_next : ℕ → SubtableRead × ℕ → SubtableRead × KernStart
+read_and_next left read = (read.0, record { place = read.1; left = left - 1 })
+
+-- the subtable of a list that starts there, and where the next one starts
+unfoldable pub subtable_at : List ℕ → KernList → KernStart → Result (SubtableRead × KernStart) Fault
+subtable_at bytes list start =
+    after (end_at bytes list.header start) (λ end.
+    after (read_up_to bytes list start end) (λ read.
+    Ok (read_and_next start.left (read, end))))
 
 -- where the subtables of a table start
 abbrev pub first_start : KernList → KernStart
@@ -134,10 +161,42 @@ list_of bytes =
     if be16 bytes 0 == 0 then Ok (record { header = OpenType; place = 4; count = be16 bytes 2 }) else
     if be16 bytes 0 == 1 then apples_list_of bytes else Err (fault_at KERN UnknownFormat 0)
 
--- the subtables of a list, one behind the other
-abbrev pub subtables_of : List ℕ → KernList → Result (List KernSubtable) Fault
-subtables_of bytes list = in_turn (subtable_at bytes list.header) list.count (first_start list)
+-- the subtables of a table that kern, and those that are left out, each in their order
+pub record KernValue : Type 0 where
+  pub subtables : List KernSubtable
+  pub left_out : List LeftOutSubtable
 
--- the subtables of the table, or its first fault
-abbrev pub kern_of : List ℕ → Result (List KernSubtable) Fault
-kern_of bytes = after (list_of bytes) (subtables_of bytes)
+-- what a subtable that kerns is read as
+abbrev pub as_kerning : KernSubtable → SubtableRead
+as_kerning subtable = Kerns subtable
+
+-- a subtable that kerns
+abbrev pub kerning_of : SubtableRead → Option KernSubtable
+kerning_of (Kerns subtable) = Some subtable
+kerning_of (LeftOut subtable) = None
+
+-- a subtable that is left out
+abbrev pub left_out_of : SubtableRead → Option LeftOutSubtable
+left_out_of (Kerns subtable) = None
+left_out_of (LeftOut subtable) = Some subtable
+
+-- the table of what is read
+abbrev pub kern_value : List SubtableRead → KernValue
+kern_value subtables =
+    record { subtables = filter_map kerning_of subtables; left_out = filter_map left_out_of subtables }
+
+-- the subtables of a list, one behind the other, or the first fault
+abbrev pub subtables_of : List ℕ → KernList → Result (List SubtableRead) Fault
+subtables_of bytes list = in_turn (subtable_at bytes list) list.count (first_start list)
+
+-- the table of the subtables of a list, or the first fault
+abbrev pub value_of_subtables : List ℕ → KernList → Result KernValue Fault
+value_of_subtables bytes list = after (subtables_of bytes list) (λ subtables. Ok (kern_value subtables))
+
+-- the table of subtables that stand in vectors
+abbrev pub value_of_parts : {Y Z : Type 0} → Vec KernSubtable Y × Vec LeftOutSubtable Z → KernValue
+value_of_parts parts = record { subtables = parts.0.items; left_out = parts.1.items }
+
+-- the table, or its first fault
+abbrev pub kern_of : List ℕ → Result KernValue Fault
+kern_of bytes = after (list_of bytes) (value_of_subtables bytes)

@@ -70,21 +70,51 @@ example_subtable size =
 abbrev pub LastLengthIsNotBelieved : Type 0
 LastLengthIsNotBelieved =
     (kern_of (0 ∷ 0 ∷ 0 ∷ 1 ∷ [] ++ example_subtable 0) ≡ Ok (record {
-      kind = Pairs ((1, 2, negsuc 0) ∷ []);
-      horizontal = true;
-      has_cross_stream = true;
-      variable = false;
-    } ∷ []))
+      subtables =
+          record {
+            kind = Pairs ((1, 2, negsuc 0) ∷ []);
+            horizontal = true;
+            has_cross_stream = true;
+            variable = false;
+          } ∷ [];
+      left_out = [];
+    }))
     × (kern_of (0 ∷ 0 ∷ 0 ∷ 2 ∷ [] ++ example_subtable 5) ≡ Err (fault_at KERN ShortLength 6))
     × (kern_of (0 ∷ 0 ∷ 0 ∷ 2 ∷ [] ++ example_subtable 20) ≡ Err (fault_at KERN PastEnd 24))
 
--- Apple's header, with a subtable of variations for vertical text whose format is none that is read; and another version
+-- the header of Apple's tables with so many subtables, and that of a subtable of 8 bytes with coverage and a format
+abbrev pub apples_table : ℕ → List ℕ
+apples_table count = 0 ∷ 1 ∷ 0 ∷ 0 ∷ 0 ∷ 0 ∷ 0 ∷ count ∷ []
+
+abbrev pub apples_subtable : ℕ → ℕ → ℕ → List ℕ
+apples_subtable size coverage format = 0 ∷ 0 ∷ 0 ∷ size ∷ coverage ∷ format ∷ 0 ∷ 0 ∷ []
+
+-- a subtable of Apple's without pairs, of variations for vertical text; and another version
 abbrev pub HeadersHaveTheirBits : Type 0
 HeadersHaveTheirBits =
-    (kern_of (0 ∷ 1 ∷ 0 ∷ 0 ∷ 0 ∷ 0 ∷ 0 ∷ 1 ∷ 0 ∷ 0 ∷ 0 ∷ 8 ∷ 160 ∷ 4 ∷ 0 ∷ 0 ∷ []) ≡ Ok (record {
-      kind = Pairs [];
-      horizontal = false;
-      has_cross_stream = false;
-      variable = true;
-    } ∷ []))
+    (kern_of (apples_table 1 ++ apples_subtable 16 160 0 ++ 0 ∷ 0 ∷ 0 ∷ 0 ∷ 0 ∷ 0 ∷ 0 ∷ 0 ∷ []) ≡ Ok (record {
+      subtables =
+          record {
+            kind = Pairs [];
+            horizontal = false;
+            has_cross_stream = false;
+            variable = true;
+          } ∷ [];
+      left_out = [];
+    }))
     × (kern_of (0 ∷ 2 ∷ 0 ∷ 0 ∷ []) ≡ Err (fault_at KERN UnknownFormat 0))
+
+-- a format that is not read with the table's header is left out, with its number and the place of its format
+abbrev pub OthersAreLeftOut : Type 0
+OthersAreLeftOut =
+    (kern_of (apples_table 2 ++ apples_subtable 8 0 4 ++ apples_subtable 8 0 9) ≡ Ok (record {
+      subtables = [];
+      left_out =
+          record { number = 0; fault = fault_at KERN UnknownFormat 13 }
+          ∷ record { number = 1; fault = fault_at KERN UnknownFormat 21 }
+          ∷ [];
+    }))
+    × (kern_of (0 ∷ 0 ∷ 0 ∷ 1 ∷ 0 ∷ 0 ∷ 0 ∷ 6 ∷ 3 ∷ 1 ∷ []) ≡ Ok (record {
+      subtables = [];
+      left_out = record { number = 0; fault = fault_at KERN UnknownFormat 8 } ∷ [];
+    }))

@@ -2,6 +2,7 @@ pub mod ByteMachines
 pub mod ByteStates
 pub mod Kern
 pub mod KernExamples
+pub mod KernLaws
 pub mod KernMachines
-pub mod LeftOut
+pub mod Weights
 pub mod inside

@@ -1,6 +1,6 @@
 //! The headers of subtables of the kerning table.
 ghost use Rattle.std.specs.Prelude.{◌≡◌, ◌+◌, ◌≤◌, length, IfOk};
-ghost use Rattle.aat_kern_reader.specs.Kern.{apples_list_of, coverage_at, format_at, header_size, is_cross_stream, is_horizontal, is_variable, length_at, length_place, list_of};
+ghost use Rattle.aat_kern_reader.specs.Kern.{apples_list_of, coverage_at, format_at, format_place, header_size, is_cross_stream, is_horizontal, is_read, is_variable, length_at, length_place, list_of};
 
 use aat_bytes::{Fault, FaultKind, be16, be32};
 use aat_pair_reader::KERN;
@@ -109,6 +109,27 @@ impl KernHeader {
         match self {
             KernHeader::Apple => bytes[place + 5],
             KernHeader::OpenType => bytes[place + 4],
+        }
+    }
+
+    /// Where the format of a subtable stands.
+    pub(crate) fn format_place(self, place: usize, bytes: &[u8]) -> usize
+        requires { place + header_size self ≤ length bytes.now }
+        ensures { result ≡ format_place self place }
+    {
+        match self {
+            KernHeader::Apple => place + 5,
+            KernHeader::OpenType => place + 4,
+        }
+    }
+
+    /// Whether a format is read with this header.
+    pub(crate) fn is_read(self, format: u8) -> bool
+        ensures { result ≡ is_read self format }
+    {
+        match self {
+            KernHeader::Apple => format < 4,
+            KernHeader::OpenType => format == 0 || format == 2,
         }
     }
 

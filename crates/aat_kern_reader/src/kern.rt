@@ -1,147 +1,75 @@
 //! The kerning table from bytes.
-ghost use Rattle.std.specs.Prelude.{◌≡◌, ◌+◌, ◌<◌, ◌≤◌, [], length, vec_len, IfOk, Ok};
-ghost use Rattle.aat_font.specs.declared.kern.KernKind.TheVariants.{Pairs as WithPairs};
-ghost use Rattle.aat_kern_reader.specs.Kern.{KernStart, end_at, header_size, kern_kind_at, kern_of, other_kind_at, subtable_at, subtables_of, value_and_next};
-ghost use Rattle.aat_lookup_reader.specs.Lookups.{Gives};
-ghost use Rattle.aat_machine_reader.specs.Within.{GivesWithin};
-ghost use Rattle.aat_machine_reader.specs.Within.{GivesAs};
+ghost use Rattle.std.specs.Prelude.{◌≡◌, ◌∷◌, [], ◌++◌, ◌≤◌, length, vec_len, IfOk, OnOk};
+ghost use Rattle.std.specs.List.{filter_map};
+ghost use Rattle.aat_kern_reader.specs.Kern.{kern_of, kerning_of, left_out_of, value_of_parts, value_of_subtables};
+ghost use Rattle.aat_machine_reader.specs.Within.{GivesAs, GivesWithin};
 
-use crate::header::{KernHeader, KernList};
-use crate::kern_machine::read_kern_machine;
-use aat_bytes::{Fault, FaultKind, ReadError};
-use aat_font::{Kern, KernKind, KernSubtable, Pairs};
-use aat_pair_reader::{KERN, read_kern_classes, read_kern_indexes, read_kern_pairs};
-use std::alloc::Global;
+use crate::header::KernList;
+use crate::subtables::{LeftOutSubtable, SubtableRead, subtable_at};
+use aat_bytes::ReadError;
+use aat_font::{Kern, KernSubtable};
+use std::alloc::{AllocError, Global};
+use std::marker::Model;
 
-/// A subtable without pairs.
-fn no_pairs(alloc: Global) -> Result<KernKind, ReadError>
-    ensures { Gives result (Ok (WithPairs [])) }
-{
-    match Pairs::new(alloc, &[]) {
-        Ok(pairs) => Ok(KernKind::Pairs(pairs)),
-        Err(_) => Err(ReadError::OutOfMemory),
-    }
+/// A kerning table that is read, and the subtables that are left out. A contract sees it as the record `KernValue`.
+#[derive(Drop)]
+pub struct KernRead {
+    /// The table, with each subtable that can kern.
+    pub kern: Kern,
+    /// The subtables that are left out, in their order: those of a format that is not read with the table's header.
+    pub left_out: Vec<LeftOutSubtable>,
 }
 
-/// How a subtable kerns that goes on at a place, by a format that only Apple's header has.
-fn other_kind_at(
+impl Model for KernRead {
+    ghost use Rattle.aat_kern_reader.specs.Kern.{KernValue};
+
+    ghost Value = { KernValue };
+
+    ghost view = { λ m. record { subtables = m.kern; left_out = m.left_out.items } };
+}
+
+/// Keeps a subtable among those that kern, or among those that are left out.
+fn keep(
+    read: SubtableRead,
+    kerning: &mut Vec<KernSubtable>,
+    left_out: &mut Vec<LeftOutSubtable>,
+) -> Result<(), AllocError>
+    ensures kerning { OnOk result (kerning.new.items ≡ kerning.old.items ++ filter_map kerning_of (read ∷ [])) }
+    ensures left_out { OnOk result (left_out.new.items ≡ left_out.old.items ++ filter_map left_out_of (read ∷ [])) }
+{
+    match read {
+        SubtableRead::Kerns(subtable) => kerning.push(subtable)?,
+        SubtableRead::LeftOut(subtable) => left_out.push(subtable)?,
+    }
+    Ok(())
+}
+
+/// The subtables of a list that kern, and those that are left out.
+fn subtables(
     alloc: Global,
     bytes: &[u8],
-    header: KernHeader,
-    place: usize,
-    format: u8,
-) -> Result<KernKind, ReadError>
-    ensures { Gives result (other_kind_at bytes.now header place format) }
-{
-    match header {
-        KernHeader::OpenType => no_pairs(alloc),
-        KernHeader::Apple => match format {
-            1 => Ok(KernKind::Machine(read_kern_machine(alloc, bytes, place)?)),
-            3 => Ok(KernKind::Classes(read_kern_indexes(alloc, bytes, place)?)),
-            _ => no_pairs(alloc),
-        },
-    }
-}
-
-/// How the subtable at a place kerns, by its format.
-#[tactic(auto, unfolding(crate::specs::Kern::kern_kind_at))]
-fn kern_kind_at(
-    alloc: Global,
-    bytes: &[u8],
-    header: KernHeader,
-    place: usize,
-    format: u8,
-) -> Result<KernKind, ReadError>
-    requires { place + header_size header ≤ length bytes.now }
-    ensures { Gives result (kern_kind_at bytes.now header place format) }
-{
-    let behind = place + header.size();
-    match format {
-        0 => Ok(KernKind::Pairs(read_kern_pairs(alloc, bytes, behind)?)),
-        2 => Ok(KernKind::Classes(read_kern_classes(alloc, bytes, place, behind)?)),
-        _ => other_kind_at(alloc, bytes, header, behind, format),
-    }
-}
-
-/// Where a subtable ends, the last of all or one before it.
-#[tactic(auto, unfolding(crate::specs::Kern::end_at))]
-pub(crate) fn end_at(
-    bytes: &[u8],
-    header: KernHeader,
-    place: usize,
-    left: u32,
-) -> Result<usize, Fault>
-    requires { place ≤ length bytes.now }
-    ensures end { result ≡ end_at bytes.now header (record { place = place; left = left }) }
-    ensures header { IfOk result (λ end. place + header_size header ≤ end) }
-    ensures inside { IfOk result (λ end. end ≤ length bytes.now) }
-{
-    if bytes.len() < place + header.size() {
-        return Err(Fault::new(KERN, FaultKind::PastEnd, place));
-    }
-    if left == 1 {
-        return Ok(bytes.len());
-    }
-    let field = header.length_place(place, bytes);
-    let size = header.length_at(place, bytes) as usize;
-    if size < header.size() {
-        return Err(Fault::new(KERN, FaultKind::ShortLength, field));
-    }
-    if bytes.len() < place + size {
-        return Err(Fault::new(KERN, FaultKind::PastEnd, field));
-    }
-    Ok(place + size)
-}
-
-/// The subtable at a place, from which on there are so many, and where it ends.
-#[tactic(auto, unfolding(crate::specs::Kern::subtable_at))]
-fn subtable_at(
-    alloc: Global,
-    bytes: &[u8],
-    header: KernHeader,
-    place: usize,
-    left: u32,
-) -> Result<(KernSubtable, usize), ReadError>
-    requires { place ≤ length bytes.now }
-    ensures gives { let start : KernStart = record { place = place; left = left } in
-        GivesAs (value_and_next left) result (subtable_at bytes.now header start) }
-    ensures inside { IfOk result (λ r. r.1 ≤ length bytes.now) }
-{
-    let end = end_at(bytes, header, place, left)?;
-    let format = header.format_at(place, bytes);
-    let coverage = header.coverage_at(place, bytes);
-    let kind = kern_kind_at(alloc, &bytes[..end], header, place, format)?;
-    let subtable = KernSubtable {
-        kind,
-        horizontal: header.is_horizontal(coverage),
-        has_cross_stream: header.is_cross_stream(coverage),
-        variable: header.is_variable(coverage),
-    };
-    Ok((subtable, end))
-}
-
-/// The subtables of a list.
-fn subtables_of(alloc: Global, bytes: &[u8], list: KernList) -> Result<Vec<KernSubtable>, ReadError>
+    list: KernList,
+) -> Result<(Vec<KernSubtable>, Vec<LeftOutSubtable>), ReadError>
     requires { list.place ≤ length bytes.now }
-    ensures gives { GivesAs (λ subtables. subtables.items) result (subtables_of bytes.now list) }
-    ensures count { IfOk result (λ subtables. vec_len subtables ≡ list.count) }
+    ensures gives { GivesAs value_of_parts result (value_of_subtables bytes.now list) }
+    ensures few { IfOk result (λ parts. vec_len parts.0 ≤ list.count) }
 {
-    let room = (bytes.len() - list.place) / list.header.size();
-    let mut subtables = Vec::with_capacity(alloc, room.min(list.count as usize))?;
-    let mut start = list.place;
-    for i in 0..list.count {
-        let (subtable, end) = subtable_at(alloc, bytes, list.header, start, list.count - i)?;
-        subtables.push(subtable)?;
-        start = end;
+    let mut kerning = Vec::new(alloc);
+    let mut left_out = Vec::new(alloc);
+    let mut place = list.place;
+    for number in 0..list.count {
+        let (read, end) = subtable_at(alloc, bytes, list, place, list.count - number)?;
+        keep(read, &mut kerning, &mut left_out)?;
+        place = end;
     }
-    Ok(subtables)
+    Ok((kerning, left_out))
 }
 
 /// Reads the kerning table. `bytes` is the whole table. Version 0 has OpenType's headers, and version 1, of which the
 /// minor half is passed, Apple's. A subtable reaches to its end by its length, and the last one to the end of the table
-/// whatever its length says. Formats are 0 and 2, and with Apple's headers 1 and 3; a subtable of another format has no
-/// pairs. Of the coverage the bits for vertical or horizontal text, for values across the line and, with Apple's headers,
-/// for variations are read.
+/// whatever its length says. Formats are 0 and 2, and with Apple's headers 1 and 3. A subtable of another format is left
+/// out: it is no fault, nothing else of it is looked at, and `left_out` tells it. Of the coverage the bits for vertical
+/// or horizontal text, for values across the line and, with Apple's headers, for variations are read.
 ///
 /// The first fault in this order, of the table `kern`, with its place from the start of the table: 1, `PastEnd`, 4 bytes
 /// that are not there, at 0; 2, `UnknownFormat`, another version, at 0; of version 1 also 1, 8 bytes that are not there,
@@ -151,13 +79,13 @@ fn subtables_of(alloc: Global, bytes: &[u8], list: KernList) -> Result<Vec<KernS
 /// `read_kern_classes` and `read_kern_indexes`. `OutOfMemory` may come before any of these is met.
 ///
 /// Apple's TrueType Reference Manual, "The 'kern' table".
-pub fn read_kern(alloc: Global, bytes: &[u8]) -> Result<Kern, ReadError>
+pub fn read_kern(alloc: Global, bytes: &[u8]) -> Result<KernRead, ReadError>
     ensures { GivesWithin result (kern_of bytes.now) }
 {
     let list = KernList::read(bytes)?;
-    let subtables = subtables_of(alloc, bytes, list)?;
-    match Kern::new(subtables) {
-        Ok(kern) => Ok(kern),
+    let (kerning, left_out) = subtables(alloc, bytes, list)?;
+    match Kern::new(kerning) {
+        Ok(kern) => Ok(KernRead { kern, left_out }),
         Err(_) => unreachable!(),
     }
 }

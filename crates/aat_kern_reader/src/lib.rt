@@ -6,12 +6,15 @@ mod byte_machine;
 mod header;
 mod kern;
 mod kern_machine;
-mod left_out;
+#[doc(hidden)]
+pub mod laws;
 mod rows;
 mod rules;
+mod subtables;
+pub mod weights;
 #[doc(hidden)]
 pub mod worked;
 
-pub use kern::read_kern;
+pub use kern::{KernRead, read_kern};
 pub use kern_machine::read_kern_machine;
-pub use left_out::left_out_of_kern;
+pub use subtables::LeftOutSubtable;

@@ -2,7 +2,7 @@
 
 use aat_bytes::{Fault, FaultKind, ReadError};
 use aat_font::{GlyphId, Kern, KernKind, KernMachine, KernSubtable};
-use aat_kern_reader::{left_out_of_kern, read_kern, read_kern_machine};
+use aat_kern_reader::{KernRead, LeftOutSubtable, read_kern, read_kern_machine};
 use aat_pair_reader::KERN;
 use std::alloc::Global;
 use std::test::Fail;
@@ -82,6 +82,12 @@ fn subtable(kern: &Kern, i: usize) -> Option<&KernSubtable> {
     kern.subtables().get(i)
 }
 
+/// Whether one subtable is left out, and this is its number and the place of its format.
+fn leaves_out(read: &KernRead, number: u32, place: usize) -> bool {
+    let fault = Fault::new(KERN, FaultKind::UnknownFormat, place);
+    read.left_out.as_slice() == [LeftOutSubtable { number, fault }].as_slice()
+}
+
 /// The value of two glyphs in a subtable by pairs.
 fn listed(kern: &Kern, i: usize, left: u16, right: u16) -> Option<i16> {
     match &subtable(kern, i)?.kind {
@@ -92,7 +98,9 @@ fn listed(kern: &Kern, i: usize, left: u16, right: u16) -> Option<i16> {
 
 #[test]
 fn open_type(rt: HostRuntime) -> Result<(), Fail> {
-    let kern = read_kern(rt.alloc(), &OPEN_TYPE)?;
+    let read = read_kern(rt.alloc(), &OPEN_TYPE)?;
+    assert!(rt; read.left_out.is_empty());
+    let kern = read.kern;
     assert_eq!(rt; kern.subtables().len(), 1);
     assert_eq!(rt; listed(&kern, 0, 1, 2), Some(-1));
     let flags = subtable(&kern, 0).map(|s| (s.horizontal, s.has_cross_stream, s.variable));
@@ -100,9 +108,8 @@ fn open_type(rt: HostRuntime) -> Result<(), Fail> {
     let mut bytes = OPEN_TYPE;
     bytes[8] = 1;
     let unknown = read_kern(rt.alloc(), &bytes)?;
-    assert_eq!(rt; listed(&unknown, 0, 1, 2), None);
-    let left_out = left_out_of_kern(rt.alloc(), &bytes)?;
-    assert!(rt; left_out.as_slice() == [0].as_slice());
+    assert!(rt; unknown.kern.subtables().is_empty());
+    assert!(rt; leaves_out(&unknown, 0, 8));
     bytes[3] = 2;
     let short = read_kern(rt.alloc(), &bytes).err();
     assert!(rt; short == fault(FaultKind::ShortLength, 6));
@@ -138,7 +145,9 @@ fn apples(alloc: Global) -> Result<Vec<u8>, Fail> {
 #[test]
 fn apple(rt: HostRuntime) -> Result<(), Fail> {
     let mut bytes = apples(rt.alloc())?;
-    let kern = read_kern(rt.alloc(), &bytes)?;
+    let read = read_kern(rt.alloc(), &bytes)?;
+    assert!(rt; read.left_out.is_empty());
+    let kern = read.kern;
     assert_eq!(rt; kern.subtables().len(), 2);
     let first = subtable(&kern, 0).map(|s| (s.horizontal, s.has_cross_stream, s.variable));
     assert!(rt; first == Some((false, false, false)));
@@ -148,11 +157,11 @@ fn apple(rt: HostRuntime) -> Result<(), Fail> {
         return Err(Fail::new("no machine"));
     };
     check_machine(machine)?;
-    assert!(rt; left_out_of_kern(rt.alloc(), &bytes)?.is_empty());
     assert!(rt; bytes.len() == 80);
     bytes[29] = 4;
-    let left_out = left_out_of_kern(rt.alloc(), &bytes)?;
-    assert!(rt; left_out.as_slice() == [1].as_slice());
+    let unknown = read_kern(rt.alloc(), &bytes)?;
+    assert_eq!(rt; unknown.kern.subtables().len(), 1);
+    assert!(rt; leaves_out(&unknown, 1, 29));
     bytes[5] = 1;
     let many = read_kern(rt.alloc(), &bytes).err();
     assert!(rt; many == fault(FaultKind::PastEnd, 4));

@@ -1,5 +1,5 @@
 -- What an extended kerning table weighs that is read.
-use Rattle.std.proofs.Common.{◌≡◌, ℕ, ℤ, zero, suc, ◌+◌, ◌-◌, ◌*◌, ◌/◌, ◌≤◌, List, length, take, Bool, true, false, cond, Result, Ok, refl, ap, ◌∙◌, subst, arith, ◌==◌}
+use Rattle.std.proofs.Common.{◌≡◌, ℕ, ℤ, zero, suc, ◌+◌, ◌-◌, ◌*◌, ◌/◌, ◌≤◌, ◌⊎◌, inl, inr, List, length, take, Bool, true, false, cond, Option, Some, None, Result, Ok, Err, refl, sym, ap, ◌∙◌, subst, arith, ◌==◌}
 use Rattle.std.specs.Prelude.{nat_lt}
 use Rattle.std.proofs.Math.Nat.{div-le_self}
 use Rattle.std.proofs.lemmas.Bool.{ltb-false}
@@ -18,13 +18,17 @@ use Rattle.aat_machine_reader.specs.InTurn.{in_turn, weight_in_turn}
 use Rattle.aat_machine_reader.specs.facts.Turns.{turn, weight_more}
 use Rattle.aat_pair_reader.specs.KerxClasses.{kerx_arrays_at, kerx_classes_at}
 use Rattle.aat_pair_reader.specs.ListedPairs.{kerx_pairs_at}
-use Rattle.aat_pair_reader.proofs.Counts.{arrays_fit, classes_fit, pairs_fit}
-use Rattle.aat_kerx_reader.specs.Formats.{anchor_format_at, arrays_format_at, as_format, format_at, is_long}
+use Rattle.aat_pair_reader.specs.LongArrays.{kerx_long_arrays_at, wide_value_at}
+use Rattle.aat_pair_reader.specs.declared.values.TheConstants.{KERX}
+use Rattle.aat_long_lookup_reader.specs.Sizes.{long_size_at}
+use Rattle.aat_long_lookup_reader.proofs.SizeBounds.{rows_are_inside}
+use Rattle.aat_pair_reader.proofs.Counts.{arrays_fit, classes_fit, long_arrays_fit, pairs_fit}
+use Rattle.aat_kerx_reader.specs.Formats.{anchor_format_at, arrays_format_at, as_format, format_at, is_long, left_out_at, long_format_at}
 use Rattle.aat_kerx_reader.specs.KerxLaws.{KerxIsBounded}
 use Rattle.aat_kerx_reader.specs.KerxSubtables.{KerxStart, format_of, subtable_at, subtable_read, tuple_count_of, used_bytes}
 use Rattle.aat_kerx_reader.specs.KerxTables.{first_subtable}
 use Rattle.aat_kerx_reader.specs.Machines.{action_type, anchor_tables_at, stack_tables_at}
-use Rattle.aat_kerx_reader.specs.Weights.{class_pairs_weight, format_weight, subtable_weight}
+use Rattle.aat_kerx_reader.specs.Weights.{class_pairs_weight, format_weight, long_pairs_weight, long_weight, subtable_weight}
 use Rattle.aat_kerx_reader.specs.declared.formats.FormatRead.{FormatRead}
 use Rattle.aat_kerx_reader.specs.declared.formats.FormatRead.TheVariants.{Kerns, LeftOut}
 use Rattle.aat_kerx_reader.specs.declared.subtables.SubtableRead.{SubtableRead}
@@ -48,6 +52,24 @@ few_starts pairs =
 abbrev read_weight : List ℕ → ℕ → ℕ → FormatRead → ℕ
 read_weight bytes place glyph_count (Kerns format) = KERX_SUBTABLE_SIZE + format_weight bytes place glyph_count format
 read_weight bytes place glyph_count (LeftOut fault) = LEFT_OUT_SIZE
+
+-- the rows of a lookup with values of 32 bits take at most 6 bytes for each byte from its place on
+long_rows_by : (bytes : List ℕ) (place glyph_count width : ℕ) (r : Result ℕ Fault)
+    → long_size_at KERX bytes place glyph_count width ≡ r
+    → elim r [ Ok size ↦ size | Err fault ↦ 0 ] ≤ 6 * (length bytes - place)
+long_rows_by bytes place glyph_count width (Ok size) is = rows_are_inside KERX bytes place glyph_count width size is
+long_rows_by bytes place glyph_count width (Err fault) is = omega arith
+
+long_light : (bytes : List ℕ) (place glyph_count width : ℕ)
+    → long_weight bytes place glyph_count width ≤ 6 * (length bytes - place)
+long_light bytes place glyph_count width =
+    long_rows_by bytes place glyph_count width (long_size_at KERX bytes place glyph_count width) refl
+
+-- one of two ways
+one_of : {X : Type 0} (b : Bool) (r s : Result X Fault) (x : X)
+    → cond b r s ≡ Ok x → ((b ≡ true) × (r ≡ Ok x)) ⊎ ((b ≡ false) × (s ≡ Ok x))
+one_of true r s x is = inl (refl, is)
+one_of false r s x is = inr (refl, is)
 
 module _ (bytes : List ℕ) (place glyph_count : ℕ) where
   -- what a subtable weighs whose tables weigh so much
@@ -120,12 +142,46 @@ module _ (bytes : List ℕ) (place glyph_count : ℕ) where
       class_pairs_light (place + be32 bytes (place + 16)) (place + be32 bytes (place + 20)) pairs
       (classes_fit bytes place glyph_count tuple_count pairs is) (omega arith) (omega arith)
 
+  -- the same with lookups of values of 32 bits
+  long_pairs_light :
+      (left right : ℕ) (pairs : ClassValues)
+      → (place + 28 ≤ length bytes) × (2 * length pairs.values ≤ length bytes - place) → place ≤ left → place ≤ right
+      → KERX_SUBTABLE_SIZE + long_pairs_weight bytes left right glyph_count pairs ≤ 32 * (length bytes - place)
+  long_pairs_light left right pairs fit lefts rights =
+      let header = fit.0 in
+      let values = fit.1 in
+      let rows : length pairs.values / pairs.right_count ≤ length pairs.values =
+      div-le_self (length pairs.values) pairs.right_count in
+      let by_left = long_light bytes left glyph_count pairs.right_count in
+      let by_right = long_light bytes right glyph_count 1 in
+      omega (arith, header, values, lefts, rights, rows, by_left, by_right)
+
+  -- rows and columns weigh by their form
+  abbrev form_weight : Bool → ClassValues → ℕ
+  form_weight long pairs =
+      let left = place + be32 bytes (place + 20) in
+      let right = place + be32 bytes (place + 24) in
+      KERX_SUBTABLE_SIZE
+      + cond long (long_pairs_weight bytes left right glyph_count pairs)
+      (class_pairs_weight bytes left right glyph_count pairs)
+
   arrays_light :
-      (tuple_count : ℕ) (pairs : ClassValues) → kerx_arrays_at bytes place glyph_count tuple_count ≡ Ok pairs
+      (tuple_count : ℕ) (pairs : ClassValues) → is_long bytes place ≡ false
+      → kerx_arrays_at bytes place glyph_count tuple_count ≡ Ok pairs
       → read_weight bytes place glyph_count (Kerns (Format6Classes pairs)) ≤ 32 * (length bytes - place)
-  arrays_light tuple_count pairs is =
-      class_pairs_light (place + be32 bytes (place + 20)) (place + be32 bytes (place + 24)) pairs
-      (arrays_fit bytes place glyph_count tuple_count pairs is) (omega arith) (omega arith)
+  arrays_light tuple_count pairs short is =
+      let light = class_pairs_light (place + be32 bytes (place + 20)) (place + be32 bytes (place + 24)) pairs
+      (arrays_fit bytes place glyph_count tuple_count pairs is) (omega arith) (omega arith) in
+      subst (λ (b : Bool). form_weight b pairs ≤ 32 * (length bytes - place)) (sym short) light
+
+  long_arrays_light :
+      (tuple_count : ℕ) (pairs : ClassValues) → is_long bytes place ≡ true
+      → kerx_long_arrays_at bytes place glyph_count tuple_count ≡ Ok pairs
+      → read_weight bytes place glyph_count (Kerns (Format6Classes pairs)) ≤ 32 * (length bytes - place)
+  long_arrays_light tuple_count pairs long is =
+      let light = long_pairs_light (place + be32 bytes (place + 20)) (place + be32 bytes (place + 24)) pairs
+      (long_arrays_fit bytes place glyph_count tuple_count pairs is) (omega arith) (omega arith) in
+      subst (λ (b : Bool). form_weight b pairs ≤ 32 * (length bytes - place)) (sym long) light
 
   anchors_light :
       (read : FormatRead) → place + 12 ≤ length bytes → anchor_format_at bytes (place + 12) glyph_count ≡ Ok read
@@ -137,14 +193,40 @@ module _ (bytes : List ℕ) (place glyph_count : ℕ) where
       (made_light Format4 (anchor_tables_at bytes (place + 12) glyph_count) read (λ t. anchor_format_light t header))
       (left_light _ read header) whole.1
 
+  -- what is read where no value is wide, or left out
+  long_by :
+      (tuple_count : ℕ) (read : FormatRead) (wide : Option ℕ) → place + 12 ≤ length bytes
+      → is_long bytes place ≡ true
+      → ◌≡◌ {A = Result FormatRead Fault} (elim wide [
+        | None ↦ as_format Format6Classes (kerx_long_arrays_at bytes place glyph_count tuple_count)
+        | Some at ↦ left_out_at at
+      ]) (Ok read)
+      → read_weight bytes place glyph_count read ≤ 32 * (length bytes - place)
+  long_by tuple_count read None header long is =
+      made_light Format6Classes (kerx_long_arrays_at bytes place glyph_count tuple_count) read
+      (λ pairs. long_arrays_light tuple_count pairs long) is
+  long_by tuple_count read (Some at) header long is = left_light _ read header is
+
+  long_format_light :
+      (tuple_count : ℕ) (read : FormatRead) → place + 12 ≤ length bytes → is_long bytes place ≡ true
+      → long_format_at bytes place glyph_count tuple_count ≡ Ok read
+      → read_weight bytes place glyph_count read ≤ 32 * (length bytes - place)
+  unfolding long_format_at
+  long_format_light tuple_count read header long is =
+      long_by tuple_count read (wide_value_at bytes place tuple_count) header long is
+
   sixth_light :
       (tuple_count : ℕ) (read : FormatRead) → place + 12 ≤ length bytes
       → arrays_format_at bytes place glyph_count tuple_count ≡ Ok read
       → read_weight bytes place glyph_count read ≤ 32 * (length bytes - place)
   unfolding arrays_format_at
   sixth_light tuple_count read header is =
-      chosen (is_long bytes place) _ _ read (left_light _ read header)
-      (made_light Format6Classes (kerx_arrays_at bytes place glyph_count tuple_count) read (arrays_light tuple_count)) is
+      elim (one_of (is_long bytes place) _ _ read is) [
+        | inl long ↦ long_format_light tuple_count read header long.0 long.1
+        | inr short ↦
+            made_light Format6Classes (kerx_arrays_at bytes place glyph_count tuple_count) read
+            (λ pairs. arrays_light tuple_count pairs short.0) short.1
+      ]
 
   -- a subtable of any format
   pub format_light :

@@ -1,6 +1,6 @@
 -- What a subtable of the extended kerning table does, by its format. Apple's TrueType Reference Manual, "The 'kerx'
 -- table", subtable formats.
-use Rattle.std.specs.Prelude.{ℕ, ◌+◌, ◌%◌, List, length, Bool, Result, Ok, Err, if◌then◌else◌, nat_lt, nat_le, ◌==◌, ◌&&◌}
+use Rattle.std.specs.Prelude.{ℕ, ◌+◌, ◌%◌, List, length, Bool, Some, None, Result, Ok, Err, if◌then◌else◌, nat_lt, nat_le, ◌==◌, ◌&&◌}
 use Rattle.aat_bytes.specs.Faults.{after, fault_at}
 use Rattle.aat_bytes.specs.Numbers.{be32}
 use Rattle.aat_bytes.specs.declared.error.Fault.{Fault}
@@ -9,6 +9,7 @@ use Rattle.aat_font.specs.declared.kerx.KerxFormat.{KerxFormat}
 use Rattle.aat_font.specs.declared.kerx.KerxFormat.TheVariants.{Format0, Format1, Format2Classes, Format4, Format6Classes}
 use Rattle.aat_pair_reader.specs.KerxClasses.{kerx_arrays_at, kerx_classes_at}
 use Rattle.aat_pair_reader.specs.ListedPairs.{kerx_pairs_at}
+use Rattle.aat_pair_reader.specs.LongArrays.{kerx_long_arrays_at, wide_value_at}
 use Rattle.aat_pair_reader.specs.declared.values.TheConstants.{KERX}
 use Rattle.aat_kerx_reader.specs.Machines.{action_type, anchor_tables_at, stack_tables_at}
 use Rattle.aat_kerx_reader.specs.declared.formats.FormatRead.{FormatRead}
@@ -33,10 +34,17 @@ anchor_format_at bytes place glyph_count =
 abbrev pub is_long : List ℕ → ℕ → Bool
 is_long bytes place = nat_le (place + 16) (length bytes) && (be32 bytes (place + 12) % 2 == 1)
 
--- format 6. With values of 32 bits it is left out
+-- format 6 with values of 32 bits. For the first value that 16 bits do not have it is left out
+unfoldable pub long_format_at : List ℕ → ℕ → ℕ → ℕ → Result FormatRead Fault
+long_format_at bytes place glyph_count tuple_count = elim (wide_value_at bytes place tuple_count) [
+  | None ↦ as_format Format6Classes (kerx_long_arrays_at bytes place glyph_count tuple_count)
+  | Some at ↦ left_out_at at
+]
+
+-- format 6
 unfoldable pub arrays_format_at : List ℕ → ℕ → ℕ → ℕ → Result FormatRead Fault
 arrays_format_at bytes place glyph_count tuple_count =
-    if is_long bytes place then left_out_at (place + 12) else
+    if is_long bytes place then long_format_at bytes place glyph_count tuple_count else
     as_format Format6Classes (kerx_arrays_at bytes place glyph_count tuple_count)
 
 -- the subtable of a format that starts at a place, for a font of so many glyphs, with tuples of so many values. One of

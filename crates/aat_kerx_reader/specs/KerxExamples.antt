@@ -5,7 +5,7 @@ use Rattle.aat_bytes.specs.declared.error.Fault.{Fault}
 use Rattle.aat_bytes.specs.declared.error.FaultKind.TheVariants.{PastEnd, UnknownFormat, ShortLength}
 use Rattle.aat_font.specs.Table.{TableValue, Rule}
 use Rattle.aat_font.specs.declared.entries.EntryData.{EntryData}
-use Rattle.aat_font.specs.declared.kerx.KerxFormat.TheVariants.{Format0, Format1, Format4}
+use Rattle.aat_font.specs.declared.kerx.KerxFormat.TheVariants.{Format0, Format1, Format4, Format6Classes}
 use Rattle.aat_font.specs.declared.state_table.GenericStateEntry.{GenericStateEntry}
 use Rattle.aat_kerx_reader.specs.KerxTables.{KerxValue, kerx_of}
 use Rattle.aat_pair_reader.specs.declared.values.TheConstants.{KERX}
@@ -99,18 +99,49 @@ PairsHaveTheirValues =
       left_out = [];
     })
 
--- an unknown format, format 4 by control points or coordinates, and format 6 with values of 32 bits are left out, each
--- with its number
+-- format 6 with values of 32 bits, without tuples: rows of two values; glyph 5 is in row 1, at 2, and glyph 7 in column
+-- 1. The second byte of the last value is handed in
+abbrev pub example_long : ℕ → List ℕ
+example_long high =
+    0 ∷ 0 ∷ 0 ∷ 72 ∷ 0 ∷ 0 ∷ 0 ∷ 6 ∷ 0 ∷ 0 ∷ 0 ∷ 0
+    ∷ 0 ∷ 0 ∷ 0 ∷ 1 ∷ 0 ∷ 2 ∷ 0 ∷ 2 ∷ 0 ∷ 0 ∷ 0 ∷ 36 ∷ 0 ∷ 0 ∷ 0 ∷ 46 ∷ 0 ∷ 0 ∷ 0 ∷ 56 ∷ 0 ∷ 0 ∷ 0 ∷ 72
+    ∷ 0 ∷ 8 ∷ 0 ∷ 5 ∷ 0 ∷ 1 ∷ 0 ∷ 0 ∷ 0 ∷ 2 ∷ 0 ∷ 8 ∷ 0 ∷ 7 ∷ 0 ∷ 1 ∷ 0 ∷ 0 ∷ 0 ∷ 1
+    ∷ 0 ∷ 0 ∷ 0 ∷ 1 ∷ 255 ∷ 255 ∷ 255 ∷ 254 ∷ 0 ∷ 0 ∷ 0 ∷ 4 ∷ 0 ∷ high ∷ 0 ∷ 9 ∷ []
+
+-- values of 32 bits, which 16 bits have
+abbrev pub LongValuesAreRead : Type 0
+LongValuesAreRead =
+    read_kerx (example_table 2 0 1 ++ example_long 0) ≡ Ok (record {
+      subtables =
+          record {
+            format =
+                Format6Classes (record {
+                  left = (5, 1) ∷ [];
+                  right = (7, 1) ∷ [];
+                  right_count = 2;
+                  values = pos 1 ∷ negsuc 1 ∷ pos 4 ∷ pos 9 ∷ [];
+                });
+            horizontal = true;
+            has_cross_stream = false;
+            variable = false;
+            is_last_to_first = false;
+            tuple_count = 0;
+          } ∷ [];
+      left_out = [];
+    })
+
+-- an unknown format, format 4 by control points or coordinates, and format 6 with a value that 16 bits do not have are
+-- left out, each with its number
 abbrev pub OthersAreLeftOut : Type 0
 OthersAreLeftOut =
     read_kerx (example_table 3 0 4 ++ example_subtable 12 0 3 ++ example_subtable 66 0 4 ++ example_machine 0
-    ++ example_subtable 66 0 4 ++ example_machine 128 ++ example_subtable 16 0 6 ++ 0 ∷ 0 ∷ 0 ∷ 1 ∷ []) ≡ Ok (record {
+    ++ example_subtable 66 0 4 ++ example_machine 128 ++ example_long 1) ≡ Ok (record {
       subtables = [];
       left_out =
           record { number = 0; fault = fault_at KERX UnknownFormat 12 }
           ∷ record { number = 1; fault = fault_at KERX UnknownFormat 48 }
           ∷ record { number = 2; fault = fault_at KERX UnknownFormat 114 }
-          ∷ record { number = 3; fault = fault_at KERX UnknownFormat 164 }
+          ∷ record { number = 3; fault = fault_at KERX UnknownFormat 220 }
           ∷ [];
     })
 

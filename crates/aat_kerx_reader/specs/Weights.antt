@@ -1,16 +1,18 @@
 -- What an extended kerning table weighs that is read: the bytes of memory that it takes.
-use Rattle.std.specs.Prelude.{ℕ, ℤ, ◌+◌, ◌*◌, ◌/◌, List, length, Ok, Err}
+use Rattle.std.specs.Prelude.{ℕ, ℤ, ◌+◌, ◌*◌, ◌/◌, List, length, if◌then◌else◌, Ok, Err}
 use Rattle.aat_bytes.specs.Numbers.{be32}
 use Rattle.aat_font.specs.Classes.{ClassValues}
 use Rattle.aat_font.specs.KerningTables.{KerxAnchorTables, KerxStackTables}
 use Rattle.aat_font.specs.declared.kerx.KerxFormat.{KerxFormat}
 use Rattle.aat_font.specs.declared.kerx.KerxFormat.TheVariants.{Format0, Format1, Format2, Format2Classes, Format4, Format6, Format6Classes}
 use Rattle.aat_font.specs.inside.Lefts.{left_count}
+use Rattle.aat_long_lookup_reader.specs.Sizes.{long_size_at}
 use Rattle.aat_lookup_reader.specs.Sizes.{lookup_size_at}
 use Rattle.aat_machine_reader.specs.InTurn.{weight_in_turn}
 use Rattle.aat_machine_reader.specs.Kinds.{list_place}
 use Rattle.aat_machine_reader.specs.Weights.{machine_weight}
 use Rattle.aat_pair_reader.specs.declared.values.TheConstants.{KERX}
+use Rattle.aat_kerx_reader.specs.Formats.{is_long}
 use Rattle.aat_kerx_reader.specs.KerxSubtables.{KerxStart, subtable_at, used_bytes}
 use Rattle.aat_kerx_reader.specs.KerxTables.{first_subtable}
 use Rattle.aat_kerx_reader.specs.declared.subtables.SubtableRead.{SubtableRead}
@@ -49,6 +51,19 @@ class_pairs_weight bytes left right glyph_count pairs =
     lookup_weight bytes left glyph_count + lookup_weight bytes right glyph_count + 2 * length pairs.values
     + (length pairs.values / pairs.right_count + 1)
 
+-- the rows of the lookup with values of 32 bits at a place, where rows have so many values: none where it has a fault
+abbrev pub long_weight : List ℕ → ℕ → ℕ → ℕ → ℕ
+long_weight bytes place glyph_count width = elim (long_size_at KERX bytes place glyph_count width) [
+  | Ok size ↦ size
+  | Err fault ↦ 0
+]
+
+-- pairs by classes whose lookups have values of 32 bits
+abbrev pub long_pairs_weight : List ℕ → ℕ → ℕ → ℕ → ClassValues → ℕ
+long_pairs_weight bytes left right glyph_count pairs =
+    long_weight bytes left glyph_count pairs.right_count + long_weight bytes right glyph_count 1
+    + 2 * length pairs.values + (length pairs.values / pairs.right_count + 1)
+
 -- what a subtable does that starts at a place, by its format
 abbrev pub format_weight : List ℕ → ℕ → ℕ → KerxFormat → ℕ
 format_weight bytes place glyph_count (Format0 pairs) = pairs_weight pairs
@@ -59,7 +74,10 @@ format_weight bytes place glyph_count (Format2Classes pairs) =
 format_weight bytes place glyph_count (Format4 t) = anchor_weight bytes (place + 12) glyph_count t
 format_weight bytes place glyph_count (Format6 pairs) = pairs_weight pairs
 format_weight bytes place glyph_count (Format6Classes pairs) =
-    class_pairs_weight bytes (place + be32 bytes (place + 20)) (place + be32 bytes (place + 24)) glyph_count pairs
+    let left = place + be32 bytes (place + 20) in
+    let right = place + be32 bytes (place + 24) in
+    if is_long bytes place then long_pairs_weight bytes left right glyph_count pairs else
+    class_pairs_weight bytes left right glyph_count pairs
 
 -- a subtable that starts there, of so many, and behind which the next one starts
 abbrev pub subtable_weight : List ℕ → ℕ → ℕ → KerxStart → SubtableRead → KerxStart → ℕ

@@ -6,14 +6,17 @@ ghost use Rattle.aat_font.specs.declared.kerx.KerxFormat.TheVariants.{Format0, F
 ghost use Rattle.aat_machine_reader.specs.Within.{GivesWithin};
 ghost use Rattle.aat_pair_reader.specs.KerxClasses.{kerx_classes_at};
 ghost use Rattle.aat_pair_reader.specs.ListedPairs.{kerx_pairs_at};
-ghost use Rattle.aat_kerx_reader.specs.Formats.{anchor_format_at, arrays_format_at, as_format, format_at, is_long};
+ghost use Rattle.aat_kerx_reader.specs.Formats.{anchor_format_at, arrays_format_at, as_format, format_at, is_long, long_format_at};
 ghost use Rattle.aat_kerx_reader.specs.Machines.{stack_tables_at};
 ghost use Rattle.aat_kerx_reader.specs.declared.formats.FormatRead.TheVariants.{LeftOut};
 
 use crate::machines::{action_type, read_anchor_tables, read_stack_tables};
 use aat_bytes::{Fault, FaultKind, ReadError, be32};
 use aat_font::KerxFormat;
-use aat_pair_reader::{KERX, read_kerx_arrays, read_kerx_classes, read_kerx_pairs};
+use aat_pair_reader::{
+    KERX, kerx_wide_value, read_kerx_arrays, read_kerx_classes, read_kerx_long_arrays,
+    read_kerx_pairs,
+};
 use std::alloc::Global;
 
 /// What the bytes of a subtable are read as.
@@ -102,6 +105,24 @@ fn is_long(bytes: &[u8], place: usize) -> bool
     place + 16 <= bytes.len() && be32(bytes, place + 12) % 2 == 1
 }
 
+/// The rows and columns of format 6 with values of 32 bits.
+#[tactic(auto, unfolding(crate::specs::Formats::long_format_at))]
+fn long_format_at(
+    alloc: Global,
+    bytes: &[u8],
+    place: usize,
+    glyph_count: u16,
+    tuple_count: u32,
+) -> Result<FormatRead, ReadError>
+    ensures { GivesWithin result (long_format_at bytes.now place glyph_count tuple_count) }
+{
+    if let Some(wide) = kerx_wide_value(bytes, place, tuple_count) {
+        return Ok(left_out(wide));
+    }
+    let long_pairs = read_kerx_long_arrays(alloc, bytes, place, glyph_count, tuple_count)?;
+    Ok(FormatRead::Kerns(KerxFormat::Format6Classes(long_pairs)))
+}
+
 /// The rows and columns of format 6.
 #[tactic(auto, unfolding(crate::specs::Formats::arrays_format_at))]
 fn arrays_format_at(
@@ -115,7 +136,7 @@ fn arrays_format_at(
     ensures { GivesWithin result (arrays_format_at bytes.now place glyph_count tuple_count) }
 {
     if is_long(bytes, place) {
-        return Ok(left_out(place + 12));
+        return long_format_at(alloc, bytes, place, glyph_count, tuple_count);
     }
     let pairs = read_kerx_arrays(alloc, bytes, place, glyph_count, tuple_count)?;
     Ok(FormatRead::Kerns(KerxFormat::Format6Classes(pairs)))

@@ -19,6 +19,14 @@ const PAIR: [u8; 22] = [
     0, 0, 0, 1, 0, 0, 0, 0, 0, 0, 0, 0, 0, 0, 0, 0, 0, 1, 0, 2, 255, 255,
 ];
 
+/// Format 6 behind the header, with values and lookups of 32 bits: two rows of two values, 1, -2, 4 and 9. Glyph 5 is in
+/// row 1, and glyph 7 in column 1.
+const LONG: [u8; 60] = [
+    0, 0, 0, 1, 0, 2, 0, 2, 0, 0, 0, 36, 0, 0, 0, 46, 0, 0, 0, 56, 0, 0, 0, 72, 0, 8, 0, 5, 0, 1,
+    0, 0, 0, 2, 0, 8, 0, 7, 0, 1, 0, 0, 0, 1, 0, 0, 0, 1, 255, 255, 255, 254, 0, 0, 0, 4, 0, 0, 0,
+    9,
+];
+
 /// Appends a subtable of a coverage's highest byte and a format.
 fn append(table: &mut Vec<u8>, coverage: u8, format: u8, parts: &[u8]) -> Result<(), AllocError> {
     let size = (12 + parts.len() % 200) as u8;
@@ -103,6 +111,39 @@ fn subtables(rt: HostRuntime) -> Result<(), Fail> {
         assert!(rt; left.fault == Fault::new(KERX, FaultKind::UnknownFormat, place));
     }
     assert_eq!(rt; read.left_out.len(), 2);
+    Ok(())
+}
+
+/// Checks the pairs of the one subtable with values of 32 bits.
+fn check_long(read: &KerxRead) -> Result<(), Fail> {
+    let [long] = read.kerx.subtables() else {
+        return Err(Fail::new("another number of subtables"));
+    };
+    let KerxFormat::Format6Classes(pairs) = &long.format else {
+        return Err(Fail::new("another format"));
+    };
+    for (left, right, value) in [(5, 7, 9), (4, 7, -2), (5, 6, 4), (0, 0, 1)] {
+        if pairs.glyphs_kerning(GlyphId(left), GlyphId(right)) != value {
+            return Err(Fail::new("another value"));
+        }
+    }
+    Ok(())
+}
+
+#[test]
+fn long_values(rt: HostRuntime) -> Result<(), Fail> {
+    let mut table = start(rt.alloc(), 2)?;
+    let mut wide = LONG;
+    wide[57] = 1;
+    append(&mut table, 0, 6, &wide)?;
+    append(&mut table, 0, 6, &LONG)?;
+    let read = read_kerx(rt.alloc(), &table, 9)?;
+    check_long(&read)?;
+    assert_eq!(rt; read.left_out.len(), 1);
+    for left in &read.left_out {
+        assert_eq!(rt; left.number, 0);
+        assert!(rt; left.fault == Fault::new(KERX, FaultKind::UnknownFormat, 76));
+    }
     Ok(())
 }
 

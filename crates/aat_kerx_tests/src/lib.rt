@@ -5,3 +5,5 @@
 mod ankr_tests;
 #[cfg(test)]
 mod kerx_tests;
+#[cfg(test)]
+mod writer_tests;

@@ -1,19 +1,25 @@
 -- How many pairs and values of `kerx` are read: no more than the bytes have room for.
 use Rattle.std.proofs.Common.{◌≡◌, ℕ, ℤ, ◌+◌, ◌-◌, ◌*◌, ◌/◌, ◌%◌, ◌≤◌, List, length, Ok, sym, ap, ◌∙◌, arith, ◌==◌}
-use Rattle.std.specs.Prelude.{nat_lt}
-use Rattle.std.proofs.Math.Nat.{mul-div-le}
+use Rattle.std.specs.Prelude.{nat_lt, pos, unwrap_or}
+use Rattle.std.proofs.Math.Nat.{min-le_right, mul-div-le}
 use Rattle.std.proofs.lemmas.Bool.{ltb-false}
 use Rattle.std.proofs.lemmas.List.FromFn.{length-map-range_with_len}
+use Rattle.aat_bytes.specs.Faults.{fault_at}
 use Rattle.aat_bytes.specs.Numbers.{be16, be32}
+use Rattle.aat_bytes.specs.declared.error.FaultKind.TheVariants.{UnknownFormat}
 use Rattle.aat_bytes.specs.facts.Parts.{none_of, ok_parts, parts, passes}
 use Rattle.aat_font.specs.Classes.{ClassValues}
 use Rattle.aat_font.specs.Keys.{first_fall}
 use Rattle.aat_font.specs.Pairs.{key_of_pair}
 use Rattle.aat_lookup_reader.specs.Lookups.{lookup_at}
 use Rattle.aat_lookup_reader.specs.Rows.{rows_at}
+use Rattle.aat_long_lookup_reader.specs.Lookups.{long_rows_at}
 use Rattle.aat_pair_reader.specs.KerxClasses.{array_grid_at, array_value, array_values, class_grid_at, column_count_at, grid_pairs, kerx_arrays_at, kerx_classes_at}
 use Rattle.aat_pair_reader.specs.ListedPairs.{kerx_pairs_at, listed_pairs, pair_at, pairs_at}
+use Rattle.aat_pair_reader.specs.LongArrays as long
+use Rattle.aat_pair_reader.specs.LongArrays.{kerx_long_arrays_at, long_grid_at, long_grid_pairs, short_grid, value_count, wide_place}
 use Rattle.aat_pair_reader.specs.declared.kerx_classes.KerxGrid.{KerxGrid}
+use Rattle.aat_pair_reader.specs.declared.long_arrays.LongGrid.{LongGrid}
 use Rattle.aat_pair_reader.specs.declared.values.TheConstants.{KERX}
 use Rattle.aat_pair_reader.specs.declared.values.Tuples.{Tuples}
 
@@ -89,3 +95,45 @@ arrays_fit bytes start glyph_count tuple_count pairs is =
       omega (arith, header),
       values_fit bytes start glyph_count grid.0 pairs (omega (arith, array)) grid.2,
     )
+
+-- the values of 32 bits stand from the start of the array on
+long_values_fit : (bytes : List ℕ) (start glyph_count : ℕ) (grid : LongGrid) (pairs : ClassValues)
+    → start ≤ grid.array → long_grid_pairs bytes glyph_count grid ≡ Ok pairs
+    → 4 * length pairs.values ≤ length bytes - start
+unfolding long_grid_pairs
+long_values_fit bytes start glyph_count grid pairs behind is =
+    let one = parts (long_rows_at KERX bytes grid.rows glyph_count grid.column_count) _ pairs is in
+    let two = parts (long_rows_at KERX bytes grid.columns glyph_count 1) _ pairs one.2 in
+    let made : ClassValues = record {
+      left = one.0;
+      right = two.0;
+      right_count = grid.column_count;
+      values = long.array_values bytes grid;
+    } in
+    let same : made ≡ pairs = ok_parts made pairs two.2 in
+    let value : ℕ → ℤ = λ i. unwrap_or (long.array_value bytes grid i) (pos 0) in
+    let long : length pairs.values ≡ value_count bytes grid =
+    sym (ap (λ (k : ClassValues). length k.values) same)
+    ∙ length-map-range_with_len value 0 (value_count bytes grid) in
+    let few : value_count bytes grid ≤ (length bytes - grid.array) / 4 =
+    min-le_right (grid.row_count * grid.column_count) ((length bytes - grid.array) / 4) in
+    let fit : 4 * ((length bytes - grid.array) / 4) ≤ length bytes - grid.array =
+    mul-div-le (length bytes - grid.array) 4 in
+    omega (arith, behind, long, few, fit)
+
+pub long_arrays_fit : (bytes : List ℕ) (start glyph_count tuple_count : ℕ) (pairs : ClassValues)
+    → kerx_long_arrays_at bytes start glyph_count tuple_count ≡ Ok pairs
+    → (start + 28 ≤ length bytes) × (2 * length pairs.values ≤ length bytes - start)
+unfolding long_grid_at
+long_arrays_fit bytes start glyph_count tuple_count pairs is =
+    let grid = parts (long_grid_at bytes start tuple_count) _ pairs is in
+    let short = parts (short_grid bytes grid.0) _ pairs grid.2 in
+    let none = none_of (wide_place bytes grid.0) (Ok grid.0) (fault_at KERX UnknownFormat) short.0 short.1 in
+    let one : grid.0 ≡ short.0 = ok_parts grid.0 short.0 none.1 in
+    let whole = passes (nat_lt (length bytes) (start + 36)) _ _ grid.0 grid.1 in
+    let columns = parts (column_count_at (start + 18) (be16 bytes (start + 18))) _ grid.0 whole.1 in
+    let array : start + be32 bytes (start + 28) ≡ short.0.array =
+    ap (λ (g : LongGrid). g.array) (ok_parts _ grid.0 columns.2 ∙ one) in
+    let header = ltb-false (length bytes) (start + 36) whole.0 in
+    let fit = long_values_fit bytes start glyph_count short.0 pairs (omega (arith, array)) short.2 in
+    (omega (arith, header), omega (arith, fit))

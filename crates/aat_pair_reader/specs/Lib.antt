@@ -4,6 +4,7 @@ pub mod KernIndexes
 pub mod KerningValues
 pub mod KerxClasses
 pub mod ListedPairs
+pub mod LongArrays
 pub mod PairExamples
 pub mod PairLaws
 pub mod inside

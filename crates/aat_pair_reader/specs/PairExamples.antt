@@ -1,11 +1,12 @@
 -- Worked examples of subtables of pairs.
-use Rattle.std.specs.Prelude.{◌≡◌, ℕ, ℤ, pos, negsuc, List, [], ◌∷◌, take, Ok, Err}
+use Rattle.std.specs.Prelude.{◌≡◌, ℕ, ℤ, pos, negsuc, List, [], ◌∷◌, take, Some, None, Ok, Err}
 use Rattle.aat_bytes.specs.Faults.{fault_at}
 use Rattle.aat_bytes.specs.declared.error.FaultKind.TheVariants.{PastEnd, ShortLength, UnknownFormat, NotRising}
 use Rattle.aat_pair_reader.specs.KernClasses.{kern_classes_at}
 use Rattle.aat_pair_reader.specs.KernIndexes.{kern_indexes_at}
 use Rattle.aat_pair_reader.specs.KerxClasses.{kerx_arrays_at}
 use Rattle.aat_pair_reader.specs.ListedPairs.{kern_pairs_at, kerx_pairs_at}
+use Rattle.aat_pair_reader.specs.LongArrays.{kerx_long_arrays_at, wide_value_at}
 use Rattle.aat_pair_reader.specs.declared.values.TheConstants.{KERN, KERX}
 
 -- the pairs of the glyphs 1 and 2 with -1 and of two glyphs with 5, as `kern` has them
@@ -83,7 +84,7 @@ example_arrays flags =
     ∷ 0 ∷ 8 ∷ 0 ∷ 5 ∷ 0 ∷ 1 ∷ 0 ∷ 2 ∷ 0 ∷ 8 ∷ 0 ∷ 7 ∷ 0 ∷ 1 ∷ 0 ∷ 1
     ∷ 0 ∷ 1 ∷ 0 ∷ 2 ∷ 0 ∷ 3 ∷ 255 ∷ 252 ∷ []
 
--- rows and columns, tuples at 56, and values of 32 bits, which are not read
+-- rows and columns, tuples at 56, and values of 32 bits, which are not those of this form
 abbrev pub ArraysHaveRowsAndColumns : Type 0
 ArraysHaveRowsAndColumns =
     (kerx_arrays_at (example_arrays 0) 0 9 0 ≡ Ok (record {
@@ -99,3 +100,35 @@ ArraysHaveRowsAndColumns =
       values = pos 1023 ∷ negsuc 3 ∷ pos 0 ∷ pos 0 ∷ [];
     }))
     × (kerx_arrays_at (example_arrays 1) 0 9 0 ≡ Err (fault_at KERX UnknownFormat 12))
+
+-- the same with values and lookups of 32 bits, of which the last value is handed in by its two halves, and two numbers of
+-- 16 bits behind them, 7 and 9, where tuples stand
+abbrev pub example_long_arrays : ℕ → ℕ → List ℕ
+example_long_arrays high low =
+    0 ∷ 0 ∷ 0 ∷ 76 ∷ 0 ∷ 0 ∷ 0 ∷ 6 ∷ 0 ∷ 0 ∷ 0 ∷ 0
+    ∷ 0 ∷ 0 ∷ 0 ∷ 1 ∷ 0 ∷ 2 ∷ 0 ∷ 2 ∷ 0 ∷ 0 ∷ 0 ∷ 36 ∷ 0 ∷ 0 ∷ 0 ∷ 46 ∷ 0 ∷ 0 ∷ 0 ∷ 56 ∷ 0 ∷ 0 ∷ 0 ∷ 71
+    ∷ 0 ∷ 8 ∷ 0 ∷ 5 ∷ 0 ∷ 1 ∷ 0 ∷ 0 ∷ 0 ∷ 2 ∷ 0 ∷ 8 ∷ 0 ∷ 7 ∷ 0 ∷ 1 ∷ 0 ∷ 0 ∷ 0 ∷ 1
+    ∷ 0 ∷ 0 ∷ 0 ∷ 1 ∷ 0 ∷ 0 ∷ 0 ∷ 3 ∷ 0 ∷ 0 ∷ 0 ∷ 4 ∷ high ∷ high ∷ low ∷ 0
+    ∷ 0 ∷ 7 ∷ 0 ∷ 9 ∷ []
+
+-- rows and columns of long values, the least value of 16 bits, and one that is less; tuples, whose numbers may be any
+abbrev pub LongArraysHaveRowsAndColumns : Type 0
+LongArraysHaveRowsAndColumns =
+    (kerx_long_arrays_at (example_long_arrays 255 128) 0 9 0 ≡ Ok (record {
+      left = (5, 1) ∷ [];
+      right = (7, 1) ∷ [];
+      right_count = 2;
+      values = pos 1 ∷ pos 3 ∷ pos 4 ∷ negsuc 32767 ∷ [];
+    }))
+    × (kerx_long_arrays_at (example_long_arrays 255 127) 0 9 0 ≡ Err (fault_at KERX UnknownFormat 68))
+    × (wide_value_at (example_long_arrays 255 127) 0 0 ≡ Some 68)
+    × (wide_value_at (example_long_arrays 0 127) 0 0 ≡ None)
+    × (wide_value_at (example_long_arrays 0 128) 0 0 ≡ Some 68)
+    × (wide_value_at (example_long_arrays 0 128) 0 1 ≡ None)
+    × (kerx_long_arrays_at (example_long_arrays 0 128) 0 9 1 ≡ Ok (record {
+      left = (5, 1) ∷ [];
+      right = (7, 1) ∷ [];
+      right_count = 2;
+      values = pos 7 ∷ pos 9 ∷ pos 0 ∷ pos 0 ∷ [];
+    }))
+    × (kerx_long_arrays_at (take 35 (example_long_arrays 0 0)) 0 9 0 ≡ Err (fault_at KERX PastEnd 0))

@@ -26,7 +26,7 @@ pub(crate) struct KerxGrid {
 }
 
 /// A number of values in a row.
-fn column_count_at(place: usize, count: u32) -> Result<u16, Fault>
+pub(crate) fn column_count_at(place: usize, count: u32) -> Result<u16, Fault>
     ensures is { result ≡ column_count_at place count }
     ensures some { IfOk result (λ count. 0 < count) }
 {
@@ -155,8 +155,8 @@ pub fn read_kerx_classes<A: Allocator + Copy>(
 /// Offsets of tuples count from where the subtable's offset of them says.
 ///
 /// The first fault in this order, of `kerx`, with its place from the start of the table: 1, `PastEnd`, 36 bytes that are
-/// not there, at `start`; 2, `UnknownFormat`, values and lookups of 32 bits, at the flags; 3, `ShortLength`, rows of no
-/// value, at the number of columns; then those of the lookup of left glyphs and of that of right ones, as `read_lookup`
+/// not there, at `start`; 2, `UnknownFormat`, values and lookups of 32 bits, which `read_kerx_long_arrays` reads, at the
+/// flags; 3, `ShortLength`, rows of no value, at the number of columns; then those of the lookup of left glyphs and of that of right ones, as `read_lookup`
 /// has them. `OutOfMemory` comes only if the bytes have no fault.
 ///
 /// Apple's TrueType Reference Manual, "The 'kerx' table", format 6.

@@ -8,6 +8,7 @@ mod kerx_classes;
 #[doc(hidden)]
 pub mod laws;
 mod listed;
+mod long_arrays;
 mod made;
 mod values;
 #[doc(hidden)]
@@ -17,4 +18,5 @@ pub use kern_classes::read_kern_classes;
 pub use kern_indexes::read_kern_indexes;
 pub use kerx_classes::{read_kerx_arrays, read_kerx_classes};
 pub use listed::{read_kern_pairs, read_kerx_pairs};
+pub use long_arrays::{kerx_wide_value, read_kerx_long_arrays};
 pub use values::{KERN, KERX};

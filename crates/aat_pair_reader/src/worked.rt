@@ -1,5 +1,5 @@
 //! Worked examples of subtables of pairs as theorems. These calls do nothing: what is proved is their contracts.
-ghost use Rattle.aat_pair_reader.specs.PairExamples.{ArraysHaveRowsAndColumns, FirstOfATupleCounts, IndexesNameValues, OffsetsAreRowsAndColumns, PairsAreListed};
+ghost use Rattle.aat_pair_reader.specs.PairExamples.{ArraysHaveRowsAndColumns, FirstOfATupleCounts, IndexesNameValues, LongArraysHaveRowsAndColumns, OffsetsAreRowsAndColumns, PairsAreListed};
 
 /// The definitions of pairs that are listed compute to the examples.
 #[tactic(auto, unfolding(crate::specs::ListedPairs::listed_pairs, crate::specs::ListedPairs::kern_pairs_at, crate::specs::ListedPairs::kerx_pairs_at))]
@@ -14,4 +14,10 @@ pub fn classes()
     ensures kern { OffsetsAreRowsAndColumns }
     ensures indexes { IndexesNameValues }
     ensures kerx { ArraysHaveRowsAndColumns }
+{}
+
+/// The definitions of pairs by rows and columns with values of 32 bits compute to the examples.
+#[tactic(auto, unfolding(crate::specs::LongArrays::long_grid_at, crate::specs::LongArrays::long_grid_pairs, aat_long_lookup_reader::specs::Layouts::layout_at, aat_long_lookup_reader::specs::Layouts::trimmed_array_at, aat_long_lookup_reader::specs::Layouts::array_of))]
+pub fn long_arrays()
+    ensures { LongArraysHaveRowsAndColumns }
 {}

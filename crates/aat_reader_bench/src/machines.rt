@@ -48,7 +48,22 @@ fn append_row<T: Copy + Drop>(
     Ok(())
 }
 
-/// A machine whose entries all have the same flags and the same behind them.
+/// A machine of some classes whose entries all have the same flags and the same behind them.
+pub(crate) fn machine_of<T: Copy + Drop>(
+    alloc: Global,
+    size: &Size,
+    classes: &[(u16, u16)],
+    flags: u16,
+    extra: T,
+) -> Result<ExtendedStateTable<T>, TableError> {
+    let mut rules = Vec::new(alloc);
+    for state in 0..size.states {
+        append_row(&mut rules, size, state, flags, extra)?;
+    }
+    ExtendedStateTable::new(alloc, size.classes, classes, &rules)
+}
+
+/// The same, of classes of every second glyph.
 pub(crate) fn machine<T: Copy + Drop>(
     alloc: Global,
     size: &Size,
@@ -56,9 +71,5 @@ pub(crate) fn machine<T: Copy + Drop>(
     extra: T,
 ) -> Result<ExtendedStateTable<T>, TableError> {
     let classes = pairs(alloc, size.glyphs, 4, size.classes.saturating_sub(4))?;
-    let mut rules = Vec::new(alloc);
-    for state in 0..size.states {
-        append_row(&mut rules, size, state, flags, extra)?;
-    }
-    ExtendedStateTable::new(alloc, size.classes, &classes, &rules)
+    machine_of(alloc, size, &classes, flags, extra)
 }

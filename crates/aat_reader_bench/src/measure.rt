@@ -1,8 +1,6 @@
 //! How long reading takes, and how much memory.
 
-use crate::sizes::{GLYPH_COUNT, Size};
-use aat_font::Morx;
-use aat_reader::read_morx;
+use crate::reading::{Sample, Table};
 use anyhow::{Result, bail};
 use std::fs;
 use std::time::{Duration, Instant};
@@ -17,18 +15,18 @@ const HELD: usize = 8;
 const PAGE: usize = 4096;
 
 /// How long it takes to read and drop a table once.
-fn round(rt: &HostRuntime, table: &[u8]) -> Result<Duration> {
+fn round(rt: &HostRuntime, sample: &Sample) -> Result<Duration> {
     let start = Instant::now(rt)?;
-    let morx = read_morx(rt.alloc(), table, GLYPH_COUNT)?;
-    drop(morx);
+    let table = sample.read(rt.alloc())?;
+    drop(table);
     Ok(start.elapsed(rt)?)
 }
 
 /// The least time of some rounds.
-fn least(rt: &HostRuntime, table: &[u8]) -> Result<Duration> {
-    let mut least = round(rt, table)?;
+fn least(rt: &HostRuntime, sample: &Sample) -> Result<Duration> {
+    let mut least = round(rt, sample)?;
     for _ in 1..ROUNDS {
-        least = least.min(round(rt, table)?);
+        least = least.min(round(rt, sample)?);
     }
     Ok(least)
 }
@@ -43,19 +41,19 @@ fn held_pages(rt: &HostRuntime) -> Result<usize> {
 }
 
 /// Reads a table some times, and keeps what is read.
-fn read_more(rt: &HostRuntime, held: &mut Vec<Morx>, table: &[u8]) -> Result<()> {
+fn read_more(rt: &HostRuntime, held: &mut Vec<Table>, sample: &Sample) -> Result<()> {
     for _ in 0..HELD {
-        held.push(read_morx(rt.alloc(), table, GLYPH_COUNT)?)?;
+        held.push(sample.read(rt.alloc())?)?;
     }
     Ok(())
 }
 
 /// How many bytes of memory a table takes that is read. What earlier tables left behind is used up first.
-fn memory(rt: &HostRuntime, table: &[u8]) -> Result<usize> {
+fn memory(rt: &HostRuntime, sample: &Sample) -> Result<usize> {
     let mut held = Vec::new(rt.alloc());
-    read_more(rt, &mut held, table)?;
+    read_more(rt, &mut held, sample)?;
     let before = held_pages(rt)?;
-    read_more(rt, &mut held, table)?;
+    read_more(rt, &mut held, sample)?;
     let after = held_pages(rt)?;
     Ok(after.saturating_sub(before).saturating_mul(PAGE) / HELD)
 }
@@ -66,12 +64,14 @@ fn tenths_each(number: u128, count: usize) -> u128 {
 }
 
 /// Prints how long a byte of a table takes, and how much memory.
-pub(crate) fn print_costs(rt: &HostRuntime, size: &Size, table: &[u8]) -> Result<()> {
-    let time = tenths_each(least(rt, table)?.as_nanos(), table.len());
-    let memory = tenths_each(memory(rt, table)? as u128, table.len());
+pub(crate) fn print_costs(rt: &HostRuntime, sample: &Sample) -> Result<()> {
+    let size = sample.bytes.len();
+    let time = tenths_each(least(rt, sample)?.as_nanos(), size);
+    let memory = tenths_each(memory(rt, sample)? as u128, size);
     eprintln!(rt;
-        "{} {}.{} ns and {}.{} bytes of memory a byte",
-        size.name,
+        "{} {} {}.{} ns and {}.{} bytes of memory a byte",
+        sample.name,
+        sample.tag,
         time / 10,
         time % 10,
         memory / 10,

@@ -1,10 +1,9 @@
-//! A whole table, and what is read of it.
+//! A whole table `morx`.
 
 use crate::bodies::body_of;
-use crate::sizes::{GLYPH_COUNT, Size};
+use crate::sizes::Size;
 use aat_chain_writer::{ChainBytes, SubtableBytes, write_chains};
-use aat_font::{Chain, ChainFeature, Coverage, Morx, SubtableKind};
-use aat_reader::read_morx;
+use aat_font::{ChainFeature, Coverage};
 use anyhow::Result;
 use std::alloc::Global;
 
@@ -29,46 +28,4 @@ pub(crate) fn table_of(alloc: Global, size: &Size) -> Result<Vec<u8>> {
         subtables,
     };
     Ok(write_chains(alloc, &[chain])?)
-}
-
-/// How many rules the machine of a subtable has.
-fn count_rules(kind: &SubtableKind) -> usize {
-    match kind {
-        SubtableKind::Rearrangement(machine) => machine.rules().len(),
-        SubtableKind::Contextual(contextual) => contextual.state.rules().len(),
-        SubtableKind::Ligature(ligature) => ligature.state.rules().len(),
-        SubtableKind::NonContextual(_) => 0,
-        SubtableKind::Insertion(insertion) => insertion.state.rules().len(),
-    }
-}
-
-/// How many rules a chain has.
-fn rules_of_chain(chain: &Chain) -> usize {
-    chain.subtables.iter().fold(
-        0usize,
-        |sum, subtable| sum.saturating_add(count_rules(&subtable.kind)),
-    )
-}
-
-/// How many subtables and rules a table has.
-fn counts(morx: &Morx) -> (usize, usize) {
-    let mut subtables = 0usize;
-    let mut rules = 0usize;
-    for chain in morx.chains() {
-        subtables = subtables.saturating_add(chain.subtables.len());
-        rules = rules.saturating_add(rules_of_chain(chain));
-    }
-    (subtables, rules)
-}
-
-/// Reads a table, and prints how many bytes, subtables and rules it has.
-pub(crate) fn print_counts(rt: &HostRuntime, size: &Size, table: &[u8]) -> Result<()> {
-    let morx = read_morx(rt.alloc(), table, GLYPH_COUNT)?;
-    let (subtables, rules) = counts(&morx);
-    println!(rt;
-        "{} bytes {} subtables {subtables} rules {rules}",
-        size.name,
-        table.len()
-    )?;
-    Ok(())
 }

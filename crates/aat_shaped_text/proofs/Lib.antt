@@ -19,3 +19,4 @@ pub mod TextLooks
 pub mod TextMeets
 pub mod TextParts
 pub mod Texts
+pub mod Tracked

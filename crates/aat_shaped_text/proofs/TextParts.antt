@@ -15,14 +15,15 @@ use Rattle.aat_shaped_text.specs.declared.text.ShapedGlyph.{ShapedGlyph}
 use Rattle.aat_shaped_text.specs.declared.text.TextGlyph.{TextGlyph}
 use Rattle.aat_shaped_text.proofs.BreakPlaces.{MeetsAt, cut_place}
 use Rattle.aat_shaped_text.proofs.KernedText.{text_can_be_cut, text_pairs_alone}
-use Rattle.aat_shaped_text.proofs.Looks.{left_of, line_looks, plain}
+use Rattle.aat_shaped_text.proofs.Looks.{Positions, left_of, line_looks, plain}
 use Rattle.aat_shaped_text.proofs.LooksSplit.{IsCut, clusters_of_looks, first_below, first_fails, last_below, last_passes, left_some, left_splits, length_left, length_looks, looks_split, meets_before, meets_behind, stays}
 use Rattle.aat_shaped_text.proofs.Spots.{AllRest}
 use Rattle.aat_shaped_text.proofs.SpotsEnds.{head_of, last_from, last_of}
 use Rattle.aat_shaped_text.proofs.SpotsRuns.{Glyphs, spots}
 use Rattle.aat_shaped_text.proofs.TextCut.{AllText, Halved, Text, halved}
-use Rattle.aat_shaped_text.proofs.TextLooks.{Apart, advance_at, advanced_text, direction_is, drawn_line, drawn_places, kerned, length_of_drawn, length_of_ordered, line_before, ordered_plain_line, plain_glyph, positions_before, text_glyph, text_looks}
+use Rattle.aat_shaped_text.proofs.TextLooks.{Apart, advance_at, advanced_text, direction_is, drawn_line, drawn_places, kerned, length_of_drawn, length_of_ordered, length_of_zeroed, line_before, ordered_plain_line, plain_glyph, positions_before, text_glyph, text_looks, zeroed_places}
 use Rattle.aat_shaped_text.proofs.Texts.{length-turned, turned, zeroed_split}
+use Rattle.aat_shaped_text.proofs.Tracked.{tracked_turned, tracked_turned_split}
 use Rattle.aat_shaped_text.proofs.TextMeets.{TextMeets, text_meets}
 
 module _ (face : hb_font_t) (d : Direction) (features : List Feature) (x : Apart face d features) where
@@ -71,10 +72,10 @@ module _ (face : hb_font_t) (d : Direction) (features : List Feature) (x : Apart
         };
       }
 
-  module _ (apart : PartsAreKernedApart) (text : Text) (k i : ℕ) (m : MeetsAt (skips_of face) (drawn_text face d features text).line k i) (rising : is_rising text ≡ true) where
+  module _ (apart : PartsAreKernedApart) (text : Text) (k i : ℕ) (m : MeetsAt (skips_of face) (drawn_text x.value face d features text).line k i) (rising : is_rising text ≡ true) where
     pub meets : TextMeets f (turned t text) k i
     meets =
-        text_meets f (turned t text) (skips_of face) k i (drawn_text face d features text).line
+        text_meets f (turned t text) (skips_of face) k i (drawn_text x.value face d features text).line
         (ap (map plain) (drawn_line face d features x text) ∙ ordered_plain_line face d features x text) m
 
     pub halves : Halved t text meets.last meets.here meets.front meets.back
@@ -97,11 +98,11 @@ module _ (face : hb_font_t) (d : Direction) (features : List Feature) (x : Apart
         text_can_be_cut face features (advanced_text face d features x text) apart i
         (advanced_text face d features x halves.first) (advanced_text face d features x halves.second)
         (text_pairs_alone face features (advanced_text face d features x text) (ap (kerns_apart face) (direction_is face d features x text) ∙ x.kerns))
-        (cut_place (skips_of face) k i (drawn_text face d features text).line (kerned face d features x text) (drawn_line face d features x text) m)
+        (cut_place (skips_of face) k i (drawn_text x.value face d features text).line (kerned face d features x text) (drawn_line face d features x text) m)
         (parts_are text halves.first halves.second i whole_is long_is)
 
-    places_split : drawn_places face d features x text ≡ drawn_places face d features x halves.first ++ drawn_places face d features x halves.second
-    places_split =
+    zeroed_places_split : zeroed_places face d features x text ≡ zeroed_places face d features x halves.first ++ zeroed_places face d features x halves.second
+    zeroed_places_split =
         let g = turned t halves.first in
         let h = turned t halves.second in
         ap (λ zs. zeroed_positions (map f zs) (ordered_positions (kerned face d features x text))) whole_is
@@ -139,10 +140,22 @@ module _ (face : hb_font_t) (d : Direction) (features : List Feature) (x : Apart
     line_is : map f (turned t text) ≡ xs ++ y ∷ ys
     line_is = ap (map f) meets.whole ∙ map-append f (meets.front ++ meets.last ∷ []) (meets.here ∷ meets.back)
 
+    places_split : drawn_places face d features x text ≡ drawn_places face d features x halves.first ++ drawn_places face d features x halves.second
+    places_split =
+        let ps = zeroed_places face d features x halves.first in
+        let qs = zeroed_places face d features x halves.second in
+        let by : Glyphs → Positions → Positions = λ gs zs. tracked_turned x.value d t gs zs in
+        ap (λ gs. by gs (zeroed_places face d features x text)) line_is
+        ∙ (ap (by (xs ++ y ∷ ys)) zeroed_places_split
+        ∙ (tracked_turned_split x.tracks x.value d halves.test t xs (y ∷ ys) ps qs
+        (length_of_zeroed face d features x halves.first ∙ ap length xs_is) (length_of_zeroed face d features x halves.second ∙ ap length ys_is)
+        is_cut.front is_cut.back
+        ∙ (ap (λ gs. by gs ps ++ by (y ∷ ys) qs) (sym xs_is) ∙ ap (λ gs. by (map f (turned t halves.first)) ps ++ by gs qs) (sym ys_is))))
+
     -- what is drawn looks as the parts do
     joined :
-        map looks (shaped_text face d features text)
-        ≡ map looks (shaped_text face d features halves.first) ++ map looks (shaped_text face d features halves.second)
+        map looks (shaped_text x.value face d features text)
+        ≡ map looks (shaped_text x.value face d features halves.first) ++ map looks (shaped_text x.value face d features halves.second)
     joined =
         let ps = drawn_places face d features x halves.first in
         let qs = drawn_places face d features x halves.second in
@@ -153,47 +166,47 @@ module _ (face : hb_font_t) (d : Direction) (features : List Feature) (x : Apart
         ∙ (ap (λ gs. line_looks gs ps ++ line_looks (y ∷ ys) qs) (sym xs_is)
         ∙ (ap (λ gs. line_looks (map f (turned t halves.first)) ps ++ line_looks gs qs) (sym ys_is)
         ∙ (ap (λ zs. zs ++ line_looks (map f (turned t halves.second)) qs) (sym (text_looks face d features x halves.first))
-        ∙ ap (λ zs. map looks (shaped_text face d features halves.first) ++ zs) (sym (text_looks face d features x halves.second))))))))
+        ∙ ap (λ zs. map looks (shaped_text x.value face d features halves.first) ++ zs) (sym (text_looks face d features x halves.second))))))))
 
-    first_long : length (map looks (shaped_text face d features halves.first)) ≡ k
+    first_long : length (map looks (shaped_text x.value face d features halves.first)) ≡ k
     first_long =
         ap length (text_looks face d features x halves.first)
         ∙ (length_looks (map f (turned t halves.first)) (drawn_places face d features x halves.first) (length_of_drawn face d features x halves.first)
         ∙ (ap (λ gs. stays (spots gs)) xs_is ∙ meets.count))
 
-    pub before_is : map looks (take k (shaped_text face d features text)) ≡ map looks (shaped_text face d features halves.first)
+    pub before_is : map looks (take k (shaped_text x.value face d features text)) ≡ map looks (shaped_text x.value face d features halves.first)
     before_is =
-        sym (take-map looks k (shaped_text face d features text))
-        ∙ (ap (take k) joined ∙ take_at (map looks (shaped_text face d features halves.first)) (map looks (shaped_text face d features halves.second)) k first_long)
+        sym (take-map looks k (shaped_text x.value face d features text))
+        ∙ (ap (take k) joined ∙ take_at (map looks (shaped_text x.value face d features halves.first)) (map looks (shaped_text x.value face d features halves.second)) k first_long)
 
-    pub behind_is : map looks (drop k (shaped_text face d features text)) ≡ map looks (shaped_text face d features halves.second)
+    pub behind_is : map looks (drop k (shaped_text x.value face d features text)) ≡ map looks (shaped_text x.value face d features halves.second)
     behind_is =
-        sym (drop-map looks k (shaped_text face d features text))
-        ∙ (ap (drop k) joined ∙ drop_at (map looks (shaped_text face d features halves.first)) (map looks (shaped_text face d features halves.second)) k first_long)
+        sym (drop-map looks k (shaped_text x.value face d features text))
+        ∙ (ap (drop k) joined ∙ drop_at (map looks (shaped_text x.value face d features halves.first)) (map looks (shaped_text x.value face d features halves.second)) k first_long)
 
     glyph_clusters : (hs : List ShapedGlyph) → map (λ (h : ShapedGlyph). h.cluster) hs ≡ map (λ (h : ShapedGlyph). h.cluster) (map looks hs)
     glyph_clusters [] = refl
     glyph_clusters (h ∷ hs) = ap (λ zs. h.cluster ∷ zs) (glyph_clusters hs)
 
     clusters_are :
-        map (λ (h : ShapedGlyph). h.cluster) (shaped_text face d features text) ≡ reverse (left_of (y ∷ ys) ++ left_of xs)
+        map (λ (h : ShapedGlyph). h.cluster) (shaped_text x.value face d features text) ≡ reverse (left_of (y ∷ ys) ++ left_of xs)
     clusters_are =
         let places = drawn_places face d features x text in
-        glyph_clusters (shaped_text face d features text)
+        glyph_clusters (shaped_text x.value face d features text)
         ∙ (ap (map (λ (h : ShapedGlyph). h.cluster)) (text_looks face d features x text ∙ ap (λ gs. line_looks gs places) line_is)
         ∙ (clusters_of_looks (xs ++ y ∷ ys) places (length_of_drawn face d features x text ∙ ap length line_is)
         ∙ ap reverse (left_splits halves.test xs y ys is_cut)))
 
-    cluster_at_place : (j : ℕ) → j < length (shaped_text face d features text)
-        → (shaped_at (shaped_text face d features text) j).cluster ≡ get_or (reverse (left_of (y ∷ ys) ++ left_of xs)) j 0
+    cluster_at_place : (j : ℕ) → j < length (shaped_text x.value face d features text)
+        → (shaped_at (shaped_text x.value face d features text) j).cluster ≡ get_or (reverse (left_of (y ∷ ys) ++ left_of xs)) j 0
     cluster_at_place j low =
-        sym (get_or-map (λ (h : ShapedGlyph). h.cluster) (shaped_text face d features text) j no_shaped_glyph 0 low)
+        sym (get_or-map (λ (h : ShapedGlyph). h.cluster) (shaped_text x.value face d features text) j no_shaped_glyph 0 low)
         ∙ ap (λ zs. get_or zs j 0) clusters_are
 
     -- the text is cut where the two parts meet
-    pub place_is : k < length (shaped_text face d features text) → cut_before (shaped_text face d features text) k ≡ halves.place
+    pub place_is : k < length (shaped_text x.value face d features text) → cut_before (shaped_text x.value face d features text) k ≡ halves.place
     place_is low =
-        let glyphs = shaped_text face d features text in
+        let glyphs = shaped_text x.value face d features text in
         let left = left_of xs in
         let right = left_of (y ∷ ys) in
         let count : length left ≡ k = length_left xs ∙ meets.count in

@@ -1,19 +1,20 @@
 -- Worked examples of where a text may be broken, of what is drawn of it, and of what its features ask.
 use Rattle.std.specs.Prelude.{◌≡◌, ◌==◌, ℕ, Bool, true, false, List, [], ◌∷◌, ℤ, pos, negsuc, Some, None, filter, map}
-use Rattle.aat_attachment.specs.AttachmentExamples.{in_row, mark}
+use Rattle.aat_attachment.specs.AttachmentExamples.{in_column, in_row, mark}
 use Rattle.aat_buffer.specs.Buffer.{Buffer, no_glyph, with_direction}
 use Rattle.aat_buffer.specs.Examples.{buffer_at, glyphs_in, gone, in_cluster, in_cluster_with, left_masks, standing}
 use Rattle.aat_glyph.specs.declared.glyph.Direction.{Direction}
-use Rattle.aat_glyph.specs.declared.glyph.Direction.TheVariants.{LeftToRight, RightToLeft}
+use Rattle.aat_glyph.specs.declared.glyph.Direction.TheVariants.{LeftToRight, RightToLeft, TopToBottom}
 use Rattle.aat_glyph.specs.declared.glyph.GlyphPosition.{GlyphPosition}
 use Rattle.aat_glyph.specs.declared.glyph.hb_glyph_info_t.{hb_glyph_info_t}
 use Rattle.aat_font.specs.declared.plan.Feature.{Feature}
 use Rattle.aat_run.specs.Ranges.{last_cluster}
 use Rattle.aat_map.specs.Examples.{liga}
 use Rattle.aat_kerning.specs.Pairs.{kern_skips, kerx_skips}
+use Rattle.aat_kerning.specs.Positioning.{in_processing_order}
 use Rattle.aat_shaped_text.specs.Breaks.{may_break_at}
 use Rattle.aat_shaped_text.specs.Parts.{no_shaped_glyph}
-use Rattle.aat_shaped_text.specs.ShapedText.{drawn_glyphs, kept_place, kept_places}
+use Rattle.aat_shaped_text.specs.ShapedText.{drawn_glyphs, kept_place, kept_places, tracked_line}
 use Rattle.aat_shaped_text.specs.TextFeatures.{is_kerned_at, requests_kerning}
 use Rattle.aat_shaped_text.specs.declared.text.ShapedGlyph.{ShapedGlyph}
 
@@ -125,6 +126,27 @@ AttachmentsAreDrawn =
     ≡ record (shaped 7 0 (pos 500)) { x_offset = pos 20 }
     ∷ record (shaped 9 0 (pos 0)) { x_offset = pos 103; y_offset = pos 200 }
     ∷ [])
+
+-- what is drawn of a line in reading order that is tracked by a value
+abbrev pub drawn_tracked : ℤ → Direction → List hb_glyph_info_t → List GlyphPosition → List ShapedGlyph
+drawn_tracked v d line positions =
+    drawn_glyphs (λ i. false) (in_processing_order (tracked_line v (drawing d line positions)))
+
+-- the first glyph of each cluster that is drawn, in reading order, is wider; in columns a value below 0 adds to advances
+abbrev pub TrackedLinesAreDrawn : Type 0
+TrackedLinesAreDrawn =
+    (drawn_tracked (pos 9) RightToLeft (glyph_in 5 0 ∷ gone 1 0 ∷ glyph_in 7 1 ∷ glyph_in 8 1 ∷ [])
+    (in_row (pos 300) (pos 0) (pos 0)
+    ∷ in_row (pos 0) (pos 0) (pos 0)
+    ∷ in_row (pos 500) (pos 0) (pos 0)
+    ∷ in_row (pos 200) (pos 0) (pos 0)
+    ∷ [])
+    ≡ shaped 8 1 (pos 200)
+    ∷ record (shaped 7 1 (pos 509)) { x_offset = pos 4 }
+    ∷ record (shaped 5 0 (pos 309)) { x_offset = pos 4 }
+    ∷ [])
+    × (drawn_tracked (negsuc 2) TopToBottom (glyph_in 5 0 ∷ []) (in_column (negsuc 499) (pos 0) (pos 0) ∷ [])
+    ≡ record (shaped 5 0 (pos 0)) { y_advance = negsuc 502; y_offset = negsuc 0 } ∷ [])
 
 -- the feature `kern` over clusters
 abbrev pub kern : ℕ → ℕ → ℕ → Feature

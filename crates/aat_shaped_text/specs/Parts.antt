@@ -1,5 +1,5 @@
 -- A text that is drawn in two parts. (No chapter of the manual: where a line may be broken is the shaper's own.)
-use Rattle.std.specs.Prelude.{◌≡◌, ℕ, ◌-◌, ◌<◌, ◌≤◌, not, true, false, nat_lt, None, pos, List, drop, filter, length, map, max, slice_index_or, take}
+use Rattle.std.specs.Prelude.{◌≡◌, ℕ, ℤ, ◌-◌, ◌<◌, ◌≤◌, not, true, false, nat_lt, None, pos, List, drop, filter, length, map, max, slice_index_or, take}
 use Rattle.std.specs.Bool.{MatchBool}
 use Rattle.aat_glyph.specs.Directions.{is_backward}
 use Rattle.aat_glyph.specs.declared.glyph.Direction.{Direction}
@@ -43,33 +43,35 @@ text_before c text = filter (λ g. nat_lt g.cluster c) text
 abbrev pub text_from : ℕ → List TextGlyph → List TextGlyph
 text_from c text = filter (λ g. not (nat_lt g.cluster c)) text
 
--- what is drawn looks before place k as one text does by itself, and from place k on as another
+-- what is drawn looks before place k as one text does by itself, tracked by the same value, and from place k on as
+-- another
 pub record LooksAsParts
-    (face : hb_font_t) (d : Direction) (features : List Feature) (first second : List TextGlyph)
+    (v : ℤ) (face : hb_font_t) (d : Direction) (features : List Feature) (first second : List TextGlyph)
     (glyphs : List ShapedGlyph) (k : ℕ) : Type 0
   where
-    pub before : map looks (take k glyphs) ≡ map looks (shaped_text face d features first)
-    pub behind : map looks (drop k glyphs) ≡ map looks (shaped_text face d features second)
+    pub before : map looks (take k glyphs) ≡ map looks (shaped_text v face d features first)
+    pub behind : map looks (drop k glyphs) ≡ map looks (shaped_text v face d features second)
 
 -- What is drawn of a text looks before place k as the text before the cut does, shaped by itself with the same
--- features, and from place k on as the text from the cut on does. In a backward text the parts change places.
+-- features and tracked by the same value, and from place k on as the text from the cut on does. In a backward text the
+-- parts change places.
 abbrev pub IsDrawnInParts :
-    hb_font_t → Direction → List Feature → List TextGlyph → List ShapedGlyph → ℕ → Type 0
-IsDrawnInParts face d features text glyphs k =
+    ℤ → hb_font_t → Direction → List Feature → List TextGlyph → List ShapedGlyph → ℕ → Type 0
+IsDrawnInParts v face d features text glyphs k =
     let early = text_before (cut_before glyphs k) text in
     let late = text_from (cut_before glyphs k) text in
-    MatchBool (is_backward d) (LooksAsParts face d features late early glyphs k)
-    (LooksAsParts face d features early late glyphs k)
+    MatchBool (is_backward d) (LooksAsParts v face d features late early glyphs k)
+    (LooksAsParts v face d features early late glyphs k)
 
 -- what is drawn may be broken before each glyph that says so
-abbrev pub BreaksHold : hb_font_t → Direction → List Feature → List TextGlyph → List ShapedGlyph → Type 0
-BreaksHold face d features text glyphs =
+abbrev pub BreaksHold : ℤ → hb_font_t → Direction → List Feature → List TextGlyph → List ShapedGlyph → Type 0
+BreaksHold v face d features text glyphs =
     (k : ℕ) → k < length glyphs → (shaped_at glyphs k).may_break_before ≡ true
-    → IsDrawnInParts face d features text glyphs k
+    → IsDrawnInParts v face d features text glyphs k
 
--- so it is with each text of at most 2^24 glyphs
+-- so it is with each text of at most 2^24 glyphs, by whatever value it is tracked
 abbrev pub TextsAreDrawnInParts : Type 0
 TextsAreDrawnInParts =
-    (face : hb_font_t) (d : Direction) (features : List Feature) (text : List TextGlyph)
+    (v : ℤ) (face : hb_font_t) (d : Direction) (features : List Feature) (text : List TextGlyph)
     → length text ≤ most_text
-    → BreaksHold face d features text (shaped_text face d features text)
+    → BreaksHold v face d features text (shaped_text v face d features text)

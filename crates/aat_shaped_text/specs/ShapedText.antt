@@ -1,9 +1,10 @@
 -- A text that is shaped: its glyphs as a line, what the layer's calls leave of it, and what is drawn. (How a text is
 -- handed in and out is the shaper's own. Apple's TrueType Reference Manual, "The 'morx' table", "The 'kerx' table" and
 -- "The 'kern' table".)
-use Rattle.std.specs.Prelude.{◌≡◌, ◌⊎◌, ℕ, is_some, ◌<◌, ◌≤◌, ◌*◌, ◌^◌, ◌&&◌, not, Bool, pos, List, AllPairs, Option, Some, None, length, filter, map, max, min, zip, slice_index_or, if◌then◌else◌}
+use Rattle.std.specs.Prelude.{◌≡◌, ◌⊎◌, ℕ, ℤ, is_some, option_map, ◌<◌, ◌≤◌, ◌*◌, ◌^◌, ◌&&◌, not, Bool, pos, List, AllPairs, Option, Some, None, length, filter, map, max, min, zip, slice_index_or, if◌then◌else◌}
 use Rattle.std.specs.Bool.{MatchBool}
 use Rattle.std.specs.List.{range_with_len}
+use Rattle.std.specs.Ordering.{int_eq}
 use Rattle.aat_attachment.specs.Attachments.{added_up, parent}
 use Rattle.aat_buffer.specs.Buffer.{Buffer, empty_buffer, glyph_at, position_list, with_direction, with_line, zero_position}
 use Rattle.aat_buffer.specs.Marks.{cluster_at}
@@ -27,6 +28,7 @@ use Rattle.aat_kinds.specs.Kinds.{sizes_for}
 use Rattle.aat_kerning.specs.Positioning.{in_processing_order, kern_positioning, kerx_positioning}
 use Rattle.aat_kerning.specs.Zeroing.{zeroed}
 use Rattle.aat_shaping.specs.Shaping.{with_advances}
+use Rattle.aat_tracking.specs.TrackedLines.{tracked}
 use Rattle.aat_shaped_text.specs.Breaks.{is_rising, kept_before, may_break_at, shapes_apart, skips_of}
 use Rattle.aat_shaped_text.specs.TextFeatures.{is_kerned_at, requests_kerning}
 use Rattle.aat_shaped_text.specs.declared.text.ShapedGlyph.{ShapedGlyph}
@@ -81,13 +83,34 @@ kerned_text face d features text =
     let substituted = (text_substitution face features (text_buffer face d features text)).buffer in
     (text_kerning face features (with_advances (advance_of face) substituted)).buffer
 
--- the same as it is drawn, from left to right or from top to bottom: deleted glyphs take no room
-abbrev pub drawn_text : hb_font_t → Direction → List Feature → List TextGlyph → Buffer
-drawn_text face d features text = in_processing_order (zeroed (kerned_text face d features text))
+-- the cluster that a glyph is drawn for: none where it is deleted
+abbrev pub drawn_cluster : hb_glyph_info_t → Option ℕ
+drawn_cluster g = if is_deleted g then None else Some g.cluster
+
+-- those of a line
+abbrev pub drawn_clusters : List hb_glyph_info_t → List (Option ℕ)
+drawn_clusters line = map drawn_cluster line
+
+-- the positions of a line that is tracked by a value: 0 leaves them
+abbrev pub tracked_by : ℤ → Direction → List (Option ℕ) → List GlyphPosition → List GlyphPosition
+tracked_by v d cs qs = if int_eq v (pos 0) then qs else tracked d v cs qs
+
+-- a line in reading order that is tracked by a value
+abbrev pub tracked_line : ℤ → Buffer → Buffer
+tracked_line v b = record b { positions = option_map (tracked_by v b.direction (drawn_clusters b.line)) b.positions }
+
+-- a value of 0 leaves every line
+abbrev pub UntrackedLinesStay : Type 0
+UntrackedLinesStay = (b : Buffer) → tracked_line (pos 0) b ≡ b
+
+-- what is left of a text as it is drawn, tracked by a value, from left to right or from top to bottom: deleted glyphs
+-- take no room
+abbrev pub drawn_text : ℤ → hb_font_t → Direction → List Feature → List TextGlyph → Buffer
+drawn_text v face d features text = in_processing_order (tracked_line v (zeroed (kerned_text face d features text)))
 
 -- whether substitution and kerning used the budget up
 abbrev pub uses_up_budget : hb_font_t → Direction → List Feature → List TextGlyph → Bool
-uses_up_budget face d features text = not (has_operations (drawn_text face d features text))
+uses_up_budget face d features text = not (has_operations (kerned_text face d features text))
 
 -- the position of a glyph of a line that is drawn, to whose offset that of what it is attached to is added
 abbrev pub drawn_position : Buffer → ℕ → GlyphPosition
@@ -126,15 +149,15 @@ drawn_glyphs may_break b =
 
 -- whether a text that is drawn may be broken before a place of its line: its clusters never fall, and font and place
 -- allow it
-abbrev pub may_break_text : hb_font_t → Direction → List Feature → List TextGlyph → ℕ → Bool
-may_break_text face d features text i =
+abbrev pub may_break_text : ℤ → hb_font_t → Direction → List Feature → List TextGlyph → ℕ → Bool
+may_break_text v face d features text i =
     shapes_apart face d && is_rising text
-    && may_break_at (skips_of face) features (drawn_text face d features text).line i
+    && may_break_at (skips_of face) features (drawn_text v face d features text).line i
 
--- what is drawn of a text
-abbrev pub shaped_text : hb_font_t → Direction → List Feature → List TextGlyph → List ShapedGlyph
-shaped_text face d features text =
-    drawn_glyphs (may_break_text face d features text) (drawn_text face d features text)
+-- what is drawn of a text that is tracked by a value
+abbrev pub shaped_text : ℤ → hb_font_t → Direction → List Feature → List TextGlyph → List ShapedGlyph
+shaped_text v face d features text =
+    drawn_glyphs (may_break_text v face d features text) (drawn_text v face d features text)
 
 -- clusters never fall along what is drawn of a forward text, and never rise along what is drawn of a backward one
 abbrev pub AreInOrder : Direction → List ShapedGlyph → Type 0

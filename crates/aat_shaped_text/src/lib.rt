@@ -2,7 +2,7 @@
 //! contracts cite. A program takes `aat_shaper`.
 #![tactic(auto)]
 
-/// The law of the breaks of a text, as a theorem.
+/// The laws of tracked lines and of the breaks of a text, as theorems.
 #[doc(hidden)]
 pub mod laws;
 mod text;

@@ -1,5 +1,6 @@
 -- What is drawn of a text, from what the calls leave.
 use Rattle.std.proofs.Common.{◌≡◌, ◌∙◌, ap, ℕ, ◌&&◌, ◌≢◌, Bool, true, not, List, sym, true≢false}
+use Rattle.std.specs.Prelude.{ℤ}
 use Rattle.aat_buffer.specs.Buffer.{Buffer}
 use Rattle.aat_buffer.specs.Marks.{clusters_stay_apart}
 use Rattle.aat_font.specs.Face.{advance_of}
@@ -13,36 +14,41 @@ use Rattle.aat_run.specs.Budget.{has_operations}
 use Rattle.aat_run.specs.Outcome.{Outcome}
 use Rattle.aat_shaping.specs.Shaping.{shaping_with_deleted, with_advances}
 use Rattle.aat_shaped_text.specs.Breaks.{is_rising, may_break_at, shapes_apart, skips_of}
-use Rattle.aat_shaped_text.specs.ShapedText.{drawn_glyphs, drawn_text, shaped_text, text_buffer, text_kerning, text_substitution}
+use Rattle.aat_shaped_text.specs.ShapedText.{drawn_glyphs, drawn_text, kerned_text, shaped_text, text_buffer, text_kerning, text_substitution, tracked_line, uses_up_budget}
 use Rattle.aat_shaped_text.specs.declared.text.ShapedGlyph.{ShapedGlyph}
 use Rattle.aat_shaped_text.specs.declared.text.TextGlyph.{TextGlyph}
 use Rattle.aat_shaper.proofs.Planned.{planned_shaping}
 use Rattle.aat_shaper.specs.inside.TextPlan.{IsPlanOf}
 
-module _ (face : hb_font_t) (d : Direction) (features : List Feature) (text : List TextGlyph) where
-  -- the line, turned
-  pub drawn_text_so :
+module _ (v : ℤ) (face : hb_font_t) (d : Direction) (features : List Feature) (text : List TextGlyph) where
+  -- what the calls leave
+  pub left_so :
       (plan : hb_ot_shape_plan_t) → IsPlanOf features plan
-      → (asked : List Feature) (made left turned : Buffer) (turns : ℕ)
+      → (asked : List Feature) (made left : Buffer) (turns : ℕ)
       → asked ≡ features → made ≡ text_buffer face d asked text
-      → record { buffer = left; turns = turns } ≡ shaping_with_deleted plan face made → turned ≡ in_processing_order left
-      → turned ≡ drawn_text face d features text
-  drawn_text_so plan planned asked made left turned turns same built shaped after =
+      → record { buffer = left; turns = turns } ≡ shaping_with_deleted plan face made
+      → left ≡ zeroed (kerned_text face d features text)
+  left_so plan planned asked made left turns same built shaped =
       let kerned : Buffer → Buffer = λ b.
       zeroed (text_kerning face features (with_advances (advance_of face) (text_substitution face features b).buffer)).buffer in
-      after
-      ∙ ap in_processing_order
-      (ap (λ (o : Outcome). o.buffer) shaped
+      ap (λ (o : Outcome). o.buffer) shaped
       ∙ (planned_shaping face features plan planned made
-      ∙ (ap kerned built ∙ ap (λ (fs : List Feature). kerned (text_buffer face d fs text)) same)))
+      ∙ (ap kerned built ∙ ap (λ (fs : List Feature). kerned (text_buffer face d fs text)) same))
+
+  -- the line, tracked and turned
+  pub drawn_text_so :
+      (left tracked turned : Buffer) → left ≡ zeroed (kerned_text face d features text) → tracked ≡ tracked_line v left
+      → turned ≡ in_processing_order tracked → turned ≡ drawn_text v face d features text
+  drawn_text_so left tracked turned is wider after =
+      after ∙ ap in_processing_order (wider ∙ ap (tracked_line v) is)
 
   -- what is drawn of it
   pub drawn_so :
       (glyphs : List ShapedGlyph) (allowed : Bool) (skips : ℕ) (asked : List Feature) (b : Buffer)
       → glyphs ≡ drawn_glyphs (λ i. allowed && may_break_at skips asked b.line i) b
       → allowed ≡ (shapes_apart face d && is_rising text) → skips ≡ skips_of face → asked ≡ features
-      → b ≡ drawn_text face d features text
-      → glyphs ≡ shaped_text face d features text
+      → b ≡ drawn_text v face d features text
+      → glyphs ≡ shaped_text v face d features text
   drawn_so glyphs allowed skips asked b put may skipped same drawn =
       put
       ∙ (ap (λ (a : Bool). drawn_glyphs (λ i. a && may_break_at skips asked b.line i) b) may
@@ -67,6 +73,6 @@ module _ (face : hb_font_t) (d : Direction) (features : List Feature) (text : Li
 
   -- whether it used the budget up
   pub used_so :
-      (used : Bool) (b : Buffer) → used ≡ not (has_operations b) → b ≡ drawn_text face d features text
-      → used ≡ not (has_operations (drawn_text face d features text))
-  used_so used b left drawn = left ∙ ap (λ (c : Buffer). not (has_operations c)) drawn
+      (used : Bool) (left : Buffer) → used ≡ not (has_operations left) → left ≡ zeroed (kerned_text face d features text)
+      → used ≡ uses_up_budget face d features text
+  used_so used left asked is = asked ∙ ap (λ (c : Buffer). not (has_operations c)) is

@@ -41,7 +41,7 @@ pub(crate) fn turn<H: Allocator + Copy>(buffer: &mut hb_buffer_t<H>)
 }
 
 /// Whether a glyph is kept.
-fn is_kept(glyph: &hb_glyph_info_t) -> bool
+pub(crate) fn is_kept(glyph: &hb_glyph_info_t) -> bool
     ensures { result ≡ not (is_deleted glyph.now) }
 {
     glyph.glyph_id != DELETED_GLYPH

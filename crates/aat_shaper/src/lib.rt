@@ -10,9 +10,11 @@ mod font;
 mod line;
 mod names;
 mod shaper;
+mod tracking;
 /// Worked examples of whether a font has a feature, as a theorem.
 #[doc(hidden)]
 pub mod worked;
 
 pub use aat_shaped_text::{ShapedGlyph, TextGlyph};
+pub use aat_tracking::{Track, TrackData, Tracking, TrackingError};
 pub use shaper::Shaper;

@@ -8,6 +8,7 @@ ghost use Rattle.aat_shaped_text.specs.Breaks.{is_rising, shapes_apart};
 ghost use Rattle.aat_shaped_text.specs.Parts.{BreaksHold};
 ghost use Rattle.aat_shaped_text.specs.ShapedText.{AreInOrder, RefusesText, most_glyphs, most_text, shaped_text, uses_up_budget};
 ghost use Rattle.aat_shaper.specs.Named.{has_feature};
+ghost use Rattle.aat_shaper.specs.Shaper.{no_values, value_along, values_at};
 ghost use Rattle.aat_shaper.specs.inside.TextPlan.{IsPlanOf};
 
 use crate::drawn::{Breaks, draw, turn};
@@ -15,12 +16,14 @@ use crate::features::requests_kerning;
 use crate::font::{shapes_apart, skips_of};
 use crate::line::{KERNED, LONGEST_TEXT, buffer_of, is_rising};
 use crate::names::has_feature;
+use crate::tracking::track_line;
 use aat_layout::AatError;
 use aat_layout::buffer::{Direction, hb_buffer_t};
 use aat_layout::font::{Feature, hb_font_t, hb_ot_shape_plan_t, hb_tag_t};
 use aat_shaped_text::laws::texts_are_drawn_in_parts;
 use aat_shaped_text::{ShapedGlyph, TextGlyph};
 use aat_shaping::shape_with_deleted;
+use aat_tracking::Tracking;
 use bumpalo::Bump;
 use std::alloc::{AllocError, Allocator, Global};
 use std::marker::Model;
@@ -32,6 +35,9 @@ pub struct Shaper<'f, A: Allocator + Copy = Global> {
     alloc: A,
     plan: hb_ot_shape_plan_t,
     workspace: Bump<A>,
+    /// The values by which text in rows and text in columns are tracked.
+    row_value: i32,
+    column_value: i32,
     glyphs: Vec<ShapedGlyph, A>,
     is_budget_used_up: bool,
 }
@@ -50,7 +56,12 @@ impl<'f, A: Allocator + Copy> Model for Shaper<'f, A> {
 impl<'f> Shaper<'f> {
     /// A shaper of texts of a font. It takes no memory before the first text.
     pub fn new(alloc: Global, font: &'f hb_font_t) -> Shaper<'f>
-        ensures { result ≡ record { font = font.now; glyphs = []; is_budget_used_up = false } }
+        ensures { result ≡ record {
+          font = font.now;
+          values = no_values;
+          glyphs = [];
+          is_budget_used_up = false;
+        } }
     {
         Shaper::new_in(alloc, alloc, font)
     }
@@ -60,7 +71,12 @@ impl<'f, A: Allocator + Copy> Shaper<'f, A> {
     /// A shaper of texts of a font that takes its memory from `alloc`, but that for the features, which it takes from
     /// `global`. It takes no memory before the first text.
     pub fn new_in(global: Global, alloc: A, font: &'f hb_font_t) -> Shaper<'f, A>
-        ensures { result ≡ record { font = font.now; glyphs = []; is_budget_used_up = false } }
+        ensures { result ≡ record {
+          font = font.now;
+          values = no_values;
+          glyphs = [];
+          is_budget_used_up = false;
+        } }
     {
         let plan = hb_ot_shape_plan_t {
             kern_mask: KERNED,
@@ -71,8 +87,39 @@ impl<'f, A: Allocator + Copy> Shaper<'f, A> {
             alloc,
             plan,
             workspace: Bump::new(alloc),
+            row_value: 0,
+            column_value: 0,
             glyphs: Vec::new(alloc),
             is_budget_used_up: false,
+        }
+    }
+
+    /// Has texts tracked from now on: by a track of the font's tracking table, at a point size, as
+    /// [`Tracking::tracking_at`] has it. The normal track is 0, that of 65536 is 1, and a size of 65536 is a point. A
+    /// shaper that is not told so tracks nothing, and neither does one that is told a size of 0.
+    ///
+    /// Apple's TrueType Reference Manual, "The 'trak' table".
+    pub fn with_tracking<B: Allocator>(
+        mut self,
+        tracking: &Tracking<B>,
+        track: i32,
+        size: u32,
+    ) -> Self
+        ensures { result ≡ record self.entry { values = values_at tracking.now track size } }
+    {
+        self.row_value = tracking.tracking_at(Direction::LeftToRight, track, size);
+        self.column_value = tracking.tracking_at(Direction::TopToBottom, track, size);
+        self
+    }
+
+    /// The value by which texts of a direction are tracked, in units of the font.
+    pub fn tracking_along(&self, direction: Direction) -> i32
+        ensures { result ≡ value_along self.now.values direction }
+    {
+        if direction.is_horizontal() {
+            self.row_value
+        } else {
+            self.column_value
         }
     }
 
@@ -126,6 +173,10 @@ impl<'f, A: Allocator + Copy> Shaper<'f, A> {
     /// 1024 operations for each, or 16384 if that is more, but never more than 0x7FFFFFFF;
     /// [`Shaper::is_budget_used_up`] tells whether none of it is left.
     ///
+    /// The line is tracked by the value of [`Shaper::tracking_along`], before attachments are added up: as the text is
+    /// read, each drawn glyph that begins a cluster gets it added to its advance along the line, and half of it,
+    /// rounded towards 0, to its offset.
+    ///
     /// What comes out is in drawing order, from left to right or from top to bottom, so a backward text begins with its
     /// end. No glyph is 0xFFFF: deleted glyphs take no room, and go when the line has been turned. Offsets are added up
     /// along attachments. Where clusters never fall along the text, they never fall along a forward line, and never
@@ -150,7 +201,8 @@ impl<'f, A: Allocator + Copy> Shaper<'f, A> {
     /// `TooLong`, only where substitution makes the line too long; and as 3, `OutOfMemory`, where memory is wanting,
     /// which may come before either. It is never refused as 4, `BufferFailed`. Where it is refused there are no glyphs.
     ///
-    /// Apple's TrueType Reference Manual, "The 'morx' table", "The 'kerx' table" and "The 'kern' table".
+    /// Apple's TrueType Reference Manual, "The 'morx' table", "The 'kerx' table", "The 'kern' table" and
+    /// "The 'trak' table".
     pub fn shape(
         &mut self,
         direction: Direction,
@@ -158,20 +210,23 @@ impl<'f, A: Allocator + Copy> Shaper<'f, A> {
         features: &[Feature],
     ) -> Result<(), AatError>
         ensures font { self.new.font ≡ self.old.font }
-        ensures shaped { OnOk result (self.new.glyphs ≡ shaped_text self.old.font direction features.now text.now) }
+        ensures values { self.new.values ≡ self.old.values }
+        ensures shaped { OnOk result (self.new.glyphs
+            ≡ shaped_text (value_along self.old.values direction) self.old.font direction features.now text.now) }
         ensures budget { OnOk result
             (self.new.is_budget_used_up ≡ uses_up_budget self.old.font direction features.now text.now) }
         ensures long { most_text < length text.now → result ≡ Err AatError.TooLong }
         ensures refused { IfErr result (RefusesText self.old.font direction features.now text.now) }
         ensures fits { OnOk result (first_too_large_among (tables_of self.old.font).feat features.now ≡ None) }
         ensures empty { OnErr result
-            (self.new ≡ record { font = self.old.font; glyphs = []; is_budget_used_up = false }) }
-        ensures breaks { OnOk result
-            (BreaksHold self.old.font direction features.now text.now self.new.glyphs) }
+            (self.new ≡ record self.old { glyphs = []; is_budget_used_up = false }) }
+        ensures breaks { OnOk result (BreaksHold (value_along self.old.values direction) self.old.font direction
+            features.now text.now self.new.glyphs) }
         ensures undeleted { OnOk result (All (λ g. g.glyph_id ≢ deleted_glyph) self.new.glyphs) }
         ensures order { is_rising text.now ≡ true → OnOk result (AreInOrder direction self.new.glyphs) }
         ensures bounded { OnOk result (length self.new.glyphs ≤ most_glyphs (length text.now)) }
     {
+        let value = self.tracking_along(direction);
         self.glyphs.clear();
         self.is_budget_used_up = false;
         if text.len() > LONGEST_TEXT {
@@ -184,6 +239,7 @@ impl<'f, A: Allocator + Copy> Shaper<'f, A> {
             &self.workspace,
             &self.plan,
             font,
+            value,
             direction,
             text,
             &mut self.glyphs,
@@ -218,7 +274,7 @@ fn take_features(plan: &mut hb_ot_shape_plan_t, features: &[Feature]) -> Result<
 fn room_of(text: &[TextGlyph], features: &[Feature]) -> usize {
     let glyphs = text.len().min(LONGEST_TEXT);
     let features = features.len().min(LONGEST_TEXT);
-    4096 + 160 * glyphs + 512 * features
+    4096 + 168 * glyphs + 512 * features
 }
 
 /// Empties a workspace, and lets it have so many bytes in a row.
@@ -247,11 +303,13 @@ fn uses_up<H: Allocator + Copy>(buffer: &hb_buffer_t<H>) -> bool
     !buffer.max_ops().is_positive()
 }
 
-/// Shapes a text in a workspace, puts what is drawn into `glyphs`, and answers whether the budget was used up.
+/// Shapes a text in a workspace, tracks it by a value, puts what is drawn into `glyphs`, and answers whether the budget
+/// was used up.
 fn shape_over<H: Allocator + Copy, A: Allocator>(
     workspace: H,
     plan: &hb_ot_shape_plan_t,
     face: &hb_font_t,
+    value: i32,
     direction: Direction,
     text: &[TextGlyph],
     glyphs: &mut Vec<ShapedGlyph, A>,
@@ -259,7 +317,8 @@ fn shape_over<H: Allocator + Copy, A: Allocator>(
     requires short { length text.now ≤ most_text }
     requires planned { IsPlanOf plan.now.user_features.items plan.now }
     requires empty { glyphs.old.items ≡ [] }
-    ensures ok { OnOk result (glyphs.new.items ≡ shaped_text face.now direction plan.now.user_features.items text.now) }
+    ensures ok { OnOk result
+        (glyphs.new.items ≡ shaped_text value face.now direction plan.now.user_features.items text.now) }
     ensures used { IfOk result
         (λ used. used ≡ uses_up_budget face.now direction plan.now.user_features.items text.now) }
     ensures refused { IfErr result (RefusesText face.now direction plan.now.user_features.items text.now) }
@@ -270,8 +329,9 @@ fn shape_over<H: Allocator + Copy, A: Allocator>(
     let features = plan.user_features.as_slice();
     let mut buffer = buffer_of(workspace, face, direction, features, text)?;
     shape_with_deleted(workspace, plan, face, &mut buffer)?;
-    turn(&mut buffer);
     let is_used_up = uses_up(&buffer);
+    track_line(workspace, value, &mut buffer)?;
+    turn(&mut buffer);
     let breaks = Breaks {
         is_allowed: may_break_anywhere(face, direction, text),
         skips: skips_of(face),

@@ -17,3 +17,5 @@ mod fonts;
 mod refusal_tests;
 #[cfg(test)]
 mod shaper_tests;
+#[cfg(test)]
+mod tracked_tests;

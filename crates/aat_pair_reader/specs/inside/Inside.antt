@@ -6,6 +6,7 @@ use Rattle.aat_pair_reader.specs.declared.class_table.ClassTable.{ClassTable}
 use Rattle.aat_pair_reader.specs.declared.kern_classes.KernGrid.{KernGrid}
 use Rattle.aat_pair_reader.specs.declared.kern_indexes.KernIndexes.{KernIndexes}
 use Rattle.aat_pair_reader.specs.declared.kerx_classes.KerxGrid.{KerxGrid}
+use Rattle.aat_pair_reader.specs.declared.long_arrays.LongGrid.{LongGrid}
 
 -- the offsets of a class table stand inside, and its glyphs have 16 bits
 pub record HasOffsets (bytes : List ℕ) (table : ClassTable) : Type 0 where
@@ -23,6 +24,12 @@ pub record HasIndexes (bytes : List ℕ) (grid : KernIndexes) : Type 0 where
 
 -- the parts of a subtable stand not far behind a place of the table, and a row has a value
 pub record IsNear (grid : KerxGrid) : Type 0 where
+  pub array : grid.array < 2 ^ 63 + 2 ^ 32
+  pub tuples : grid.tuples.place < 2 ^ 63 + 2 ^ 32
+  pub wide : 0 < grid.column_count
+
+-- the same of a subtable whose values have 32 bits
+pub record IsNearLong (grid : LongGrid) : Type 0 where
   pub array : grid.array < 2 ^ 63 + 2 ^ 32
   pub tuples : grid.tuples.place < 2 ^ 63 + 2 ^ 32
   pub wide : 0 < grid.column_count

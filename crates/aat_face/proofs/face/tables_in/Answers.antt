@@ -8,6 +8,7 @@ returns c =
       c.in_ok-kerx.ensures,
       c.in_ok-kern.ensures,
       c.in_ok-ankr.ensures,
+      c.in_ok-trak.ensures,
       c.has_gpos_in.ensures,
       c.in_ok-feat.ensures,
       c.metrics_in.ensures,

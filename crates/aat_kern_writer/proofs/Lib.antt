@@ -1,0 +1,17 @@
+mod Chunks
+mod ClassFacts
+mod ClassLists
+mod ClassesAgain
+mod DenseFacts
+mod EachWritten
+mod FlagsAgain
+mod KernAgain
+mod KindsAgain
+mod MachineAgain
+mod Opened
+mod PairsAgain
+mod Readers
+mod RuleFacts
+mod StatesAgain
+mod SubtablesAgain
+mod Values

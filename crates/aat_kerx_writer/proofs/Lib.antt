@@ -1,0 +1,15 @@
+pub mod AnkrRows
+pub mod Appended
+pub mod ArraysAgain
+pub mod ClassesAgain
+pub mod Contents
+pub mod Coverage
+pub mod FormatsAgain
+pub mod ListAgain
+pub mod NoneFar
+pub mod PairsAgain
+pub mod PlainMachines
+pub mod PointsAgain
+pub mod Signed
+pub mod StacksAgain
+pub mod TableAgain

@@ -1,0 +1,10 @@
+pub mod AnkrBytes
+pub mod AnkrLaws
+pub mod AnkrWriteErrors
+pub mod KerxBytes
+pub mod KerxLaws
+pub mod KerxWriteErrors
+pub mod MachineBytes
+pub mod PairBytes
+pub mod WriteExamples
+pub mod inside

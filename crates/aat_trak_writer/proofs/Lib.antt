@@ -1,0 +1,4 @@
+pub mod Appended
+pub mod DataAgain
+pub mod TrakAgain
+pub mod Words

@@ -1,0 +1,4 @@
+pub mod TrakBytes
+pub mod TrakExamples
+pub mod TrakLaws
+pub mod TrakWriteErrors
