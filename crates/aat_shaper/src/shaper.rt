@@ -1,5 +1,5 @@
 //! The shaper: a text goes in, and what is drawn comes out.
-ghost use Rattle.std.specs.Prelude.{◌≡◌, ◌≢◌, ◌≤◌, ◌<◌, ◌&&◌, [], All, Err, IfErr, IfOk, None, OnErr, OnOk, false, length, not, true};
+ghost use Rattle.std.specs.Prelude.{◌≡◌, ◌≢◌, ◌≤◌, ◌<◌, ◌&&◌, [], All, Err, IfErr, IfOk, None, OnErr, OnOk, false, length, not, pos, true};
 ghost use Rattle.aat_buffer.specs.Removal.{deleted_glyph};
 ghost use Rattle.aat_font.specs.Face.{tables_of};
 ghost use Rattle.aat_map.specs.Adding.{first_too_large_among};
@@ -110,6 +110,15 @@ impl<'f, A: Allocator + Copy> Shaper<'f, A> {
         self.row_value = tracking.tracking_at(Direction::LeftToRight, track, size);
         self.column_value = tracking.tracking_at(Direction::TopToBottom, track, size);
         self
+    }
+
+    /// Has texts tracked from now on by the normal track, 0, at a point size: [`Shaper::with_tracking`] with that track.
+    ///
+    /// Apple's TrueType Reference Manual, "The 'trak' table".
+    pub fn with_point_size<B: Allocator>(self, tracking: &Tracking<B>, size: u32) -> Self
+        ensures { result ≡ record self.entry { values = values_at tracking.now (pos 0) size } }
+    {
+        self.with_tracking(tracking, 0, size)
     }
 
     /// The value by which texts of a direction are tracked, in units of the font.

@@ -113,7 +113,7 @@ fn the_first_glyph_of_each_cluster_is_wider(rt: HostRuntime) -> Result<(), Fail>
 fn columns_have_a_value_of_their_own(rt: HostRuntime) -> Result<(), Fail> {
     let font = pair_font(rt.alloc(), &[(8, 0xFFFF)], true, &[])?;
     let tracking = tracking(rt.alloc())?;
-    let mut shaper = Shaper::new(rt.alloc(), &font).with_tracking(&tracking, 0, SIZE);
+    let mut shaper = Shaper::new(rt.alloc(), &font).with_point_size(&tracking, SIZE);
     let text = [glyph(5, 0), glyph(8, 0), glyph(6, 1)];
     shaper.shape(Direction::TopToBottom, &text, &[])?;
     let column = [(5, 0, (0, -72), (0, 14)), (6, 1, (0, -72), (0, 14))];

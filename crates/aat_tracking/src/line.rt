@@ -4,13 +4,14 @@ ghost use Rattle.aat_tracking.specs.TrackedLines.{begins, tracked, widened};
 
 use aat_glyph::{Direction, GlyphPosition};
 
-/// Adds a value, in font units, along a line: rows get wider, columns, of negative advances, tighter. The first glyph of
-/// each cluster that is drawn gets the value added to its advance along the line, and half of it, rounded towards 0, to its offset along the
-/// line. All else of the positions stays, and sums wrap. So does HarfBuzz, for each grapheme in place of each cluster.
+/// Adds a value, in font units, along a line: rows get wider, columns, of negative advances, tighter. Each drawn glyph
+/// that begins a cluster gets the value added to its advance along the line, and half of it, rounded towards 0, to its
+/// offset along the line. All else of the positions stays, and sums wrap. So does HarfBuzz, for each grapheme in place of
+/// each cluster.
 ///
 /// The line stands as its text is read, whatever its direction. `clusters` has the cluster of each glyph, or `None`
-/// where the glyph is not drawn. A glyph is the first of its cluster if the last one that is drawn before it has
-/// another. `clusters` is as long as `positions`.
+/// where the glyph is not drawn. A drawn glyph begins a cluster if the last one that is drawn before it has another, or
+/// if there is none. `clusters` is as long as `positions`.
 ///
 /// Attachments are to be added up later, so that glyphs that are attached to others move with them. It takes no memory
 /// and cannot be refused.

@@ -98,7 +98,7 @@ impl<A: Allocator> TrackData<A> {
     }
 
     /// How much wider a text of a point size is set on a track, in units of the font, or tighter where it is below 0.
-    /// The size is a 16.16 fixed number: 65536 is a point. The normal track is 0.
+    /// Track and size are 16.16 fixed numbers: the normal track is 0, that of 65536 is 1, and a size of 65536 is a point.
     ///
     /// The first track of that value counts. Its value at the size is the one on the straight line through its values
     /// at two sizes, rounded to the nearest number, halves up. They are the first size that is not below the size asked

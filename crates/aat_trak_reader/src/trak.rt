@@ -159,8 +159,9 @@ fn part_at<A: Allocator + Copy>(
 /// of the tracks for rows, and then of those for columns, where there are any: 1, `PastEnd`, their header of 8 bytes, at
 /// its place; their entries of 8 bytes each, at the first that is not there as a whole; their sizes of 4 bytes each, at
 /// the first; more values of 2 bytes than the table has room for beside the entries, those that tracks share counted for
-/// each, at the header; and the values of the first track that has not all of them, at the first of them. `OutOfMemory`
-/// comes only if the bytes have no fault.
+/// each, at the header; and the values of the first track that has not all of them, at the first of them. A place past
+/// the end is a fault also where there are no sizes, so that nothing is read there. `OutOfMemory` comes only if the bytes
+/// have no fault.
 ///
 /// Apple's TrueType Reference Manual, "The 'trak' table".
 pub fn read_trak<A: Allocator + Copy>(alloc: A, bytes: &[u8]) -> Result<Tracking<A>, ReadError>
