@@ -300,14 +300,16 @@ impl<'a> Face<'a> {
         &self.faults
     }
 
-    /// The subtables of `kerx` that are left out, in their order, since the layer has nothing for them.
+    /// The subtables of `kerx` that are left out, in their order, since the layer has nothing for them: those of
+    /// variations are among these.
     pub fn left_out(&self) -> &[LeftOutSubtable]
         ensures { result.now ≡ self.now.left_out }
     {
         &self.left_out
     }
 
-    /// The subtables of `kern` that are left out, in their order, since their format is none that is read.
+    /// The subtables of `kern` that are left out, in their order, since their format is none that is read, or they are
+    /// of variations.
     pub fn left_out_of_kern(&self) -> &[aat_kern_reader::LeftOutSubtable]
         ensures { result.now ≡ self.now.left_out_of_kern }
     {

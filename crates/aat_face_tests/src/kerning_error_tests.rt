@@ -9,7 +9,7 @@ use aat_trak_writer::TrakWriteError;
 use aat_writer::WriteError;
 use std::test::Fail;
 
-const KERN_WRITE_ERRORS: [(KernWriteError, &str); 8] = [
+const KERN_WRITE_ERRORS: [(KernWriteError, &str); 9] = [
     (
         KernWriteError::TooManyPairs,
         "there are more than 65535 pairs",
@@ -39,9 +39,13 @@ const KERN_WRITE_ERRORS: [(KernWriteError, &str); 8] = [
         "the value at place 9 is not one that the format has",
     ),
     (KernWriteError::OutOfMemory, "out of memory"),
+    (
+        KernWriteError::Variable,
+        "a subtable of variations is not read again",
+    ),
 ];
 
-const SUBTABLE_WRITE_ERRORS: [(SubtableWriteError, &str); 8] = [
+const SUBTABLE_WRITE_ERRORS: [(SubtableWriteError, &str); 9] = [
     (
         SubtableWriteError::Listed,
         "the pairs of a format by classes are listed",
@@ -68,6 +72,10 @@ const SUBTABLE_WRITE_ERRORS: [(SubtableWriteError, &str); 8] = [
         "the machine is not written: the rule at place 9 names a state without a row",
     ),
     (SubtableWriteError::OutOfMemory, "out of memory"),
+    (
+        SubtableWriteError::Variable,
+        "a subtable of variations is not read again",
+    ),
 ];
 
 const KERX_WRITE_ERRORS: [(KerxWriteError, &str); 3] = [

@@ -60,7 +60,6 @@ fn write_extended<W: Write>(alloc: Global, out: &mut W, subtable: &KerxSubtable)
     let words = [
         (!subtable.horizontal, "vertical"),
         (subtable.has_cross_stream, "across"),
-        (subtable.variable, "variable"),
         (subtable.is_last_to_first, "last to first"),
     ];
     write_words(out, &words)?;
@@ -94,7 +93,6 @@ fn write_plain<W: Write>(alloc: Global, out: &mut W, subtable: &KernSubtable) ->
     let words = [
         (!subtable.horizontal, "vertical"),
         (subtable.has_cross_stream, "across"),
-        (subtable.variable, "variable"),
     ];
     write_words(out, &words)?;
     write_kind(alloc, out, &subtable.kind)

@@ -11,7 +11,7 @@ use Rattle.aat_bytes.specs.facts.Parts.{ok_parts, parts, passes}
 use Rattle.aat_machine_reader.specs.InTurn.{in_turn}
 use Rattle.aat_machine_reader.specs.facts.Turns.{counted, turn}
 use Rattle.aat_pair_reader.specs.declared.values.TheConstants.{KERN}
-use Rattle.aat_kern_reader.specs.Kern.{KernStart, end_at, first_start, format_at, format_place, header_size, is_read, kern_kind_at, kern_value, left_out_at, length_at, length_place, list_of, read_up_to, subtable_at, subtable_of, subtables_of, value_of_subtables}
+use Rattle.aat_kern_reader.specs.Kern.{KernStart, end_at, first_start, format_at, header_size, kern_kind_at, kern_value, left_out_at, length_at, length_place, list_of, read_up_to, subtable_at, subtable_of, subtables_of, unread_place, value_of_subtables}
 use Rattle.aat_kern_reader.specs.KernLaws.{IsReadAs, IsSubtableAt, SubtablesAreThoseOfBytes, end_by_length, subtable_end, subtable_place}
 use Rattle.aat_kern_reader.specs.declared.header.KernHeader.{KernHeader}
 use Rattle.aat_kern_reader.specs.declared.header.KernList.{KernList}
@@ -87,33 +87,35 @@ module _ (bytes : List ℕ) (list : KernList) where
       let made : ReadSubtable start behind does.0 = record { ended = ended.1; does = does.1; fewer = refl } in
       subst (λ (r : SubtableRead × KernStart). ReadSubtable start r.1 r.0) whole made
 
-  -- by whether its format is read
+  -- by what leaves it out
   read_by :
-      (i : ℕ) (start : KernStart) (end : ℕ) (read : SubtableRead) (b : Bool)
+      (i : ℕ) (start : KernStart) (end : ℕ) (read : SubtableRead) (unread : Option ℕ)
       → list.count - start.left ≡ i
-      → is_read list.header (format_at bytes list.header start.place) ≡ b
-      → cond b
-      (after (kern_kind_at (take end bytes) list.header start.place (format_at bytes list.header start.place)) (λ kind.
-      Ok (Kerns (subtable_of bytes list.header start.place kind))))
-      (Ok (LeftOut (left_out_at list start))) ≡ Ok read
+      → unread_place bytes list.header start.place ≡ unread
+      → ◌≡◌ {A = Result SubtableRead Fault} (elim unread [
+        | None ↦
+            after (kern_kind_at (take end bytes) list.header start.place (format_at bytes list.header start.place)) (λ kind.
+            Ok (Kerns (subtable_of bytes list.header start.place kind)))
+        | Some at ↦ Ok (LeftOut (left_out_at list start.left at))
+      ]) (Ok read)
       → IsReadAs bytes list i start.place end read
-  read_by i start end read true number known is =
+  read_by i start end read None number known is =
       let format = format_at bytes list.header start.place in
       let kind = parts (kern_kind_at (take end bytes) list.header start.place format) _ read is in
       let here : SubtableRead = Kerns (subtable_of bytes list.header start.place kind.0) in
       subst (IsReadAs bytes list i start.place end) (ok_parts here read kind.2) (known, kind.1, refl)
-  read_by i start end read false number unknown is =
-      let here : SubtableRead = LeftOut (left_out_at list start) in
-      let fault : Fault = fault_at KERN UnknownFormat (format_place list.header start.place) in
+  read_by i start end read (Some at) number unread is =
+      let here : SubtableRead = LeftOut (left_out_at list start.left at) in
+      let fault : Fault = fault_at KERN UnknownFormat at in
       subst (IsReadAs bytes list i start.place end) (ok_parts here read is)
-      (unknown, ap (λ n. record { number = n; fault = fault }) number)
+      (at, unread, ap (λ n. record { number = n; fault = fault }) number)
 
   read_as :
       (i : ℕ) (start : KernStart) (end : ℕ) (read : SubtableRead) → list.count - start.left ≡ i
       → read_up_to bytes list start end ≡ Ok read → IsReadAs bytes list i start.place end read
   unfolding read_up_to
   read_as i start end read number is =
-      read_by i start end read (is_read list.header (format_at bytes list.header start.place)) number refl is
+      read_by i start end read (unread_place bytes list.header start.place) number refl is
 
   -- it is that of the bytes
   one_is :

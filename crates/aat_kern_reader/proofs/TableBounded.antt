@@ -1,9 +1,10 @@
 -- What a kerning table weighs that is read.
-use Rattle.std.proofs.Common.{◌≡◌, ℕ, ℤ, zero, suc, ◌+◌, ◌-◌, ◌*◌, ◌/◌, ◌≤◌, List, [], ◌∷◌, length, take, Bool, true, false, cond, Result, Ok, refl, subst, arith, ◌==◌}
+use Rattle.std.proofs.Common.{◌≡◌, ℕ, ℤ, zero, suc, ◌+◌, ◌-◌, ◌*◌, ◌/◌, ◌≤◌, List, [], ◌∷◌, length, take, Bool, true, false, not, cond, Option, Some, None, Result, Ok, refl, sym, subst, arith, ◌==◌}
 use Rattle.std.specs.Prelude.{nat_lt, sum_by}
 use Rattle.std.specs.List.{filter_map}
 use Rattle.std.proofs.lemmas.Bool.{eqb-true, ltb-false}
 use Rattle.std.proofs.lemmas.List.{length-take}
+use Rattle.std.proofs.lemmas.Option.{none-some}
 use Rattle.std.proofs.lemmas.List.Sums.{sum_by-cons}
 use Rattle.aat_bytes.specs.Faults.{after}
 use Rattle.aat_bytes.specs.declared.error.Fault.{Fault}
@@ -19,7 +20,7 @@ use Rattle.aat_machine_reader.specs.facts.Turns.{turn}
 use Rattle.aat_pair_reader.specs.KernClasses.{kern_classes_at}
 use Rattle.aat_pair_reader.specs.KernIndexes.{kern_indexes_at}
 use Rattle.aat_pair_reader.specs.ListedPairs.{kern_pairs_at}
-use Rattle.aat_kern_reader.specs.Kern.{KernStart, KernValue, as_kind, first_start, format_at, header_size, is_read, kern_kind_at, kern_value, kerning_of, left_out_at, list_of, read_up_to, subtable_at, subtable_of, subtables_of}
+use Rattle.aat_kern_reader.specs.Kern.{KernStart, KernValue, as_kind, first_start, format_at, header_size, is_read, kern_kind_at, kern_value, kerning_of, left_out_at, list_of, read_up_to, subtable_at, subtable_of, subtables_of, unread_place}
 use Rattle.aat_kern_reader.specs.KernLaws.{KernIsBounded}
 use Rattle.aat_kern_reader.specs.KernMachines.{kern_machine_at}
 use Rattle.aat_kern_reader.specs.Weights.{kern_weight, kind_weight, subtable_weight}
@@ -151,27 +152,36 @@ weight_of (LeftOut subtable ∷ reads) =
     let all = sum_by-cons read_weight (LeftOut subtable) reads in
     omega (arith, rest, all)
 
+-- what nothing leaves out is of a format that is read
+known_by :
+    (known variable : Bool) (a b : ℕ) → cond (not known) (Some a) (cond variable (Some b) None) ≡ None → known ≡ true
+known_by true variable a b is = refl
+known_by false variable a b is = absurd (none-some a (sym is))
+
 module _ (bytes : List ℕ) (list : KernList) where
-  -- by whether its format is read
+  -- by what leaves it out
   light_by :
-      (start : KernStart) (end : ℕ) (read : SubtableRead) (b : Bool)
+      (start : KernStart) (end : ℕ) (read : SubtableRead) (unread : Option ℕ)
       → start.place + header_size list.header ≤ end → end ≤ length bytes
-      → is_read list.header (format_at bytes list.header start.place) ≡ b
-      → cond b
-      (after (kern_kind_at (take end bytes) list.header start.place (format_at bytes list.header start.place)) (λ kind.
-      Ok (Kerns (subtable_of bytes list.header start.place kind))))
-      (Ok (LeftOut (left_out_at list start))) ≡ Ok read
+      → unread_place bytes list.header start.place ≡ unread
+      → ◌≡◌ {A = Result SubtableRead Fault} (elim unread [
+        | None ↦
+            after (kern_kind_at (take end bytes) list.header start.place (format_at bytes list.header start.place)) (λ kind.
+            Ok (Kerns (subtable_of bytes list.header start.place kind)))
+        | Some at ↦ Ok (LeftOut (left_out_at list start.left at))
+      ]) (Ok read)
       → read_weight read ≤ 32 * (end - start.place)
-  light_by start end read true low high known is =
+  light_by start end read None low high nothing is =
       let format = format_at bytes list.header start.place in
       let kind = parts (kern_kind_at (take end bytes) list.header start.place format) _ read is in
       let here : SubtableRead = Kerns (subtable_of bytes list.header start.place kind.0) in
       let cut = length-take end bytes in
+      let known = known_by (is_read list.header format) _ _ _ nothing in
       let light = kind_light (take end bytes) list.header start.place format kind.0 known kind.1 in
       let weighs : read_weight here ≤ 32 * (end - start.place) = omega (arith, light, cut, high) in
       subst (λ (r : SubtableRead). read_weight r ≤ 32 * (end - start.place)) (ok_parts here read kind.2) weighs
-  light_by start end read false low high known is =
-      let here : SubtableRead = LeftOut (left_out_at list start) in
+  light_by start end read (Some at) low high unread is =
+      let here : SubtableRead = LeftOut (left_out_at list start.left at) in
       let wide = headed list.header in
       let weighs : read_weight here ≤ 32 * (end - start.place) = omega (arith, low, wide) in
       subst (λ (r : SubtableRead). read_weight r ≤ 32 * (end - start.place)) (ok_parts here read is) weighs
@@ -182,7 +192,7 @@ module _ (bytes : List ℕ) (list : KernList) where
       → read_up_to bytes list start end ≡ Ok read → read_weight read ≤ 32 * (end - start.place)
   unfolding read_up_to
   one_light start end read low high is =
-      light_by start end read (is_read list.header (format_at bytes list.header start.place)) low high refl is
+      light_by start end read (unread_place bytes list.header start.place) low high refl is
 
   -- subtables in turn
   all_light :

@@ -77,6 +77,13 @@ abbrev pub is_read : KernHeader → ℕ → Bool
 is_read Apple format = nat_lt format 4
 is_read OpenType format = (format == 0) || (format == 2)
 
+-- the place of what leaves a subtable out: a format that is not read, or else the coverage of variations, which stands
+-- at 4 of Apple's header
+abbrev pub unread_place : List ℕ → KernHeader → ℕ → Option ℕ
+unread_place bytes header place =
+    if not (is_read header (format_at bytes header place)) then Some (format_place header place) else
+    if is_variable header (coverage_at bytes header place) then Some (place + 4) else None
+
 -- how the subtable at a place kerns, by its format of those that are read
 unfoldable pub kern_kind_at : List ℕ → KernHeader → ℕ → ℕ → Result KernKind Fault
 kern_kind_at bytes header place format =
@@ -102,35 +109,36 @@ end_at bytes header start =
     if nat_lt (length bytes) (start.place + size) then Err (fault_at KERN PastEnd field) else
     Ok (start.place + size)
 
--- a subtable of a coverage
+-- a subtable of a coverage, which is not of variations
 abbrev pub with_coverage : KernHeader → ℕ → KernKind → KernSubtable
 with_coverage header coverage kind = record {
   kind = kind;
   horizontal = is_horizontal header coverage;
   has_cross_stream = is_cross_stream header coverage;
-  variable = is_variable header coverage;
+  variable = false;
 }
 
 -- the subtable of a header
 abbrev pub subtable_of : List ℕ → KernHeader → ℕ → KernKind → KernSubtable
 subtable_of bytes header place kind = with_coverage header (coverage_at bytes header place) kind
 
--- a subtable that is left out, with its number, from 0 on, and the place of its format
-abbrev pub left_out_at : KernList → KernStart → LeftOutSubtable
-left_out_at list start = record {
-  number = list.count - start.left;
-  fault = fault_at KERN UnknownFormat (format_place list.header start.place);
+-- the subtable from which on there are so many, as one that is left out, with its number, from 0 on, and the place of
+-- what leaves it out
+abbrev pub left_out_at : KernList → ℕ → ℕ → LeftOutSubtable
+left_out_at list left at = record {
+  number = list.count - left;
+  fault = fault_at KERN UnknownFormat at;
 }
 
--- what the subtable of a list is read as that starts there and reaches to its end. One of a format that is not read is
--- left out
+-- what the subtable of a list is read as that starts there and reaches to its end. One of a format that is not read, or
+-- of variations, is left out
 unfoldable pub read_up_to : List ℕ → KernList → KernStart → ℕ → Result SubtableRead Fault
-read_up_to bytes list start end =
-    let format = format_at bytes list.header start.place in
-    if is_read list.header format then
-    after (kern_kind_at (take end bytes) list.header start.place format) (λ kind.
-    Ok (Kerns (subtable_of bytes list.header start.place kind)))
-    else Ok (LeftOut (left_out_at list start))
+read_up_to bytes list start end = elim (unread_place bytes list.header start.place) [
+  | None ↦
+      after (kern_kind_at (take end bytes) list.header start.place (format_at bytes list.header start.place)) (λ kind.
+      Ok (Kerns (subtable_of bytes list.header start.place kind)))
+  | Some at ↦ Ok (LeftOut (left_out_at list start.left at))
+]
 
 -- what is read, and where the next subtable starts, from where this one ends
 abbrev pub read_and_next : ℕ → SubtableRead × ℕ → SubtableRead × KernStart

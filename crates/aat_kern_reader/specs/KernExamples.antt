@@ -61,10 +61,11 @@ MachineFaultsHaveTheirPlaces =
     (kern_machine_at (take 9 (example_machine 38)) 0 ≡ Err (fault_at KERN PastEnd 0))
     × (kern_machine_at (take 35 (example_machine 38)) 0 ≡ Err (fault_at KERN PastEnd 32))
 
--- a subtable of format 0 with the header of OpenType and a length: the pair of the glyphs 1 and 2 with -1
+-- a subtable of format 0 with the header of OpenType and a length: the pair of the glyphs 1 and 2 with -1. Its coverage
+-- has the bit that Apple's headers have for variations
 abbrev pub example_subtable : ℕ → List ℕ
 example_subtable size =
-    0 ∷ 0 ∷ 0 ∷ size ∷ 0 ∷ 5 ∷ 0 ∷ 1 ∷ 0 ∷ 0 ∷ 0 ∷ 0 ∷ 0 ∷ 0 ∷ 0 ∷ 1 ∷ 0 ∷ 2 ∷ 255 ∷ 255 ∷ []
+    0 ∷ 0 ∷ 0 ∷ size ∷ 0 ∷ 37 ∷ 0 ∷ 1 ∷ 0 ∷ 0 ∷ 0 ∷ 0 ∷ 0 ∷ 0 ∷ 0 ∷ 1 ∷ 0 ∷ 2 ∷ 255 ∷ 255 ∷ []
 
 -- the length of the last subtable is not believed, and that of another one is
 abbrev pub LastLengthIsNotBelieved : Type 0
@@ -89,29 +90,32 @@ apples_table count = 0 ∷ 1 ∷ 0 ∷ 0 ∷ 0 ∷ 0 ∷ 0 ∷ count ∷ []
 abbrev pub apples_subtable : ℕ → ℕ → ℕ → List ℕ
 apples_subtable size coverage format = 0 ∷ 0 ∷ 0 ∷ size ∷ coverage ∷ format ∷ 0 ∷ 0 ∷ []
 
--- a subtable of Apple's without pairs, of variations for vertical text; and another version
+-- a subtable of Apple's without pairs, for vertical text; and another version
 abbrev pub HeadersHaveTheirBits : Type 0
 HeadersHaveTheirBits =
-    (kern_of (apples_table 1 ++ apples_subtable 16 160 0 ++ 0 ∷ 0 ∷ 0 ∷ 0 ∷ 0 ∷ 0 ∷ 0 ∷ 0 ∷ []) ≡ Ok (record {
+    (kern_of (apples_table 1 ++ apples_subtable 16 128 0 ++ 0 ∷ 0 ∷ 0 ∷ 0 ∷ 0 ∷ 0 ∷ 0 ∷ 0 ∷ []) ≡ Ok (record {
       subtables =
           record {
             kind = Pairs [];
             horizontal = false;
             has_cross_stream = false;
-            variable = true;
+            variable = false;
           } ∷ [];
       left_out = [];
     }))
     × (kern_of (0 ∷ 2 ∷ 0 ∷ 0 ∷ []) ≡ Err (fault_at KERN UnknownFormat 0))
 
--- a format that is not read with the table's header is left out, with its number and the place of its format
+-- a format that is not read with the table's header is left out, with its number and the place of its format, and
+-- variations are with that of their coverage: they need no bytes behind their header
 abbrev pub OthersAreLeftOut : Type 0
 OthersAreLeftOut =
-    (kern_of (apples_table 2 ++ apples_subtable 8 0 4 ++ apples_subtable 8 0 9) ≡ Ok (record {
+    (kern_of (apples_table 3 ++ apples_subtable 8 0 4 ++ apples_subtable 8 32 0 ++ apples_subtable 8 32 9)
+    ≡ Ok (record {
       subtables = [];
       left_out =
           record { number = 0; fault = fault_at KERN UnknownFormat 13 }
-          ∷ record { number = 1; fault = fault_at KERN UnknownFormat 21 }
+          ∷ record { number = 1; fault = fault_at KERN UnknownFormat 20 }
+          ∷ record { number = 2; fault = fault_at KERN UnknownFormat 29 }
           ∷ [];
     }))
     × (kern_of (0 ∷ 0 ∷ 0 ∷ 1 ∷ 0 ∷ 0 ∷ 0 ∷ 6 ∷ 3 ∷ 1 ∷ []) ≡ Ok (record {

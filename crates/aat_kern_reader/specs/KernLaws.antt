@@ -1,5 +1,5 @@
 -- What a kerning table has that is read. Apple's TrueType Reference Manual, "The 'kern' table".
-use Rattle.std.specs.Prelude.{◌≡◌, ℕ, zero, suc, ◌+◌, ◌-◌, ◌*◌, ◌<◌, ◌≤◌, List, length, take, true, false, Some, Ok, if◌then◌else◌, ◌==◌}
+use Rattle.std.specs.Prelude.{◌≡◌, ℕ, zero, suc, ◌+◌, ◌-◌, ◌*◌, ◌<◌, ◌≤◌, List, length, take, Some, None, Ok, if◌then◌else◌, ◌==◌}
 use Rattle.aat_bytes.specs.Faults.{fault_at}
 use Rattle.aat_bytes.specs.declared.error.FaultKind.TheVariants.{UnknownFormat}
 use Rattle.aat_font.specs.KerningTables.{KernMachineTables}
@@ -10,7 +10,7 @@ use Rattle.aat_kern_reader.specs.declared.byte_machine.ByteMachine.{ByteMachine}
 use Rattle.aat_kern_reader.specs.declared.rows.Rows.{Rows}
 use Rattle.aat_machine_reader.specs.InTurn.{AreInOrder}
 use Rattle.aat_pair_reader.specs.declared.values.TheConstants.{KERN}
-use Rattle.aat_kern_reader.specs.Kern.{KernValue, format_at, format_place, header_size, is_read, kern_kind_at, kern_of, kern_value, length_at, list_of, subtable_of}
+use Rattle.aat_kern_reader.specs.Kern.{KernValue, format_at, header_size, kern_kind_at, kern_of, kern_value, length_at, list_of, subtable_of, unread_place}
 use Rattle.aat_kern_reader.specs.KernMachines.{kern_machine_at}
 use Rattle.aat_kern_reader.specs.Weights.{kern_weight, machine_tables_weight}
 use Rattle.aat_kern_reader.specs.declared.header.KernList.{KernList}
@@ -31,16 +31,16 @@ abbrev pub subtable_end : List ℕ → KernList → ℕ → ℕ → ℕ
 subtable_end bytes list i place =
     if list.count - i == 1 then length bytes else end_by_length bytes list place
 
--- what a subtable is read as: one of a format that is read is what its header says, and kerns as its bytes up to its end
--- say by that format. One of another format is left out, with its number and the place of its format
+-- what a subtable is read as: one that nothing leaves out is what its header says, and kerns as its bytes up to its end
+-- say by its format. Another one is left out, with its number and the place of what leaves it out
 abbrev pub IsReadAs : List ℕ → KernList → ℕ → ℕ → ℕ → SubtableRead → Type 0
 IsReadAs bytes list i place end (Kerns subtable) =
-    (is_read list.header (format_at bytes list.header place) ≡ true)
+    (unread_place bytes list.header place ≡ None)
     × (kern_kind_at (take end bytes) list.header place (format_at bytes list.header place) ≡ Ok subtable.kind)
     × (subtable ≡ subtable_of bytes list.header place subtable.kind)
 IsReadAs bytes list i place end (LeftOut subtable) =
-    (is_read list.header (format_at bytes list.header place) ≡ false)
-    × (subtable ≡ record { number = i; fault = fault_at KERN UnknownFormat (format_place list.header place) })
+    (at : ℕ) × (unread_place bytes list.header place ≡ Some at)
+    × (subtable ≡ record { number = i; fault = fault_at KERN UnknownFormat at })
 
 -- a subtable of a number is that of the bytes at a place: it has its header and ends in the table
 pub record IsSubtableAt (bytes : List ℕ) (list : KernList) (i place : ℕ) (read : SubtableRead) : Type 0 where

@@ -1,6 +1,6 @@
 //! The subtables of the kerning table.
 ghost use Rattle.std.specs.Prelude.{◌≡◌, ◌+◌, ◌≤◌, length, IfOk};
-ghost use Rattle.aat_kern_reader.specs.Kern.{KernStart, end_at, header_size, kern_kind_at, left_out_at, read_and_next, read_up_to, subtable_at, subtable_of};
+ghost use Rattle.aat_kern_reader.specs.Kern.{KernStart, end_at, header_size, kern_kind_at, left_out_at, read_and_next, read_up_to, subtable_at, subtable_of, unread_place};
 ghost use Rattle.aat_lookup_reader.specs.Lookups.{Gives};
 ghost use Rattle.aat_machine_reader.specs.Within.{GivesAs, GivesWithin};
 
@@ -16,7 +16,7 @@ use std::alloc::Global;
 pub struct LeftOutSubtable {
     /// Its number in the order of the table, from 0 on.
     pub number: u32,
-    /// Why: 2, `UnknownFormat`, with the place of its format.
+    /// Why: 2, `UnknownFormat`, with the place of its format, or of its coverage where that is of variations.
     pub fault: Fault,
 }
 
@@ -85,20 +85,32 @@ fn subtable_of(bytes: &[u8], header: KernHeader, place: usize, kind: KernKind) -
         kind,
         horizontal: header.is_horizontal(coverage),
         has_cross_stream: header.is_cross_stream(coverage),
-        variable: header.is_variable(coverage),
+        variable: false,
     }
 }
 
-/// The subtable at a place, from which on there are so many, as one that is left out.
-fn left_out_at(bytes: &[u8], list: KernList, place: usize, left: u32) -> LeftOutSubtable
-    requires header { place + header_size list.header ≤ length bytes.now }
-    requires some { left ≤ list.count }
-    ensures { result ≡ left_out_at list (record { place = place; left = left }) }
+/// The place of what leaves a subtable out: a format that is not read, or else the coverage of variations.
+fn unread_place(bytes: &[u8], header: KernHeader, place: usize) -> Option<usize>
+    requires { place + header_size header ≤ length bytes.now }
+    ensures { result ≡ unread_place bytes.now header place }
 {
-    let format = list.header.format_place(place, bytes);
+    if !header.is_read(header.format_at(place, bytes)) {
+        return Some(header.format_place(place, bytes));
+    }
+    if header.is_variable(header.coverage_at(place, bytes)) {
+        return Some(place + 4);
+    }
+    None
+}
+
+/// The subtable from which on there are so many, as one that is left out for what stands at a place.
+fn left_out_at(list: KernList, left: u32, at: usize) -> LeftOutSubtable
+    requires { left ≤ list.count }
+    ensures { result ≡ left_out_at list left at }
+{
     LeftOutSubtable {
         number: list.count - left,
-        fault: Fault::new(KERN, FaultKind::UnknownFormat, format),
+        fault: Fault::new(KERN, FaultKind::UnknownFormat, at),
     }
 }
 
@@ -119,10 +131,10 @@ fn read_up_to(
         GivesWithin result (read_up_to bytes.now list start end) }
 {
     let header = list.header;
-    let format = header.format_at(place, bytes);
-    if !header.is_read(format) {
-        return Ok(SubtableRead::LeftOut(left_out_at(bytes, list, place, left)));
+    if let Some(at) = unread_place(bytes, header, place) {
+        return Ok(SubtableRead::LeftOut(left_out_at(list, left, at)));
     }
+    let format = header.format_at(place, bytes);
     let kind = kern_kind_at(alloc, &bytes[..end], header, place, format)?;
     Ok(SubtableRead::Kerns(subtable_of(bytes, header, place, kind)))
 }

@@ -33,6 +33,13 @@ pub not_chosen :
 not_chosen true e x y is = absurd (let wrong : ⊥ = cc in wrong)
 not_chosen false e x y is = (refl, same_ok x y is)
 
+-- what is written behind such a test
+pub not_before :
+    {X : Type 0} (b : Bool) (e : KernWriteError) (written : Result X KernWriteError) (y : X)
+    → cond b (Err e) written ≡ Ok y → (b ≡ false) × (written ≡ Ok y)
+not_before true e written y is = absurd (let wrong : ⊥ = cc in wrong)
+not_before false e written y is = (refl, is)
+
 -- a choice between a refusal and what comes behind it
 pub not_first : {X : Type 0} (b : Bool) (x : X) (o : Option X) → cond b (Some x) o ≡ None → (b ≡ false) × (o ≡ None)
 not_first true x o is = absurd (let wrong : ⊥ = cc in wrong)

@@ -1,5 +1,5 @@
 -- Subtables that are written are read again.
-use Rattle.std.proofs.Common.{◌≡◌, ℕ, zero, suc, ◌+◌, ◌-◌, ◌<◌, ◌≤◌, ◌^◌, List, [], ◌∷◌, ◌++◌, length, get_or, take, map, cond, All, Bool, true, false, ◌==◌, Result, Ok, refl, sym, ap, ◌∙◌, append_assoc, arith}
+use Rattle.std.proofs.Common.{◌≡◌, ℕ, zero, suc, ◌+◌, ◌-◌, ◌<◌, ◌≤◌, ◌^◌, List, [], ◌∷◌, ◌++◌, length, get_or, take, map, cond, All, Bool, true, false, not, ◌==◌, Some, None, Result, Ok, refl, sym, ap, ◌∙◌, append_assoc, arith}
 use Rattle.std.specs.Prelude.{slice_index}
 use Rattle.std.proofs.Math.Seq.{take-append-add}
 use Rattle.std.proofs.lemmas.Bool.{le-ltb}
@@ -11,33 +11,40 @@ use Rattle.aat_bytes.specs.declared.error.Fault.{Fault}
 use Rattle.aat_font.specs.declared.kern.KernKind.{KernKind}
 use Rattle.aat_font.specs.declared.kern.KernKind.TheVariants.{Classes, Machine, Pairs}
 use Rattle.aat_font.specs.declared.kern.KernSubtable.{KernSubtable}
-use Rattle.aat_kern_reader.specs.Kern.{KernStart, as_kerning, coverage_at, end_at, format_at, is_read, kern_kind_at, read_and_next, read_up_to, subtable_at, subtable_of, with_coverage}
+use Rattle.aat_kern_reader.specs.Kern.{KernStart, as_kerning, coverage_at, end_at, format_at, is_read, is_variable, kern_kind_at, read_and_next, read_up_to, subtable_at, subtable_of, unread_place, with_coverage}
 use Rattle.aat_machine_reader.specs.InTurn.{in_turn}
 use Rattle.aat_writer.specs.Words.{long_bytes}
 use Rattle.aat_writer.specs.facts.LongPlaces.{length_longs, long_at}
 use Rattle.aat_kern_writer.specs.KernBytes.{bit, coverage_number, format_number, header_bytes, kind_written, subtable_written, subtables_written}
 use Rattle.aat_kern_writer.specs.KernLaws.{IsKernSubtable}
 use Rattle.aat_kern_writer.specs.KernWriteErrors.{after_written}
+use Rattle.aat_kern_writer.specs.declared.error.KernWriteError.TheVariants.{Variable}
 use Rattle.aat_kern_writer.proofs.KindsAgain.{kind_is_read, kind_is_short}
-use Rattle.aat_kern_writer.proofs.Opened.{parts, same_ok}
+use Rattle.aat_kern_writer.proofs.Opened.{not_before, parts, same_ok}
 use Rattle.aat_kern_writer.proofs.Readers.{Apple, SubtableRead, apples_list}
 
 -- the bits of a coverage are read again
 bits_again :
-    (kind : KernKind) (h c v : Bool)
-    → with_coverage Apple (cond h 0 128 + bit c 64 + bit v 32) kind
-    ≡ record { kind = kind; horizontal = h; has_cross_stream = c; variable = v }
-bits_again kind true true true = refl
-bits_again kind true true false = refl
-bits_again kind true false true = refl
-bits_again kind true false false = refl
-bits_again kind false true true = refl
-bits_again kind false true false = refl
-bits_again kind false false true = refl
-bits_again kind false false false = refl
+    (kind : KernKind) (h c : Bool)
+    → with_coverage Apple (cond h 0 128 + bit c 64) kind
+    ≡ record { kind = kind; horizontal = h; has_cross_stream = c; variable = false }
+bits_again kind true true = refl
+bits_again kind true false = refl
+bits_again kind false true = refl
+bits_again kind false false = refl
 
-coverage_again : (s : KernSubtable) → with_coverage Apple (coverage_number s) s.kind ≡ s
-coverage_again s = bits_again s.kind s.horizontal s.has_cross_stream s.variable
+coverage_again : (s : KernSubtable) → s.variable ≡ false → with_coverage Apple (coverage_number s) s.kind ≡ s
+coverage_again s plain =
+    let of_variable : Bool → KernSubtable =
+    λ v. record { kind = s.kind; horizontal = s.horizontal; has_cross_stream = s.has_cross_stream; variable = v } in
+    bits_again s.kind s.horizontal s.has_cross_stream ∙ ap of_variable (sym plain)
+
+-- that for variations is not among them
+plain_bits : (h c : Bool) → is_variable Apple (cond h 0 128 + bit c 64) ≡ false
+plain_bits true true = refl
+plain_bits true false = refl
+plain_bits false true = refl
+plain_bits false false = refl
 
 -- where a subtable ends whose length stands in it, or which is the last
 end_is :
@@ -61,10 +68,13 @@ format_is_read (Pairs pairs) = refl
 format_is_read (Machine machine) = refl
 format_is_read (Classes pairs) = refl
 
--- where it is known which way is taken
-by_known : {X : Type 0} (b : Bool) (x y z : X) → b ≡ true → x ≡ z → cond b x y ≡ z
-by_known true x y z known is = is
-by_known false x y z known is = cc
+-- nothing leaves out what is of a format that is read and not of variations
+nothing_by :
+    (known variable : Bool) (a b : ℕ) → known ≡ true → variable ≡ false
+    → cond (not known) (Some a) (cond variable (Some b) None) ≡ None
+nothing_by true false a b is_known plain = refl
+nothing_by true true a b is_known plain = absurd (let wrong : ⊥ = cc in wrong)
+nothing_by false variable a b is_known plain = absurd (let wrong : ⊥ = cc in wrong)
 
 -- what a subtable is read as whose parts are read
 read_by :
@@ -72,13 +82,16 @@ read_by :
     → format_at bytes Apple start.place ≡ format
     → is_read Apple format ≡ true
     → coverage_at bytes Apple start.place ≡ coverage
+    → is_variable Apple coverage ≡ false
     → kern_kind_at (take end bytes) Apple start.place format ≡ Ok kind
     → read_up_to bytes (apples_list count) start end ≡ Ok (as_kerning (with_coverage Apple coverage kind))
 unfolding read_up_to
-read_by bytes count start end format coverage kind is_format known is_coverage read =
+read_by bytes count start end format coverage kind is_format known is_coverage plain read =
     let does : ℕ → Result SubtableRead Fault = λ n. after (kern_kind_at (take end bytes) Apple start.place n) (λ k.
     Ok (as_kerning (subtable_of bytes Apple start.place k))) in
-    by_known _ _ _ _ (ap (is_read Apple) is_format ∙ known)
+    let nothing : unread_place bytes Apple start.place ≡ None =
+    nothing_by _ _ _ _ (ap (is_read Apple) is_format ∙ known) (ap (is_variable Apple) is_coverage ∙ plain) in
+    rw (nothing, read_up_to)
     (ap does is_format
     ∙ ap (λ (r : Result KernKind Fault). after r (λ k. Ok (as_kerning (subtable_of bytes Apple start.place k)))) read
     ∙ ap (λ n. Ok (as_kerning (with_coverage Apple n kind))) is_coverage)
@@ -162,10 +175,10 @@ module _ (s : KernSubtable) (body front rest bytes : List ℕ) (written : kind_w
       ∙ sym (append_assoc front header body)
 
   pub subtable_is_read :
-      (count left : ℕ) → IsKernSubtable s → (left ≡ 1 → length rest ≡ 0)
+      (count left : ℕ) → s.variable ≡ false → IsKernSubtable s → (left ≡ 1 → length rest ≡ 0)
       → subtable_at bytes (apples_list count) (record { place = place; left = left })
       ≡ Ok (read_and_next left (as_kerning s, place + size))
-  subtable_is_read count left small last =
+  subtable_is_read count left plain small last =
       let start : KernStart = record { place = place; left = left } in
       let ended : end_at bytes Apple start ≡ Ok (place + size) =
       end_is bytes place left (place + size) size size_stands (omega arith) refl (omega (arith, bytes_long)) (left == 1) refl
@@ -174,8 +187,9 @@ module _ (s : KernSubtable) (body front rest bytes : List ℕ) (written : kind_w
       ap (λ (b : List ℕ). kern_kind_at b Apple place (format_number s.kind)) taken
       ∙ kind_is_read s.kind body (front ++ header) place written small (omega (arith, length-append front header, header_long)) in
       let is = read_by bytes count start (place + size) (format_number s.kind) (coverage_number s) s.kind
-      (flag_stands 1 (place + 5) (omega arith)) (format_is_read s.kind) (flag_stands 0 (place + 4) (omega arith)) read
-      ∙ ap (λ (k : KernSubtable). Ok (as_kerning k)) (coverage_again s) in
+      (flag_stands 1 (place + 5) (omega arith)) (format_is_read s.kind) (flag_stands 0 (place + 4) (omega arith))
+      (plain_bits s.horizontal s.has_cross_stream) read
+      ∙ ap (λ (k : KernSubtable). Ok (as_kerning k)) (coverage_again s plain) in
       subtable_by bytes count start (place + size) (as_kerning s) ended is
 
 -- one subtable more
@@ -198,7 +212,8 @@ pub subtables_are_read :
 subtables_are_read [] count bytes front all place small written split long = refl
 subtables_are_read (s ∷ ss) count bytes front all place small written split long =
     let one = parts (subtable_written s) (λ b. after_written (subtables_written ss) (λ more. Ok (b ++ more))) all written in
-    let body = parts (kind_written s.kind) (λ body. Ok (header_bytes s (length body) ++ body)) one.0 one.1 in
+    let plain = not_before s.variable Variable _ one.0 one.1 in
+    let body = parts (kind_written s.kind) (λ body. Ok (header_bytes s (length body) ++ body)) one.0 plain.1 in
     let others = parts (subtables_written ss) (λ more. Ok (one.0 ++ more)) all one.2 in
     let made : header_bytes s (length body.0) ++ body.0 ≡ one.0 = same_ok (header_bytes s (length body.0) ++ body.0) one.0 body.2 in
     let joined : one.0 ++ others.0 ≡ all = same_ok (one.0 ++ others.0) all others.2 in
@@ -207,7 +222,7 @@ subtables_are_read (s ∷ ss) count bytes front all place small written split lo
     let behind : bytes ≡ (front ++ (header_bytes s (length body.0) ++ body.0)) ++ others.0 =
     here ∙ sym (append_assoc front (header_bytes s (length body.0) ++ body.0) others.0) in
     let end : ℕ = length front + (8 + length body.0) in
-    let first = subtable_is_read s body.0 front others.0 bytes body.1 here count (suc (length ss)) (small 0 s (omega arith))
+    let first = subtable_is_read s body.0 front others.0 bytes body.1 here count (suc (length ss)) plain.0 (small 0 s (omega arith))
     (λ last. nothing_left ss others.0 last others.1) in
     let less : suc (length ss) - 1 ≡ length ss = omega arith in
     let next : KernStart = record { place = end; left = length ss } in

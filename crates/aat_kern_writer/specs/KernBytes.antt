@@ -1,5 +1,5 @@
 -- The kerning table as bytes. Apple's TrueType Reference Manual, "The 'kern' table".
-use Rattle.std.specs.Prelude.{ℕ, ◌+◌, List, [], ◌∷◌, ◌++◌, length, Bool, Result, Ok, if◌then◌else◌}
+use Rattle.std.specs.Prelude.{ℕ, ◌+◌, List, [], ◌∷◌, ◌++◌, length, Bool, Result, Ok, Err, if◌then◌else◌}
 use Rattle.aat_font.specs.declared.kern.KernKind.{KernKind}
 use Rattle.aat_font.specs.declared.kern.KernKind.TheVariants.{Classes, Machine, Pairs}
 use Rattle.aat_font.specs.declared.kern.KernSubtable.{KernSubtable}
@@ -9,6 +9,7 @@ use Rattle.aat_kern_writer.specs.KernWriteErrors.{after_written}
 use Rattle.aat_kern_writer.specs.MachineBytes.{machine_written}
 use Rattle.aat_kern_writer.specs.PairBytes.{pairs_written}
 use Rattle.aat_kern_writer.specs.declared.error.KernWriteError.{KernWriteError}
+use Rattle.aat_kern_writer.specs.declared.error.KernWriteError.TheVariants.{Variable}
 
 -- the number of a format
 abbrev pub format_number : KernKind → ℕ
@@ -20,9 +21,9 @@ format_number (Classes pairs) = 2
 abbrev pub bit : Bool → ℕ → ℕ
 bit is_set number = if is_set then number else 0
 
--- the coverage of a subtable: 0x80 for vertical text, 0x40 across the line, 0x20 for variations
+-- the coverage of a subtable: 0x80 for vertical text, 0x40 across the line
 abbrev pub coverage_number : KernSubtable → ℕ
-coverage_number s = (if s.horizontal then 0 else 128) + bit s.has_cross_stream 64 + bit s.variable 32
+coverage_number s = (if s.horizontal then 0 else 128) + bit s.has_cross_stream 64
 
 -- the header of a subtable: its length, which counts the header, its coverage, its format and a number that is passed
 abbrev pub header_bytes : KernSubtable → ℕ → List ℕ
@@ -34,9 +35,11 @@ kind_written (Pairs pairs) = pairs_written pairs
 kind_written (Machine machine) = machine_written machine
 kind_written (Classes pairs) = classes_written pairs
 
--- the bytes of a subtable, or why it is not written
+-- the bytes of a subtable, or why it is not written: one of variations is not
 abbrev pub subtable_written : KernSubtable → Result (List ℕ) KernWriteError
-subtable_written s = after_written (kind_written s.kind) (λ body. Ok (header_bytes s (length body) ++ body))
+subtable_written s =
+    if s.variable then Err Variable else
+    after_written (kind_written s.kind) (λ body. Ok (header_bytes s (length body) ++ body))
 
 -- the bytes of subtables, or why the first that is not written is not
 abbrev pub subtables_written : List KernSubtable → Result (List ℕ) KernWriteError

@@ -6,7 +6,7 @@ use Rattle.aat_font.specs.declared.kern.KernKind.TheVariants.{Classes, Pairs}
 use Rattle.aat_kern_writer.specs.ClassBytes.{classes_written}
 use Rattle.aat_kern_writer.specs.KernBytes.{kern_written}
 use Rattle.aat_kern_writer.specs.MachineBytes.{KernRule, machine_written}
-use Rattle.aat_kern_writer.specs.declared.error.KernWriteError.TheVariants.{Class, Rule, Value}
+use Rattle.aat_kern_writer.specs.declared.error.KernWriteError.TheVariants.{Class, Rule, Value, Variable}
 
 -- a pair of the glyphs 3 and 4 with -20, for horizontal text
 abbrev pub PairsAreFormat0 : Type 0
@@ -76,9 +76,15 @@ MachineIsFormat1 =
     ++ (0 ∷ 15 ∷ 0 ∷ 0 ∷ 0 ∷ 15 ∷ 0 ∷ 0 ∷ 0 ∷ 15 ∷ 0 ∷ 0 ∷ 0 ∷ 15 ∷ 64 ∷ 57 ∷ [])
     ++ (0 ∷ 6 ∷ 255 ∷ 253 ∷ []))
 
--- a state without a row, a value of class 0, and a glyph that does not follow the one before it
+-- a state without a row, a value of class 0, a glyph that does not follow the one before it, and variations before that
 abbrev pub RefusalsHaveTheirPlaces : Type 0
 RefusalsHaveTheirPlaces =
     (machine_written (example_machine 2) ≡ Err (Rule 7))
     × (classes_written (example_classes 9 4) ≡ Err (Value 1))
     × (classes_written (example_classes 0 6) ≡ Err (Class 1))
+    × (kern_written (record {
+      kind = Classes (example_classes 0 6);
+      horizontal = true;
+      has_cross_stream = false;
+      variable = true;
+    } ∷ []) ≡ Err Variable)

@@ -2,7 +2,7 @@
 use Rattle.std.specs.Prelude.{◌≡◌, ℕ, List, Option, Some, None, Result, Ok, Err}
 use Rattle.std.specs.declared.vec.Vec.{Vec}
 use Rattle.aat_kern_writer.specs.declared.error.KernWriteError.{KernWriteError}
-use Rattle.aat_kern_writer.specs.declared.error.KernWriteError.TheVariants.{TooManyPairs, ClassCount, RuleCount, TooLong, Class, Rule, Value, OutOfMemory}
+use Rattle.aat_kern_writer.specs.declared.error.KernWriteError.TheVariants.{TooManyPairs, ClassCount, RuleCount, TooLong, Class, Rule, Value, OutOfMemory, Variable}
 
 -- the numbers of the errors
 abbrev pub number_of_kern_error : KernWriteError → ℕ
@@ -14,6 +14,7 @@ number_of_kern_error (Class place) = 5
 number_of_kern_error (Rule place) = 6
 number_of_kern_error (Value place) = 7
 number_of_kern_error OutOfMemory = 8
+number_of_kern_error Variable = 9
 
 -- what comes of what is written, or the error that is there already
 abbrev pub after_written :
@@ -36,6 +37,7 @@ RefusesWithin written (Class place) = written ≡ Err (Class place)
 RefusesWithin written (Rule place) = written ≡ Err (Rule place)
 RefusesWithin written (Value place) = written ≡ Err (Value place)
 RefusesWithin written OutOfMemory = Unit {0}
+RefusesWithin written Variable = written ≡ Err Variable
 
 -- a call that takes memory writes these bytes
 abbrev pub Writes : {Z : Type 0} → Result (Vec ℕ Z) KernWriteError → Result (List ℕ) KernWriteError → Type 0

@@ -32,10 +32,13 @@ pub enum KernWriteError {
     /// 8: memory is wanting. It may come before any other error is met.
     #[error("out of memory")]
     OutOfMemory,
+    /// 9: a subtable is of variations, and so would not be read again. It is met before other errors of the subtable.
+    #[error("a subtable of variations is not read again")]
+    Variable,
 }
 
 impl KernWriteError {
-    /// The error's number, from 1 to 8.
+    /// The error's number, from 1 to 9.
     pub fn number(self) -> u8
         ensures { result ≡ number_of_kern_error self }
     {
@@ -48,6 +51,7 @@ impl KernWriteError {
             KernWriteError::Rule(_) => 6,
             KernWriteError::Value(_) => 7,
             KernWriteError::OutOfMemory => 8,
+            KernWriteError::Variable => 9,
         }
     }
 }

@@ -29,12 +29,12 @@ fn bit(is_set: bool, number: u8) -> u8
     if is_set { number } else { 0 }
 }
 
-/// The coverage of a subtable: 0x80 for vertical text, 0x40 across the line, 0x20 for variations.
+/// The coverage of a subtable: 0x80 for vertical text, 0x40 across the line.
 fn coverage_number(subtable: &KernSubtable) -> u8
     ensures { result ≡ coverage_number subtable.now }
 {
     let direction = if subtable.horizontal { 0 } else { 0x80 };
-    direction + bit(subtable.has_cross_stream, 0x40) + bit(subtable.variable, 0x20)
+    direction + bit(subtable.has_cross_stream, 0x40)
 }
 
 /// Appends the header of a subtable with so many bytes behind it.
@@ -63,6 +63,9 @@ fn write_kind(alloc: Global, kind: &KernKind) -> Result<Vec<u8>, KernWriteError>
 fn write_subtable(alloc: Global, subtable: &KernSubtable) -> Result<Vec<u8>, KernWriteError>
     ensures { Writes result (subtable_written subtable.now) }
 {
+    if subtable.variable {
+        return Err(KernWriteError::Variable);
+    }
     let body = write_kind(alloc, &subtable.kind)?;
     let mut out = Vec::new(alloc);
     append_header(&mut out, subtable, body.len())?;
@@ -85,7 +88,8 @@ fn write_subtables(alloc: Global, subtables: &[KernSubtable]) -> Result<Vec<u8>,
 /// Writes the kerning table with Apple's header, of version 1.0. A subtable of pairs is of format 0, a machine of
 /// format 1, and pairs by classes of format 2. The values of a subtable are its last bytes, so that no others are read.
 ///
-/// Refused is the first subtable that is not as it is read, in this order. Pairs as 1, `TooManyPairs`, more than 65,535.
+/// Refused is the first subtable that is not as it is read, in this order. Any as 9, `Variable`, one of variations,
+/// which would be left out. Pairs as 1, `TooManyPairs`, more than 65,535.
 ///
 /// A machine as 2, `ClassCount`, fewer than 4 classes; 3, `RuleCount`, no rules, more than 256, or a last row that is
 /// cut; 4, `TooLong`, values that start at an offset of more than 65,535, or more than 16,384 values; 5, `Class`, with

@@ -25,7 +25,7 @@ use Rattle.aat_long_lookup_reader.proofs.SizeBounds.{rows_are_inside}
 use Rattle.aat_pair_reader.proofs.Counts.{arrays_fit, classes_fit, long_arrays_fit, pairs_fit}
 use Rattle.aat_kerx_reader.specs.Formats.{anchor_format_at, arrays_format_at, as_format, format_at, is_long, left_out_at, long_format_at}
 use Rattle.aat_kerx_reader.specs.KerxLaws.{KerxIsBounded}
-use Rattle.aat_kerx_reader.specs.KerxSubtables.{KerxStart, format_of, subtable_at, subtable_read, tuple_count_of, used_bytes}
+use Rattle.aat_kerx_reader.specs.KerxSubtables.{KerxStart, format_of, format_up_to, is_variable, subtable_at, subtable_read, tuple_count_of, used_bytes}
 use Rattle.aat_kerx_reader.specs.KerxTables.{first_subtable}
 use Rattle.aat_kerx_reader.specs.Machines.{action_type, anchor_tables_at, stack_tables_at}
 use Rattle.aat_kerx_reader.specs.Weights.{class_pairs_weight, format_weight, long_pairs_weight, long_weight, subtable_weight}
@@ -246,6 +246,19 @@ module _ (bytes : List ℕ) (place glyph_count : ℕ) where
       (left_light _ read header))))) is
 
 module _ (bytes : List ℕ) (glyph_count count : ℕ) where
+  -- a subtable of any format, or of variations
+  up_to_light :
+      (start : KerxStart) (end : ℕ) (read : FormatRead)
+      → start.place + 12 ≤ length (used_bytes bytes count start.number end)
+      → format_up_to bytes glyph_count count start end ≡ Ok read
+      → read_weight (used_bytes bytes count start.number end) start.place glyph_count read
+      ≤ 32 * (length (used_bytes bytes count start.number end) - start.place)
+  up_to_light start end read header is =
+      let used = used_bytes bytes count start.number end in
+      chosen used start.place glyph_count (is_variable bytes start.place) _ _ read
+      (left_light used start.place glyph_count _ read header)
+      (format_light used start.place glyph_count (format_of bytes start.place) (tuple_count_of bytes start.place) read header) is
+
   -- the bytes that a subtable may use reach to its end
   used_by : (b : Bool) (end : ℕ) → end ≤ length bytes
       → (end ≤ length (cond b bytes (take end bytes))) × (length (cond b bytes (take end bytes)) ≤ length bytes)
@@ -290,9 +303,7 @@ module _ (bytes : List ℕ) (glyph_count count : ℕ) where
       let weighs : subtable_weight bytes glyph_count count start read next
       ≡ read_weight used start.place glyph_count r.format =
       ap (λ (k : SubtableRead). subtable_weight bytes glyph_count count start k next) r.is ∙ same_weight start next r.format in
-      let light =
-      format_light used start.place glyph_count (format_of bytes start.place) (tuple_count_of bytes start.place) r.format
-      (omega (arith, low, long)) r.does in
+      let light = up_to_light start next.place r.format (omega (arith, low, long)) r.does in
       record {
         low = e.low;
         high = e.high;

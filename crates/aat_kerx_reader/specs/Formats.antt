@@ -19,7 +19,7 @@ use Rattle.aat_kerx_reader.specs.declared.formats.FormatRead.TheVariants.{Kerns,
 abbrev pub as_format : {X : Type 0} → (X → KerxFormat) → Result X Fault → Result FormatRead Fault
 as_format format tables = after tables (λ x. Ok (Kerns (format x)))
 
--- what is left out, for a format that stands at a place
+-- what is left out, for what stands at a place
 abbrev pub left_out_at : ℕ → Result FormatRead Fault
 left_out_at place = Ok (LeftOut (fault_at KERX UnknownFormat place))
 

@@ -46,16 +46,16 @@ machine_with action = record {
 }
 
 -- a machine of format 1 names its values by bytes, and so value 1 by 2; the coverage is for vertical text, across the
--- line, of variations, and from the last glyph to the first
+-- line, and from the last glyph to the first
 abbrev pub StackMachineHasItsValues : Type 0
 StackMachineHasItsValues =
-    read_kerx (example_table 2 0 1 ++ example_subtable 66 240 1 ++ example_machine 0) ≡ Ok (record {
+    read_kerx (example_table 2 0 1 ++ example_subtable 66 208 1 ++ example_machine 0) ≡ Ok (record {
       subtables =
           record {
             format = Format1 (record { state_table = machine_with 1; values = pos 5 ∷ negsuc 1 ∷ [] });
             horizontal = false;
             has_cross_stream = true;
-            variable = true;
+            variable = false;
             is_last_to_first = true;
             tuple_count = 1;
           } ∷ [];
@@ -130,18 +130,20 @@ LongValuesAreRead =
       left_out = [];
     })
 
--- an unknown format, format 4 by control points or coordinates, and format 6 with a value that 16 bits do not have are
--- left out, each with its number
+-- an unknown format, variations, which need no bytes behind their header, format 4 by control points or coordinates,
+-- and format 6 with a value that 16 bits do not have are left out, each with its number
 abbrev pub OthersAreLeftOut : Type 0
 OthersAreLeftOut =
-    read_kerx (example_table 3 0 4 ++ example_subtable 12 0 3 ++ example_subtable 66 0 4 ++ example_machine 0
-    ++ example_subtable 66 0 4 ++ example_machine 128 ++ example_long 1) ≡ Ok (record {
+    read_kerx (example_table 3 0 5 ++ example_subtable 12 0 3 ++ example_subtable 12 32 4
+    ++ example_subtable 66 0 4 ++ example_machine 0 ++ example_subtable 66 0 4 ++ example_machine 128 ++ example_long 1)
+    ≡ Ok (record {
       subtables = [];
       left_out =
           record { number = 0; fault = fault_at KERX UnknownFormat 12 }
-          ∷ record { number = 1; fault = fault_at KERX UnknownFormat 48 }
-          ∷ record { number = 2; fault = fault_at KERX UnknownFormat 114 }
-          ∷ record { number = 3; fault = fault_at KERX UnknownFormat 220 }
+          ∷ record { number = 1; fault = fault_at KERX UnknownFormat 24 }
+          ∷ record { number = 2; fault = fault_at KERX UnknownFormat 60 }
+          ∷ record { number = 3; fault = fault_at KERX UnknownFormat 126 }
+          ∷ record { number = 4; fault = fault_at KERX UnknownFormat 232 }
           ∷ [];
     })
 

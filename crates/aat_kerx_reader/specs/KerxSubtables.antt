@@ -1,12 +1,12 @@
 -- The subtables of the extended kerning table. Apple's TrueType Reference Manual, "The 'kerx' table", subtable headers.
-use Rattle.std.specs.Prelude.{ℕ, ◌+◌, ◌%◌, List, length, take, Bool, not, Result, Ok, Err, if◌then◌else◌, nat_lt, ◌==◌, bit_and}
+use Rattle.std.specs.Prelude.{ℕ, ◌+◌, ◌%◌, List, length, take, Bool, false, not, Result, Ok, Err, if◌then◌else◌, nat_lt, ◌==◌, bit_and}
 use Rattle.aat_bytes.specs.Faults.{after, fault_at}
 use Rattle.aat_bytes.specs.Numbers.{be32}
 use Rattle.aat_bytes.specs.declared.error.Fault.{Fault}
 use Rattle.aat_bytes.specs.declared.error.FaultKind.TheVariants.{PastEnd, ShortLength}
 use Rattle.aat_font.specs.declared.kerx.KerxFormat.{KerxFormat}
 use Rattle.aat_font.specs.declared.kerx.KerxSubtable.{KerxSubtable}
-use Rattle.aat_kerx_reader.specs.Formats.{format_at}
+use Rattle.aat_kerx_reader.specs.Formats.{format_at, left_out_at}
 use Rattle.aat_kerx_reader.specs.declared.formats.FormatRead.{FormatRead}
 use Rattle.aat_kerx_reader.specs.declared.formats.FormatRead.TheVariants as formats
 use Rattle.aat_kerx_reader.specs.declared.subtables.SubtableRead.{SubtableRead}
@@ -25,14 +25,18 @@ format_of bytes place = be32 bytes (place + 4) % 256
 abbrev pub tuple_count_of : List ℕ → ℕ → ℕ
 tuple_count_of bytes place = be32 bytes (place + 8)
 
--- the subtable of a header: for vertical text alone, across the line, of variations, from the last glyph to the first,
--- and how many values stand together
+-- the bit of the coverage for variations
+abbrev pub is_variable : List ℕ → ℕ → Bool
+is_variable bytes place = has_coverage bytes place 0x20000000
+
+-- the subtable of a header, which is not of variations: for vertical text alone, across the line, from the last glyph
+-- to the first, and how many values stand together
 abbrev pub subtable_of : List ℕ → ℕ → KerxFormat → KerxSubtable
 subtable_of bytes place format = record {
   format = format;
   horizontal = not (has_coverage bytes place 0x80000000);
   has_cross_stream = has_coverage bytes place 0x40000000;
-  variable = has_coverage bytes place 0x20000000;
+  variable = false;
   is_last_to_first = has_coverage bytes place 0x10000000;
   tuple_count = tuple_count_of bytes place;
 }
@@ -63,9 +67,11 @@ end_at bytes place =
 abbrev pub used_bytes : List ℕ → ℕ → ℕ → ℕ → List ℕ
 used_bytes bytes count number end = if number + 1 == count then bytes else take end bytes
 
--- what the subtable of a number does, of so many, that starts at a place and ends at another
+-- what the subtable of a number does, of so many, that starts at a place and ends at another. One of variations is left
+-- out, with the place of its coverage
 abbrev pub format_up_to : List ℕ → ℕ → ℕ → KerxStart → ℕ → Result FormatRead Fault
 format_up_to bytes glyph_count count start end =
+    if is_variable bytes start.place then left_out_at (start.place + 4) else
     format_at (used_bytes bytes count start.number end) start.place (format_of bytes start.place) glyph_count
     (tuple_count_of bytes start.place)
 

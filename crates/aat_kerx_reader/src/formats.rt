@@ -28,8 +28,8 @@ pub(crate) enum FormatRead {
     LeftOut(Fault),
 }
 
-/// A subtable that is left out, for a format that stands at a place.
-fn left_out(place: usize) -> FormatRead
+/// A subtable that is left out, for what stands at a place.
+pub(crate) fn left_out(place: usize) -> FormatRead
     ensures { result ≡ LeftOut (fault_at KERX UnknownFormat place) }
 {
     FormatRead::LeftOut(Fault::new(KERX, FaultKind::UnknownFormat, place))

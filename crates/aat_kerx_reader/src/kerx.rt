@@ -17,8 +17,8 @@ use std::marker::Model;
 pub struct KerxRead {
     /// The table, with each subtable that can kern.
     pub kerx: Kerx,
-    /// The subtables that are left out, in their order: those of an unknown format, those of format 4 by control points
-    /// or coordinates, and those of format 6 with a value that 16 bits do not have.
+    /// The subtables that are left out, in their order: those of variations, those of an unknown format, those of
+    /// format 4 by control points or coordinates, and those of format 6 with a value that 16 bits do not have.
     pub left_out: Vec<LeftOutSubtable>,
 }
 
@@ -72,17 +72,18 @@ fn subtables(
 /// What version 3 and 4 have behind the subtables, the glyphs that each may touch, is passed.
 ///
 /// A subtable stands inside its length, and its lists end there; the last one may reach to the end of the table. A
-/// subtable of an unknown format is left out, and so is one of format 4 by control points or coordinates, and one of
-/// format 6 with a value that 16 bits do not have: it is no fault, nothing else of it is looked at, and `left_out` tells
-/// it.
+/// subtable of an unknown format is left out, and so is one whose coverage has the bit for variations, one of format 4
+/// by control points or coordinates, and one of format 6 with a value that 16 bits do not have: it is no fault, nothing
+/// behind what says so is looked at, and `left_out` tells it. So `variable` is false in each subtable that is read.
 ///
 /// The first fault in this order, of the table `kerx`, with its place from the start of the table: 1, `PastEnd`, a
 /// header of 8 bytes that is not there, at 0; 2, `UnknownFormat`, another version, at 0; 1, more than 65,535 subtables,
 /// at 4. Then for each subtable: 1, a header of 12 bytes that is not there, at its place; 3, `ShortLength`, a length
-/// below that of the header, and 1, one that reaches past the end, both at its place; of formats 0, 2 and 6 the faults
-/// of `read_kerx_pairs`, `read_kerx_classes`, `read_kerx_arrays` and `read_kerx_long_arrays`; of formats 1 and 4: 1, a header of the machine of
-/// 20 bytes that is not there, at its place behind that of the subtable, and the faults of `read_machine`.
-/// `OutOfMemory` may come before any of these is met.
+/// below that of the header, and 1, one that reaches past the end, both at its place; but for one of variations, of
+/// formats 0, 2 and 6 the faults of `read_kerx_pairs`, `read_kerx_classes`, `read_kerx_arrays` and
+/// `read_kerx_long_arrays`, and of formats 1 and 4: 1, a header of the machine of 20 bytes that is not there, at its
+/// place behind that of the subtable, and the faults of `read_machine`. `OutOfMemory` may come before any of these is
+/// met.
 ///
 /// Apple's TrueType Reference Manual, "The 'kerx' table".
 #[tactic(auto, unfolding(crate::specs::KerxTables::kerx_of))]

@@ -1,9 +1,9 @@
 //! The subtables of the extended kerning table.
 ghost use Rattle.std.specs.Prelude.{◌≡◌, ◌+◌, ◌≤◌, length, IfOk};
-ghost use Rattle.aat_machine_reader.specs.Within.{GivesAs};
-ghost use Rattle.aat_kerx_reader.specs.KerxSubtables.{KerxStart, end_at, format_of, has_coverage, read_and_next, subtable_at, subtable_of, subtable_read, used_bytes};
+ghost use Rattle.aat_machine_reader.specs.Within.{GivesAs, GivesWithin};
+ghost use Rattle.aat_kerx_reader.specs.KerxSubtables.{KerxStart, end_at, format_of, format_up_to, has_coverage, read_and_next, subtable_at, subtable_of, subtable_read, used_bytes};
 
-use crate::formats::{FormatRead, format_at};
+use crate::formats::{FormatRead, format_at, left_out};
 use aat_bytes::{Fault, FaultKind, ReadError, be32};
 use aat_font::{KerxFormat, KerxSubtable};
 use aat_pair_reader::KERX;
@@ -14,7 +14,8 @@ use std::alloc::Global;
 pub struct LeftOutSubtable {
     /// Its number in the order of the table, from 0 on.
     pub number: u32,
-    /// Why: 2, `UnknownFormat`, with the place of what is not known.
+    /// Why: 2, `UnknownFormat`, with the place of what is not known. For an unknown format, and for variations, that is
+    /// the place of the coverage, of which the format is the lowest byte.
     pub fault: Fault,
 }
 
@@ -44,7 +45,7 @@ fn subtable_of(bytes: &[u8], place: usize, format: KerxFormat) -> KerxSubtable
         format,
         horizontal: !has_coverage(bytes, place, 0x8000_0000),
         has_cross_stream: has_coverage(bytes, place, 0x4000_0000),
-        variable: has_coverage(bytes, place, 0x2000_0000),
+        variable: false,
         is_last_to_first: has_coverage(bytes, place, 0x1000_0000),
         tuple_count: be32(bytes, place + 8),
     }
@@ -83,6 +84,30 @@ fn used_bytes(bytes: &[u8], count: u32, number: u32, end: usize) -> &[u8]
     }
 }
 
+/// What the subtable of a number at a place does, of so many, up to its end. One of variations is left out.
+fn format_up_to(
+    alloc: Global,
+    bytes: &[u8],
+    glyph_count: u16,
+    count: u32,
+    number: u32,
+    place: usize,
+    end: usize,
+) -> Result<FormatRead, ReadError>
+    requires header { place + 12 ≤ end }
+    requires inside { end ≤ length bytes.now }
+    ensures { let start : KerxStart = record { place = place; number = number } in
+        GivesWithin result (format_up_to bytes.now glyph_count count start end) }
+{
+    if has_coverage(bytes, place, 0x2000_0000) {
+        return Ok(left_out(place + 4));
+    }
+    let format = (be32(bytes, place + 4) % 256) as u8;
+    let used = used_bytes(bytes, count, number, end);
+    let tuple_count = be32(bytes, place + 8);
+    format_at(alloc, used, place, format, glyph_count, tuple_count)
+}
+
 /// The subtable of a number at a place, of so many, and where the next one starts.
 #[tactic(auto, unfolding(crate::specs::KerxSubtables::subtable_at))]
 pub(crate) fn subtable_at(
@@ -99,10 +124,7 @@ pub(crate) fn subtable_at(
     ensures inside { IfOk result (λ r. r.1 ≤ length bytes.now) }
 {
     let end = end_at(bytes, place)?;
-    let format = (be32(bytes, place + 4) % 256) as u8;
-    let used = used_bytes(bytes, count, number, end);
-    let tuple_count = be32(bytes, place + 8);
-    let read = match format_at(alloc, used, place, format, glyph_count, tuple_count)? {
+    let read = match format_up_to(alloc, bytes, glyph_count, count, number, place, end)? {
         FormatRead::Kerns(format) => SubtableRead::Kerns(subtable_of(bytes, place, format)),
         FormatRead::LeftOut(fault) => SubtableRead::LeftOut(LeftOutSubtable { number, fault }),
     };

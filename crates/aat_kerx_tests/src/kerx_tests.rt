@@ -1,7 +1,7 @@
 //! The table `kerx`.
 
 use aat_bytes::{Fault, FaultKind, ReadError};
-use aat_font::{GlyphId, KerxFormat};
+use aat_font::{GlyphId, KerxFormat, KerxSubtable};
 use aat_kerx_reader::{KerxRead, read_kerx};
 use aat_pair_reader::KERX;
 use std::alloc::{AllocError, Global};
@@ -49,7 +49,7 @@ fn example(alloc: Global) -> Result<Vec<u8>, AllocError> {
     append(&mut table, 0, 5, &[])?;
     anchors[16] = 0x80;
     append(&mut table, 0, 4, &anchors)?;
-    append(&mut table, 0x60, 0, &PAIR)?;
+    append(&mut table, 0x40, 0, &PAIR)?;
     Ok(table)
 }
 
@@ -84,17 +84,14 @@ fn check_machines(read: &KerxRead) -> Result<(), Fail> {
     Ok(())
 }
 
-/// Checks the pairs of the table.
-fn check_pairs(read: &KerxRead) -> Result<(), Fail> {
-    let [_, _, pairs] = read.kerx.subtables() else {
-        return Err(Fail::new("another number of subtables"));
-    };
+/// Checks the pairs of a subtable.
+fn check_pairs(pairs: &KerxSubtable) -> Result<(), Fail> {
     let KerxFormat::Format0(values) = &pairs.format else {
         return Err(Fail::new("another format"));
     };
     if values.glyphs_kerning(GlyphId(1), GlyphId(2)) != Some(-1)
         || !pairs.has_cross_stream
-        || !pairs.variable
+        || pairs.variable
     {
         return Err(Fail::new("another pair"));
     }
@@ -105,12 +102,35 @@ fn check_pairs(read: &KerxRead) -> Result<(), Fail> {
 fn subtables(rt: HostRuntime) -> Result<(), Fail> {
     let read = read_kerx(rt.alloc(), &example(rt.alloc())?, 9)?;
     check_machines(&read)?;
-    check_pairs(&read)?;
+    let [_, _, pairs] = read.kerx.subtables() else {
+        return Err(Fail::new("another number of subtables"));
+    };
+    check_pairs(pairs)?;
     for (left, (number, place)) in read.left_out.iter().zip([(2, 144), (3, 180)]) {
         assert_eq!(rt; left.number, number);
         assert!(rt; left.fault == Fault::new(KERX, FaultKind::UnknownFormat, place));
     }
     assert_eq!(rt; read.left_out.len(), 2);
+    Ok(())
+}
+
+#[test]
+fn variations(rt: HostRuntime) -> Result<(), Fail> {
+    let mut table = start(rt.alloc(), 4)?;
+    append(&mut table, 0x20, 4, &[])?;
+    append(&mut table, 0x40, 0, &PAIR)?;
+    append(&mut table, 0x60, 0, &PAIR)?;
+    append(&mut table, 0xF0, 6, &[])?;
+    let read = read_kerx(rt.alloc(), &table, 9)?;
+    let [pairs] = read.kerx.subtables() else {
+        return Err(Fail::new("another number of subtables"));
+    };
+    check_pairs(pairs)?;
+    for (left, (number, place)) in read.left_out.iter().zip([(0, 12), (2, 58), (3, 92)]) {
+        assert_eq!(rt; left.number, number);
+        assert!(rt; left.fault == Fault::new(KERX, FaultKind::UnknownFormat, place));
+    }
+    assert_eq!(rt; read.left_out.len(), 3);
     Ok(())
 }
 

@@ -77,9 +77,7 @@ fn example_table(alloc: Global) -> Result<Kerx, Fail> {
     };
     subtables.push(KerxSubtable::new(KerxFormat::Format4(anchors), true))?;
     let table = ClassPairs::new(alloc, &classes, &[(2, 2), (7, 1)], 3, &values)?;
-    let mut arrays = KerxSubtable::new(KerxFormat::Format6Classes(table), true);
-    arrays.variable = true;
-    subtables.push(arrays)?;
+    subtables.push(KerxSubtable::new(KerxFormat::Format6Classes(table), true))?;
     Ok(Kerx::new(subtables)?)
 }
 
@@ -144,5 +142,18 @@ fn refusals(rt: HostRuntime) -> Result<(), Fail> {
     let kerx = Kerx::new(subtables)?;
     let refused = write_kerx(rt.alloc(), &kerx).err();
     assert!(rt; refused == Some(KerxWriteError::Subtable(1, SubtableWriteError::Listed)));
+    Ok(())
+}
+
+#[test]
+fn variations_are_refused(rt: HostRuntime) -> Result<(), Fail> {
+    let pairs = Pairs::new(rt.alloc(), &[(1, 2, -3)])?;
+    let mut subtable = KerxSubtable::new(KerxFormat::Format6(pairs), true);
+    subtable.variable = true;
+    let mut subtables = Vec::new(rt.alloc());
+    subtables.push(subtable)?;
+    let kerx = Kerx::new(subtables)?;
+    let refused = write_kerx(rt.alloc(), &kerx).err();
+    assert!(rt; refused == Some(KerxWriteError::Subtable(0, SubtableWriteError::Variable)));
     Ok(())
 }

@@ -6,7 +6,7 @@ use Rattle.aat_kerx_writer.specs.KerxBytes.{SubtableContent, contents_from, subt
 use Rattle.aat_kerx_writer.specs.KerxWriteErrors.{RefusesWithin, TableRefusesWithin, after_written, error_of_subtable, of_subtable}
 use Rattle.aat_kerx_writer.specs.declared.kerx_error.KerxWriteError.{KerxWriteError}
 use Rattle.aat_kerx_writer.specs.declared.subtable_error.SubtableWriteError.{SubtableWriteError}
-use Rattle.aat_kerx_writer.specs.declared.subtable_error.SubtableWriteError.TheVariants.{Listed, HasTuples, Pairs, NoColumns, TooFar, NoIndex, Machine, OutOfMemory}
+use Rattle.aat_kerx_writer.specs.declared.subtable_error.SubtableWriteError.TheVariants.{Listed, HasTuples, Pairs, NoColumns, TooFar, NoIndex, Machine, OutOfMemory, Variable}
 
 -- what is written in all, when some are and the others are not yet
 abbrev pub behind : List SubtableContent → Result (List SubtableContent) KerxWriteError → Result (List SubtableContent) KerxWriteError
@@ -60,6 +60,7 @@ module _ (xs : List KerxSubtable) (i : ℕ) (x : KerxSubtable) (done : List Subt
   is_refused (NoIndex place) is = failed (NoIndex place) is
   is_refused (Machine e) is = failed (Machine e) is
   is_refused OutOfMemory is = tt
+  is_refused Variable is = failed Variable is
 
 -- at the end all are written
 pub all_written :

@@ -13,7 +13,7 @@ use Rattle.aat_font.specs.declared.kerx.KerxFormat.{KerxFormat}
 use Rattle.aat_font.specs.declared.kerx.KerxSubtable.{KerxSubtable}
 use Rattle.aat_machine_reader.specs.InTurn.{in_turn}
 use Rattle.aat_kerx_reader.specs.Formats.{as_format, format_at}
-use Rattle.aat_kerx_reader.specs.KerxSubtables.{KerxStart, end_at, format_of, format_up_to, has_coverage, read_and_next, subtable_at, subtable_of, subtable_read, tuple_count_of, used_bytes}
+use Rattle.aat_kerx_reader.specs.KerxSubtables.{KerxStart, end_at, format_of, format_up_to, has_coverage, is_variable, read_and_next, subtable_at, subtable_of, subtable_read, tuple_count_of, used_bytes}
 use Rattle.aat_kerx_reader.specs.KerxTables.{KerxValue, kerning_of, kerx_of, kerx_value, left_out_of}
 use Rattle.aat_kerx_reader.specs.declared.subtables.LeftOutSubtable.{LeftOutSubtable}
 use Rattle.aat_writer.specs.Words.{long_bytes, word_bytes}
@@ -24,6 +24,7 @@ use Rattle.aat_kerx_writer.specs.KerxWriteErrors.{after_written, of_subtable}
 use Rattle.aat_kerx_writer.specs.declared.kerx_error.KerxWriteError.{KerxWriteError}
 use Rattle.aat_kerx_writer.specs.declared.kerx_error.KerxWriteError.TheVariants.{TooLong}
 use Rattle.aat_kerx_writer.specs.declared.subtable_error.SubtableWriteError.{SubtableWriteError}
+use Rattle.aat_kerx_writer.specs.declared.subtable_error.SubtableWriteError.TheVariants.{Variable}
 use Rattle.aat_kerx_writer.proofs.Coverage.{has_bit, has_flags}
 
 not_not : (b : Bool) → not (not b) ≡ b
@@ -102,14 +103,14 @@ module _ (law : WrittenFormatsAreRead) (glyph_count : ℕ) where
   -- a subtable behind a front
   subtable_is_read :
       (s : KerxSubtable) (body bytes front later : List ℕ) (count number more : ℕ)
-      → IsTypedSubtable s → format_written s.tuple_count s.format ≡ Ok body
+      → IsTypedSubtable s → s.variable ≡ false → format_written s.tuple_count s.format ≡ Ok body
       → bytes ≡ front ++ (subtable_bytes (content_of s body) ++ later)
       → 12 + length body < 2 ^ 32 → number + 1 + more ≡ count → (more ≡ 0 → later ≡ [])
       → (read : _)
       × (subtable_at bytes glyph_count count (record { place = length front; number = number })
       ≡ Ok (read, record { place = length front + (12 + length body); number = number + 1 }))
       × (kerning_of read ≡ Some s) × (left_out_of read ≡ None)
-  subtable_is_read s body bytes front later count number more typed written split small last none =
+  subtable_is_read s body bytes front later count number more typed plain written split small last none =
       let c : SubtableContent = content_of s body in
       let size : ℕ = 12 + length body in
       let place : ℕ = length front in
@@ -117,7 +118,7 @@ module _ (law : WrittenFormatsAreRead) (glyph_count : ℕ) where
       let longs : List ℕ = size ∷ coverage ∷ s.tuple_count ∷ [] in
       let header : List ℕ = long_bytes longs in
       let header_long : length header ≡ 12 = length_longs longs in
-      let flags = has_flags s.format (not s.horizontal) s.has_cross_stream s.variable s.is_last_to_first in
+      let flags = has_flags s.format (not s.horizontal) s.has_cross_stream s.is_last_to_first in
       let all : All (λ n. n < 2 ^ 32) longs = three_longs size coverage s.tuple_count small (omega (arith, flags.small)) (omega (arith, typed.1)) in
       let at_header : bytes ≡ front ++ (header ++ (body ++ later)) = split ∙ ap (λ (ys : List ℕ). front ++ ys) (append_assoc header body later) in
       let first : be32 bytes place ≡ size =
@@ -135,17 +136,19 @@ module _ (law : WrittenFormatsAreRead) (glyph_count : ℕ) where
       ∙ sym (append_assoc front header body) in
       let at_body : length (front ++ header) ≡ place + 12 = length-append front header ∙ ap (λ n. place + n) header_long in
       let format : format_of bytes place ≡ format_number s.format = ap (λ n. n % 256) second ∙ flags.format_is in
+      let bit : is_variable bytes place ≡ false = ap (λ n. has_bit n 0x20000000) second ∙ flags.plain in
       let does : format_up_to bytes glyph_count count start (place + size) ≡ as_format (λ f. f) (Ok s.format) =
-      ap (λ xs. format_at xs place (format_of bytes place) glyph_count (tuple_count_of bytes place)) used
+      rw bit
+      (ap (λ xs. format_at xs place (format_of bytes place) glyph_count (tuple_count_of bytes place)) used
       ∙ ap (λ n. format_at ((front ++ header) ++ body) place n glyph_count (tuple_count_of bytes place)) format
       ∙ ap (format_at ((front ++ header) ++ body) place (format_number s.format) glyph_count) third
-      ∙ law s.format s.tuple_count body (front ++ header) place glyph_count typed.0 written at_body in
+      ∙ law s.format s.tuple_count body (front ++ header) place glyph_count typed.0 written at_body) in
       let is : subtable_of bytes place s.format ≡ s =
-      subtable_parts s (not (has_coverage bytes place 0x80000000)) (has_coverage bytes place 0x40000000) (has_coverage bytes place 0x20000000)
+      subtable_parts s (not (has_coverage bytes place 0x80000000)) (has_coverage bytes place 0x40000000) false
       (has_coverage bytes place 0x10000000) (tuple_count_of bytes place)
       (ap (λ n. not (has_bit n 0x80000000)) second ∙ ap not flags.vertical ∙ not_not s.horizontal)
       (ap (λ n. has_bit n 0x40000000) second ∙ flags.cross)
-      (ap (λ n. has_bit n 0x20000000) second ∙ flags.variable)
+      (sym plain)
       (ap (λ n. has_bit n 0x10000000) second ∙ flags.last)
       third in
       subtable_by bytes glyph_count count start (place + size) s.format s ends does is
@@ -153,7 +156,7 @@ module _ (law : WrittenFormatsAreRead) (glyph_count : ℕ) where
   -- what is written of subtables
   abbrev AreWritten : List KerxSubtable → List SubtableContent → Type 0
   AreWritten subtables contents =
-      AllZip (λ s c. IsTypedSubtable s × ((body : List ℕ) × (format_written s.tuple_count s.format ≡ Ok body) × (content_of s body ≡ c))) subtables contents
+      AllZip (λ s c. IsTypedSubtable s × (s.variable ≡ false) × ((body : List ℕ) × (format_written s.tuple_count s.format ≡ Ok body) × (content_of s body ≡ c))) subtables contents
 
   no_more : (subtables : List KerxSubtable) (contents : List SubtableContent) → AreWritten subtables contents → length subtables ≡ 0 → flat_map subtable_bytes contents ≡ []
   no_more [] [] are none = refl
@@ -185,15 +188,15 @@ module _ (law : WrittenFormatsAreRead) (glyph_count : ℕ) where
   subtables_are_read [] contents bytes front count number are split small last = ([], refl, refl, refl)
   subtables_are_read (s ∷ subtables) [] bytes front count number are split small last = absurd are
   subtables_are_read (s ∷ subtables) (c ∷ contents) bytes front count number are split small last =
-      let body : List ℕ = are.0.1.0 in
-      let is : content_of s body ≡ c = are.0.1.2 in
+      let body : List ℕ = are.0.2.0 in
+      let is : content_of s body ≡ c = are.0.2.2 in
       let here : List ℕ = subtable_bytes (content_of s body) in
       let later : List ℕ = flat_map subtable_bytes contents in
       let parted : bytes ≡ front ++ (here ++ later) =
       split ∙ ap (λ (x : SubtableContent). front ++ (subtable_bytes x ++ later)) (sym is) in
       let sized : subtable_size c ≡ 12 + length body = ap subtable_size (sym is) in
       let size : ℕ = 12 + length body in
-      let one = subtable_is_read s body bytes front later count number (length subtables) are.0.0 are.0.1.1 parted
+      let one = subtable_is_read s body bytes front later count number (length subtables) are.0.0 are.0.1 are.0.2.1 parted
       (omega (arith, small, sized, sum_by-cons subtable_size c contents)) (omega (arith, last)) (no_more subtables contents are.1) in
       let longer : length (front ++ here) ≡ length front + size = length-append front here ∙ ap (λ n. length front + n) (length_subtable (content_of s body)) in
       let others = subtables_are_read subtables contents bytes (front ++ here) count (number + 1) are.1
@@ -234,6 +237,13 @@ of_parts : {X : Type 0} (number : ℕ) (written : Result X SubtableWriteError) (
 of_parts number (Ok y) x is = cc
 of_parts number (Err e) x is = absurd (let wrong : ⊥ = cc in wrong)
 
+-- what is written was not refused by a test before it
+not_before :
+    {X : Type 0} (b : Bool) (e : SubtableWriteError) (written : Result X SubtableWriteError) (x : X)
+    → cond b (Err e) written ≡ Ok x → (b ≡ false) × (written ≡ Ok x)
+not_before true e written x is = absurd (let wrong : ⊥ = cc in wrong)
+not_before false e written x is = (refl, is)
+
 -- each subtable is written
 each_is_written :
     (law : WrittenFormatsAreRead) (glyph_count number : ℕ) (subtables : List KerxSubtable) (contents : List SubtableContent)
@@ -247,11 +257,12 @@ each_is_written law glyph_count number (s ∷ subtables) contents typed is =
     let one = parts (of_subtable number (subtable_content s)) (λ c. after_written (contents_from (number + 1) subtables) (λ cs. Ok (c ∷ cs))) contents is in
     let more = parts (contents_from (number + 1) subtables) (λ cs. Ok (one.0 ∷ cs)) contents one.2 in
     let whole : one.0 ∷ more.0 ≡ contents = ok_parts (one.0 ∷ more.0) contents more.2 in
-    let body = parts (format_written s.tuple_count s.format) (λ b. Ok (content_of s b)) one.0 (of_parts number (subtable_content s) one.0 one.1) in
+    let plain = not_before s.variable Variable _ one.0 (of_parts number (subtable_content s) one.0 one.1) in
+    let body = parts (format_written s.tuple_count s.format) (λ b. Ok (content_of s b)) one.0 plain.1 in
     let first : content_of s body.0 ≡ one.0 = ok_parts (content_of s body.0) one.0 body.2 in
     let rest = each_is_written law glyph_count (number + 1) subtables more.0 (λ k d lt. typed (suc k) d (omega arith)) more.1 in
     subst (λ (cs : List SubtableContent). AreWritten law glyph_count (s ∷ subtables) cs) whole
-    ((typed 0 s (omega arith), (body.0, body.1, first)), rest)
+    ((typed 0 s (omega arith), plain.0, (body.0, body.1, first)), rest)
 
 -- a table that is written is not too long
 table_parts :

@@ -11,7 +11,7 @@ use Rattle.aat_kerx_writer.specs.PairBytes.{arrays_written, classes_written, pai
 use Rattle.aat_kerx_writer.specs.declared.kerx_error.KerxWriteError.{KerxWriteError}
 use Rattle.aat_kerx_writer.specs.declared.kerx_error.KerxWriteError.TheVariants.{TooLong}
 use Rattle.aat_kerx_writer.specs.declared.subtable_error.SubtableWriteError.{SubtableWriteError}
-use Rattle.aat_kerx_writer.specs.declared.subtable_error.SubtableWriteError.TheVariants.{Listed, HasTuples}
+use Rattle.aat_kerx_writer.specs.declared.subtable_error.SubtableWriteError.TheVariants.{Listed, HasTuples, Variable}
 
 -- the numbers of the formats
 abbrev pub format_number : KerxFormat → ℕ
@@ -41,12 +41,11 @@ format_written tuple_count (Format6Classes t) = without_tuples tuple_count (arra
 abbrev pub flag : ℕ → Bool → ℕ
 flag number holds = if holds then number else 0
 
--- the coverage: vertical, across the line, of variations, and from the last glyph to the first, and the format in the
--- lowest byte
+-- the coverage: vertical, across the line, and from the last glyph to the first, and the format in the lowest byte
 abbrev pub coverage_number : KerxSubtable → ℕ
 coverage_number s =
-    flag 0x80000000 (not s.horizontal) + flag 0x40000000 s.has_cross_stream + flag 0x20000000 s.variable
-    + flag 0x10000000 s.is_last_to_first + format_number s.format
+    flag 0x80000000 (not s.horizontal) + flag 0x40000000 s.has_cross_stream + flag 0x10000000 s.is_last_to_first
+    + format_number s.format
 
 -- a subtable to be written: its coverage, how many values stand together, and the bytes behind its header
 pub record SubtableContent : Type 0 where
@@ -62,13 +61,15 @@ subtable_size s = 12 + length s.body
 abbrev pub subtable_bytes : SubtableContent → List ℕ
 subtable_bytes s = long_bytes (subtable_size s ∷ s.coverage ∷ s.tuple_count ∷ []) ++ s.body
 
--- a subtable with the bytes of its format, or why it is not written
+-- a subtable with the bytes of its format, or why it is not written: one of variations is not
 abbrev pub subtable_content : KerxSubtable → Result SubtableContent SubtableWriteError
-subtable_content s = after_written (format_written s.tuple_count s.format) (λ body. Ok (record {
-  coverage = coverage_number s;
-  tuple_count = s.tuple_count;
-  body = body;
-}))
+subtable_content s =
+    if s.variable then Err Variable else
+    after_written (format_written s.tuple_count s.format) (λ body. Ok (record {
+      coverage = coverage_number s;
+      tuple_count = s.tuple_count;
+      body = body;
+    }))
 
 -- subtables with the bytes of their formats, the first one of a number, or the first error with the number of its
 -- subtable

@@ -8,7 +8,7 @@ use Rattle.aat_morx_writer.specs.declared.error.MorxWriteError.TheVariants as ma
 use Rattle.aat_kerx_writer.specs.declared.kerx_error.KerxWriteError.{KerxWriteError}
 use Rattle.aat_kerx_writer.specs.declared.kerx_error.KerxWriteError.TheVariants as table_errors
 use Rattle.aat_kerx_writer.specs.declared.subtable_error.SubtableWriteError.{SubtableWriteError}
-use Rattle.aat_kerx_writer.specs.declared.subtable_error.SubtableWriteError.TheVariants.{Listed, HasTuples, Pairs, NoColumns, TooFar, NoIndex, Machine, OutOfMemory}
+use Rattle.aat_kerx_writer.specs.declared.subtable_error.SubtableWriteError.TheVariants.{Listed, HasTuples, Pairs, NoColumns, TooFar, NoIndex, Machine, OutOfMemory, Variable}
 
 -- the numbers of the errors of a subtable
 abbrev pub number_of_subtable_error : SubtableWriteError → ℕ
@@ -20,6 +20,7 @@ number_of_subtable_error (TooFar place) = 5
 number_of_subtable_error (NoIndex place) = 6
 number_of_subtable_error (Machine e) = 7
 number_of_subtable_error OutOfMemory = 8
+number_of_subtable_error Variable = 9
 
 -- the numbers of the errors of a table
 abbrev pub number_of_kerx_error : KerxWriteError → ℕ

@@ -10,7 +10,7 @@ use Rattle.aat_kerx_writer.specs.AnkrBytes.{ankr_written}
 use Rattle.aat_kerx_writer.specs.KerxBytes.{kerx_written}
 use Rattle.aat_kerx_writer.specs.declared.kerx_error.KerxWriteError.{KerxWriteError}
 use Rattle.aat_kerx_writer.specs.declared.kerx_error.KerxWriteError.TheVariants.{Subtable}
-use Rattle.aat_kerx_writer.specs.declared.subtable_error.SubtableWriteError.TheVariants.{Listed, HasTuples, NoColumns, TooFar, NoIndex}
+use Rattle.aat_kerx_writer.specs.declared.subtable_error.SubtableWriteError.TheVariants.{Listed, HasTuples, NoColumns, TooFar, NoIndex, Variable}
 
 -- the lookup of a glyph and a value
 abbrev pub example_lookup : ℕ → ℕ → List ℕ
@@ -84,7 +84,8 @@ StackMachineHasItsValues =
     ++ (0 ∷ 0 ∷ 128 ∷ 0 ∷ 0 ∷ 2 ∷ 0 ∷ 0 ∷ 128 ∷ 0 ∷ 0 ∷ 2 ∷ 0 ∷ 0 ∷ 128 ∷ 0 ∷ 0 ∷ 2 ∷ 0 ∷ 0 ∷ 128 ∷ 0 ∷ 0 ∷ 2 ∷ [])
     ++ (0 ∷ 5 ∷ 255 ∷ 254 ∷ []))
 
--- listed pairs of a format by classes, tuples, rows without values, a row that is too far, and a value that is
+-- listed pairs of a format by classes, tuples, rows without values, a row that is too far, a value that is, and
+-- variations, before listed pairs
 abbrev pub SubtablesAreRefused : Type 0
 SubtablesAreRefused =
     (kerx_written (example_subtable 0 (Format0 []) ∷ example_subtable 1 (Format6 []) ∷ []) ≡ Err (Subtable 1 Listed))
@@ -92,3 +93,4 @@ SubtablesAreRefused =
     × (written_example 0 (Format2Classes (example_classes 1 0)) ≡ Err (Subtable 0 NoColumns))
     × (written_example 0 (Format6Classes (example_classes 32768 2)) ≡ Err (Subtable 0 (TooFar 0)))
     × (written_example 0 (example_stack 32768) ≡ Err (Subtable 0 (NoIndex 0)))
+    × (kerx_written (record (example_subtable 1 (Format6 [])) { variable = true } ∷ []) ≡ Err (Subtable 0 Variable))

@@ -84,12 +84,12 @@ fn write_table(alloc: Global, subtables: &[SubtableBytes]) -> Result<Vec<u8>, Ke
 /// Refused in this order: 1, `Subtable`, with the number of the first subtable that is not written, and its error; 2,
 /// `TooLong`, a table of more than 4,294,967,295 bytes. 3, `OutOfMemory`, may come before any of these is met.
 ///
-/// A subtable is refused in this order: 1, `Listed`, of format 2 or 6 by listed pairs; 2, `HasTuples`, a tuple count
-/// above 0 in format 0, 2 or 6; then by its format. Format 0: 3, `Pairs`, with the error of its pairs. Formats 2 and 6:
-/// 4, `NoColumns`; 5, `TooFar`, with the place of the first left glyph whose row has no offset of 16 bits; 3, `Pairs`,
-/// for the lookup of left glyphs, then for that of right glyphs. Format 1: 6, `NoIndex`, with the place of the first
-/// rule whose value has no index of 16 bits. Formats 1 and 4: 7, `Machine`, with the error of the machine, as by
-/// `write_machine`.
+/// A subtable is refused in this order: 9, `Variable`, one of variations, which would be left out; 1, `Listed`, of
+/// format 2 or 6 by listed pairs; 2, `HasTuples`, a tuple count above 0 in format 0, 2 or 6; then by its format. Format
+/// 0: 3, `Pairs`, with the error of its pairs. Formats 2 and 6: 4, `NoColumns`; 5, `TooFar`, with the place of the first
+/// left glyph whose row has no offset of 16 bits; 3, `Pairs`, for the lookup of left glyphs, then for that of right
+/// glyphs. Format 1: 6, `NoIndex`, with the place of the first rule whose value has no index of 16 bits. Formats 1 and
+/// 4: 7, `Machine`, with the error of the machine, as by `write_machine`.
 ///
 /// `read_kerx` reads the same subtables again, with none left out, if there is memory. Apple's TrueType Reference
 /// Manual, "The 'kerx' table".

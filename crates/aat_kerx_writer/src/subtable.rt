@@ -56,7 +56,6 @@ fn coverage_number(subtable: &KerxSubtable) -> u32
 {
     flag(0x8000_0000, !subtable.horizontal)
         + flag(0x4000_0000, subtable.has_cross_stream)
-        + flag(0x2000_0000, subtable.variable)
         + flag(0x1000_0000, subtable.is_last_to_first)
         + format_number(&subtable.format) as u32
 }
@@ -88,6 +87,9 @@ pub(crate) fn subtable_content(
     ensures { let written = subtable_content subtable.now in
         MatchResult result (λ s. written ≡ Ok s) (RefusesWithin written) }
 {
+    if subtable.variable {
+        return Err(SubtableWriteError::Variable);
+    }
     let body = write_format(alloc, subtable.tuple_count, &subtable.format)?;
     Ok(SubtableBytes {
         coverage: coverage_number(subtable),

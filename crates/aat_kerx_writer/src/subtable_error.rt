@@ -36,10 +36,13 @@ pub enum SubtableWriteError {
     /// 8: memory is wanting. It may come before any other error is met.
     #[error("out of memory")]
     OutOfMemory,
+    /// 9: the subtable is of variations, and so would not be read again. It is met before the other errors.
+    #[error("a subtable of variations is not read again")]
+    Variable,
 }
 
 impl SubtableWriteError {
-    /// The error's number, from 1 to 8.
+    /// The error's number, from 1 to 9.
     pub fn number(self) -> u8
         ensures { result ≡ number_of_subtable_error self }
     {
@@ -52,6 +55,7 @@ impl SubtableWriteError {
             SubtableWriteError::NoIndex(_) => 6,
             SubtableWriteError::Machine(_) => 7,
             SubtableWriteError::OutOfMemory => 8,
+            SubtableWriteError::Variable => 9,
         }
     }
 }

@@ -8,13 +8,14 @@ pub fn pairs_rise()
 {}
 
 /// Two glyphs have, by a subtable of format 2 of `kern` that is read, the value that stands as far from the start of the
-/// subtable as the sum of their offsets says.
+/// subtable as the sum of their offsets says. It is 0 where the left glyph has no offset, and where that place is past
+/// the end.
 pub fn offsets_are_added_up()
     ensures { OffsetsAreAddedUp }
 {}
 
 /// Pairs that are read have 6 bytes each, and a subtable of format 2 of `kern` that is read has at most a value for each
-/// byte from its start on: so its values take at most 2 bytes of memory each.
+/// byte from its start on: the values take at most 2 bytes of memory for each such byte.
 pub fn pairs_are_bounded()
     ensures kern { PairsAreBounded }
     ensures kerx { ExtendedPairsAreBounded }
