@@ -17,3 +17,4 @@ mod tracks;
 
 pub use error::ExampleError;
 pub use file::{example_font, example_font_with_kern};
+pub use machines::{Acts, FIRST, SECOND, machine};

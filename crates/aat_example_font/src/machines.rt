@@ -9,9 +9,11 @@ use std::alloc::{AllocError, Global};
 /// How many classes a machine has, those of the two glyphs last.
 const CLASS_COUNT: u16 = 6;
 
-pub(crate) const FIRST: u16 = 4;
+/// The class of the first glyph.
+pub const FIRST: u16 = 4;
 
-pub(crate) const SECOND: u16 = 5;
+/// The class of the second glyph.
+pub const SECOND: u16 = 5;
 
 /// How many states it has, that behind the first glyph last.
 const STATE_COUNT: u16 = 3;
@@ -20,15 +22,15 @@ const BEHIND_FIRST: u16 = 2;
 
 /// The entries of a machine at the first glyph, and at the second one right behind it.
 #[derive(Clone, Copy)]
-pub(crate) struct Acts<T: Copy> {
+pub struct Acts<T: Copy> {
     /// The flags at the first glyph.
-    pub(crate) at_first: u16,
+    pub at_first: u16,
     /// The flags at the second glyph.
-    pub(crate) at_second: u16,
+    pub at_second: u16,
     /// What the entry at the second glyph has behind its flags.
-    pub(crate) extra: T,
+    pub extra: T,
     /// What the other entries have there.
-    pub(crate) no_extra: T,
+    pub no_extra: T,
 }
 
 /// The entry at a state and a class. Deleted glyphs are passed.
@@ -59,8 +61,9 @@ fn rules<T: Copy + Drop>(
     Ok(rules)
 }
 
-/// The machine of these entries, and of the classes of its two glyphs.
-pub(crate) fn machine<T: Copy + Drop>(
+/// The machine of these entries, and of the classes of its two glyphs. It is refused only where the classes do not rise,
+/// or where memory is wanting.
+pub fn machine<T: Copy + Drop>(
     alloc: Global,
     classes: &[(u16, u16)],
     acts: Acts<T>,

@@ -45,8 +45,10 @@ fn write_feature<W: Write>(
     write_settings(alloc, out, face, feature)
 }
 
-/// Writes the features of `feat` in their order.
-pub(crate) fn write_features<W: Write>(
+/// Writes the features of `feat` in their order, with the names of their settings.
+///
+/// An error is that of the writer, or `OutOfMemory`. A part of the text may be written then.
+pub fn write_features<W: Write>(
     alloc: Global,
     out: &mut W,
     face: &Face<'_>,

@@ -35,7 +35,9 @@ fn write_left_out_of_kern<W: Write>(out: &mut W, face: &Face<'_>) -> io::Result<
 
 /// Writes the number of glyphs, the units of the em, the faults of tables, the subtables of `kerx` and of `kern` that
 /// are left out, and whether the file has `GPOS` and no `kerx`.
-pub(crate) fn write_font<W: Write>(out: &mut W, face: &Face<'_>) -> io::Result<()> {
+///
+/// An error is that of the writer. A part of the text may be written then.
+pub fn write_summary<W: Write>(out: &mut W, face: &Face<'_>) -> io::Result<()> {
     writeln!(out, "glyphs {}", face.glyph_count())?;
     writeln!(out, "units per em {}", face.units_per_em())?;
     write_faults(out, face.faults())?;

@@ -118,15 +118,36 @@ fn write_anchors<W: Write>(out: &mut W, ankr: &Ankr) -> io::Result<()> {
     Ok(())
 }
 
-/// Writes the subtables of both tables of kerning in their order.
-fn write_subtables<W: Write>(alloc: Global, out: &mut W, font: &hb_font_t) -> io::Result<()> {
+/// Writes the subtables of `kerx` in their order.
+pub(crate) fn write_extended_subtables<W: Write>(
+    alloc: Global,
+    out: &mut W,
+    font: &hb_font_t,
+) -> io::Result<()> {
     for subtable in font.kerx_subtables() {
         write_extended(alloc, out, subtable)?;
     }
+    Ok(())
+}
+
+/// Writes the subtables of `kern` in their order.
+pub(crate) fn write_plain_subtables<W: Write>(
+    alloc: Global,
+    out: &mut W,
+    font: &hb_font_t,
+) -> io::Result<()> {
     for subtable in font.kern_subtables() {
         write_plain(alloc, out, subtable)?;
     }
     Ok(())
+}
+
+/// Writes the anchor points of glyphs, if there are any.
+pub(crate) fn write_anchor_points<W: Write>(out: &mut W, font: &hb_font_t) -> io::Result<()> {
+    match &font.tables().ankr {
+        Some(ankr) => write_anchors(out, ankr),
+        None => Ok(()),
+    }
 }
 
 /// Writes the subtables of `kerx` and `kern` in their order, and the anchor points of glyphs.
@@ -135,9 +156,7 @@ pub(crate) fn write_kerning<W: Write>(
     out: &mut W,
     font: &hb_font_t,
 ) -> io::Result<()> {
-    write_subtables(alloc, out, font)?;
-    match &font.tables().ankr {
-        Some(ankr) => write_anchors(out, ankr),
-        None => Ok(()),
-    }
+    write_extended_subtables(alloc, out, font)?;
+    write_plain_subtables(alloc, out, font)?;
+    write_anchor_points(out, font)
 }
