@@ -72,9 +72,10 @@ fn machines(rt: HostRuntime) -> Result<(), Fail> {
     Ok(())
 }
 
-/// A subtable of format 0 with one pair, 1 and 2 with -1, behind OpenType's header with a length of 0.
+/// A subtable of format 0 with one pair, 1 and 2 with -1, behind OpenType's header with a length of 0. Its coverage has
+/// the bit that Apple's headers have for variations.
 const OPEN_TYPE: [u8; 24] = [
-    0, 0, 0, 1, 0, 0, 0, 0, 0, 5, 0, 1, 0, 0, 0, 0, 0, 0, 0, 1, 0, 2, 255, 255,
+    0, 0, 0, 1, 0, 0, 0, 0, 0, 37, 0, 1, 0, 0, 0, 0, 0, 0, 0, 1, 0, 2, 255, 255,
 ];
 
 /// The subtable of an index.
@@ -82,7 +83,7 @@ fn subtable(kern: &Kern, i: usize) -> Option<&KernSubtable> {
     kern.subtables().get(i)
 }
 
-/// Whether one subtable is left out, and this is its number and the place of its format.
+/// Whether one subtable is left out, and this is its number and the place of what leaves it out.
 fn leaves_out(read: &KernRead, number: u32, place: usize) -> bool {
     let fault = Fault::new(KERN, FaultKind::UnknownFormat, place);
     read.left_out.as_slice() == [LeftOutSubtable { number, fault }].as_slice()
@@ -127,13 +128,13 @@ fn open_type(rt: HostRuntime) -> Result<(), Fail> {
     Ok(())
 }
 
-/// Apple's table: a subtable of format 0 for vertical text without pairs, and the machine, of variations.
+/// Apple's table: a subtable of format 0 for vertical text without pairs, and the machine.
 fn apples(alloc: Global) -> Result<Vec<u8>, Fail> {
     let mut bytes = Vec::from_slice(
         alloc,
         &[
             0, 1, 0, 0, 0, 0, 0, 2, 0, 0, 0, 16, 128, 0, 0, 0, 0, 0, 0, 0, 0, 0, 0, 0, 0, 0, 0, 0,
-            32, 1, 0, 0,
+            0, 1, 0, 0,
         ],
     )?;
     for byte in &MACHINE {
@@ -152,7 +153,7 @@ fn apple(rt: HostRuntime) -> Result<(), Fail> {
     let first = subtable(&kern, 0).map(|s| (s.horizontal, s.has_cross_stream, s.variable));
     assert!(rt; first == Some((false, false, false)));
     let second = subtable(&kern, 1).map(|s| (s.horizontal, s.has_cross_stream, s.variable));
-    assert!(rt; second == Some((true, false, true)));
+    assert!(rt; second == Some((true, false, false)));
     let Some(KernKind::Machine(machine)) = subtable(&kern, 1).map(|s| &s.kind) else {
         return Err(Fail::new("no machine"));
     };
@@ -165,5 +166,30 @@ fn apple(rt: HostRuntime) -> Result<(), Fail> {
     bytes[5] = 1;
     let many = read_kern(rt.alloc(), &bytes).err();
     assert!(rt; many == fault(FaultKind::PastEnd, 4));
+    Ok(())
+}
+
+#[test]
+fn variations(rt: HostRuntime) -> Result<(), Fail> {
+    let mut bytes = apples(rt.alloc())?;
+    assert!(rt; bytes.len() == 80);
+    bytes[28] = 0x60;
+    bytes[33] = 3;
+    let last = read_kern(rt.alloc(), &bytes)?;
+    assert_eq!(rt; last.kern.subtables().len(), 1);
+    assert!(rt; leaves_out(&last, 1, 28));
+    bytes[28] = 0;
+    bytes[33] = 4;
+    bytes[12] = 0xA0;
+    let first = read_kern(rt.alloc(), &bytes)?;
+    assert_eq!(rt; first.kern.subtables().len(), 1);
+    assert!(rt; leaves_out(&first, 0, 12));
+    let Some(KernKind::Machine(machine)) = subtable(&first.kern, 0).map(|s| &s.kind) else {
+        return Err(Fail::new("no machine"));
+    };
+    check_machine(machine)?;
+    bytes[13] = 4;
+    let unknown = read_kern(rt.alloc(), &bytes)?;
+    assert!(rt; leaves_out(&unknown, 0, 13));
     Ok(())
 }

@@ -137,3 +137,16 @@ fn refused(rt: HostRuntime) -> Result<(), Fail> {
     assert_eq!(rt; refused, Err(KernWriteError::Rule(7)));
     Ok(())
 }
+
+#[test]
+fn variations_are_refused(rt: HostRuntime) -> Result<(), Fail> {
+    let machine = KernKind::Machine(machine(rt.alloc(), 2)?);
+    let mut subtable = KernSubtable::new(machine, true);
+    subtable.variable = true;
+    let mut subtables = Vec::new(rt.alloc());
+    subtables.push(subtable)?;
+    let kern = Kern::new(subtables)?;
+    let refused = write_kern(rt.alloc(), &kern).map(|bytes| bytes.len());
+    assert_eq!(rt; refused, Err(KernWriteError::Variable));
+    Ok(())
+}
