@@ -48,11 +48,7 @@ fn write_feature<W: Write>(
 /// Writes the features of `feat` in their order, with the names of their settings.
 ///
 /// An error is that of the writer, or `OutOfMemory`. A part of the text may be written then.
-pub fn write_features<W: Write>(
-    alloc: Global,
-    out: &mut W,
-    face: &Face<'_>,
-) -> io::Result<()> {
+pub fn write_features<W: Write>(alloc: Global, out: &mut W, face: &Face<'_>) -> io::Result<()> {
     if let Some(feat) = &face.font().tables().feat {
         for feature in feat.names() {
             write_feature(alloc, out, face, *feature)?;
