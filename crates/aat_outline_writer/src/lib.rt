@@ -1,0 +1,12 @@
+//! Writer of the tables `glyf` and `loca`, whose simple glyphs the reader reads again.
+#![tactic(auto)]
+
+mod bounds;
+mod error;
+mod glyph;
+mod tables;
+#[doc(hidden)]
+pub mod worked;
+
+pub use error::OutlineWriteError;
+pub use tables::{OutlineBytes, write_outlines};

@@ -1,0 +1,12 @@
+pub mod Components
+pub mod Composites
+pub mod Examples
+pub mod Flags
+pub mod Glyphs
+pub mod Offsets
+pub mod Outlines
+pub mod Points
+pub mod Reading
+pub mod Segments
+pub mod SimpleGlyphs
+pub mod inside

@@ -1,0 +1,6 @@
+pub mod Chars
+pub mod EndsRise
+pub mod HiddenGlyphs
+pub mod Pieces
+pub mod Placed
+pub mod Rising

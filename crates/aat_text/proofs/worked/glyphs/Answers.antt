@@ -1,0 +1,15 @@
+use Rattle.std.proofs.Common.{refl}
+use Rattle.unicode_segmentation.proofs.Computing.{unicode_segmentation}
+use Rattle.aat_text.proofs.worked.glyphs.Goals as goal
+
+pub returns-clause-clusters : goal.returns-clause-clusters
+unfolding unicode_segmentation
+returns-clause-clusters c face = (refl, refl)
+
+pub returns-clause-ignorable : goal.returns-clause-ignorable
+unfolding unicode_segmentation
+returns-clause-ignorable c face = (refl, refl)
+
+pub returns-clause-missing : goal.returns-clause-missing
+unfolding unicode_segmentation
+returns-clause-missing c face none = rw none

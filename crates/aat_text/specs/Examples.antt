@@ -1,0 +1,116 @@
+-- Worked examples of texts, written out as their characters.
+use Rattle.std.specs.Prelude.{◌≡◌, ℕ, pos, true, false, List, [], ◌∷◌, map, encode_utf8_all, Option, Some, None}
+use Rattle.aat_face.specs.Faces.{FaceValue}
+use Rattle.aat_glyph.specs.declared.glyph.Direction.TheVariants.{LeftToRight, RightToLeft}
+use Rattle.aat_shaped_text.specs.declared.text.ShapedGlyph.{ShapedGlyph}
+use Rattle.aat_shaped_text.specs.declared.text.TextGlyph.{TextGlyph}
+use Rattle.aat_text.specs.Ignorables.{drawn_without_ignorables}
+use Rattle.aat_text.specs.LineEnds.{line_ends}
+use Rattle.aat_text.specs.Missing.{missing_characters}
+use Rattle.aat_text.specs.Strong.{first_strong_direction}
+use Rattle.aat_text.specs.TextGlyphs.{text_of}
+use Rattle.aat_text.specs.declared.lines.LineEnd.{LineEnd}
+use Rattle.aat_text.specs.declared.unit.ClusterUnit.{ClusterUnit}
+use Rattle.aat_text.specs.declared.unit.ClusterUnit.TheVariants.{Bytes, Characters}
+
+-- e with an acute accent of its own, and x
+abbrev pub accented : List ℕ
+accented = encode_utf8_all (0x65 ∷ 0x301 ∷ 0x78 ∷ [])
+
+-- the clusters of a text in any face
+abbrev pub clusters_of : FaceValue → ClusterUnit → List ℕ → List ℕ
+clusters_of face unit text = map (λ g. g.cluster) (text_of face unit text)
+
+-- the accent has the cluster of its letter; it has two bytes
+abbrev pub AccentsShareClusters : Type 0
+AccentsShareClusters =
+    (face : FaceValue) → (clusters_of face Bytes accented ≡ 0 ∷ 0 ∷ 3 ∷ [])
+    × (clusters_of face Characters accented ≡ 0 ∷ 0 ∷ 2 ∷ [])
+
+-- a family of three emoji with two joiners between them, which are ignorable
+abbrev pub family : List ℕ
+family = encode_utf8_all (0x1F469 ∷ 0x200D ∷ 0x1F467 ∷ 0x200D ∷ 0x1F466 ∷ [])
+
+-- all five characters have one cluster
+abbrev pub JoinersAreIgnorable : Type 0
+JoinersAreIgnorable =
+    (face : FaceValue) → (clusters_of face Characters family ≡ 0 ∷ 0 ∷ 0 ∷ 0 ∷ 0 ∷ [])
+    × (map (λ g. g.is_ignorable) (text_of face Characters family) ≡ false ∷ true ∷ false ∷ true ∷ false ∷ [])
+
+-- a font without characters lacks the accent at its own place, and not the zero width joiner
+abbrev pub IgnorablesAreNotMissing : Type 0
+IgnorablesAreNotMissing =
+    (face : FaceValue) → face.characters ≡ None
+    → missing_characters face Bytes (encode_utf8_all (0x65 ∷ 0x301 ∷ 0x200D ∷ 0x78 ∷ []))
+    ≡ record { place = 0; character = 0x65 } ∷ record { place = 1; character = 0x301 }
+    ∷ record { place = 6; character = 0x78 } ∷ []
+
+-- digits have no strong direction; Hebrew and Arabic letters run to the left
+abbrev pub LettersAreStrong : Type 0
+LettersAreStrong =
+    (first_strong_direction (encode_utf8_all (0x31 ∷ 0x20 ∷ 0x5D0 ∷ 0x61 ∷ [])) ≡ Some RightToLeft)
+    × (first_strong_direction (encode_utf8_all (0x31 ∷ 0x20 ∷ 0x627 ∷ 0x61 ∷ [])) ≡ Some RightToLeft)
+    × (first_strong_direction (encode_utf8_all (0x31 ∷ 0x61 ∷ 0x5D0 ∷ [])) ≡ Some LeftToRight)
+    × (first_strong_direction (encode_utf8_all (0x31 ∷ 0x20 ∷ [])) ≡ None)
+
+abbrev pub may_end : ℕ → LineEnd
+may_end place = record { place = place; is_forced = false }
+
+abbrev pub must_end : ℕ → LineEnd
+must_end place = record { place = place; is_forced = true }
+
+-- `a-b c)d`: behind the hyphen and the space
+abbrev pub LinesEndBehindSpaces : Type 0
+LinesEndBehindSpaces =
+    line_ends Bytes (encode_utf8_all (0x61 ∷ 0x2D ∷ 0x62 ∷ 0x20 ∷ 0x63 ∷ 0x29 ∷ 0x64 ∷ []))
+    ≡ may_end 2 ∷ may_end 4 ∷ []
+
+-- `1-2 )`: not between a hyphen and a number, nor before a closing bracket behind a space
+abbrev pub ClosingBracketsStay : Type 0
+ClosingBracketsStay = line_ends Bytes (encode_utf8_all (0x31 ∷ 0x2D ∷ 0x32 ∷ 0x20 ∷ 0x29 ∷ [])) ≡ []
+
+-- CR LF is one end, which is forced, and so is a lone CR
+abbrev pub BreaksAreForced : Type 0
+BreaksAreForced =
+    line_ends Bytes (encode_utf8_all (0x61 ∷ 0xD ∷ 0xA ∷ 0x62 ∷ 0xD ∷ 0x63 ∷ 0xA ∷ []))
+    ≡ must_end 3 ∷ must_end 5 ∷ []
+
+-- two ideographs, an ideographic full stop and a third one: not before the full stop
+abbrev pub IdeographsEndLines : Type 0
+IdeographsEndLines =
+    line_ends Characters (encode_utf8_all (0x6F22 ∷ 0x5B57 ∷ 0x3002 ∷ 0x6587 ∷ []))
+    ≡ may_end 1 ∷ may_end 3 ∷ []
+
+-- a glyph that is drawn: where it is attached, and its advance
+abbrev pub drawn : ℕ → Option ℕ → ShapedGlyph
+drawn glyph_id attached_to = record {
+  glyph_id = glyph_id;
+  cluster = 0;
+  x_advance = pos 500;
+  y_advance = pos 0;
+  x_offset = pos 0;
+  y_offset = pos 0;
+  attached_to = attached_to;
+  may_break_before = false;
+}
+
+-- a text with an ignorable glyph 7, and 9, which is ignorable once and once not
+abbrev pub ignorable_text : List TextGlyph
+ignorable_text =
+    record { glyph_id = 7; cluster = 0; is_ignorable = true }
+    ∷ record { glyph_id = 5; cluster = 1; is_ignorable = false }
+    ∷ record { glyph_id = 9; cluster = 2; is_ignorable = true }
+    ∷ record { glyph_id = 9; cluster = 3; is_ignorable = false } ∷ []
+
+-- the glyph 7 is hidden as the space 3 without width
+abbrev pub HiddenGlyphsAreSpaces : Type 0
+HiddenGlyphsAreSpaces =
+    drawn_without_ignorables (Some (record { 0 = 3 })) ignorable_text
+    (drawn 7 None ∷ drawn 5 None ∷ drawn 9 (Some 1) ∷ [])
+    ≡ record (drawn 3 None) { x_advance = pos 0 } ∷ drawn 5 None ∷ drawn 9 (Some 1) ∷ []
+
+-- without a space it goes: what was attached to the glyph 5 counts it as the first, and what was attached to 7 is loose
+abbrev pub HiddenGlyphsGo : Type 0
+HiddenGlyphsGo =
+    drawn_without_ignorables None ignorable_text (drawn 7 None ∷ drawn 5 (Some 0) ∷ drawn 9 (Some 1) ∷ [])
+    ≡ drawn 5 None ∷ drawn 9 (Some 0) ∷ []

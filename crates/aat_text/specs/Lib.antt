@@ -1,0 +1,10 @@
+pub mod Examples
+pub mod Ignorables
+pub mod LineEnds
+pub mod Missing
+pub mod Places
+pub mod Strong
+pub mod TextErrors
+pub mod TextGlyphs
+pub mod TextLaws
+pub mod inside

@@ -1,0 +1,76 @@
+//! The glyphs of a text.
+ghost use Rattle.std.specs.Prelude.{◌≡◌, ◌<◌, ◌≤◌, ◌^◌, ◌++◌, ◌↔◌, length, map, IfErr, IfOk, IsErrOf, OnOk};
+ghost use Rattle.std.specs.Str.{chars};
+ghost use Rattle.aat_text.specs.TextGlyphs.{text_glyph, text_of};
+ghost use Rattle.aat_text.specs.declared.error.TextError.TheVariants as errors;
+
+use crate::error::TextError;
+use crate::unit::ClusterUnit;
+use aat_face::Face;
+use aat_shaped_text::TextGlyph;
+use std::alloc::{AllocError, Allocator};
+use ucd_derived::is_default_ignorable_code_point;
+use unicode_segmentation::UnicodeSegmentation;
+
+/// The longest text, in bytes: its places have 32 bits.
+pub(crate) const LONGEST_TEXT: usize = 0xFFFF_FFFF;
+
+/// A character of a cluster as a glyph.
+fn text_glyph(face: &Face, cluster: u32, character: char) -> TextGlyph
+    ensures { result ≡ text_glyph face.now cluster character }
+{
+    let glyph_id = match face.glyph_of(character) {
+        Some(glyph) => glyph.0,
+        None => 0,
+    };
+    TextGlyph {
+        glyph_id,
+        cluster,
+        is_ignorable: is_default_ignorable_code_point(character),
+    }
+}
+
+/// Puts the glyphs of a cluster behind others.
+fn put_cluster<A: Allocator>(
+    face: &Face,
+    cluster: u32,
+    piece: &str,
+    glyphs: &mut Vec<TextGlyph, A>,
+) -> Result<(), AllocError>
+    ensures { OnOk result (glyphs.new.items ≡ glyphs.old.items ++ map (text_glyph face.now cluster) (chars piece.now)) }
+{
+    for character in piece.chars() {
+        glyphs.push(text_glyph(face, cluster, character))?;
+    }
+    Ok(())
+}
+
+/// The text that a `Shaper` takes for a text in a face: one glyph for each character, in the order of the text.
+///
+/// The glyph is that of the character in the font, and 0 where the font has none. Its cluster is the place at which the
+/// extended grapheme cluster of the character begins, as Unicode has it: the number of bytes or of characters of the
+/// text before it, as `unit` says. It is ignorable where Unicode has the character as a Default_Ignorable_Code_Point.
+/// So clusters never fall along the text.
+///
+/// Refused as 1 `TooLong` exactly where the text has more than 4,294,967,295 bytes, and else as 2 `OutOfMemory` where
+/// memory is wanting.
+pub fn text_of<A: Allocator>(
+    alloc: A,
+    face: &Face,
+    unit: ClusterUnit,
+    text: &str,
+) -> Result<Vec<TextGlyph, A>, TextError>
+    ensures ok { IfOk result (λ glyphs. glyphs.items ≡ text_of face.now unit text.now) }
+    ensures too_long { IsErrOf result TextError.TooLong ↔ (2 ^ 32 ≤ length text.now) }
+{
+    if text.len() > LONGEST_TEXT {
+        return Err(TextError::TooLong);
+    }
+    let mut glyphs = Vec::new(alloc);
+    let mut place = 0;
+    for piece in text.graphemes(true) {
+        put_cluster(face, place as u32, piece, &mut glyphs)?;
+        place += unit.count_of(piece);
+    }
+    Ok(glyphs)
+}

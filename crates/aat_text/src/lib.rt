@@ -1,0 +1,28 @@
+//! From a `&str` and a face to the text that a `Shaper` takes: its glyphs with clusters, its direction, the characters
+//! that the font lacks, the places where a line may end, and what is drawn of ignorable characters.
+//!
+//! As HarfBuzz does for fonts with `morx`, no character is normalized: each has the glyph that the font gives it.
+#![tactic(auto)]
+
+mod direction;
+mod error;
+mod glyphs;
+mod ignorables;
+/// The laws of texts, as theorems.
+#[doc(hidden)]
+pub mod laws;
+mod lines;
+mod missing;
+mod role;
+mod unit;
+/// Worked examples, as theorems.
+#[doc(hidden)]
+pub mod worked;
+
+pub use direction::first_strong_direction;
+pub use error::TextError;
+pub use glyphs::text_of;
+pub use ignorables::hide_ignorables;
+pub use lines::{LineEnd, line_ends};
+pub use missing::{MissingCharacter, missing_characters};
+pub use unit::ClusterUnit;

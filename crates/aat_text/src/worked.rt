@@ -1,0 +1,28 @@
+//! Worked examples as theorems. These calls do nothing: what is proved is their contracts.
+ghost use Rattle.aat_text.specs.Examples.{AccentsShareClusters, BreaksAreForced, ClosingBracketsStay, HiddenGlyphsAreSpaces, HiddenGlyphsGo, IdeographsEndLines, IgnorablesAreNotMissing, JoinersAreIgnorable, LettersAreStrong, LinesEndBehindSpaces};
+
+/// The definitions of glyphs and of missing characters compute to the examples.
+pub fn glyphs()
+    ensures clusters { AccentsShareClusters }
+    ensures ignorable { JoinersAreIgnorable }
+    ensures missing { IgnorablesAreNotMissing }
+{}
+
+/// The definition of the direction computes to the examples.
+pub fn directions()
+    ensures { LettersAreStrong }
+{}
+
+/// The definition of where a line may end computes to the examples.
+pub fn line_ends()
+    ensures spaces { LinesEndBehindSpaces }
+    ensures closing { ClosingBracketsStay }
+    ensures forced { BreaksAreForced }
+    ensures ideographs { IdeographsEndLines }
+{}
+
+/// The definition of what is drawn without ignorable glyphs computes to the examples.
+pub fn ignorables()
+    ensures spaces { HiddenGlyphsAreSpaces }
+    ensures gone { HiddenGlyphsGo }
+{}

@@ -1,0 +1,16 @@
+//! What each subtable of the extended glyph metamorphosis table changed, for authors of fonts: a substitution that is
+//! run as ever, and told.
+#![tactic(auto)]
+
+mod chains;
+mod context;
+mod log;
+mod machines;
+mod replay;
+mod subtable;
+mod telling;
+mod trace;
+mod traced;
+
+pub use trace::trace_substitution;
+pub use traced::{Trace, TracedAct, TracedSubtable};
