@@ -1,0 +1,19 @@
+//! The commands of the program `aat`: a text is shaped and shown, and a font is inspected.
+#![tactic(auto)]
+
+mod dump;
+mod filling;
+mod inspect;
+mod line;
+mod names;
+mod output;
+mod paragraph;
+mod progress;
+mod request;
+mod run;
+mod shape;
+mod source;
+mod tracing;
+mod words;
+
+pub use run::{Answer, run};

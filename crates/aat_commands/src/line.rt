@@ -1,0 +1,116 @@
+//! A line is shaped, and what is told of it is put together.
+
+use crate::request::{Output, Request};
+use crate::tracing::trace_of;
+use aat_drawing::{DrawnGlyph, DrawnLine, LineBreak, drawn_changes};
+use aat_face::Face;
+use aat_layout::buffer::Direction;
+use aat_shaper::{ShapedGlyph, Shaper, TextGlyph};
+use aat_text::{LineEnd, hide_ignorables};
+use aat_trace::Trace;
+use anyhow::Result;
+use std::alloc::{AllocError, Global};
+
+/// What the lines of a text have in common.
+#[derive(Clone, Copy)]
+pub(crate) struct Context<'a, 'f> {
+    /// The path of the font's file.
+    pub(crate) path: &'a str,
+    /// The font.
+    pub(crate) face: &'a Face<'f>,
+    /// What is asked.
+    pub(crate) request: &'a Request,
+    /// What the subtables of `morx` are called.
+    pub(crate) subtables: &'a [String],
+}
+
+/// A line that was shaped.
+#[derive(Drop)]
+pub(crate) struct ShapedLine {
+    /// What is drawn of it.
+    pub(crate) drawn: DrawnLine,
+    /// What each subtable changed, where that is asked or shown.
+    pub(crate) trace: Option<Trace>,
+}
+
+/// Whether the text may be broken between two glyphs that are drawn one behind the other: where a line may end at the
+/// later one of their clusters.
+fn break_between(ends: &[LineEnd], before: &ShapedGlyph, glyph: &ShapedGlyph) -> LineBreak {
+    let place = before.cluster.max(glyph.cluster);
+    let index = ends.partition_point(|end| end.place < place);
+    let is_end = ends.get(index).is_some_and(|end| end.place == place);
+    if !is_end || before.cluster == glyph.cluster {
+        LineBreak::Never
+    } else if glyph.may_break_before {
+        LineBreak::AsDrawn
+    } else {
+        LineBreak::ShapedAnew
+    }
+}
+
+/// The glyphs of a line, with where it may be broken and what changed them.
+fn drawn_glyphs(
+    alloc: Global,
+    ends: &[LineEnd],
+    glyphs: &[ShapedGlyph],
+    changes: &[Option<usize>],
+) -> Result<Vec<DrawnGlyph>, AllocError> {
+    let mut drawn = Vec::new(alloc);
+    let mut before = None;
+    for (place, glyph) in glyphs.iter().enumerate() {
+        let break_before = match before {
+            None => LineBreak::Never,
+            Some(before) => break_between(ends, before, glyph),
+        };
+        drawn.push(DrawnGlyph {
+            glyph: *glyph,
+            changed_by: changes.get(place).copied().flatten(),
+            break_before,
+        })?;
+        before = Some(glyph);
+    }
+    Ok(drawn)
+}
+
+/// The changes of the glyphs that are drawn, none without a trace.
+fn changes_of(
+    alloc: Global,
+    trace: &Option<Trace>,
+    direction: Direction,
+    shaped: &[ShapedGlyph],
+    drawn: &[ShapedGlyph],
+) -> Result<Vec<Option<usize>>, AllocError> {
+    match trace {
+        None => Ok(Vec::new(alloc)),
+        Some(trace) => drawn_changes(alloc, trace, direction, shaped, drawn),
+    }
+}
+
+/// Whether a form shows what each subtable changed.
+fn is_traced(output: Output) -> bool {
+    output.is_picture() || output == Output::Trace
+}
+
+/// Shapes a line, hides its ignorable glyphs, and tells where it may be broken.
+pub(crate) fn shape_line(
+    alloc: Global,
+    context: &Context<'_, '_>,
+    shaper: &mut Shaper<'_>,
+    direction: Direction,
+    text: &[TextGlyph],
+    ends: &[LineEnd],
+) -> Result<ShapedLine> {
+    let features = context.request.features.as_slice();
+    shaper.shape(direction, text, features)?;
+    let space = context.face.glyph_of(' ');
+    let visible = hide_ignorables(alloc, space, text, shaper.glyphs())?;
+    let trace = if is_traced(context.request.output) {
+        Some(trace_of(alloc, context.face.font(), direction, text, features)?)
+    } else {
+        None
+    };
+    let changes = changes_of(alloc, &trace, direction, shaper.glyphs(), &visible)?;
+    let glyphs = drawn_glyphs(alloc, ends, &visible, &changes)?;
+    let drawn = DrawnLine { direction, glyphs };
+    Ok(ShapedLine { drawn, trace })
+}

@@ -1,0 +1,38 @@
+//! What subtables are called.
+
+use aat_layout::font::{Subtable, SubtableKind, hb_font_t};
+use std::alloc::{AllocError, Global};
+
+/// The kind of a subtable of `morx`.
+pub(crate) fn kind_name(kind: &SubtableKind) -> &'static str {
+    match kind {
+        SubtableKind::Rearrangement(_) => "rearrangement",
+        SubtableKind::Contextual(_) => "contextual",
+        SubtableKind::Ligature(_) => "ligature",
+        SubtableKind::NonContextual(_) => "noncontextual",
+        SubtableKind::Insertion(_) => "insertion",
+    }
+}
+
+/// Adds the names of the subtables of a chain.
+fn add_names(
+    alloc: Global,
+    names: &mut Vec<String>,
+    chain: usize,
+    subtables: &[Subtable],
+) -> Result<(), AllocError> {
+    for (number, subtable) in subtables.iter().enumerate() {
+        let kind = kind_name(&subtable.kind);
+        names.push(format!(in alloc; "chain {chain} subtable {number}: {kind}")?)?;
+    }
+    Ok(())
+}
+
+/// The names of all subtables of `morx`, in the order of the chains.
+pub(crate) fn subtable_names(alloc: Global, font: &hb_font_t) -> Result<Vec<String>, AllocError> {
+    let mut names = Vec::new(alloc);
+    for (number, chain) in font.chains().iter().enumerate() {
+        add_names(alloc, &mut names, number, &chain.subtables)?;
+    }
+    Ok(names)
+}

@@ -1,0 +1,51 @@
+//! Lines are shown in the form that is asked.
+
+use crate::line::{Context, ShapedLine};
+use crate::request::Output;
+use crate::tracing::write_trace;
+use aat_drawing::{DrawnLine, LineMetrics, Picture, write_glyphs, write_json, write_svg};
+use aat_outlines::Outlines;
+use aat_sfnt::FontFile;
+use anyhow::{Context as _, Result, anyhow};
+use std::alloc::Global;
+use std::io::{self, Write};
+
+/// Writes a line in a form that shows each line by itself.
+pub(crate) fn write_line<W: Write>(
+    alloc: Global,
+    out: &mut W,
+    context: &Context<'_, '_>,
+    line: &ShapedLine,
+) -> io::Result<()> {
+    match (context.request.output, &line.trace) {
+        (Output::Json, _) => write_json(alloc, out, &line.drawn),
+        (Output::Trace, Some(trace)) => {
+            write_trace(out, context, trace)?;
+            write_glyphs(out, &line.drawn)
+        }
+        _ => write_glyphs(out, &line.drawn),
+    }
+}
+
+/// Writes all lines as a picture: by the outlines of the font where it has them and they are asked, else by boxes.
+pub(crate) fn write_picture<W: Write>(
+    alloc: Global,
+    out: &mut W,
+    context: &Context<'_, '_>,
+    file: &FontFile<'_>,
+    lines: &[DrawnLine],
+) -> Result<()> {
+    let path = context.path;
+    let outlines = if context.request.output == Output::Svg {
+        Outlines::of_file(file).with_context(|| anyhow!("{path}"))?
+    } else {
+        None
+    };
+    let picture = Picture {
+        metrics: LineMetrics::of_file(file, context.face.units_per_em()),
+        outlines: outlines.as_ref(),
+        lines,
+        subtables: context.subtables,
+    };
+    write_svg(alloc, out, &picture).with_context(|| anyhow!("{path}"))
+}

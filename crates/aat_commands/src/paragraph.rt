@@ -1,0 +1,48 @@
+//! A line of the text that was given, before it is broken.
+
+use crate::line::Context;
+use aat_layout::buffer::Direction;
+use aat_shaper::TextGlyph;
+use aat_text::{LineEnd, first_strong_direction, line_ends, missing_characters, text_of};
+use anyhow::Result;
+use std::alloc::Global;
+
+/// A line of the text that was given.
+#[derive(Drop)]
+pub(crate) struct Paragraph {
+    /// Its glyphs, one for each character.
+    pub(crate) text: Vec<TextGlyph>,
+    /// Where lines may end in it.
+    pub(crate) ends: Vec<LineEnd>,
+    /// Its direction.
+    pub(crate) direction: Direction,
+}
+
+impl Paragraph {
+    /// The glyphs of a line of the text.
+    pub(crate) fn new(alloc: Global, context: &Context<'_, '_>, line: &str) -> Result<Paragraph> {
+        let unit = context.request.unit;
+        let direction = context
+            .request
+            .direction
+            .or(first_strong_direction(line))
+            .unwrap_or(Direction::LeftToRight);
+        Ok(Paragraph {
+            text: text_of(alloc, context.face, unit, line)?,
+            ends: line_ends(alloc, unit, line)?,
+            direction,
+        })
+    }
+}
+
+/// Tells on the error stream how many characters of a line have no glyph in the font, and the first of them.
+pub(crate) fn tell_missing(rt: &HostRuntime, context: &Context<'_, '_>, line: &str) -> Result<()> {
+    let unit = context.request.unit;
+    let missing = missing_characters(rt.alloc(), context.face, unit, line)?;
+    if let Some(first) = missing.first() {
+        let (place, others) = (first.place, missing.len() - 1);
+        let code = first.character as u32;
+        eprintln!(rt; "aat: no glyph for U+{code:04X} at {place}, nor for {others} others")?;
+    }
+    Ok(())
+}

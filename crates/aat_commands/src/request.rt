@@ -1,0 +1,107 @@
+//! What a command line asks of `aat shape`.
+
+use aat_features::parse_feature;
+use aat_layout::buffer::Direction;
+use aat_layout::font::Feature;
+use aat_text::ClusterUnit;
+use anyhow::{Context, Result, anyhow};
+use clap::ArgMatches;
+use std::alloc::Global;
+
+/// The form in which lines are shown.
+#[derive(Clone, Copy, PartialEq, Eq, Debug)]
+pub(crate) enum Output {
+    /// As `hb-shape` writes them.
+    Glyphs,
+    /// As JSON.
+    Json,
+    /// As a picture of outlines.
+    Svg,
+    /// As a picture of boxes.
+    Boxes,
+    /// What each subtable changed.
+    Trace,
+}
+
+impl Output {
+    /// Whether all lines are shown as one picture.
+    pub(crate) fn is_picture(self) -> bool {
+        self == Output::Svg || self == Output::Boxes
+    }
+}
+
+/// What is asked of a shaping.
+#[derive(Drop)]
+pub(crate) struct Request {
+    /// The features, in their order.
+    pub(crate) features: Vec<Feature>,
+    /// The direction, where the command line has one.
+    pub(crate) direction: Option<Direction>,
+    /// The size in points, where the text is tracked.
+    pub(crate) size: Option<u16>,
+    /// The width of a line, in units of the font, where lines are broken.
+    pub(crate) width: Option<u32>,
+    /// What clusters count.
+    pub(crate) unit: ClusterUnit,
+    /// The form in which lines are shown.
+    pub(crate) output: Output,
+}
+
+/// The direction of a word.
+fn direction_of(word: &str) -> Option<Direction> {
+    match word {
+        "ltr" => Some(Direction::LeftToRight),
+        "rtl" => Some(Direction::RightToLeft),
+        "ttb" => Some(Direction::TopToBottom),
+        "btt" => Some(Direction::BottomToTop),
+        _ => None,
+    }
+}
+
+/// The form of a word.
+fn output_of(word: &str) -> Output {
+    match word {
+        "json" => Output::Json,
+        "svg" => Output::Svg,
+        "boxes" => Output::Boxes,
+        _ => Output::Glyphs,
+    }
+}
+
+/// The features of a list, parted by commas.
+fn features_of(alloc: Global, list: &str) -> Result<Vec<Feature>> {
+    let mut features = Vec::new(alloc);
+    for text in list.split(',') {
+        let feature = parse_feature(text).with_context(|| anyhow!("feature \"{text}\""))?;
+        features.push(feature)?;
+    }
+    Ok(features)
+}
+
+impl Request {
+    /// What the command line asks.
+    pub(crate) fn of_matches(alloc: Global, matches: &ArgMatches<'_>) -> Result<Request> {
+        let features = match matches.get_str("features") {
+            Some(list) => features_of(alloc, list)?,
+            None => Vec::new(alloc),
+        };
+        let direction = matches.get_str("direction").and_then(direction_of);
+        let unit = match matches.get_str("clusters") {
+            Some("bytes") => ClusterUnit::Bytes,
+            _ => ClusterUnit::Characters,
+        };
+        let output = if matches.get_flag("trace") {
+            Output::Trace
+        } else {
+            matches.get_str("output").map_or(Output::Glyphs, output_of)
+        };
+        Ok(Request {
+            features,
+            direction,
+            size: matches.get_one::<u16>("size"),
+            width: matches.get_one::<u32>("width"),
+            unit,
+            output,
+        })
+    }
+}

@@ -1,0 +1,128 @@
+//! What each subtable changed.
+
+use crate::line::Context;
+use aat_layout::buffer::{Direction, hb_buffer_t, hb_glyph_info_t};
+use aat_layout::font::{Feature, GlyphId, hb_font_t, hb_ot_shape_plan_t};
+use aat_shaper::TextGlyph;
+use aat_trace::{Trace, TracedAct, TracedSubtable, trace_substitution};
+use anyhow::{Result, bail};
+use std::alloc::{AllocError, Global};
+use std::io::{self, Write};
+
+/// The most glyphs of a line and its budget, for a text of so many glyphs, as `Shaper::shape` has them.
+fn limits(length: usize) -> (usize, i32) {
+    let glyphs = length.saturating_mul(64).clamp(16384, 0x3FFF_FFFF);
+    let operations = length.saturating_mul(1024).clamp(16384, 0x7FFF_FFFF) as i32;
+    (glyphs, operations)
+}
+
+/// The features in a list of their own.
+fn copy_of(alloc: Global, features: &[Feature]) -> Result<Vec<Feature>, AllocError> {
+    let mut copy = Vec::new(alloc);
+    copy.extend_from_slice(features)?;
+    Ok(copy)
+}
+
+/// Traces what the substitution of a text does.
+pub(crate) fn trace_of(
+    alloc: Global,
+    font: &hb_font_t,
+    direction: Direction,
+    text: &[TextGlyph],
+    features: &[Feature],
+) -> Result<Trace> {
+    let (glyphs, operations) = limits(text.len());
+    let mut buffer = hb_buffer_t::new(alloc, glyphs, operations);
+    buffer.set_direction(direction);
+    for glyph in text {
+        let mut info = hb_glyph_info_t::new(u32::from(glyph.glyph_id), glyph.cluster);
+        info.glyph_props = font.glyph_props(GlyphId(glyph.glyph_id));
+        buffer.add(info)?;
+    }
+    if !buffer.all_glyphs_16() {
+        bail!("a glyph has more than 16 bits");
+    }
+    let plan = hb_ot_shape_plan_t::new(copy_of(alloc, features)?);
+    Ok(trace_substitution(alloc, &plan, font, &mut buffer)?)
+}
+
+/// Writes ids with a space before each.
+fn write_ids<W: Write>(out: &mut W, ids: &[u32]) -> io::Result<()> {
+    if ids.is_empty() {
+        out.write_all(b" nothing")?;
+    }
+    for id in ids {
+        write!(out, " {id}")?;
+    }
+    Ok(())
+}
+
+/// Writes an act.
+fn write_act<W: Write>(out: &mut W, act: &TracedAct) -> io::Result<()> {
+    write!(out, "  turn {} at {}:", act.transition, act.place)?;
+    write_ids(out, &act.taken)?;
+    out.write_all(b" ->")?;
+    write_ids(out, &act.put)?;
+    writeln!(out)
+}
+
+/// Writes the places of new marks, if there are any.
+fn write_marks<W: Write>(out: &mut W, marks: &[usize]) -> io::Result<()> {
+    if marks.is_empty() {
+        return Ok(());
+    }
+    out.write_all(b"  unsafe to break before")?;
+    for place in marks {
+        write!(out, " {place}")?;
+    }
+    writeln!(out)
+}
+
+/// Writes the ids of a line.
+fn write_line<W: Write>(out: &mut W, glyphs: &[hb_glyph_info_t]) -> io::Result<()> {
+    out.write_all(b"  line:")?;
+    for glyph in glyphs {
+        write!(out, " {}", glyph.glyph_id)?;
+    }
+    writeln!(out)
+}
+
+/// Writes what a subtable did.
+fn write_subtable<W: Write>(out: &mut W, name: &str, subtable: &TracedSubtable) -> io::Result<()> {
+    if !subtable.is_run {
+        return writeln!(out, "{name}, left out");
+    }
+    let order = if subtable.is_reversed {
+        ", from the end of the line"
+    } else {
+        ""
+    };
+    writeln!(out, "{name}, {} turns{order}", subtable.turns)?;
+    for act in &subtable.acts {
+        write_act(out, act)?;
+    }
+    write_marks(out, &subtable.marks)?;
+    if !subtable.acts.is_empty() {
+        write_line(out, &subtable.after)?;
+    }
+    Ok(())
+}
+
+/// Writes the trace of a line: for each subtable of `morx` its turns, the ids that it changed at which turn, the places
+/// that it marked, and the line that it left if it changed it.
+pub(crate) fn write_trace<W: Write>(
+    out: &mut W,
+    context: &Context<'_, '_>,
+    trace: &Trace,
+) -> io::Result<()> {
+    if let Some(first) = trace.subtables.first() {
+        write_line(out, &first.before)?;
+    }
+    for (subtable, name) in trace.subtables.iter().zip(context.subtables) {
+        write_subtable(out, name.as_str(), subtable)?;
+    }
+    if trace.is_incomplete {
+        writeln!(out, "memory was wanting to tell of a subtable")?;
+    }
+    Ok(())
+}

@@ -1,0 +1,136 @@
+//! Which subtable changed each glyph of a line.
+
+use aat_layout::buffer::Direction;
+use aat_shaper::ShapedGlyph;
+use aat_trace::{Trace, TracedAct, TracedSubtable};
+use std::alloc::{AllocError, Global};
+
+/// The number of the subtable that changed a glyph last, if one did.
+type Change = Option<usize>;
+
+/// The id of a deleted glyph.
+const DELETED: u32 = 0xFFFF;
+
+/// What an act of a subtable makes of the changes of a line.
+fn change(
+    alloc: Global,
+    changes: &mut Vec<Change>,
+    act: &TracedAct,
+    number: usize,
+) -> Result<(), AllocError> {
+    let place = act.place.min(changes.len());
+    let end = place.saturating_add(act.taken.len()).min(changes.len());
+    if act.put.len() == act.taken.len() {
+        changes[place..end].fill(Some(number));
+        return Ok(());
+    }
+    let mut after = Vec::new(alloc);
+    after.extend_from_slice(&changes[..place])?;
+    for _id in &act.put {
+        after.push(Some(number))?;
+    }
+    after.extend_from_slice(&changes[end..])?;
+    *changes = after;
+    Ok(())
+}
+
+/// What a subtable makes of the changes of a line.
+fn change_by(
+    alloc: Global,
+    changes: &mut Vec<Change>,
+    subtable: &TracedSubtable,
+    number: usize,
+) -> Result<(), AllocError> {
+    if subtable.is_reversed {
+        changes.reverse();
+    }
+    for act in &subtable.acts {
+        change(alloc, changes, act, number)?;
+    }
+    if subtable.is_reversed {
+        changes.reverse();
+    }
+    Ok(())
+}
+
+/// Which subtable changed each glyph of the line that a trace leaves last, if one did: its number among all that are
+/// told, from 0. None is told where the trace is incomplete.
+fn changed_by(alloc: Global, trace: &Trace) -> Result<Vec<Option<usize>>, AllocError> {
+    let mut changes = Vec::new(alloc);
+    let Some(first) = trace.subtables.first() else {
+        return Ok(changes);
+    };
+    for _glyph in &first.before {
+        changes.push(None)?;
+    }
+    if trace.is_incomplete {
+        return Ok(changes);
+    }
+    for (number, subtable) in trace.subtables.iter().enumerate() {
+        change_by(alloc, &mut changes, subtable, number)?;
+    }
+    Ok(changes)
+}
+
+/// The changes of the glyphs that a trace leaves, without deleted ones, in drawing order.
+fn kept_changes(
+    alloc: Global,
+    trace: &Trace,
+    direction: Direction,
+) -> Result<Vec<Change>, AllocError> {
+    let mut kept = Vec::new(alloc);
+    let Some(last) = trace.subtables.last() else {
+        return Ok(kept);
+    };
+    let changes = changed_by(alloc, trace)?;
+    for (glyph, change) in last.after.iter().zip(&changes) {
+        if glyph.glyph_id != DELETED {
+            kept.push(*change)?;
+        }
+    }
+    if !direction.is_forward() {
+        kept.reverse();
+    }
+    Ok(kept)
+}
+
+/// The change of the next glyph with this id, from the place on that `next` tells and moves behind it.
+fn next_change(
+    shaped: &[ShapedGlyph],
+    changes: &[Change],
+    next: &mut usize,
+    glyph_id: u16,
+) -> Change {
+    let rest = shaped.get(*next..)?;
+    let skipped = rest.iter().position(|glyph| glyph.glyph_id == glyph_id)?;
+    let place = next.saturating_add(skipped);
+    *next = place.saturating_add(1);
+    *changes.get(place)?
+}
+
+/// Which subtable changed each glyph that is drawn. `shaped` is what the shaper drew of the line that was traced, and
+/// `drawn` what is left of it where ignorable glyphs are hidden.
+///
+/// Where the two lines do not have the same number of glyphs, nothing is told.
+pub fn drawn_changes(
+    alloc: Global,
+    trace: &Trace,
+    direction: Direction,
+    shaped: &[ShapedGlyph],
+    drawn: &[ShapedGlyph],
+) -> Result<Vec<Option<usize>>, AllocError> {
+    let kept = kept_changes(alloc, trace, direction)?;
+    if drawn.len() == shaped.len() && kept.len() == shaped.len() {
+        return Ok(kept);
+    }
+    let mut changes = Vec::new(alloc);
+    let mut next = 0;
+    for glyph in drawn {
+        if kept.len() == shaped.len() {
+            changes.push(next_change(shaped, &kept, &mut next, glyph.glyph_id))?;
+        } else {
+            changes.push(None)?;
+        }
+    }
+    Ok(changes)
+}

@@ -1,0 +1,23 @@
+//! What a person or another program is shown of lines that were shaped: the glyphs in the form of `hb-shape`, JSON, and a
+//! picture in SVG.
+#![tactic(auto)]
+
+mod changes;
+mod error;
+mod extent;
+mod forms;
+mod json;
+mod legend;
+mod line;
+mod marks;
+mod metrics;
+mod paths;
+mod picture;
+
+pub use changes::drawn_changes;
+pub use error::DrawError;
+pub use forms::write_glyphs;
+pub use json::write_json;
+pub use line::{DrawnGlyph, DrawnLine, LineBreak};
+pub use metrics::LineMetrics;
+pub use picture::{Picture, write_svg};

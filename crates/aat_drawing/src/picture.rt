@@ -1,0 +1,178 @@
+//! Pictures of lines, in SVG.
+
+use crate::error::DrawError;
+use crate::extent::Extent;
+use crate::legend::{colour_of, is_shown, write_entry};
+use crate::line::{DrawnGlyph, DrawnLine};
+use crate::marks::{half_units, write_bar, write_box};
+use crate::metrics::LineMetrics;
+use crate::paths::write_outlines;
+use aat_outlines::Outlines;
+use std::alloc::Global;
+use std::io::{self, Write};
+
+/// What a picture shows.
+#[derive(Clone, Copy)]
+pub struct Picture<'a> {
+    /// How much room a line takes.
+    pub metrics: LineMetrics,
+    /// The outlines of the font. Without them the box of each glyph's advance is drawn.
+    pub outlines: Option<&'a Outlines<'a>>,
+    /// The lines, from the top, or from the right where the text stands in columns.
+    pub lines: &'a [DrawnLine],
+    /// What each subtable of `morx` is called in the legend, through all chains. A text without `<` and `&`.
+    pub subtables: &'a [String],
+}
+
+/// The pixels of an em.
+const EM_PIXELS: i64 = 64;
+
+/// The parts of a picture that are not of the font. A solid bar stands where the two parts look by themselves as they do
+/// here, and a dashed one where they have to be shaped by themselves.
+const STYLE: &str =
+    "<style>.bar,.anew{fill:none;stroke:#dc2626;stroke-width:24}.anew{stroke-dasharray:60 60}\
+.box{fill:none;stroke-width:12}</style>";
+
+/// Writes where a glyph is drawn, in half units, by the name of its outline.
+fn write_use<W: Write>(
+    out: &mut W,
+    place: (i64, i64),
+    glyph_id: u16,
+    colour: &str,
+) -> io::Result<()> {
+    let (x, y) = (half_units(place.0), half_units(place.1));
+    writeln!(
+        out,
+        "<use href=\"#g{glyph_id}\" x=\"{x}\" y=\"{y}\" fill=\"{colour}\"/>"
+    )
+}
+
+/// Writes a glyph, where the pen stands there.
+fn write_glyph<W: Write>(
+    out: &mut W,
+    picture: &Picture<'_>,
+    pen: (i64, i64),
+    drawn: &DrawnGlyph,
+) -> io::Result<()> {
+    let glyph = drawn.glyph;
+    let colour = colour_of(drawn.changed_by);
+    let place = (
+        pen.0.saturating_add(i64::from(glyph.x_offset)),
+        pen.1.saturating_add(i64::from(glyph.y_offset)),
+    );
+    match picture.outlines {
+        Some(_) => write_use(out, place, glyph.glyph_id, colour),
+        None => write_box(out, &picture.metrics, place, drawn, colour),
+    }
+}
+
+/// Writes the glyphs of a line and its bars, from its origin on.
+fn write_line<W: Write>(out: &mut W, picture: &Picture<'_>, line: &DrawnLine) -> io::Result<()> {
+    let mut pen = (0i64, 0i64);
+    for drawn in &line.glyphs {
+        write_bar(out, &picture.metrics, line, pen, drawn)?;
+        write_glyph(out, picture, pen, drawn)?;
+        pen.0 = pen.0.saturating_add(i64::from(drawn.glyph.x_advance));
+        pen.1 = pen.1.saturating_add(i64::from(drawn.glyph.y_advance));
+    }
+    Ok(())
+}
+
+/// Writes all lines.
+fn write_lines<W: Write>(out: &mut W, picture: &Picture<'_>, extent: &Extent) -> io::Result<()> {
+    for (number, line) in picture.lines.iter().enumerate() {
+        let (x, y) = extent.origin(number, line);
+        writeln!(out, "<g transform=\"translate({x} {y}) scale(.5 -.5)\">")?;
+        write_line(out, picture, line)?;
+        writeln!(out, "</g>")?;
+    }
+    Ok(())
+}
+
+/// How many entries the legend has.
+fn legend_length(picture: &Picture<'_>) -> usize {
+    (0..picture.subtables.len())
+        .filter(|number| is_shown(picture.lines, *number))
+        .count()
+}
+
+/// The size of the legend's letters.
+fn letter_size(picture: &Picture<'_>) -> i64 {
+    i64::from(picture.metrics.units_per_em / 4)
+}
+
+/// The height of a line of the legend.
+fn entry_height(picture: &Picture<'_>) -> i64 {
+    letter_size(picture) * 3 / 2
+}
+
+/// Writes what the colours stand for, from a height on.
+fn write_legend<W: Write>(out: &mut W, picture: &Picture<'_>, top: i64) -> io::Result<()> {
+    let mut top = top;
+    for (number, name) in picture.subtables.iter().enumerate() {
+        if is_shown(picture.lines, number) {
+            top = top.saturating_add(entry_height(picture));
+            let colour = colour_of(Some(number));
+            write_entry(out, top, letter_size(picture), colour, name.as_str())?;
+        }
+    }
+    Ok(())
+}
+
+/// The width and the height of a picture, with its legend.
+fn size_of(picture: &Picture<'_>, extent: &Extent) -> (i64, i64) {
+    let entries = legend_length(picture).min(1 << 20) as i64;
+    if entries == 0 {
+        return (extent.width, extent.height);
+    }
+    let legend = entry_height(picture).saturating_mul(entries.saturating_add(1));
+    let least = i64::from(picture.metrics.units_per_em) * 6;
+    (
+        extent.width.max(least),
+        extent.height.saturating_add(legend),
+    )
+}
+
+/// A length of so many units of the font, in pixels.
+fn pixels(length: i64, units_per_em: u16) -> i64 {
+    let em = i64::from(units_per_em).max(1);
+    length.saturating_mul(EM_PIXELS) / em
+}
+
+/// Writes the head of a picture of a width and a height, and its ground.
+fn write_head<W: Write>(out: &mut W, em: u16, width: i64, height: i64) -> io::Result<()> {
+    let (wide, high) = (pixels(width, em), pixels(height, em));
+    writeln!(
+        out,
+        "<svg xmlns=\"http://www.w3.org/2000/svg\" viewBox=\"0 0 {width} {height}\" width=\"{wide}\" height=\"{high}\">"
+    )?;
+    writeln!(out, "{STYLE}")?;
+    writeln!(
+        out,
+        "<rect width=\"{width}\" height=\"{height}\" fill=\"#ffffff\"/>"
+    )
+}
+
+/// Writes a picture of lines as a file of SVG, 64 pixels an em: each glyph by its outline, or as the box of its advance,
+/// in the colour of the subtable that changed it last; a bar where the text may be broken; and below what each colour
+/// stands for.
+///
+/// Refused as 1, `Outline`, where the outline of a glyph has a fault, in the order of the numbers of the glyphs; as 2,
+/// `Writer`, where the writer fails; and as 3, `OutOfMemory`, where memory is wanting. A part of the picture may be
+/// written then.
+pub fn write_svg<W: Write>(
+    alloc: Global,
+    out: &mut W,
+    picture: &Picture<'_>,
+) -> Result<(), DrawError> {
+    let extent = Extent::new(&picture.metrics, picture.lines);
+    let (width, height) = size_of(picture, &extent);
+    write_head(out, picture.metrics.units_per_em, width, height)?;
+    if let Some(outlines) = picture.outlines {
+        write_outlines(alloc, out, outlines, picture.lines)?;
+    }
+    write_lines(out, picture, &extent)?;
+    write_legend(out, picture, extent.height)?;
+    writeln!(out, "</svg>")?;
+    Ok(())
+}

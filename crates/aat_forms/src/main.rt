@@ -1,0 +1,83 @@
+//! Runs command lines of `aat` over sample fonts, and prints each with what it writes: each form, and each sort of wrong
+//! words.
+#![tactic(auto)]
+
+use aat_commands::{Answer, run};
+use anyhow::Result;
+use std::io::{self, BufWriter, Write};
+
+/// Command lines, without the name of the program, whose words a bar parts.
+static LINES: [&str; 42] = [
+    "shape|sample.ttf|fila fa-la",
+    "shape|sample.ttf|fila fa-la|--features|-liga,smcp[5:7]",
+    "shape|sample.ttf|fila a\u{301}|--direction|rtl",
+    "shape|sample.ttf|fa|--direction|ttb",
+    "shape|sample.ttf|fa|--direction|btt",
+    "shape|sample.ttf|a\u{301}la|--features|kern=0|--clusters|bytes",
+    "shape|sample.ttf|a\u{301}f\u{200D}x\u{4E00}",
+    "shape|sample.ttf|",
+    "shape|example.ttf|fi|--point-size|12",
+    "shape|sample.ttf|--file|text.txt",
+    "shape|sample.ttf|--file|text.txt|--width|1700",
+    "shape|sample.ttf|fila fa-la|--width|1|--output|json",
+    "shape|sample.ttf|fila-a|--output|json",
+    "shape|sample.ttf|fila a\u{301}|--features|smcp|--trace",
+    "shape|sample.ttf|fila fa-la|--output|svg",
+    "shape|sample.ttf|--file|text.txt|--width|1700|--features|smcp|--output|boxes",
+    "shape|sample.ttf|fa-la|--direction|ttb|--output|svg",
+    "shape|sample.ttf|fila|--direction|rtl|--output|svg",
+    "inspect|sample.ttf",
+    "inspect|short.ttf",
+    "dump|sample.ttf|feat",
+    "dump|sample.ttf|kerx",
+    "dump|sample.ttf|glyf",
+    "dump|sample.ttf|a",
+    "shape|short.ttf|fila|--output|svg",
+    "shape|none.ttf|fila",
+    "inspect|sample.ttf|--index|1",
+    "dump|missing.ttf|morx",
+    "shape|sample.ttf|--file|missing.txt",
+    "shape|sample.ttf|--file|broken.txt",
+    "shape|sample.ttf|fila|--features|smcp,toolong",
+    "shape|sample.ttf|fila|--direction|up",
+    "shape|sample.ttf|fila|--width|wide",
+    "shape|sample.ttf|fila|--output|png",
+    "shape|sample.ttf|fila|--clusters|words",
+    "shape|sample.ttf|fila|--point-size|70000",
+    "shape|sample.ttf|fila|--file|text.txt",
+    "shape|sample.ttf",
+    "draw",
+    "--help",
+    "shape|--help",
+    "dump|--help",
+];
+
+/// Runs a command line, and writes what it comes to behind its output.
+fn show<W: Write>(rt: &HostRuntime, out: &mut W, words: &[&str]) -> Result<()> {
+    match run(rt, words, out) {
+        Ok(Answer::Done) => writeln!(out, "done")?,
+        Ok(Answer::Words(error)) => writeln!(out, "{error}status {}", error.exit_code())?,
+        Err(error) => writeln!(out, "aat: {error:#}")?,
+    }
+    Ok(())
+}
+
+/// The words of a command line, behind the name of the program.
+fn words_of(rt: &HostRuntime, line: &'static str) -> Result<Vec<&'static str>> {
+    let mut words = vec![in rt.alloc(); "aat"]?;
+    for word in line.split('|') {
+        words.push(word)?;
+    }
+    Ok(words)
+}
+
+fn main(rt: HostRuntime) -> Result<()> {
+    let mut out = BufWriter::new(rt.alloc(), io::writer(&rt))?;
+    for line in LINES {
+        writeln!(out, "$ {line}")?;
+        let words = words_of(&rt, line)?;
+        show(&rt, &mut out, &words)?;
+    }
+    out.flush()?;
+    Ok(())
+}

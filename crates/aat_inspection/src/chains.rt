@@ -1,0 +1,95 @@
+//! The chains of `morx`.
+
+use aat_cuts::find_unsettled;
+use aat_font::{Chain, Coverage, Subtable, SubtableKind};
+use std::alloc::Global;
+use std::io::{self, Write};
+
+/// What a subtable does, in a word.
+fn kind_name(kind: &SubtableKind) -> &'static str {
+    match kind {
+        SubtableKind::Rearrangement(_) => "rearrangement",
+        SubtableKind::Contextual(_) => "contextual",
+        SubtableKind::Ligature(_) => "ligature",
+        SubtableKind::NonContextual(_) => "noncontextual",
+        SubtableKind::Insertion(_) => "insertion",
+    }
+}
+
+/// For which directions of text a subtable is.
+fn directions(coverage: Coverage) -> &'static str {
+    if coverage.is_all_directions() {
+        "horizontal and vertical"
+    } else if coverage.is_vertical() {
+        "vertical"
+    } else {
+        "horizontal"
+    }
+}
+
+/// In which order a subtable takes the glyphs.
+fn order(coverage: Coverage) -> &'static str {
+    match (coverage.is_logical(), coverage.is_backwards()) {
+        (false, false) => "layout order",
+        (false, true) => "reverse layout order",
+        (true, false) => "logical order",
+        (true, true) => "reverse logical order",
+    }
+}
+
+/// Writes whether a subtable is settled for cuts, or why it is not.
+fn write_settled<W: Write>(alloc: Global, out: &mut W, kind: &SubtableKind) -> io::Result<()> {
+    match find_unsettled(alloc, kind)? {
+        Some(reason) => writeln!(out, "not settled for cuts: {reason}"),
+        None => writeln!(out, "settled for cuts"),
+    }
+}
+
+/// Writes a subtable of a chain that has such flags by default.
+fn write_subtable<W: Write>(
+    alloc: Global,
+    out: &mut W,
+    default_flags: u32,
+    subtable: &Subtable,
+) -> io::Result<()> {
+    let kind = kind_name(&subtable.kind);
+    let directions = directions(subtable.coverage);
+    let order = order(subtable.coverage);
+    let flags = subtable.feature_flags;
+    let state = if default_flags & flags != 0 {
+        "on"
+    } else {
+        "off"
+    };
+    write!(out, "{kind}, {directions}, {order}, flags {flags:#010x}, ")?;
+    write!(out, "{state} by default, ")?;
+    write_settled(alloc, out, &subtable.kind)
+}
+
+/// Writes the subtables of a chain in their order.
+fn write_subtables<W: Write>(alloc: Global, out: &mut W, chain: &Chain) -> io::Result<()> {
+    for (place, subtable) in chain.subtables.iter().enumerate() {
+        write!(out, "  subtable {place} ")?;
+        write_subtable(alloc, out, chain.default_flags, subtable)?;
+    }
+    Ok(())
+}
+
+/// Writes the chains in their order: their default flags, and their subtables.
+///
+/// An error is that of the writer, or `OutOfMemory`. A part of the text may be written then.
+pub(crate) fn write_chains<W: Write>(
+    alloc: Global,
+    out: &mut W,
+    chains: &[Chain],
+) -> io::Result<()> {
+    for (place, chain) in chains.iter().enumerate() {
+        writeln!(
+            out,
+            "chain {place} default flags {:#010x}",
+            chain.default_flags
+        )?;
+        write_subtables(alloc, out, chain)?;
+    }
+    Ok(())
+}

@@ -1,0 +1,60 @@
+//! The settings of features that are on by default.
+
+use aat_font::{Chain, ChainFeature};
+use std::alloc::{AllocError, Global};
+use std::collections::BTreeMap;
+use std::io::{self, Write};
+
+/// A setting of a feature.
+#[derive(Clone, Copy, PartialEq, Eq, PartialOrd, Ord)]
+struct Setting {
+    /// The feature type.
+    kind: u16,
+    /// The selector within the type.
+    selector: u16,
+}
+
+/// Whether a setting leaves the flags of a chain as they are where nothing is asked for.
+fn keeps_flags(default_flags: u32, feature: &ChainFeature) -> bool {
+    (default_flags & feature.disable_flags) | feature.enable_flags == default_flags
+}
+
+/// Notes of each setting of a chain whether it leaves the default flags as they are, in this chain and in those before.
+fn note_settings(settings: &mut BTreeMap<Setting, bool>, chain: &Chain) -> Result<(), AllocError> {
+    for feature in &chain.features {
+        let setting = Setting {
+            kind: feature.kind,
+            selector: feature.setting,
+        };
+        let is_on = settings.entry(setting)?.or_insert(true);
+        *is_on = *is_on && keeps_flags(chain.default_flags, feature);
+    }
+    Ok(())
+}
+
+/// The settings of chains, each with whether it is on by default.
+fn settings_of(alloc: Global, chains: &[Chain]) -> Result<BTreeMap<Setting, bool>, AllocError> {
+    let mut settings = BTreeMap::new(alloc);
+    for chain in chains {
+        note_settings(&mut settings, chain)?;
+    }
+    Ok(settings)
+}
+
+/// Writes the settings that are on by default, rising by type and then by number: those that chains list, and that
+/// change the default flags of none.
+///
+/// An error is that of the writer, or `OutOfMemory`. A part of the text may be written then.
+pub(crate) fn write_defaults<W: Write>(
+    alloc: Global,
+    out: &mut W,
+    chains: &[Chain],
+) -> io::Result<()> {
+    for (setting, is_on) in &settings_of(alloc, chains)? {
+        if *is_on {
+            let (kind, selector) = (setting.kind, setting.selector);
+            writeln!(out, "feature {kind} setting {selector} is on by default")?;
+        }
+    }
+    Ok(())
+}
