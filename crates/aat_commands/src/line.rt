@@ -86,9 +86,13 @@ fn changes_of(
     }
 }
 
-/// Whether a form shows what each subtable changed.
-fn is_traced(output: Output) -> bool {
-    output.is_picture() || output == Output::Trace
+/// The most glyphs of a line that is traced for the colours of a picture. A trace takes a time that grows with the square
+/// of the line.
+const MOST_COLOURED: usize = 10_000;
+
+/// Whether what each subtable changed is told of a line, or shown.
+fn is_traced(output: Output, text: &[TextGlyph]) -> bool {
+    output == Output::Trace || output.is_picture() && text.len() <= MOST_COLOURED
 }
 
 /// Shapes a line, hides its ignorable glyphs, and tells where it may be broken.
@@ -104,7 +108,7 @@ pub(crate) fn shape_line(
     shaper.shape(direction, text, features)?;
     let space = context.face.glyph_of(' ');
     let visible = hide_ignorables(alloc, space, text, shaper.glyphs())?;
-    let trace = if is_traced(context.request.output) {
+    let trace = if is_traced(context.request.output, text) {
         Some(trace_of(alloc, context.face.font(), direction, text, features)?)
     } else {
         None

@@ -3,10 +3,12 @@
 use crate::line::{Context, ShapedLine};
 use crate::request::Output;
 use crate::tracing::write_trace;
-use aat_drawing::{DrawnLine, LineMetrics, Picture, write_glyphs, write_json, write_svg};
+use aat_drawing::{
+    DrawError, DrawnLine, LineMetrics, Picture, write_glyphs, write_json, write_svg,
+};
 use aat_outlines::Outlines;
 use aat_sfnt::FontFile;
-use anyhow::{Context as _, Result, anyhow};
+use anyhow::{Context as _, Result, anyhow, bail};
 use std::alloc::Global;
 use std::io::{self, Write};
 
@@ -47,5 +49,8 @@ pub(crate) fn write_picture<W: Write>(
         lines,
         subtables: context.subtables,
     };
-    write_svg(alloc, out, &picture).with_context(|| anyhow!("{path}"))
+    match write_svg(alloc, out, &picture) {
+        Err(DrawError::Outline(glyph, fault)) => bail!("{path}: glyph {glyph}: {fault}"),
+        written => Ok(written?),
+    }
 }

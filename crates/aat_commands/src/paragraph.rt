@@ -35,14 +35,17 @@ impl Paragraph {
     }
 }
 
-/// Tells on the error stream how many characters of a line have no glyph in the font, and the first of them.
+/// Tells on the error stream the first character of a line that has no glyph in the font, and how many more there are.
 pub(crate) fn tell_missing(rt: &HostRuntime, context: &Context<'_, '_>, line: &str) -> Result<()> {
     let unit = context.request.unit;
     let missing = missing_characters(rt.alloc(), context.face, unit, line)?;
-    if let Some(first) = missing.first() {
-        let (place, others) = (first.place, missing.len() - 1);
-        let code = first.character as u32;
-        eprintln!(rt; "aat: no glyph for U+{code:04X} at {place}, nor for {others} others")?;
+    let Some(first) = missing.first() else {
+        return Ok(());
+    };
+    let (code, place) = (first.character as u32, first.place);
+    match missing.len() {
+        1 => eprintln!(rt; "aat: no glyph for U+{code:04X} at {place}")?,
+        count => eprintln!(rt; "aat: no glyph for U+{code:04X} at {place}, the first of {count}")?,
     }
     Ok(())
 }

@@ -25,7 +25,7 @@ fn glyph_value(alloc: Global, drawn: &DrawnGlyph) -> Result<Value, AllocError> {
     })
 }
 
-/// Writes a line as an array of objects, and its end.
+/// Writes a line as an array of objects, on one line of text.
 ///
 /// An error is that of the writer, or `OutOfMemory`. A part of the text may be written then.
 pub fn write_json<W: Write>(alloc: Global, out: &mut W, line: &DrawnLine) -> io::Result<()> {
@@ -34,7 +34,7 @@ pub fn write_json<W: Write>(alloc: Global, out: &mut W, line: &DrawnLine) -> io:
         out.write_all(before.as_bytes())?;
         let text = glyph_value(alloc, drawn)?.to_string(alloc)?;
         out.write_all(text.as_bytes())?;
-        before = ",\n";
+        before = ",";
     }
     if line.glyphs.is_empty() {
         out.write_all(b"[")?;

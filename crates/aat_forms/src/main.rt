@@ -7,7 +7,7 @@ use anyhow::Result;
 use std::io::{self, BufWriter, Write};
 
 /// Command lines, without the name of the program, whose words a bar parts.
-static LINES: [&str; 42] = [
+static LINES: [&str; 44] = [
     "shape|sample.ttf|fila fa-la",
     "shape|sample.ttf|fila fa-la|--features|-liga,smcp[5:7]",
     "shape|sample.ttf|fila a\u{301}|--direction|rtl",
@@ -32,6 +32,8 @@ static LINES: [&str; 42] = [
     "dump|sample.ttf|kerx",
     "dump|sample.ttf|glyf",
     "dump|sample.ttf|a",
+    "shape|sample.ttf|fila a\u{301}|--features|smcp|--output|svg",
+    "shape|outline.ttf|fila|--output|svg",
     "shape|short.ttf|fila|--output|svg",
     "shape|none.ttf|fila",
     "inspect|sample.ttf|--index|1",
@@ -71,12 +73,59 @@ fn words_of(rt: &HostRuntime, line: &'static str) -> Result<Vec<&'static str>> {
     Ok(words)
 }
 
+/// A writer that takes so many bytes and then is full.
+#[derive(Drop)]
+struct Full {
+    room: usize,
+}
+
+impl Write for Full {
+    fn write(&mut self, bytes: &[u8]) -> io::Result<usize> {
+        if bytes.len() > self.room {
+            return Err(io::Error::from(io::ErrorKind::StorageFull));
+        }
+        self.room -= bytes.len();
+        Ok(bytes.len())
+    }
+
+    fn flush(&mut self) -> io::Result<()> {
+        Ok(())
+    }
+}
+
+/// Command lines whose output does not fit.
+static TOO_LONG: [&str; 5] = [
+    "shape|sample.ttf|fila",
+    "shape|sample.ttf|fila|--output|json",
+    "shape|sample.ttf|fila|--output|svg",
+    "shape|sample.ttf|fila|--trace",
+    "inspect|sample.ttf",
+];
+
+/// Tells what becomes of a command line when its writer is full after so many bytes.
+fn show_full<W: Write>(
+    rt: &HostRuntime,
+    out: &mut W,
+    line: &'static str,
+    room: usize,
+) -> Result<()> {
+    let words = words_of(rt, line)?;
+    match run(rt, &words, &mut Full { room }) {
+        Ok(_) => writeln!(out, "{line} fits into {room} bytes")?,
+        Err(error) => writeln!(out, "{line} into {room} bytes: {error:#}")?,
+    }
+    Ok(())
+}
+
 fn main(rt: HostRuntime) -> Result<()> {
     let mut out = BufWriter::new(rt.alloc(), io::writer(&rt))?;
     for line in LINES {
         writeln!(out, "$ {line}")?;
         let words = words_of(&rt, line)?;
         show(&rt, &mut out, &words)?;
+    }
+    for line in TOO_LONG {
+        show_full(&rt, &mut out, line, 30)?;
     }
     out.flush()?;
     Ok(())
