@@ -1,6 +1,12 @@
 pub mod Ends
+pub mod EndsAgain
 pub mod Errors
+pub mod FlagsAgain
 pub mod Near
 pub mod Offsets
+pub mod OutlinesAgain
+pub mod PlacesAgain
+pub mod PointsAgain
+pub mod SimpleAgain
 pub mod Steps
 pub mod Written

@@ -4,6 +4,8 @@
 mod bounds;
 mod error;
 mod glyph;
+#[doc(hidden)]
+pub mod laws;
 mod tables;
 #[doc(hidden)]
 pub mod worked;

@@ -1,8 +1,15 @@
 //! Worked examples of written outlines as theorems. This call does nothing: what is proved is its contract.
 ghost use Rattle.aat_outline_writer.specs.Examples.{FarOutlinesAreRefused, OutlinesAreWritten};
+ghost use Rattle.aat_outline_writer.specs.LawExamples.{OutlinesAreReadAgain};
 
 /// The definitions of the tables compute to the examples.
 pub fn tables()
     ensures written { OutlinesAreWritten }
     ensures far { FarOutlinesAreRefused }
+{}
+
+/// The definitions of the reader compute to the outlines that are written.
+#[tactic(auto, unfolding(aat_bytes::specs::Numbers::u32_at, aat_outlines::specs::Composites::drawn_at))]
+pub fn read_again()
+    ensures { OutlinesAreReadAgain }
 {}
