@@ -4,9 +4,9 @@ use Rattle.std.specs.Prelude.{option_and_then, option_map, slice_get}
 use Rattle.std.proofs.lemmas.List.{get_or-append-add, get_or_append_left, get_or-map, length-map}
 use Rattle.std.proofs.lemmas.Option.{slice_get-get_or}
 use Rattle.aat_outlines.specs.Flags.{FlagList, behind, flags_from, next_run, run_of}
-use Rattle.aat_outlines.specs.declared.flags.FlagRun.{FlagRun}
 use Rattle.aat_outlines.specs.declared.outline.OutlinePoint.{OutlinePoint}
 use Rattle.aat_outline_writer.specs.GlyphData.{flag_of}
+use Rattle.aat_outline_writer.proofs.Readers.{FlagRun}
 
 -- a flag that is not repeated, in front of a place
 abbrev pub once : ℕ → ℕ → FlagRun

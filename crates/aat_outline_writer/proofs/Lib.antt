@@ -7,6 +7,7 @@ pub mod Offsets
 pub mod OutlinesAgain
 pub mod PlacesAgain
 pub mod PointsAgain
+pub mod Readers
 pub mod SimpleAgain
 pub mod Steps
 pub mod Written

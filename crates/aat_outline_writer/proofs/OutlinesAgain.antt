@@ -68,9 +68,9 @@ plain_again (point ∷ points) [] place whole few short = absurd (omega (arith, 
 plain_again points (end ∷ ends) place whole few short =
     let outline : PointLists = record { points = points; ends = end ∷ ends } in
     let some : (length (end ∷ ends) == 0) ≡ false = not_zero (length (end ∷ ends)) (omega arith) in
-    let data : glyph_data outline ≡ simple_bytes outline ++ padding (length (simple_bytes outline)) =
+    let bytes : glyph_data outline ≡ simple_bytes outline ++ padding (length (simple_bytes outline)) =
     ap (λ (b : Bool). cond b [] (padded (simple_bytes outline))) some in
-    simple_plain (glyph_data outline) (padding (length (simple_bytes outline))) outline place data whole (omega arith) few short
+    simple_plain (glyph_data outline) (padding (length (simple_bytes outline))) outline place bytes whole (omega arith) few short
 
 -- a glyph that is not composite is its own outline
 drawn :

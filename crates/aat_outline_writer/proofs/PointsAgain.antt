@@ -8,11 +8,10 @@ use Rattle.std.proofs.lemmas.List.Sums.{sum_by-cons}
 use Rattle.aat_bytes.specs.Numbers.{be16, signed16}
 use Rattle.aat_outlines.specs.Flags.{has}
 use Rattle.aat_outlines.specs.Points.{moved, point_at, points_from, step_at, x_size, y_size}
-use Rattle.aat_outlines.specs.declared.flags.TheConstants.{ON_CURVE, X_SHORT, Y_SHORT, X_SAME, Y_SAME}
 use Rattle.aat_outlines.specs.declared.outline.OutlinePoint.{OutlinePoint}
-use Rattle.aat_outlines.specs.declared.points.Pen.{Pen}
 use Rattle.aat_writer.specs.facts.WordPlaces.{AreWords}
 use Rattle.aat_outline_writer.specs.GlyphData.{are_short_steps, flag_of, is_short, is_short_step, word_of, x_words, y_words}
+use Rattle.aat_outline_writer.proofs.Readers.{Pen}
 
 pub both : (b c : Bool) → (b && c) ≡ true → (b ≡ true) × (c ≡ true)
 both true c is = (refl, is)
@@ -40,7 +39,7 @@ step_again from to short =
 abbrev flag : Bool → ℕ
 flag b = cond b 1 0
 
-on_curve : (b : Bool) → has (flag b) ON_CURVE ≡ b
+on_curve : (b : Bool) → has (flag b) 1 ≡ b
 on_curve true = refl
 on_curve false = refl
 
@@ -53,12 +52,12 @@ y_takes_two true = refl
 y_takes_two false = refl
 
 x_step : (b : Bool) (bytes : List ℕ) (place : ℕ)
-    → step_at bytes place (has (flag b) X_SHORT) (has (flag b) X_SAME) ≡ signed16 (be16 bytes place)
+    → step_at bytes place (has (flag b) 2) (has (flag b) 16) ≡ signed16 (be16 bytes place)
 x_step true bytes place = refl
 x_step false bytes place = refl
 
 y_step : (b : Bool) (bytes : List ℕ) (place : ℕ)
-    → step_at bytes place (has (flag b) Y_SHORT) (has (flag b) Y_SAME) ≡ signed16 (be16 bytes place)
+    → step_at bytes place (has (flag b) 4) (has (flag b) 32) ≡ signed16 (be16 bytes place)
 y_step true bytes place = refl
 y_step false bytes place = refl
 
@@ -116,12 +115,12 @@ pen_at x_place y_place point = record { x_place = x_place; y_place = y_place; x 
 module _ (bytes : List ℕ) (x_place y_place : ℕ) (from point : OutlinePoint)
     (x_short : is_short (point.x -ℤ from.x) ≡ true) (y_short : is_short (point.y -ℤ from.y) ≡ true)
     (x_here : be16 bytes x_place ≡ word_of (point.x -ℤ from.x)) (y_here : be16 bytes y_place ≡ word_of (point.y -ℤ from.y)) where
-  x_there : from.x +ℤ step_at bytes x_place (has (flag_of point) X_SHORT) (has (flag_of point) X_SAME) ≡ point.x
+  x_there : from.x +ℤ step_at bytes x_place (has (flag_of point) 2) (has (flag_of point) 16) ≡ point.x
   x_there =
       ap (λ (z : ℤ). from.x +ℤ z) (x_step point.is_on_curve bytes x_place ∙ ap signed16 x_here)
       ∙ step_again from.x point.x x_short
 
-  y_there : from.y +ℤ step_at bytes y_place (has (flag_of point) Y_SHORT) (has (flag_of point) Y_SAME) ≡ point.y
+  y_there : from.y +ℤ step_at bytes y_place (has (flag_of point) 4) (has (flag_of point) 32) ≡ point.y
   y_there =
       ap (λ (z : ℤ). from.y +ℤ z) (y_step point.is_on_curve bytes y_place ∙ ap signed16 y_here)
       ∙ step_again from.y point.y y_short

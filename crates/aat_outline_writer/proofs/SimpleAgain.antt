@@ -15,7 +15,6 @@ use Rattle.aat_outlines.specs.Outlines.{IsOutline, PointLists}
 use Rattle.aat_outlines.specs.Points.{pen_of, points_from, points_of, x_size, y_size}
 use Rattle.aat_outlines.specs.SimpleGlyphs.{end_of, ends_fault, ends_of, falling_end, flags_of, flags_place, simple_outline}
 use Rattle.aat_outlines.specs.declared.outline.OutlinePoint.{OutlinePoint}
-use Rattle.aat_outlines.specs.declared.points.Pen.{Pen}
 use Rattle.aat_writer.specs.Words.{word_bytes}
 use Rattle.aat_writer.specs.facts.WordPlaces.{length_words, word_at}
 use Rattle.aat_outline_writer.specs.GlyphData.{are_short_steps, bounds_of, bounds_words, flag_of, header_words, last_points, origin, simple_bytes, x_words, y_words}
@@ -26,7 +25,7 @@ use Rattle.aat_outline_writer.proofs.PointsAgain.{pen_at, points_again, x_count,
 -- lists one behind the other, apart at each place
 regroup :
     (a b c d e f r : List ℕ)
-    → ((a ++ (b ++ c)) ++ (d ++ (e ++ f))) ++ r ≡ a ++ (b ++ (c ++ (d ++ (e ++ (f ++ r)))))
+    → ((((a ++ (b ++ c)) ++ d) ++ e) ++ f) ++ r ≡ a ++ (b ++ (c ++ (d ++ (e ++ (f ++ r)))))
 regroup a b c d e f r = simp append_assoc
 
 behind_two : (a b r : List ℕ) → a ++ (b ++ r) ≡ (a ++ b) ++ r
@@ -76,7 +75,7 @@ parts_of outline rest =
 
 pub apart : (outline : PointLists) (rest : List ℕ) → simple_bytes outline ++ rest ≡ parts_of outline rest
 apart outline rest =
-    ap (λ (front : List ℕ). (front ++ (flags_part outline ++ (x_part outline ++ y_part outline))) ++ rest)
+    ap (λ (front : List ℕ). (((front ++ flags_part outline) ++ x_part outline) ++ y_part outline) ++ rest)
     (three_parts (length outline.ends ∷ []) (bounds_words (bounds_of outline.points)) (last_points outline.ends ++ 0 ∷ []))
     ∙ regroup (first_part outline) (box_part outline) (ends_part outline) (flags_part outline) (x_part outline) (y_part outline) rest
 
