@@ -1,5 +1,5 @@
 -- Outlines that are written are read again.
-use Rattle.std.proofs.Common.{◌≡◌, ◌∙◌, ap, refl, sym, subst, ℕ, zero, suc, ◌+◌, ◌-◌, ◌<◌, ◌≤◌, ◌==◌, Bool, true, false, cond, List, [], ◌∷◌, ◌++◌, length, get_or, Option, Some, None, Result, Ok, Err, arith}
+use Rattle.std.proofs.Common.{◌≡◌, ◌∙◌, ap, refl, subst, ℕ, suc, ◌-◌, ◌<◌, ◌≤◌, ◌==◌, Bool, true, false, cond, List, [], ◌∷◌, ◌++◌, length, get_or, Option, Some, None, Result, Ok, Err, arith}
 use Rattle.std.specs.Prelude.{nat_le, nat_lt}
 use Rattle.std.proofs.lemmas.Bool.{le-ltb, ltb-false}
 use Rattle.std.proofs.lemmas.Bool.Decides.{nat_tests}
@@ -8,7 +8,7 @@ use Rattle.aat_bytes.specs.Faults.{after}
 use Rattle.aat_bytes.specs.Numbers.{be16}
 use Rattle.aat_bytes.specs.declared.error.Fault.{Fault}
 use Rattle.aat_outlines.specs.Components.{components_from}
-use Rattle.aat_outlines.specs.Composites.{Drawing, drawn_at, drawn_or, drawn_with, outline_of, plain_outline}
+use Rattle.aat_outlines.specs.Composites.{Drawing, drawn_at, drawn_with, outline_of, plain_outline}
 use Rattle.aat_outlines.specs.Glyphs.{GlyphBytes, past}
 use Rattle.aat_outlines.specs.Offsets.{OutlineTables, glyph_bytes}
 use Rattle.aat_outlines.specs.Outlines.{IsOutline, PointLists, no_points}
@@ -16,7 +16,7 @@ use Rattle.aat_outlines.specs.SimpleGlyphs.{simple_outline}
 use Rattle.aat_outlines.specs.declared.outline.OutlinePoint.{OutlinePoint}
 use Rattle.aat_outline_writer.specs.GlyphData.{are_short_steps, glyph_data, origin, padded, padding, simple_bytes}
 use Rattle.aat_outline_writer.specs.OutlineLaws.{WrittenOutlinesAreRead, tables_over}
-use Rattle.aat_outline_writer.specs.Tables.{Written, error_of, glyf_bytes, loca_bytes, offset_of, outlines_written}
+use Rattle.aat_outline_writer.specs.Tables.{Written, error_of, glyf_bytes, loca_bytes, offset_of}
 use Rattle.aat_outline_writer.specs.declared.error.OutlineWriteError.{OutlineWriteError}
 use Rattle.aat_outline_writer.specs.declared.error.OutlineWriteError.TheVariants.{TooLong}
 use Rattle.aat_outline_writer.proofs.Errors.{IsFine, each_fine}

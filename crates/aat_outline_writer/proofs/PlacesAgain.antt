@@ -1,10 +1,10 @@
 -- The data of each glyph is found again at its offsets.
-use Rattle.std.proofs.Common.{◌≡◌, ◌∙◌, ap, refl, sym, ℕ, zero, suc, ◌+◌, ◌-◌, ◌*◌, ◌<◌, ◌≤◌, ◌^◌, Bool, true, false, cond, List, [], ◌∷◌, ◌++◌, length, get_or, map, take, drop, All, Option, Some, None, Result, Ok, Err, append_assoc, length-append, zero-add, arith}
-use Rattle.std.specs.Prelude.{◌&&◌, nat_le, nat_lt, slice_range}
+use Rattle.std.proofs.Common.{◌≡◌, ◌∙◌, ap, refl, sym, ℕ, ◌+◌, ◌-◌, ◌*◌, ◌<◌, ◌≤◌, ◌^◌, Bool, true, cond, List, [], ◌++◌, length, get_or, map, take, drop, All, Option, Some, None, Result, Ok, Err, append_assoc, length-append, zero-add, arith}
+use Rattle.std.specs.Prelude.{◌&&◌, nat_le, slice_range}
 use Rattle.std.specs.List.{range_with_len}
 use Rattle.std.proofs.lemmas.Bool.{lt-ltb}
 use Rattle.std.proofs.lemmas.Bool.Decides.{nat_tests}
-use Rattle.std.proofs.lemmas.List.{append-nil, drop_at, get_or_default, take_at, take-append-drop}
+use Rattle.std.proofs.lemmas.List.{append-nil, drop_at, take_at, take-append-drop}
 use Rattle.std.proofs.lemmas.List.Concat.{flat_map-append}
 use Rattle.std.proofs.lemmas.List.FromFn.{get_or-map-range_with_len, length-map-range_with_len}
 use Rattle.aat_bytes.specs.Faults.{after, fault_at}
@@ -15,7 +15,6 @@ use Rattle.aat_outlines.specs.Glyphs.{GlyphBytes}
 use Rattle.aat_outlines.specs.Offsets.{OutlineTables, bytes_between, entry_fault, entry_place, glyph_bytes, offset_at}
 use Rattle.aat_outlines.specs.Outlines.{PointLists}
 use Rattle.aat_outlines.specs.declared.tags.TheConstants.{LOCA}
-use Rattle.aat_writer.specs.Words.{long_bytes}
 use Rattle.aat_writer.specs.facts.LongPlaces.{length_longs, long_at}
 use Rattle.aat_outline_writer.specs.GlyphData.{glyph_data}
 use Rattle.aat_outline_writer.specs.OutlineLaws.{tables_over}

@@ -1,5 +1,5 @@
 -- Points are read again from the flags and the steps that were written of them.
-use Rattle.std.proofs.Common.{◌≡◌, ◌∙◌, ap, refl, sym, ℕ, ℤ, zero, suc, ◌+◌, ◌*◌, ◌<◌, ◌≤◌, ◌^◌, Bool, true, false, cond, List, [], ◌∷◌, length, get_or, map, SFits, w16, arith}
+use Rattle.std.proofs.Common.{◌≡◌, ◌∙◌, ap, refl, ℕ, ℤ, suc, ◌+◌, ◌*◌, ◌<◌, Bool, true, false, cond, List, [], ◌∷◌, length, get_or, map, SFits, w16, arith}
 use Rattle.std.specs.Prelude.{pos, negsuc, ◌+ℤ◌, ◌-ℤ◌, ◌&&◌, int_le, sum_by}
 use Rattle.std.proofs.Math.Facts.{Fits-of_z}
 use Rattle.std.proofs.lemmas.Bool.Decides.{nat_tests}
@@ -13,7 +13,7 @@ use Rattle.aat_writer.specs.facts.WordPlaces.{AreWords}
 use Rattle.aat_outline_writer.specs.GlyphData.{are_short_steps, flag_of, is_short, is_short_step, word_of, x_words, y_words}
 use Rattle.aat_outline_writer.proofs.Readers.{Pen}
 
-pub both : (b c : Bool) → (b && c) ≡ true → (b ≡ true) × (c ≡ true)
+both : (b c : Bool) → (b && c) ≡ true → (b ≡ true) × (c ≡ true)
 both true c is = (refl, is)
 both false c is = cc
 
@@ -125,13 +125,13 @@ module _ (bytes : List ℕ) (x_place y_place : ℕ) (from point : OutlinePoint)
       ap (λ (z : ℤ). from.y +ℤ z) (y_step point.is_on_curve bytes y_place ∙ ap signed16 y_here)
       ∙ step_again from.y point.y y_short
 
-  pub pen_there : moved bytes (pen_at x_place y_place from) (flag_of point) ≡ pen_at (x_place + 2) (y_place + 2) point
+  pen_there : moved bytes (pen_at x_place y_place from) (flag_of point) ≡ pen_at (x_place + 2) (y_place + 2) point
   pen_there =
       let one : x_place + x_size (flag_of point) ≡ x_place + 2 = omega (arith, x_takes_two point.is_on_curve) in
       let two : y_place + y_size (flag_of point) ≡ y_place + 2 = omega (arith, y_takes_two point.is_on_curve) in
       cc (one, two, x_there, y_there)
 
-  pub point_there : point_at (pen_at (x_place + 2) (y_place + 2) point) (flag_of point) ≡ point
+  point_there : point_at (pen_at (x_place + 2) (y_place + 2) point) (flag_of point) ≡ point
   point_there =
       let at : Bool → OutlinePoint = λ (b : Bool). record { x = point.x; y = point.y; is_on_curve = b } in
       ap at (on_curve point.is_on_curve)

@@ -1,5 +1,5 @@
 -- The data of a simple glyph is read again as the outline that was written.
-use Rattle.std.proofs.Common.{◌≡◌, ◌∙◌, ap, refl, sym, ℕ, zero, suc, ◌+◌, ◌-◌, ◌*◌, ◌<◌, ◌≤◌, Bool, true, false, cond, List, [], ◌∷◌, ◌++◌, length, get_or, map, Option, Some, None, Result, Ok, Err, append_assoc, length-append, arith}
+use Rattle.std.proofs.Common.{◌≡◌, ◌∙◌, ap, refl, sym, ℕ, ◌+◌, ◌-◌, ◌*◌, ◌<◌, ◌≤◌, Bool, true, false, cond, List, [], ◌∷◌, ◌++◌, length, get_or, map, Option, Some, None, Result, Ok, Err, append_assoc, length-append, arith}
 use Rattle.std.specs.Prelude.{nat_lt, slice_get, sum_by}
 use Rattle.std.specs.Int.{to_be_bytes, w16}
 use Rattle.std.proofs.lemmas.Bool.{le-ltb}
@@ -17,7 +17,7 @@ use Rattle.aat_outlines.specs.SimpleGlyphs.{end_of, ends_fault, ends_of, falling
 use Rattle.aat_outlines.specs.declared.outline.OutlinePoint.{OutlinePoint}
 use Rattle.aat_writer.specs.Words.{word_bytes}
 use Rattle.aat_writer.specs.facts.WordPlaces.{length_words, word_at}
-use Rattle.aat_outline_writer.specs.GlyphData.{are_short_steps, bounds_of, bounds_words, flag_of, header_words, last_points, origin, simple_bytes, x_words, y_words}
+use Rattle.aat_outline_writer.specs.GlyphData.{are_short_steps, bounds_of, bounds_words, flag_of, last_points, origin, simple_bytes, x_words, y_words}
 use Rattle.aat_outline_writer.proofs.EndsAgain.{end_again, ends_again, instructions_at, last_end, last_point_at, last_points_small, none_falls}
 use Rattle.aat_outline_writer.proofs.FlagsAgain.{flag_there, flags_again}
 use Rattle.aat_outline_writer.proofs.PointsAgain.{pen_at, points_again, x_count, x_sizes, x_small, y_count, y_sizes, y_small}

@@ -1,9 +1,9 @@
 -- Worked examples of written outlines.
-use Rattle.std.specs.Prelude.{◌≡◌, ℕ, ℤ, List, [], ◌∷◌, pos, negsuc, Bool, true, false, Some, None, Ok, Err, replicate}
+use Rattle.std.specs.Prelude.{◌≡◌, ℕ, ℤ, List, [], ◌∷◌, pos, negsuc, true, false, Some, None, Ok}
 use Rattle.aat_outlines.specs.Outlines.{PointLists, no_points}
 use Rattle.aat_outlines.specs.declared.outline.OutlinePoint.{OutlinePoint}
 use Rattle.aat_outline_writer.specs.Tables.{error_of, outlines_written}
-use Rattle.aat_outline_writer.specs.declared.error.OutlineWriteError.TheVariants.{TooManyContours, FarPoint, FarStep}
+use Rattle.aat_outline_writer.specs.declared.error.OutlineWriteError.TheVariants.{FarPoint, FarStep}
 
 -- an outline of one contour
 abbrev pub contour : ℕ → List OutlinePoint → PointLists

@@ -1,7 +1,6 @@
 -- The data of a simple glyph. Apple's TrueType Reference Manual, "The 'glyf' table".
-use Rattle.std.specs.Prelude.{ℕ, ℤ, pos, negsuc, ◌+◌, ◌-◌, ◌%◌, ◌-ℤ◌, ◌++◌, ◌==◌, ◌&&◌, ◌||◌, List, [], ◌∷◌, length, map, slice_index_or, Bool, true, false, not, fold, replicate, if◌then◌else◌, int_le, nat_lt}
+use Rattle.std.specs.Prelude.{ℕ, ℤ, pos, negsuc, ◌-◌, ◌%◌, ◌-ℤ◌, ◌++◌, ◌==◌, ◌&&◌, List, [], ◌∷◌, length, map, slice_index_or, Bool, true, fold, replicate, if◌then◌else◌, int_le}
 use Rattle.std.specs.Int.{cast_unsigned, w16, int_max, int_min}
-use Rattle.std.specs.List.{list_all}
 use Rattle.aat_outlines.specs.Outlines.{PointLists}
 use Rattle.aat_outlines.specs.declared.outline.OutlinePoint.{OutlinePoint}
 use Rattle.aat_writer.specs.Words.{word_bytes}

@@ -6,7 +6,7 @@ use Rattle.aat_bytes.specs.declared.error.FaultKind.TheVariants.{Missing}
 use Rattle.aat_outlines.specs.Composites.{outline_of}
 use Rattle.aat_outlines.specs.Outlines.{PointLists, no_points}
 use Rattle.aat_outlines.specs.declared.tags.TheConstants.{LOCA}
-use Rattle.aat_outline_writer.specs.Examples.{contour, corner, off, on}
+use Rattle.aat_outline_writer.specs.Examples.{corner, off, on}
 use Rattle.aat_outline_writer.specs.OutlineLaws.{tables_over}
 use Rattle.aat_outline_writer.specs.Tables.{outlines_written}
 
@@ -17,7 +17,7 @@ two_contours = record {
   ends = 1 ∷ 3 ∷ [];
 }
 
--- the outline of a glyph that is read from outlines that were written
+-- the outline of a glyph that is read from outlines that were written, and a fault at 0 where none were
 abbrev pub read_again : List PointLists → ℕ → Result PointLists Fault
 read_again outlines glyph = elim (outlines_written outlines) [
   | Ok written ↦ outline_of (tables_over written (length outlines)) glyph

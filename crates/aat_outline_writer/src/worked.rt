@@ -1,4 +1,4 @@
-//! Worked examples of written outlines as theorems. This call does nothing: what is proved is its contract.
+//! Worked examples of written outlines as theorems. These calls do nothing: what is proved is their contracts.
 ghost use Rattle.aat_outline_writer.specs.Examples.{FarOutlinesAreRefused, OutlinesAreWritten};
 ghost use Rattle.aat_outline_writer.specs.LawExamples.{OutlinesAreReadAgain};
 
