@@ -2,8 +2,10 @@
 
 use crate::paragraph::Paragraph;
 use aat_layout::AatError;
-use aat_layout::font::Feature;
-use aat_shaper::{Shaper, TextGlyph};
+use aat_layout::buffer::Direction;
+use aat_layout::font::{Feature, GlyphId};
+use aat_shaper::{ShapedGlyph, Shaper, TextGlyph};
+use aat_text::hide_ignorables;
 use anyhow::Result;
 use std::alloc::{AllocError, Global};
 
@@ -30,17 +32,6 @@ fn stops_of(alloc: Global, paragraph: &Paragraph) -> Result<Vec<Stop>, AllocErro
     Ok(stops)
 }
 
-/// What lines are filled by.
-#[derive(Clone, Copy)]
-pub(crate) struct Filling<'a> {
-    /// The features of the text.
-    pub(crate) features: &'a [Feature],
-    /// The number of the glyph of the space, if the font has one.
-    pub(crate) space: Option<u16>,
-    /// The greatest width, in units of the font.
-    pub(crate) width: u64,
-}
-
 /// The part of a text between two places, none where they are not places of it.
 pub(crate) fn part(text: &[TextGlyph], start: usize, end: usize) -> &[TextGlyph] {
     match text.get(start..end) {
@@ -49,85 +40,104 @@ pub(crate) fn part(text: &[TextGlyph], start: usize, end: usize) -> &[TextGlyph]
     }
 }
 
-impl Filling<'_> {
+/// What lines are filled by.
+#[derive(Drop)]
+pub(crate) struct Filling<'a, 'f> {
+    /// What shapes them.
+    pub(crate) shaper: &'a mut Shaper<'f>,
+    /// The features of the text.
+    pub(crate) features: &'a [Feature],
+    /// The glyph of the space, if the font has one.
+    pub(crate) space: Option<GlyphId>,
+    /// The greatest width, in units of the font.
+    pub(crate) width: u64,
+}
+
+impl Filling<'_, '_> {
     /// A text without the spaces at its end.
     fn without_spaces<'t>(&self, text: &'t [TextGlyph]) -> &'t [TextGlyph] {
         let kept = text
             .iter()
-            .rposition(|glyph| Some(glyph.glyph_id) != self.space);
+            .rposition(|glyph| Some(GlyphId(glyph.glyph_id)) != self.space);
         match kept {
             None => &[],
             Some(last) => part(text, 0, last.saturating_add(1)),
         }
     }
 
-    /// Whether a text, without the spaces at its end and shaped by itself, is at most as wide as a line.
+    /// Whether the text of a line, without the spaces at its end and shaped by itself, is at most as wide as a line.
     fn fits(
-        &self,
-        shaper: &mut Shaper<'_>,
-        paragraph: &Paragraph,
-        text: &[TextGlyph],
-    ) -> Result<bool, AatError> {
-        let direction = paragraph.direction;
-        shaper.shape(direction, self.without_spaces(text), self.features)?;
-        let mut sum = 0i64;
-        for glyph in shaper.glyphs() {
-            let advance = if direction.is_horizontal() {
-                glyph.x_advance
-            } else {
-                glyph.y_advance
-            };
-            sum = sum.saturating_add(i64::from(advance));
-        }
-        Ok(sum.unsigned_abs() <= self.width)
-    }
-
-    /// Where the line that begins at a place ends: at the last of the first stops up to which its text fits, or at the
-    /// first one if none fits. It does not pass a forced one.
-    fn end_of_line(
-        &self,
-        shaper: &mut Shaper<'_>,
-        paragraph: &Paragraph,
-        stops: &[Stop],
-        start: usize,
-    ) -> Result<usize, AatError> {
-        let mut last = None;
-        for stop in stops {
-            if stop.index <= start {
-                continue;
-            }
-            let text = part(&paragraph.text, start, stop.index);
-            if last.is_some() && !self.fits(shaper, paragraph, text)? {
-                break;
-            }
-            last = Some(stop.index);
-            if stop.is_forced {
-                break;
-            }
-        }
-        Ok(last.unwrap_or(paragraph.text.len()))
-    }
-
-    /// The ends of the lines of a paragraph, by the number of glyphs of the text before them. Each line is as long as it
-    /// can be: its text up to the last place where it may end that fits, or up to the first one where none fits.
-    pub(crate) fn ends(
-        &self,
+        &mut self,
         alloc: Global,
-        shaper: &mut Shaper<'_>,
         paragraph: &Paragraph,
-    ) -> Result<Vec<usize>> {
+        start: usize,
+        stop: &Stop,
+    ) -> Result<bool, AatError> {
+        let text = self.without_spaces(part(&paragraph.text, start, stop.index));
+        let direction = paragraph.direction;
+        self.shaper.shape(direction, text, self.features)?;
+        let drawn = hide_ignorables(alloc, self.space, text, self.shaper.glyphs())?;
+        Ok(length_of(direction, &drawn) <= self.width)
+    }
+
+    /// How many of the stops of a line are tried before one whose text does not fit: the second one, the third, the
+    /// fifth and so on, each as far again. Answers the last one of these that fits, and the first that does not, or their
+    /// number.
+    fn far_stops(
+        &mut self,
+        alloc: Global,
+        paragraph: &Paragraph,
+        start: usize,
+        stops: &[Stop],
+    ) -> Result<(usize, usize), AatError> {
+        let mut last = 0usize;
+        for power in 0..32 {
+            let next = 1usize << power;
+            match stops.get(next) {
+                None => return Ok((last, stops.len())),
+                Some(stop) if !self.fits(alloc, paragraph, start, stop)? => return Ok((last, next)),
+                Some(_) => last = next,
+            }
+        }
+        Ok((last, stops.len()))
+    }
+
+    /// Which of the stops of a line it ends at: the first one, or a later one whose text fits, where that of the next
+    /// one does not. It is found by bisection, since a text mostly gets wider with its length.
+    fn last_stop(
+        &mut self,
+        alloc: Global,
+        paragraph: &Paragraph,
+        start: usize,
+        stops: &[Stop],
+    ) -> Result<usize, AatError> {
+        let (mut last, mut end) = self.far_stops(alloc, paragraph, start, stops)?;
+        for _step in 0..64 {
+            let middle = last.saturating_add(end.saturating_sub(last) / 2);
+            if middle == last {
+                break;
+            }
+            match stops.get(middle) {
+                Some(stop) if self.fits(alloc, paragraph, start, stop)? => last = middle,
+                _ => end = middle,
+            }
+        }
+        Ok(last)
+    }
+
+    /// The ends of the lines of a paragraph, by the number of glyphs of the text before them. No line passes a forced
+    /// end.
+    pub(crate) fn ends(&mut self, alloc: Global, paragraph: &Paragraph) -> Result<Vec<usize>> {
         let stops = stops_of(alloc, paragraph)?;
         let mut ends = Vec::new(alloc);
         let mut start = 0;
         for _line in 0..stops.len() {
-            let next = stops.partition_point(|stop| stop.index <= start);
-            let Some(rest) = stops.get(next..) else {
+            let line = stops_of_line(&stops, start);
+            let stop = self.last_stop(alloc, paragraph, start, line)?;
+            let Some(stop) = line.get(stop) else {
                 break;
             };
-            if rest.is_empty() {
-                break;
-            }
-            start = self.end_of_line(shaper, paragraph, rest, start)?;
+            start = stop.index;
             ends.push(start)?;
         }
         if ends.is_empty() {
@@ -135,4 +145,34 @@ impl Filling<'_> {
         }
         Ok(ends)
     }
+}
+
+/// The stops behind a place, up to the first forced one.
+fn stops_of_line(stops: &[Stop], start: usize) -> &[Stop] {
+    let first = stops.partition_point(|stop| stop.index <= start);
+    let Some(rest) = stops.get(first..) else {
+        return &[];
+    };
+    let count = match rest.iter().position(|stop| stop.is_forced) {
+        Some(place) => place.saturating_add(1),
+        None => rest.len(),
+    };
+    match rest.get(..count) {
+        Some(line) => line,
+        None => rest,
+    }
+}
+
+/// The length of glyphs along a line, without its sign.
+fn length_of(direction: Direction, glyphs: &[ShapedGlyph]) -> u64 {
+    let mut sum = 0i64;
+    for glyph in glyphs {
+        let advance = if direction.is_horizontal() {
+            glyph.x_advance
+        } else {
+            glyph.y_advance
+        };
+        sum = sum.saturating_add(i64::from(advance));
+    }
+    sum.unsigned_abs()
 }

@@ -1,8 +1,9 @@
 //! The command `aat inspect`.
 
+use crate::output::OUTPUT;
 use crate::source::FontSource;
 use aat_inspection::write_inspection;
-use anyhow::Result;
+use anyhow::{Context, Result};
 use clap::ArgMatches;
 use std::io::Write;
 
@@ -15,6 +16,6 @@ pub(crate) fn inspect<W: Write>(
     let source = FontSource::of_matches(matches)?;
     let bytes = source.bytes(rt)?;
     let face = source.face(rt.alloc(), &bytes)?;
-    write_inspection(rt.alloc(), out, &bytes, source.index, &face)?;
+    write_inspection(rt.alloc(), out, &bytes, source.index, &face).context(OUTPUT)?;
     Ok(())
 }

@@ -33,25 +33,37 @@ pub(crate) struct ShapedLine {
     pub(crate) trace: Option<Trace>,
 }
 
-/// Whether the text may be broken between two glyphs that are drawn one behind the other: where a line may end at the
-/// later one of their clusters.
-fn break_between(ends: &[LineEnd], before: &ShapedGlyph, glyph: &ShapedGlyph) -> LineBreak {
-    let place = before.cluster.max(glyph.cluster);
-    let index = ends.partition_point(|end| end.place < place);
-    let is_end = ends.get(index).is_some_and(|end| end.place == place);
-    if !is_end || before.cluster == glyph.cluster {
-        LineBreak::Never
-    } else if glyph.may_break_before {
-        LineBreak::AsDrawn
-    } else {
-        LineBreak::ShapedAnew
+/// Where a line may be broken.
+#[derive(Clone, Copy)]
+struct Breaks<'a> {
+    /// The places of the text where a line may end.
+    ends: &'a [LineEnd],
+    /// Whether `may_break_before` of a glyph speaks of the glyph that is drawn before it. In a backward line it does not
+    /// where a glyph between them was taken out.
+    is_whole: bool,
+}
+
+impl Breaks<'_> {
+    /// Whether the text may be broken between two glyphs that are drawn one behind the other: where a line may end at
+    /// the later one of their clusters.
+    fn between(&self, before: &ShapedGlyph, glyph: &ShapedGlyph) -> LineBreak {
+        let place = before.cluster.max(glyph.cluster);
+        let index = self.ends.partition_point(|end| end.place < place);
+        let is_end = self.ends.get(index).is_some_and(|end| end.place == place);
+        if !is_end || before.cluster == glyph.cluster {
+            LineBreak::Never
+        } else if self.is_whole && glyph.may_break_before {
+            LineBreak::AsDrawn
+        } else {
+            LineBreak::ShapedAnew
+        }
     }
 }
 
 /// The glyphs of a line, with where it may be broken and what changed them.
 fn drawn_glyphs(
     alloc: Global,
-    ends: &[LineEnd],
+    breaks: Breaks<'_>,
     glyphs: &[ShapedGlyph],
     changes: &[Option<usize>],
 ) -> Result<Vec<DrawnGlyph>, AllocError> {
@@ -60,7 +72,7 @@ fn drawn_glyphs(
     for (place, glyph) in glyphs.iter().enumerate() {
         let break_before = match before {
             None => LineBreak::Never,
-            Some(before) => break_between(ends, before, glyph),
+            Some(before) => breaks.between(before, glyph),
         };
         drawn.push(DrawnGlyph {
             glyph: *glyph,
@@ -88,7 +100,7 @@ fn changes_of(
 
 /// The most glyphs of a line that is traced for the colours of a picture. A trace takes a time that grows with the square
 /// of the line.
-const MOST_COLOURED: usize = 10_000;
+const MOST_COLOURED: usize = 1_000;
 
 /// Whether what each subtable changed is told of a line, or shown.
 fn is_traced(output: Output, text: &[TextGlyph]) -> bool {
@@ -114,7 +126,9 @@ pub(crate) fn shape_line(
         None
     };
     let changes = changes_of(alloc, &trace, direction, shaper.glyphs(), &visible)?;
-    let glyphs = drawn_glyphs(alloc, ends, &visible, &changes)?;
+    let is_whole = direction.is_forward() || visible.len() == shaper.glyphs().len();
+    let breaks = Breaks { ends, is_whole };
+    let glyphs = drawn_glyphs(alloc, breaks, &visible, &changes)?;
     let drawn = DrawnLine { direction, glyphs };
     Ok(ShapedLine { drawn, trace })
 }

@@ -1,17 +1,14 @@
 //! What subtables are called.
 
-use aat_layout::font::{Subtable, SubtableKind, hb_font_t};
+use aat_inspection::kind_name;
+use aat_layout::font::{Subtable, hb_font_t};
 use std::alloc::{AllocError, Global};
 
-/// The kind of a subtable of `morx`.
-pub(crate) fn kind_name(kind: &SubtableKind) -> &'static str {
-    match kind {
-        SubtableKind::Rearrangement(_) => "rearrangement",
-        SubtableKind::Contextual(_) => "contextual",
-        SubtableKind::Ligature(_) => "ligature",
-        SubtableKind::NonContextual(_) => "noncontextual",
-        SubtableKind::Insertion(_) => "insertion",
-    }
+/// The kind of a subtable of a chain.
+pub(crate) fn kind_at(font: &hb_font_t, chain: usize, subtable: usize) -> &'static str {
+    let chain = font.chains().get(chain);
+    let subtable = chain.and_then(|chain| chain.subtables.get(subtable));
+    subtable.map_or("unknown", |subtable| kind_name(&subtable.kind))
 }
 
 /// Adds the names of the subtables of a chain.

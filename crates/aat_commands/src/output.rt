@@ -12,6 +12,9 @@ use anyhow::{Context as _, Result, anyhow, bail};
 use std::alloc::Global;
 use std::io::{self, Write};
 
+/// What an error of a writer is told of.
+pub(crate) const OUTPUT: &str = "the output";
+
 /// Writes a line in a form that shows each line by itself.
 pub(crate) fn write_line<W: Write>(
     alloc: Global,
@@ -22,7 +25,7 @@ pub(crate) fn write_line<W: Write>(
     match (context.request.output, &line.trace) {
         (Output::Json, _) => write_json(alloc, out, &line.drawn),
         (Output::Trace, Some(trace)) => {
-            write_trace(out, context, trace)?;
+            write_trace(out, context.face.font(), trace)?;
             write_glyphs(out, &line.drawn)
         }
         _ => write_glyphs(out, &line.drawn),
@@ -51,6 +54,6 @@ pub(crate) fn write_picture<W: Write>(
     };
     match write_svg(alloc, out, &picture) {
         Err(DrawError::Outline(glyph, fault)) => bail!("{path}: glyph {glyph}: {fault}"),
-        written => Ok(written?),
+        written => written.context(OUTPUT),
     }
 }

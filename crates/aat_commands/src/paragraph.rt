@@ -1,6 +1,7 @@
 //! A line of the text that was given, before it is broken.
 
 use crate::line::Context;
+use crate::progress::Progress;
 use aat_layout::buffer::Direction;
 use aat_shaper::TextGlyph;
 use aat_text::{LineEnd, first_strong_direction, line_ends, missing_characters, text_of};
@@ -35,17 +36,25 @@ impl Paragraph {
     }
 }
 
-/// Tells on the error stream the first character of a line that has no glyph in the font, and how many more there are.
-pub(crate) fn tell_missing(rt: &HostRuntime, context: &Context<'_, '_>, line: &str) -> Result<()> {
+/// Tells on the error stream the first character of a line of a number that has no glyph in the font, and how many there
+/// are. How far the work is, is told no more then.
+pub(crate) fn tell_missing(
+    rt: &HostRuntime,
+    progress: &Progress,
+    context: &Context<'_, '_>,
+    number: usize,
+    line: &str,
+) -> Result<()> {
     let unit = context.request.unit;
     let missing = missing_characters(rt.alloc(), context.face, unit, line)?;
     let Some(first) = missing.first() else {
         return Ok(());
     };
+    progress.clear(rt)?;
     let (code, place) = (first.character as u32, first.place);
-    match missing.len() {
-        1 => eprintln!(rt; "aat: no glyph for U+{code:04X} at {place}")?,
-        count => eprintln!(rt; "aat: no glyph for U+{code:04X} at {place}, the first of {count}")?,
-    }
+    let count = missing.len();
+    eprintln!(rt;
+        "aat: line {number}: no glyph for U+{code:04X} at {place}, the first of {count}"
+    )?;
     Ok(())
 }

@@ -41,8 +41,8 @@ impl Progress {
         Ok(())
     }
 
-    /// The work is done or given up.
-    pub(crate) fn end(&self, rt: &HostRuntime) -> io::Result<()> {
+    /// Takes what was told off the terminal, for a message or at the end.
+    pub(crate) fn clear(&self, rt: &HostRuntime) -> io::Result<()> {
         if self.told > 0 {
             eprint!(rt; "\r       \r")?;
         }

@@ -2,9 +2,10 @@
 
 use crate::dump::dump;
 use crate::inspect::inspect;
+use crate::output::OUTPUT;
 use crate::shape::shape;
 use crate::words::command;
-use anyhow::Result;
+use anyhow::{Context, Result};
 use clap::Error;
 use std::convert::AsStr;
 use std::io::Write;
@@ -32,6 +33,6 @@ pub fn run<S: AsStr, W: Write>(rt: &HostRuntime, words: &[S], out: &mut W) -> Re
         Some(("dump", matches)) => dump(rt, out, matches)?,
         _ => {}
     }
-    out.flush()?;
+    out.flush().context(OUTPUT)?;
     Ok(Answer::Done)
 }

@@ -3,7 +3,7 @@
 use crate::filling::{Filling, part};
 use crate::line::{Context, shape_line};
 use crate::names::subtable_names;
-use crate::output::{write_line, write_picture};
+use crate::output::{OUTPUT, write_line, write_picture};
 use crate::paragraph::{Paragraph, tell_missing};
 use crate::progress::Progress;
 use crate::request::Request;
@@ -12,7 +12,7 @@ use aat_drawing::DrawnLine;
 use aat_face::Face;
 use aat_sfnt::FontFile;
 use aat_shaper::Shaper;
-use anyhow::{Result, anyhow};
+use anyhow::{Context as _, Result, anyhow};
 use clap::ArgMatches;
 use std::alloc::Global;
 use std::io::Write;
@@ -26,14 +26,6 @@ fn shaper_of<'f>(alloc: Global, face: &'f Face<'_>, request: &Request) -> Shaper
     }
 }
 
-/// Tells on the error stream which tables are not read.
-fn tell_faults(rt: &HostRuntime, path: &str, face: &Face<'_>) -> Result<()> {
-    for fault in face.faults() {
-        eprintln!(rt; "aat: {path}: {fault}")?;
-    }
-    Ok(())
-}
-
 /// The ends of the lines of a paragraph: those of the width that is asked, or its own.
 fn line_ends_of(
     alloc: Global,
@@ -44,12 +36,13 @@ fn line_ends_of(
     let Some(width) = context.request.width else {
         return Ok(vec![in alloc; paragraph.text.len()]?);
     };
-    let filling = Filling {
+    let mut filling = Filling {
+        shaper,
         features: context.request.features.as_slice(),
-        space: context.face.glyph_of(' ').map(|glyph| glyph.0),
+        space: context.face.glyph_of(' '),
         width: u64::from(width),
     };
-    filling.ends(alloc, shaper, paragraph)
+    filling.ends(alloc, paragraph)
 }
 
 /// Shapes a line of the text, and writes the lines that it is broken into, or keeps them for a picture.
@@ -70,11 +63,34 @@ fn shape_paragraph<W: Write>(
         if context.request.output.is_picture() {
             kept.push(shaped.drawn)?;
         } else {
-            write_line(alloc, out, context, &shaped)?;
+            write_line(alloc, out, context, &shaped).context(OUTPUT)?;
         }
         start = *end;
     }
     Ok(())
+}
+
+/// Shapes each line of a text, and writes the lines or keeps them for a picture.
+fn shape_lines<W: Write>(
+    rt: &HostRuntime,
+    out: &mut W,
+    context: &Context<'_, '_>,
+    progress: &mut Progress,
+    text: &str,
+) -> Result<Vec<DrawnLine>> {
+    let alloc = rt.alloc();
+    let mut shaper = shaper_of(alloc, context.face, context.request);
+    let mut kept = Vec::new(alloc);
+    let mut number = 0usize;
+    for line in text.lines() {
+        number = number.saturating_add(1);
+        tell_missing(rt, progress, context, number, line)?;
+        shape_paragraph(alloc, out, context, &mut shaper, line, &mut kept).with_context(|| anyhow!(
+            "line {number}"
+        ))?;
+        progress.add(rt, line.len())?;
+    }
+    Ok(kept)
 }
 
 /// Shapes each line of a text, and shows them.
@@ -85,18 +101,12 @@ fn shape_text<W: Write>(
     file: &FontFile<'_>,
     text: &str,
 ) -> Result<()> {
-    let alloc = rt.alloc();
-    let mut shaper = shaper_of(alloc, context.face, context.request);
     let mut progress = Progress::new(rt, text.len());
-    let mut kept = Vec::new(alloc);
-    for line in text.lines() {
-        tell_missing(rt, context, line)?;
-        shape_paragraph(alloc, out, context, &mut shaper, line, &mut kept)?;
-        progress.add(rt, line.len())?;
-    }
-    progress.end(rt)?;
+    let kept = shape_lines(rt, out, context, &mut progress, text);
+    progress.clear(rt)?;
+    let kept = kept?;
     if context.request.output.is_picture() {
-        write_picture(alloc, out, context, file, &kept)?;
+        write_picture(rt.alloc(), out, context, file, &kept)?;
     }
     Ok(())
 }
@@ -112,14 +122,11 @@ pub(crate) fn shape<W: Write>(
     let source = FontSource::of_matches(matches)?;
     let bytes = source.bytes(rt)?;
     let face = source.face(alloc, &bytes)?;
-    let path = source.path;
-    let Ok(file) = FontFile::read(&bytes, source.index) else {
-        return Err(anyhow!("{path}: no font"));
-    };
-    tell_faults(rt, path, &face)?;
+    let file = source.file(&bytes)?;
+    source.tell_faults(rt, &face)?;
     let subtables = subtable_names(alloc, face.font())?;
     let context = Context {
-        path,
+        path: source.path,
         face: &face,
         request: &request,
         subtables: subtables.as_slice(),

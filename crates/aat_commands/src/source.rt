@@ -1,8 +1,9 @@
 //! The files that a command reads.
 
-use aat_bytes::ReadError;
+use aat_bytes::{Fault, ReadError};
 use aat_face::Face;
-use anyhow::{Context, Result, anyhow};
+use aat_sfnt::FontFile;
+use anyhow::{Context, Error, Result, anyhow};
 use clap::ArgMatches;
 use std::alloc::Global;
 use std::{fs, io};
@@ -30,14 +31,37 @@ impl<'a> FontSource<'a> {
         fs::read(rt, path).with_context(|| anyhow!("{path}"))
     }
 
+    /// What an error of the font is told as.
+    fn fault(&self, fault: Fault) -> Error {
+        let (path, index) = (self.path, self.index);
+        anyhow!("{path}: font {index}: {fault}")
+    }
+
     /// The font of the file's bytes.
     pub(crate) fn face<'b>(&self, alloc: Global, bytes: &'b [u8]) -> Result<Face<'b>> {
-        let (path, index) = (self.path, self.index);
-        match Face::read(alloc, bytes, index) {
+        let path = self.path;
+        match Face::read(alloc, bytes, self.index) {
             Ok(face) => Ok(face),
-            Err(ReadError::Fault(fault)) => Err(anyhow!("{path}: font {index}: {fault}")),
+            Err(ReadError::Fault(fault)) => Err(self.fault(fault)),
             Err(ReadError::OutOfMemory) => Err(anyhow!("{path}: out of memory")),
         }
+    }
+
+    /// The directory of the font.
+    pub(crate) fn file<'b>(&self, bytes: &'b [u8]) -> Result<FontFile<'b>> {
+        match FontFile::read(bytes, self.index) {
+            Ok(file) => Ok(file),
+            Err(fault) => Err(self.fault(fault)),
+        }
+    }
+
+    /// Tells on the error stream which tables are not read.
+    pub(crate) fn tell_faults(&self, rt: &HostRuntime, face: &Face<'_>) -> Result<()> {
+        let path = self.path;
+        for fault in face.faults() {
+            eprintln!(rt; "aat: {path}: {fault}")?;
+        }
+        Ok(())
     }
 }
 

@@ -1,6 +1,6 @@
 //! What each subtable changed.
 
-use crate::line::Context;
+use crate::names::kind_at;
 use aat_layout::buffer::{Direction, hb_buffer_t, hb_glyph_info_t};
 use aat_layout::font::{Feature, GlyphId, hb_font_t, hb_ot_shape_plan_t};
 use aat_shaper::TextGlyph;
@@ -59,7 +59,7 @@ fn write_ids<W: Write>(out: &mut W, ids: &[u32]) -> io::Result<()> {
 
 /// Writes an act.
 fn write_act<W: Write>(out: &mut W, act: &TracedAct) -> io::Result<()> {
-    write!(out, "  turn {} at {}:", act.transition, act.place)?;
+    write!(out, "  transition {} at {}:", act.transition, act.place)?;
     write_ids(out, &act.taken)?;
     out.write_all(b" ->")?;
     write_ids(out, &act.put)?;
@@ -87,17 +87,33 @@ fn write_line<W: Write>(out: &mut W, glyphs: &[hb_glyph_info_t]) -> io::Result<(
     writeln!(out)
 }
 
-/// Writes what a subtable did.
-fn write_subtable<W: Write>(out: &mut W, name: &str, subtable: &TracedSubtable) -> io::Result<()> {
+/// Writes the head of what a subtable did.
+fn write_head<W: Write>(
+    out: &mut W,
+    font: &hb_font_t,
+    subtable: &TracedSubtable,
+) -> io::Result<()> {
+    let (chain, number) = (subtable.chain, subtable.subtable);
+    let kind = kind_at(font, chain, number);
+    write!(out, "chain {chain} subtable {number}: {kind}, ")?;
     if !subtable.is_run {
-        return writeln!(out, "{name}, left out");
+        return writeln!(out, "left out");
     }
     let order = if subtable.is_reversed {
         ", from the end of the line"
     } else {
         ""
     };
-    writeln!(out, "{name}, {} turns{order}", subtable.turns)?;
+    writeln!(out, "{} turns{order}", subtable.turns)
+}
+
+/// Writes what a subtable did.
+fn write_subtable<W: Write>(
+    out: &mut W,
+    font: &hb_font_t,
+    subtable: &TracedSubtable,
+) -> io::Result<()> {
+    write_head(out, font, subtable)?;
     for act in &subtable.acts {
         write_act(out, act)?;
     }
@@ -108,21 +124,21 @@ fn write_subtable<W: Write>(out: &mut W, name: &str, subtable: &TracedSubtable) 
     Ok(())
 }
 
-/// Writes the trace of a line: for each subtable of `morx` its turns, the ids that it changed at which turn, the places
-/// that it marked, and the line that it left if it changed it.
+/// Writes the trace of a line: for each subtable of `morx` its turns, the ids that it changed at which transition, the
+/// places that it marked, and the line that it left if it changed it.
 pub(crate) fn write_trace<W: Write>(
     out: &mut W,
-    context: &Context<'_, '_>,
+    font: &hb_font_t,
     trace: &Trace,
 ) -> io::Result<()> {
     if let Some(first) = trace.subtables.first() {
         write_line(out, &first.before)?;
     }
-    for (subtable, name) in trace.subtables.iter().zip(context.subtables) {
-        write_subtable(out, name.as_str(), subtable)?;
+    for subtable in &trace.subtables {
+        write_subtable(out, font, subtable)?;
     }
     if trace.is_incomplete {
-        writeln!(out, "memory was wanting to tell of a subtable")?;
+        writeln!(out, "out of memory: a subtable is not shown")?;
     }
     Ok(())
 }

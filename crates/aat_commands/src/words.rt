@@ -4,13 +4,16 @@ use clap::{Arg, ArgAction, Command, value_parser};
 use std::alloc::{AllocError, Global};
 
 /// The forms in which lines are shown.
-pub(crate) static OUTPUTS: [&str; 4] = ["glyphs", "json", "svg", "boxes"];
+static OUTPUTS: [&str; 4] = ["glyphs", "json", "svg", "boxes"];
 
 /// The directions of a text, as HarfBuzz names them.
-pub(crate) static DIRECTIONS: [&str; 4] = ["ltr", "rtl", "ttb", "btt"];
+static DIRECTIONS: [&str; 4] = ["ltr", "rtl", "ttb", "btt"];
+
+/// The tables that are written out.
+static TABLES: [&str; 7] = ["hmtx", "feat", "morx", "kerx", "kern", "ankr", "trak"];
 
 /// What clusters count.
-pub(crate) static UNITS: [&str; 2] = ["characters", "bytes"];
+static UNITS: [&str; 2] = ["characters", "bytes"];
 
 /// The font of every command.
 fn font_argument<'a>(alloc: Global) -> Arg<'a> {
@@ -54,7 +57,7 @@ fn shaping_arguments<'a>(alloc: Global, command: Command<'a>) -> Result<Command<
         .value_name("LIST")
         .action(ArgAction::Set)
         .allow_hyphen_values(true)
-        .help("Features, parted by commas, as smcp,-liga,kern[3:5]=0");
+        .help("Features, separated by commas, as smcp,-liga,kern[3:5]=0");
     let direction = Arg::new(alloc, "direction")
         .long("direction")
         .value_name("WORD")
@@ -69,7 +72,7 @@ fn shaping_arguments<'a>(alloc: Global, command: Command<'a>) -> Result<Command<
         .long("width")
         .value_name("N")
         .value_parser(value_parser!(u32))
-        .help("Breaks each line of the text into lines of at most so many units of the font");
+        .help("Breaks the text into lines of at most N units of the font, where that can be");
     command.arg(features)?.arg(direction)?.arg(size)?.arg(width)
 }
 
@@ -88,10 +91,11 @@ fn output_arguments<'a>(alloc: Global, command: Command<'a>) -> Result<Command<'
         .value_name("UNIT")
         .value_parser(UNITS.as_slice())
         .default_value("characters")
-        .help("What clusters count, as hb-shape does or in UTF-8");
+        .help("What clusters count: characters, as in hb-shape, or bytes of UTF-8");
     let trace = Arg::new(alloc, "trace")
         .long("trace")
         .action(ArgAction::SetTrue)
+        .conflicts_with("output")?
         .help("Tells before the glyphs what each subtable of morx changed");
     command.arg(output)?.arg(unit)?.arg(trace)
 }
@@ -121,8 +125,8 @@ fn dump_command<'a>(alloc: Global) -> Result<Command<'a>, AllocError> {
     let table = Arg::new(alloc, "table")
         .value_name("TABLE")
         .required(true)
-        .action(ArgAction::Set)
-        .help("hmtx, feat, morx, kerx, kern, ankr or trak");
+        .value_parser(TABLES.as_slice())
+        .help("The table. Of long lists the first 1,000 are written");
     Command::new(alloc, "dump")
         .about("Writes out what is read of a table")
         .after_help("Example: aat dump font.ttf morx")

@@ -11,6 +11,15 @@ type Change = Option<usize>;
 /// The id of a deleted glyph.
 const DELETED: u32 = 0xFFFF;
 
+/// What an act that keeps the number of glyphs makes of their changes: those whose ids it changed are the subtable's.
+fn replace(changes: &mut [Change], act: &TracedAct, number: usize) {
+    for (change, (taken, put)) in changes.iter_mut().zip(act.taken.iter().zip(&act.put)) {
+        if taken != put {
+            *change = Some(number);
+        }
+    }
+}
+
 /// What an act of a subtable makes of the changes of a line.
 fn change(
     alloc: Global,
@@ -21,14 +30,12 @@ fn change(
     let place = act.place.min(changes.len());
     let end = place.saturating_add(act.taken.len()).min(changes.len());
     if act.put.len() == act.taken.len() {
-        changes[place..end].fill(Some(number));
+        replace(&mut changes[place..end], act, number);
         return Ok(());
     }
     let mut after = Vec::new(alloc);
     after.extend_from_slice(&changes[..place])?;
-    for _id in &act.put {
-        after.push(Some(number))?;
-    }
+    after.resize(place.saturating_add(act.put.len()), Some(number))?;
     after.extend_from_slice(&changes[end..])?;
     *changes = after;
     Ok(())
@@ -55,14 +62,12 @@ fn change_by(
 
 /// Which subtable changed each glyph of the line that a trace leaves last, if one did: its number among all that are
 /// told, from 0. None is told where the trace is incomplete.
-fn changed_by(alloc: Global, trace: &Trace) -> Result<Vec<Option<usize>>, AllocError> {
+fn changed_by(alloc: Global, trace: &Trace) -> Result<Vec<Change>, AllocError> {
     let mut changes = Vec::new(alloc);
     let Some(first) = trace.subtables.first() else {
         return Ok(changes);
     };
-    for _glyph in &first.before {
-        changes.push(None)?;
-    }
+    changes.resize(first.before.len(), None)?;
     if trace.is_incomplete {
         return Ok(changes);
     }
@@ -94,24 +99,10 @@ fn kept_changes(
     Ok(kept)
 }
 
-/// The change of the next glyph with this id, from the place on that `next` tells and moves behind it.
-fn next_change(
-    shaped: &[ShapedGlyph],
-    changes: &[Change],
-    next: &mut usize,
-    glyph_id: u16,
-) -> Change {
-    let rest = shaped.get(*next..)?;
-    let skipped = rest.iter().position(|glyph| glyph.glyph_id == glyph_id)?;
-    let place = next.saturating_add(skipped);
-    *next = place.saturating_add(1);
-    *changes.get(place)?
-}
-
 /// Which subtable changed each glyph that is drawn. `shaped` is what the shaper drew of the line that was traced, and
-/// `drawn` what is left of it where ignorable glyphs are hidden.
+/// `drawn` what is left of it where ignorable glyphs are hidden: all of it, or what is not taken out.
 ///
-/// Where the two lines do not have the same number of glyphs, nothing is told.
+/// Where the trace leaves another number of glyphs than `shaped` has, nothing is told.
 pub fn drawn_changes(
     alloc: Global,
     trace: &Trace,
@@ -120,17 +111,17 @@ pub fn drawn_changes(
     drawn: &[ShapedGlyph],
 ) -> Result<Vec<Option<usize>>, AllocError> {
     let kept = kept_changes(alloc, trace, direction)?;
-    if drawn.len() == shaped.len() && kept.len() == shaped.len() {
+    if kept.len() != shaped.len() {
+        return Ok(Vec::new(alloc));
+    }
+    if drawn.len() == shaped.len() {
         return Ok(kept);
     }
     let mut changes = Vec::new(alloc);
-    let mut next = 0;
+    let mut pairs = shaped.iter().zip(&kept);
     for glyph in drawn {
-        if kept.len() == shaped.len() {
-            changes.push(next_change(shaped, &kept, &mut next, glyph.glyph_id))?;
-        } else {
-            changes.push(None)?;
-        }
+        let pair = pairs.find(|(shaped, _)| shaped.glyph_id == glyph.glyph_id);
+        changes.push(pair.and_then(|(_, change)| *change))?;
     }
     Ok(changes)
 }

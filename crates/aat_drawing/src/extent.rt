@@ -44,7 +44,11 @@ impl Extent {
         let is_vertical = lines.iter().any(|line| !line.direction.is_horizontal());
         Extent {
             width: if is_vertical { depth } else { length },
-            height: if is_vertical { length } else { depth },
+            height: if is_vertical {
+                length.saturating_add(step)
+            } else {
+                depth
+            },
             margin,
             step,
             ascent: i64::from(metrics.ascent),

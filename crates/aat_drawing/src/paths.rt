@@ -6,7 +6,7 @@ use aat_outlines::{HalfPoint, Outlines, Segment, segments};
 use std::alloc::{AllocError, Global};
 use std::io::{self, Write};
 
-/// Writes a point in half units of the font, behind a space unless it is below 0.
+/// Writes x, a space and y of a point, in half units of the font.
 fn write_point<W: Write>(out: &mut W, point: HalfPoint) -> io::Result<()> {
     write!(out, "{} {}", point.x, point.y)
 }

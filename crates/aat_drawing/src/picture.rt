@@ -27,11 +27,8 @@ pub struct Picture<'a> {
 /// The pixels of an em.
 const EM_PIXELS: i64 = 64;
 
-/// The parts of a picture that are not of the font. A solid bar stands where the two parts look by themselves as they do
-/// here, and a dashed one where they have to be shaped by themselves.
-const STYLE: &str =
-    "<style>.bar,.anew{fill:none;stroke:#dc2626;stroke-width:24}.anew{stroke-dasharray:60 60}\
-.box{fill:none;stroke-width:12}</style>";
+/// How boxes and bars are drawn.
+const STYLE: &str = "<style>rect{fill:none}.bar{fill:none;stroke:#dc2626}</style>";
 
 /// Writes where a glyph is drawn, in half units, by the name of its outline.
 fn write_use<W: Write>(
@@ -51,6 +48,7 @@ fn write_use<W: Write>(
 fn write_glyph<W: Write>(
     out: &mut W,
     picture: &Picture<'_>,
+    line: &DrawnLine,
     pen: (i64, i64),
     drawn: &DrawnGlyph,
 ) -> io::Result<()> {
@@ -62,7 +60,7 @@ fn write_glyph<W: Write>(
     );
     match picture.outlines {
         Some(_) => write_use(out, place, glyph.glyph_id, colour),
-        None => write_box(out, &picture.metrics, place, drawn, colour),
+        None => write_box(out, &picture.metrics, line, place, drawn, colour),
     }
 }
 
@@ -71,7 +69,7 @@ fn write_line<W: Write>(out: &mut W, picture: &Picture<'_>, line: &DrawnLine) ->
     let mut pen = (0i64, 0i64);
     for drawn in &line.glyphs {
         write_bar(out, &picture.metrics, line, pen, drawn)?;
-        write_glyph(out, picture, pen, drawn)?;
+        write_glyph(out, picture, line, pen, drawn)?;
         pen.0 = pen.0.saturating_add(i64::from(drawn.glyph.x_advance));
         pen.1 = pen.1.saturating_add(i64::from(drawn.glyph.y_advance));
     }
@@ -80,9 +78,13 @@ fn write_line<W: Write>(out: &mut W, picture: &Picture<'_>, line: &DrawnLine) ->
 
 /// Writes all lines.
 fn write_lines<W: Write>(out: &mut W, picture: &Picture<'_>, extent: &Extent) -> io::Result<()> {
+    let stroke = picture.metrics.units_per_em / 40;
     for (number, line) in picture.lines.iter().enumerate() {
         let (x, y) = extent.origin(number, line);
-        writeln!(out, "<g transform=\"translate({x} {y}) scale(.5 -.5)\">")?;
+        writeln!(
+            out,
+            "<g transform=\"translate({x} {y}) scale(.5 -.5)\" stroke-width=\"{stroke}\">"
+        )?;
         write_line(out, picture, line)?;
         writeln!(out, "</g>")?;
     }
@@ -149,7 +151,7 @@ fn write_head<W: Write>(out: &mut W, em: u16, width: i64, height: i64) -> io::Re
     writeln!(out, "{STYLE}")?;
     writeln!(
         out,
-        "<rect width=\"{width}\" height=\"{height}\" fill=\"#ffffff\"/>"
+        "<path d=\"M0 0H{width}V{height}H0Z\" fill=\"#ffffff\"/>"
     )
 }
 

@@ -7,7 +7,7 @@ use anyhow::Result;
 use std::io::{self, BufWriter, Write};
 
 /// Command lines, without the name of the program, whose words a bar parts.
-static LINES: [&str; 44] = [
+static LINES: [&str; 55] = [
     "shape|sample.ttf|fila fa-la",
     "shape|sample.ttf|fila fa-la|--features|-liga,smcp[5:7]",
     "shape|sample.ttf|fila a\u{301}|--direction|rtl",
@@ -20,23 +20,31 @@ static LINES: [&str; 44] = [
     "shape|sample.ttf|--file|text.txt",
     "shape|sample.ttf|--file|text.txt|--width|1700",
     "shape|sample.ttf|fila fa-la|--width|1|--output|json",
-    "shape|sample.ttf|fila-a|--output|json",
+    "shape|plain.ttf|fila-a|--output|json",
+    "shape|plain.ttf|fila-a|--output|svg",
     "shape|sample.ttf|fila a\u{301}|--features|smcp|--trace",
+    "shape|example.ttf|fafiia|--features|calt|--trace",
+    "shape|example.ttf|fafiia|--features|calt|--trace|--direction|rtl",
     "shape|sample.ttf|fila fa-la|--output|svg",
     "shape|sample.ttf|--file|text.txt|--width|1700|--features|smcp|--output|boxes",
     "shape|sample.ttf|fa-la|--direction|ttb|--output|svg",
+    "shape|sample.ttf|fa-la|--direction|btt|--output|boxes",
     "shape|sample.ttf|fila|--direction|rtl|--output|svg",
     "inspect|sample.ttf",
     "inspect|short.ttf",
     "dump|sample.ttf|feat",
     "dump|sample.ttf|kerx",
     "dump|sample.ttf|glyf",
-    "dump|sample.ttf|a",
+    "dump|sample.ttf|trak",
+    "dump|short.ttf|kerx",
     "shape|sample.ttf|fila a\u{301}|--features|smcp|--output|svg",
     "shape|outline.ttf|fila|--output|svg",
     "shape|short.ttf|fila|--output|svg",
     "shape|none.ttf|fila",
     "inspect|sample.ttf|--index|1",
+    "inspect|sample.ttf|--index|x",
+    "inspect",
+    "dump|sample.ttf",
     "dump|missing.ttf|morx",
     "shape|sample.ttf|--file|missing.txt",
     "shape|sample.ttf|--file|broken.txt",
@@ -47,10 +55,13 @@ static LINES: [&str; 44] = [
     "shape|sample.ttf|fila|--clusters|words",
     "shape|sample.ttf|fila|--point-size|70000",
     "shape|sample.ttf|fila|--file|text.txt",
+    "shape|sample.ttf|fila|--trace|--output|json",
+    "shape|sample.ttf|fila|--colour",
     "shape|sample.ttf",
     "draw",
     "--help",
     "shape|--help",
+    "inspect|--help",
     "dump|--help",
 ];
 
@@ -117,13 +128,19 @@ fn show_full<W: Write>(
     Ok(())
 }
 
-fn main(rt: HostRuntime) -> Result<()> {
-    let mut out = BufWriter::new(rt.alloc(), io::writer(&rt))?;
+/// Runs the command lines.
+fn show_all<W: Write>(rt: &HostRuntime, out: &mut W) -> Result<()> {
     for line in LINES {
         writeln!(out, "$ {line}")?;
-        let words = words_of(&rt, line)?;
-        show(&rt, &mut out, &words)?;
+        let words = words_of(rt, line)?;
+        show(rt, out, &words)?;
     }
+    Ok(())
+}
+
+fn main(rt: HostRuntime) -> Result<()> {
+    let mut out = BufWriter::new(rt.alloc(), io::writer(&rt))?;
+    show_all(&rt, &mut out)?;
     for line in TOO_LONG {
         show_full(&rt, &mut out, line, 30)?;
     }

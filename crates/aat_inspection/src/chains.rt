@@ -5,8 +5,8 @@ use aat_font::{Chain, Coverage, Subtable, SubtableKind};
 use std::alloc::Global;
 use std::io::{self, Write};
 
-/// What a subtable does, in a word.
-fn kind_name(kind: &SubtableKind) -> &'static str {
+/// What a subtable of `morx` does, in a word.
+pub fn kind_name(kind: &SubtableKind) -> &'static str {
     match kind {
         SubtableKind::Rearrangement(_) => "rearrangement",
         SubtableKind::Contextual(_) => "contextual",

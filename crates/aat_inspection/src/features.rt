@@ -1,4 +1,4 @@
-//! The settings of features that are on by default.
+//! Which settings of features are on by default.
 
 use aat_font::{Chain, ChainFeature};
 use std::alloc::{AllocError, Global};
@@ -41,8 +41,8 @@ fn settings_of(alloc: Global, chains: &[Chain]) -> Result<BTreeMap<Setting, bool
     Ok(settings)
 }
 
-/// Writes the settings that are on by default, rising by type and then by number: those that chains list, and that
-/// change the default flags of none.
+/// Writes which settings that chains list are on by default, rising by type and then by number: those that change the
+/// default flags of no chain.
 ///
 /// An error is that of the writer, or `OutOfMemory`. A part of the text may be written then.
 pub(crate) fn write_defaults<W: Write>(
@@ -51,10 +51,12 @@ pub(crate) fn write_defaults<W: Write>(
     chains: &[Chain],
 ) -> io::Result<()> {
     for (setting, is_on) in &settings_of(alloc, chains)? {
-        if *is_on {
-            let (kind, selector) = (setting.kind, setting.selector);
-            writeln!(out, "feature {kind} setting {selector} is on by default")?;
-        }
+        let (kind, selector) = (setting.kind, setting.selector);
+        let state = if *is_on { "on" } else { "off" };
+        writeln!(
+            out,
+            "feature {kind} setting {selector} is {state} by default"
+        )?;
     }
     Ok(())
 }

@@ -9,6 +9,7 @@ mod kerning;
 use aat_bytes::{Tag, tag_at};
 use aat_face::Face;
 use aat_face_text::{write_features, write_summary, write_table};
+pub use chains::kind_name;
 use std::alloc::Global;
 use std::io::{self, Write};
 
