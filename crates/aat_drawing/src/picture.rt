@@ -105,7 +105,7 @@ fn letter_size(picture: &Picture<'_>) -> i64 {
 
 /// The height of a line of the legend.
 fn entry_height(picture: &Picture<'_>) -> i64 {
-    letter_size(picture) * 3 / 2
+    letter_size(picture).saturating_mul(3) / 2
 }
 
 /// Writes what the colours stand for, from a height on.

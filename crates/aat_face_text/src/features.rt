@@ -5,20 +5,18 @@ use aat_font::FeatureName;
 use std::alloc::Global;
 use std::io::{self, Write};
 
-/// The most settings of a feature that are looked at.
-const MOST_SETTINGS: u16 = 64;
+/// How many numbers of settings are looked at. Those that fonts have are smaller.
+const SETTINGS: u16 = 64;
 
-/// Writes the named ones of the settings of a feature: those up to the number of its settings doubled, since the
-/// settings of a feature that is not exclusive come in pairs of on and off.
+/// Writes the settings of a feature that have a name.
 fn write_settings<W: Write>(
     alloc: Global,
     out: &mut W,
     face: &Face<'_>,
-    feature: FeatureName,
+    kind: u16,
 ) -> io::Result<()> {
-    let most = feature.settings.saturating_mul(2).min(MOST_SETTINGS);
-    for setting in 0..most {
-        if let Some(name) = face.setting_name(feature.kind, setting) {
+    for setting in 0..SETTINGS {
+        if let Some(name) = face.setting_name(kind, setting) {
             let text = text_of(alloc, &name)?;
             writeln!(out, "  setting {setting} {text:?}")?;
         }
@@ -42,10 +40,11 @@ fn write_feature<W: Write>(
         write!(out, " {text:?}")?;
     }
     writeln!(out)?;
-    write_settings(alloc, out, face, feature)
+    write_settings(alloc, out, face, kind)
 }
 
-/// Writes the features of `feat` in their order, with the names of their settings.
+/// Writes the features of `feat` in their order, each with its type, how many settings it has, whether they exclude one
+/// another, its name, and its settings below 64 that have a name.
 ///
 /// An error is that of the writer, or `OutOfMemory`. A part of the text may be written then.
 pub fn write_features<W: Write>(alloc: Global, out: &mut W, face: &Face<'_>) -> io::Result<()> {

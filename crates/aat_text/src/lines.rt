@@ -53,7 +53,7 @@ fn end_before(before: Option<LineRole>, place: u32, piece: &str) -> Option<LineE
 /// - A line has to end behind BK, NL, LF, and CR, but not between CR and LF.
 /// - It does not end before these and SP and ZW.
 /// - It may end behind ZW.
-/// - It does not end before CL, CP, EX, SY, IS, also where spaces stand between, nor before or behind WJ and GL.
+/// - It does not end before CM, ZWJ, CL, CP, EX, SY and IS, also behind spaces, nor before or behind WJ and GL.
 /// - It may end behind SP.
 /// - It does not end before NS, CJ, IN, QU, BA, HH and HY.
 /// - It may end behind BA, HH and HY, but not between HY and NU.
