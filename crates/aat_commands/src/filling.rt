@@ -90,14 +90,14 @@ impl Filling<'_, '_> {
         start: usize,
         stops: &[Stop],
     ) -> Result<(usize, usize), AatError> {
-        let mut last = 0usize;
-        for power in 0..32 {
-            let next = 1usize << power;
+        let (mut last, mut next) = (0usize, 1usize);
+        for _try in 0..64 {
             match stops.get(next) {
                 None => return Ok((last, stops.len())),
                 Some(stop) if !self.fits(alloc, paragraph, start, stop)? => return Ok((last, next)),
                 Some(_) => last = next,
             }
+            next = next.saturating_mul(2);
         }
         Ok((last, stops.len()))
     }

@@ -1,6 +1,7 @@
 //! The commands of the program `aat`: a text is shaped and shown, and a font is inspected.
 #![tactic(auto)]
 
+mod command_line;
 mod dump;
 mod filling;
 mod inspect;
@@ -10,10 +11,9 @@ mod output;
 mod paragraph;
 mod progress;
 mod request;
-mod run;
 mod shape;
 mod source;
 mod tracing;
 mod words;
 
-pub use run::{Answer, run};
+pub use command_line::{Answer, run};

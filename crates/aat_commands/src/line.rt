@@ -12,16 +12,14 @@ use anyhow::Result;
 use std::alloc::{AllocError, Global};
 
 /// What the lines of a text have in common.
-#[derive(Clone, Copy)]
+#[derive(Drop)]
 pub(crate) struct Context<'a, 'f> {
-    /// The path of the font's file.
-    pub(crate) path: &'a str,
     /// The font.
     pub(crate) face: &'a Face<'f>,
     /// What is asked.
-    pub(crate) request: &'a Request,
+    pub(crate) request: Request,
     /// What the subtables of `morx` are called.
-    pub(crate) subtables: &'a [String],
+    pub(crate) subtables: Vec<String>,
 }
 
 /// A line that was shaped.

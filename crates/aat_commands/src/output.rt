@@ -36,11 +36,11 @@ pub(crate) fn write_line<W: Write>(
 pub(crate) fn write_picture<W: Write>(
     alloc: Global,
     out: &mut W,
+    path: &str,
     context: &Context<'_, '_>,
     file: &FontFile<'_>,
     lines: &[DrawnLine],
 ) -> Result<()> {
-    let path = context.path;
     let outlines = if context.request.output == Output::Svg {
         Outlines::of_file(file).with_context(|| anyhow!("{path}"))?
     } else {
@@ -50,7 +50,7 @@ pub(crate) fn write_picture<W: Write>(
         metrics: LineMetrics::of_file(file, context.face.units_per_em()),
         outlines: outlines.as_ref(),
         lines,
-        subtables: context.subtables,
+        subtables: context.subtables.as_slice(),
     };
     match write_svg(alloc, out, &picture) {
         Err(DrawError::Outline(glyph, fault)) => bail!("{path}: glyph {glyph}: {fault}"),

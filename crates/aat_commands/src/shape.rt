@@ -79,7 +79,7 @@ fn shape_lines<W: Write>(
     text: &str,
 ) -> Result<Vec<DrawnLine>> {
     let alloc = rt.alloc();
-    let mut shaper = shaper_of(alloc, context.face, context.request);
+    let mut shaper = shaper_of(alloc, context.face, &context.request);
     let mut kept = Vec::new(alloc);
     let mut number = 0usize;
     for line in text.lines() {
@@ -97,6 +97,7 @@ fn shape_lines<W: Write>(
 fn shape_text<W: Write>(
     rt: &HostRuntime,
     out: &mut W,
+    path: &str,
     context: &Context<'_, '_>,
     file: &FontFile<'_>,
     text: &str,
@@ -106,9 +107,30 @@ fn shape_text<W: Write>(
     progress.clear(rt)?;
     let kept = kept?;
     if context.request.output.is_picture() {
-        write_picture(rt.alloc(), out, context, file, &kept)?;
+        write_picture(rt.alloc(), out, path, context, file, &kept)?;
     }
     Ok(())
+}
+
+/// Shapes a text in a font.
+fn shape_in<W: Write>(
+    rt: &HostRuntime,
+    out: &mut W,
+    source: FontSource<'_>,
+    request: Request,
+    text: &str,
+) -> Result<()> {
+    let alloc = rt.alloc();
+    let bytes = source.bytes(rt)?;
+    let face = source.face(alloc, &bytes)?;
+    let file = source.file(&bytes)?;
+    source.tell_faults(rt, &face)?;
+    let context = Context {
+        face: &face,
+        request,
+        subtables: subtable_names(alloc, face.font())?,
+    };
+    shape_text(rt, out, source.path, &context, &file, text)
 }
 
 /// Shapes the text that a command line gives.
@@ -117,28 +139,16 @@ pub(crate) fn shape<W: Write>(
     out: &mut W,
     matches: &ArgMatches<'_>,
 ) -> Result<()> {
-    let alloc = rt.alloc();
-    let request = Request::of_matches(alloc, matches)?;
+    let request = Request::of_matches(rt.alloc(), matches)?;
     let source = FontSource::of_matches(matches)?;
-    let bytes = source.bytes(rt)?;
-    let face = source.face(alloc, &bytes)?;
-    let file = source.file(&bytes)?;
-    source.tell_faults(rt, &face)?;
-    let subtables = subtable_names(alloc, face.font())?;
-    let context = Context {
-        path: source.path,
-        face: &face,
-        request: &request,
-        subtables: subtables.as_slice(),
-    };
     match matches.get_str("file") {
         Some(path) => {
             let text = text_of_file(rt, path)?;
-            shape_text(rt, out, &context, &file, text.as_str())
+            shape_in(rt, out, source, request, text.as_str())
         }
         None => {
             let text = matches.get_str("text").unwrap_or("");
-            shape_text(rt, out, &context, &file, text)
+            shape_in(rt, out, source, request, text)
         }
     }
 }

@@ -1,4 +1,5 @@
 //! What each subtable changed.
+ghost use Rattle.std.specs.Prelude.{◌≤◌};
 
 use crate::names::kind_at;
 use aat_layout::buffer::{Direction, hb_buffer_t, hb_glyph_info_t};
@@ -9,11 +10,16 @@ use anyhow::{Result, bail};
 use std::alloc::{AllocError, Global};
 use std::io::{self, Write};
 
-/// The most glyphs of a line and its budget, for a text of so many glyphs, as `Shaper::shape` has them.
-fn limits(length: usize) -> (usize, i32) {
-    let glyphs = length.saturating_mul(64).clamp(16384, 0x3FFF_FFFF);
-    let operations = length.saturating_mul(1024).clamp(16384, 0x7FFF_FFFF) as i32;
-    (glyphs, operations)
+/// The most glyphs of the line of a text, as `Shaper::shape` has them.
+fn most_glyphs(length: usize) -> usize
+    ensures { result ≤ 0x3FFFFFFF }
+{
+    length.saturating_mul(64).max(16384).min(0x3FFF_FFFF)
+}
+
+/// The budget of a text, as `Shaper::shape` has it.
+fn most_operations(length: usize) -> i32 {
+    length.saturating_mul(1024).max(16384).min(0x7FFF_FFFF) as i32
 }
 
 /// The features in a list of their own.
@@ -31,8 +37,8 @@ pub(crate) fn trace_of(
     text: &[TextGlyph],
     features: &[Feature],
 ) -> Result<Trace> {
-    let (glyphs, operations) = limits(text.len());
-    let mut buffer = hb_buffer_t::new(alloc, glyphs, operations);
+    let length = text.len();
+    let mut buffer = hb_buffer_t::new(alloc, most_glyphs(length), most_operations(length));
     buffer.set_direction(direction);
     for glyph in text {
         let mut info = hb_glyph_info_t::new(u32::from(glyph.glyph_id), glyph.cluster);
