@@ -9,11 +9,37 @@ use aat_text::hide_ignorables;
 use anyhow::Result;
 use std::alloc::{AllocError, Global};
 
-/// A place where a line may end, by the number of glyphs of the text before it.
+/// A place where a line may end.
 #[derive(Clone, Copy)]
 struct Stop {
+    /// The number of glyphs of the text before it.
     index: usize,
+    /// Whether a line has to end there.
     is_forced: bool,
+    /// Which of the stops is the first from here on where a line has to end.
+    forced: usize,
+}
+
+impl Stop {
+    /// A place whose forced one is not known yet.
+    fn new(index: usize, is_forced: bool) -> Stop {
+        Stop {
+            index,
+            is_forced,
+            forced: 0,
+        }
+    }
+}
+
+/// Notes of each stop which is the first from there on where a line has to end.
+fn note_forced(stops: &mut [Stop]) {
+    let mut forced = stops.len();
+    for place in (0..stops.len()).rev() {
+        if stops[place].is_forced {
+            forced = place;
+        }
+        stops[place].forced = forced;
+    }
 }
 
 /// The places where a line of a paragraph may end, with its own end.
@@ -22,14 +48,23 @@ fn stops_of(alloc: Global, paragraph: &Paragraph) -> Result<Vec<Stop>, AllocErro
     let mut stops = Vec::new(alloc);
     for end in &paragraph.ends {
         let index = text.partition_point(|glyph| glyph.cluster < end.place);
-        let is_forced = end.is_forced;
-        stops.push(Stop { index, is_forced })?;
+        stops.push(Stop::new(index, end.is_forced))?;
     }
-    stops.push(Stop {
-        index: text.len(),
-        is_forced: true,
-    })?;
+    stops.push(Stop::new(text.len(), true))?;
+    note_forced(&mut stops);
     Ok(stops)
+}
+
+/// The stops behind a place, up to the first where a line has to end.
+fn stops_of_line(stops: &[Stop], start: usize) -> &[Stop] {
+    let first = stops.partition_point(|stop| stop.index <= start);
+    let Some(stop) = stops.get(first) else {
+        return &[];
+    };
+    match stops.get(first..stop.forced.saturating_add(1)) {
+        Some(line) => line,
+        None => &[],
+    }
 }
 
 /// The part of a text between two places, none where they are not places of it.
@@ -144,22 +179,6 @@ impl Filling<'_, '_> {
             ends.push(paragraph.text.len())?;
         }
         Ok(ends)
-    }
-}
-
-/// The stops behind a place, up to the first forced one.
-fn stops_of_line(stops: &[Stop], start: usize) -> &[Stop] {
-    let first = stops.partition_point(|stop| stop.index <= start);
-    let Some(rest) = stops.get(first..) else {
-        return &[];
-    };
-    let count = match rest.iter().position(|stop| stop.is_forced) {
-        Some(place) => place.saturating_add(1),
-        None => rest.len(),
-    };
-    match rest.get(..count) {
-        Some(line) => line,
-        None => rest,
     }
 }
 
