@@ -13,7 +13,8 @@ pub enum FaultKind {
     /// read: more classes or subtables than 65,535, or more lookups and shared values than the bytes have room for.
     #[error("reaches past the end")]
     PastEnd,
-    /// 2: a version, a format or the size of a value is none that is read, or the magic number of `head` is another.
+    /// 2: a version, a format or the size of a value is none that is read, or the magic number of `head` is another. Also
+    /// where a subtable is of variations, a value does not fit into 16 bits, or an offset is that of no row or column.
     #[error("has an unknown version or format")]
     UnknownFormat,
     /// 3: a length, the size of a unit or the number of classes of a machine is below what it has to hold.
@@ -23,7 +24,7 @@ pub enum FaultKind {
     #[error("is missing")]
     Missing,
     /// 5: a key is not above the one before it: a unit of a lookup, also one whose last glyph is below its first one, a
-    /// type of `feat`, a character of `cmap`, or a range of `GDEF`.
+    /// type of `feat`, a character of `cmap`, a range of `GDEF`, a kerning pair, or the last point of a contour.
     #[error("has a key that is not above the one before it")]
     NotRising,
 }

@@ -16,7 +16,8 @@ use std::alloc::Global;
 pub struct LeftOutSubtable {
     /// Its number in the order of the table, from 0 on.
     pub number: u32,
-    /// Why: 2, `UnknownFormat`, with the place of its format, or of its coverage where that is of variations.
+    /// Why: 2, `UnknownFormat`, with the place of its format if that is not read, else of its coverage, which is of
+    /// variations.
     pub fault: Fault,
 }
 

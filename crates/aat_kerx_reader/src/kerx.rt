@@ -73,7 +73,7 @@ fn subtables(
 ///
 /// A subtable stands inside its length, and its lists end there; the last one may reach to the end of the table. A
 /// subtable of an unknown format is left out, and so is one whose coverage has the bit for variations, one of format 4
-/// by control points or coordinates, and one of format 6 with a value that 16 bits do not have: it is no fault, nothing
+/// with another action type than 1, and one of format 6 with a value that 16 bits do not have: it is no fault, nothing
 /// behind what says so is looked at, and `left_out` tells it. So `variable` is false in each subtable that is read.
 ///
 /// The first fault in this order, of the table `kerx`, with its place from the start of the table: 1, `PastEnd`, a
