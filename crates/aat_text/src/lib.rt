@@ -1,7 +1,7 @@
 //! From a `&str` and a face to the text that a `Shaper` takes: its glyphs with clusters, its direction, the characters
 //! that the font lacks, the places where a line may end, and what is drawn of ignorable characters.
 //!
-//! As HarfBuzz does for fonts with `morx`, no character is normalized: each has the glyph that the font gives it.
+//! No character is normalized: each has the glyph that the font gives it.
 #![tactic(auto)]
 
 mod direction;
