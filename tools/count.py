@@ -8,7 +8,7 @@ For each public call it counts the definitions behind its contract: the words of
 and those that their definitions cite, and so on. It follows the names that `use` and `ghost use` bring in.
 
 - A public call is a `pub fn`, a function or a method, or a method of a trait's impl that has clauses. The crates are
-  those of the layer and of its callers: no crate of tests, no program, no rows, and no module `laws` or `worked`.
+  those of the layer and of its callers: no crate of tests, no program, no rows, no fonts of data, and no module `laws` or `worked`.
 - A call over a trait of the repository owes the trait's clauses too, so these count. At a method of a trait's impl
   count what the impl says of the trait's members.
 - A definition is an abbreviation, a function, a record or a data type. Its lines are those of its text, without comments
@@ -30,7 +30,7 @@ USE = re.compile(r"\buse Rattle\.([\w.]+?)(?:\.\{([^}]*)\}| as (\w+))?\s*;?\s*$"
 HANDED_ON = re.compile(r"^pub use Rattle\.([\w.]+?)(?:\.\{([^}]*)\})?\s*$", re.M)
 START = re.compile(r"^(?:abbrev |unfoldable )?(?:pub )?(?:abbrev |unfoldable )?(record |data )?([^\s:]+)")
 WORDS_OF_ANTT = {"use", "pub", "mod", "module", "where", "abbrev", "unfoldable", "record", "data"}
-NOT_COUNTED = re.compile(r"_tests$|^aat_(driver_contexts|cut_contexts|rows|shape)$")
+NOT_COUNTED = re.compile(r"_tests$|^aat_(driver_contexts|cut_contexts|described_fonts|rows|shape)$")
 FUNCTION = re.compile(r"^( *)(pub )?(?:const )?(?:unsafe )?fn (\w+)")
 
 

@@ -79,6 +79,15 @@ fn request_of(number: u32, size: &Size) -> Feature {
     Feature::new(tag_of(number), number / 4 % 2, start..end)
 }
 
+/// So many requests.
+pub(crate) fn requests_of(alloc: Global, count: u32, size: &Size) -> Result<Vec<Feature>, Stop> {
+    let mut requests = Vec::new(alloc);
+    for number in 0..count {
+        requests.push(request_of(number, size))?;
+    }
+    Ok(requests)
+}
+
 /// A builder with so many requests.
 pub(crate) fn builder_of(
     alloc: Global,

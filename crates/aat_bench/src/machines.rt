@@ -107,6 +107,48 @@ impl Entries<InsertionEntryData> for Inserting {
     }
 }
 
+/// Holds, marks or begins a span at the glyphs that have a class of their own, in one state, and passes all others.
+#[derive(Drop)]
+pub(crate) struct Waking;
+
+/// The flags of an entry of such a machine.
+fn woken_at(class: u16) -> u16 {
+    if class == GIVEN_CLASSES { MARK } else { 0 }
+}
+
+impl Entries<u16> for Waking {
+    fn entry(&self, _state: u16, class: u16) -> GenericStateEntry<u16> {
+        entry_of(0, woken_at(class), NONE)
+    }
+}
+
+impl Entries<ContextualEntryData> for Waking {
+    fn entry(&self, _state: u16, class: u16) -> GenericStateEntry<ContextualEntryData> {
+        let current_index = if class == GIVEN_CLASSES { 0 } else { NONE };
+        let extra = ContextualEntryData {
+            mark_index: NONE,
+            current_index,
+        };
+        entry_of(0, woken_at(class), extra)
+    }
+}
+
+impl Entries<()> for Waking {
+    fn entry(&self, _state: u16, class: u16) -> GenericStateEntry<()> {
+        entry_of(0, woken_at(class), ())
+    }
+}
+
+impl Entries<InsertionEntryData> for Waking {
+    fn entry(&self, _state: u16, class: u16) -> GenericStateEntry<InsertionEntryData> {
+        let extra = InsertionEntryData {
+            current_insert_index: NONE,
+            marked_insert_index: NONE,
+        };
+        entry_of(0, woken_at(class), extra)
+    }
+}
+
 /// What an entry of a kerning machine names: at the third of its own classes a list of two values for each state.
 fn values_at(state: u16, class: u16) -> u16 {
     if class == 6 { state % 2 * 2 } else { NONE }

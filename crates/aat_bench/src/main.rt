@@ -6,6 +6,7 @@ mod kerned;
 mod lines;
 mod machines;
 mod measure;
+mod mixed;
 mod print;
 mod stop;
 mod substituted;

@@ -6,15 +6,15 @@ ghost use Rattle.aat_layout.specs.Ranges.{is_whole_list};
 
 use crate::checksum::{checksum_of, checksum_of_map};
 use crate::kerned::{kerned_face_of, plan_of};
-use crate::lines::{builder_of, line_of, map_of, placed_line_of};
+use crate::lines::{builder_of, line_of, map_of, placed_line_of, requests_of};
 use crate::stop::Stop;
 use crate::substituted::face_of;
 use crate::workloads::{Kerned, Size, Substituted, Work};
 use aat_layout::buffer::hb_buffer_t;
 use aat_layout::font::{hb_font_t, hb_ot_shape_plan_t};
 use aat_layout::{
-    AatError, apply, hb_aat_apply_context_t, hb_aat_layout_position, hb_aat_map_builder_t,
-    hb_aat_map_t, hb_ot_layout_kern,
+    AatError, apply, hb_aat_apply_context_t, hb_aat_layout_position, hb_aat_layout_substitute,
+    hb_aat_map_builder_t, hb_aat_map_t, hb_ot_layout_kern,
 };
 use std::alloc::Global;
 use std::time::{Clock, Duration, Instant};
@@ -61,6 +61,7 @@ fn round_of<R: Clock>(
         Work::Substitution(subtables, requests) => {
             substitution(rt, alloc, subtables, *requests, size, round)
         }
+        Work::Call(subtables, features) => call(rt, alloc, subtables, *features, size, round),
         Work::Kerning(subtable) => kerning(rt, alloc, subtable, size, round),
         Work::Compilation => compilation(rt, alloc, size),
     }
@@ -120,6 +121,38 @@ fn substitute(
     let mut context = hb_aat_apply_context_t::new(face, buffer);
     apply(&mut context, map)?;
     Ok(context.turns)
+}
+
+/// A line that is substituted by a plan of so many features.
+fn call<R: Clock>(
+    rt: &R,
+    alloc: Global,
+    subtables: &Substituted,
+    features: u32,
+    size: &Size,
+    round: u32,
+) -> Result<Outcome, Stop> {
+    let face = face_of(alloc, subtables)?;
+    let plan = hb_ot_shape_plan_t::new(requests_of(alloc, features, size)?);
+    let mut buffer = line_of(alloc, size, round)?;
+    let (turns, time) = timed_call(rt, alloc, &plan, &face, &mut buffer)?;
+    Ok(outcome_of(&buffer, turns, time))
+}
+
+/// Substitutes a line by a plan, and answers the turns and the time.
+fn timed_call<R: Clock>(
+    rt: &R,
+    alloc: Global,
+    plan: &hb_ot_shape_plan_t,
+    face: &hb_font_t,
+    buffer: &mut hb_buffer_t,
+) -> Result<(u64, Duration), Stop>
+    requires { IsSmall buffer.old }
+{
+    let start = Instant::now(rt)?;
+    let turns = hb_aat_layout_substitute(alloc, plan, face, buffer)?;
+    let time = start.elapsed(rt)?;
+    Ok((turns, time))
 }
 
 /// A line that is kerned.

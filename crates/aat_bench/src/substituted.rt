@@ -1,6 +1,7 @@
 //! The fonts that substitute lines.
 
 use crate::machines::{Inserting, Joining, Reordering, Replacing};
+use crate::mixed::mixed;
 use crate::stop::Stop;
 use crate::tables::{glyph_of, lookup_of, table_of};
 use crate::workloads::Substituted;
@@ -85,12 +86,22 @@ fn subtables_of(alloc: Global, subtables: &Substituted) -> Result<Vec<Subtable>,
         Substituted::Contextual => contextual(alloc),
         Substituted::Rearrangement => rearrangement(alloc),
         Substituted::Insertion => insertion(alloc),
+        Substituted::Mixed(woken) => all_of(alloc, mixed(alloc, *woken)?),
     }
 }
 
 /// A subtable for all text.
 fn subtable_of(kind: SubtableKind) -> Subtable {
     Subtable::new(kind, Coverage::ALL_DIRECTIONS, ON)
+}
+
+/// Subtables that do these.
+fn all_of(alloc: Global, kinds: Vec<SubtableKind>) -> Result<Vec<Subtable>, Stop> {
+    let mut built = Vec::new(alloc);
+    for kind in kinds {
+        built.push(subtable_of(kind))?;
+    }
+    Ok(built)
 }
 
 /// Noncontextual subtables.

@@ -47,6 +47,23 @@ pub(crate) fn table_of<T: Copy, E: Entries<T>>(
     Ok(table)
 }
 
+/// A state table in which some glyphs, rising, have one class of their own, with an entry for each class in one state.
+pub(crate) fn sparse_table_of<T: Copy, E: Entries<T>>(
+    alloc: Global,
+    glyphs: &[u16],
+    entries: &E,
+) -> Result<ExtendedStateTable<T>, Stop> {
+    let classes = GIVEN_CLASSES + 1;
+    let mut listed = Vec::new(alloc);
+    for glyph in glyphs {
+        listed.push((*glyph, GIVEN_CLASSES))?;
+    }
+    let mut rules = Vec::new(alloc);
+    add_rules(&mut rules, classes, 0, entries)?;
+    let table = ExtendedStateTable::new(alloc, classes, &listed, &rules)?;
+    Ok(table)
+}
+
 /// Each glyph with its class, of which the table's own take turns.
 fn classes_of(alloc: Global, classes: u16) -> Result<Vec<(u16, u16)>, Stop> {
     let own = classes.saturating_sub(GIVEN_CLASSES);

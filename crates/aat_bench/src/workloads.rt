@@ -13,6 +13,8 @@ pub(crate) enum Work {
     Substitution(Substituted, u32),
     /// Lines are kerned.
     Kerning(Kerned),
+    /// Lines are substituted by a plan of this many features, which the call compiles.
+    Call(Substituted, u32),
     /// Requests are compiled.
     Compilation,
 }
@@ -30,6 +32,19 @@ pub(crate) enum Substituted {
     Rearrangement,
     /// A machine that inserts glyphs.
     Insertion,
+    /// Twenty subtables of all kinds, of which lines wake some.
+    Mixed(Woken),
+}
+
+/// Which of twenty subtables the glyphs of lines wake.
+#[derive(Clone, Copy)]
+pub(crate) enum Woken {
+    /// None.
+    None,
+    /// Two, at five glyphs each.
+    Two,
+    /// Each, at one glyph.
+    Each,
 }
 
 /// By which subtable a line is kerned.
@@ -136,6 +151,38 @@ macro_rules! substitution {
     };
 }
 
+/// A workload of lines that wake some of twenty subtables.
+macro_rules! mixed {
+    ($name:literal, $woken:ident) => {
+        Workload {
+            name: $name,
+            work: Work::Substitution(Substituted::Mixed(Woken::$woken), 0),
+            sizes: LINES,
+        }
+    };
+}
+
+/// A word.
+const WORD: &[Size] = &[Size {
+    count: 8,
+    max_ops: 16384,
+    places: 1,
+    stride: 0,
+    span: 8,
+    rounds: 200,
+}];
+
+/// A workload of words that wake none of twenty subtables, with so many features.
+macro_rules! word {
+    ($name:literal, $features:literal) => {
+        Workload {
+            name: $name,
+            work: Work::Call(Substituted::Mixed(Woken::None), $features),
+            sizes: WORD,
+        }
+    };
+}
+
 /// A workload of kerned lines: its name and its subtable.
 macro_rules! kerning {
     ($name:literal, $subtable:ident) => {
@@ -148,7 +195,7 @@ macro_rules! kerning {
 }
 
 /// The workloads, in the order in which they are printed.
-pub(crate) static WORKLOADS: [Workload; 15] = [
+pub(crate) static WORKLOADS: [Workload; 20] = [
     substitution!("noncontextual", NonContextual, 0),
     substitution!("ligatures", Ligature, 0),
     substitution!("contextual", Contextual, 0),
@@ -156,6 +203,11 @@ pub(crate) static WORKLOADS: [Workload; 15] = [
     substitution!("insertion", Insertion, 0),
     substitution!("noncontextual-ranges", NonContextual, OF_370_RANGES),
     substitution!("ligatures-ranges", Ligature, OF_370_RANGES),
+    mixed!("mixed-asleep", None),
+    mixed!("mixed-two-awake", Two),
+    mixed!("mixed-each-awake", Each),
+    word!("word", 0),
+    word!("word-features", 3),
     kerning!("kern-pairs", KernPairs),
     kerning!("kern-classes", KernClasses),
     kerning!("kerx-pairs", KerxPairs),

@@ -238,6 +238,13 @@ impl<A: Allocator + Copy> hb_buffer_t<A> {
         self.line.get_mut(i)
     }
 
+    /// The glyphs from the cursor on: all of the line where the cursor is at the start.
+    pub fn from_cursor(&self) -> &[hb_glyph_info_t]
+        ensures { result.now ≡ drop self.now.cursor self.now.line }
+    {
+        self.line.rest()
+    }
+
     /// The glyphs from the cursor on, to be written: all of the line where the cursor is at the start.
     pub fn from_cursor_mut(&mut self) -> &mut [hb_glyph_info_t]
         ensures* writes_back { sem 𝓛 (LendsFromCursor A.row A.Allocator self.entry result) }

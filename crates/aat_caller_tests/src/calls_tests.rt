@@ -1,10 +1,14 @@
 //! A caller of the layer call by call: a font's tables, a line of glyphs, a request over a part of it, substitution,
 //! and what comes out. Its one error takes those of all calls by `?`.
 use crate::asserting::wanted;
-use aat_layout::buffer::{BufferError, hb_buffer_t, hb_glyph_info_t};
+use crate::lines::{Seen, buffer_of, seen};
+use aat_described_fonts::{
+    ChainData, FontData, KindData, NO_TABLES, SubtableData, drop_font, font_of,
+};
+use aat_layout::buffer::{BufferError, hb_buffer_t};
 use aat_layout::font::{
-    Chain, ChainFeature, Coverage, FaceTables, Feat, Feature, FeatureName, Lookup, Morx, Subtable,
-    SubtableKind, TableError, hb_font_t, hb_ot_shape_plan_t, hb_tag_t,
+    ChainFeature, Coverage, Feature, FeatureName, TableError, hb_font_t, hb_ot_shape_plan_t,
+    hb_tag_t,
 };
 use aat_layout::{AatError, Turns, hb_aat_layout_substitute};
 use std::alloc::{AllocError, Global};
@@ -30,48 +34,15 @@ enum CallerError {
 /// What the caller is given.
 #[derive(Clone, Copy)]
 struct Given {
-    /// Which glyphs small capitals turn into others.
-    small_capitals: &'static [(u16, u16)],
+    /// The font, in which small capitals turn glyphs into others.
+    font: FontData<'static>,
     /// The feature that is requested from cluster 1 up to cluster 3, which is not included, and its value.
     tag: &'static [u8; 4],
     value: u32,
     /// The greatest length of the line, in glyphs.
     max_len: u16,
-    /// The glyphs, each with its cluster.
-    glyphs: &'static [(u32, u32)],
-}
-
-/// Small capitals turn glyph 5 into glyph 9.
-const GIVEN: Given = Given {
-    small_capitals: &[(5, 9)],
-    tag: b"smcp",
-    value: 1,
-    max_len: 16384,
-    glyphs: &[(5, 0), (5, 1), (6, 2), (5, 3)],
-};
-
-/// The line that is left of it, and the turns that the font takes.
-const LEFT: [(u32, u32); 4] = [(5, 0), (9, 1), (6, 2), (5, 3)];
-
-const TURNS: Turns = 4;
-
-/// The subtable of small capitals.
-fn subtables_of(alloc: Global, given: &Given) -> Result<Vec<Subtable>, CallerError> {
-    let kind = SubtableKind::NonContextual(Lookup::new(alloc, given.small_capitals)?);
-    let subtable = Subtable::new(kind, Coverage::ALL_DIRECTIONS, 1);
-    Ok(vec![in alloc; subtable]?)
-}
-
-/// The chain that small capitals turn on.
-fn chain_of(alloc: Global, given: &Given) -> Result<Chain, CallerError> {
-    let settings = vec![in alloc; ChainFeature::new(37, 1, 1, 0xFFFF_FFFF)]?;
-    Ok(Chain::new(0, settings, subtables_of(alloc, given)?))
-}
-
-/// The substitution table of the font.
-fn morx_of(alloc: Global, given: &Given) -> Result<Morx, CallerError> {
-    let chain = chain_of(alloc, given)?;
-    Ok(Morx::new(vec![in alloc; chain]?)?)
+    /// The glyphs, each with its cluster and its mask.
+    glyphs: &'static [Seen],
 }
 
 /// The names of the features that the font has: alternates and small capitals.
@@ -88,17 +59,43 @@ const NAMES: [FeatureName; 2] = [
     },
 ];
 
-/// A font of these tables.
-fn font_with(feat: Feat, morx: Morx) -> hb_font_t {
-    let tables = FaceTables::default().with_morx(morx).with_feat(feat);
-    hb_font_t::new(tables, None, None)
+/// A font whose only chain is turned on by small capitals, and turns glyphs into others.
+macro_rules! font {
+    ($values:expr) => {
+        FontData {
+            chains: Some(&[ChainData {
+                default_flags: 0,
+                features: &[ChainFeature {
+                    kind: 37,
+                    setting: 1,
+                    enable_flags: 1,
+                    disable_flags: 0xFFFF_FFFF,
+                }],
+                subtables: &[SubtableData {
+                    kind: KindData::NonContextual($values),
+                    coverage: &[Coverage::ALL_DIRECTIONS],
+                    feature_flags: 1,
+                }],
+            }]),
+            names: Some(&NAMES),
+            ..NO_TABLES
+        }
+    };
 }
 
-/// The font.
-fn font_of(alloc: Global, given: &Given) -> Result<hb_font_t, CallerError> {
-    let feat = Feat::new(alloc, &NAMES)?;
-    Ok(font_with(feat, morx_of(alloc, given)?))
-}
+/// Small capitals turn glyph 5 into glyph 9.
+const GIVEN: Given = Given {
+    font: font!(&[(5, 9)]),
+    tag: b"smcp",
+    value: 1,
+    max_len: 16384,
+    glyphs: &[(5, 0, 0), (5, 1, 0), (6, 2, 0), (5, 3, 0)],
+};
+
+/// The line that is left of it, and the turns that the font takes.
+const LEFT: [Seen; 4] = [(5, 0, 0), (9, 1, 0), (6, 2, 0), (5, 3, 0)];
+
+const TURNS: Turns = 4;
 
 /// The plan.
 fn plan_of(alloc: Global, given: &Given) -> Result<hb_ot_shape_plan_t, CallerError> {
@@ -109,21 +106,6 @@ fn plan_of(alloc: Global, given: &Given) -> Result<hb_ot_shape_plan_t, CallerErr
         requested_kerning: false,
         kern_mask: 0,
     })
-}
-
-/// Adds the glyphs to the line.
-fn add_all(buffer: &mut hb_buffer_t, glyphs: &[(u32, u32)]) -> Result<(), BufferError> {
-    for (id, cluster) in glyphs {
-        buffer.add(hb_glyph_info_t::new(*id, *cluster))?;
-    }
-    Ok(())
-}
-
-/// The line.
-fn buffer_of(alloc: Global, given: &Given) -> Result<hb_buffer_t, CallerError> {
-    let mut buffer = hb_buffer_t::new(alloc, given.max_len as usize, 16384);
-    add_all(&mut buffer, given.glyphs)?;
-    Ok(buffer)
 }
 
 /// Substitutes a line, if its glyphs have ids of 16 bits.
@@ -139,42 +121,21 @@ fn substitute(
     Ok(hb_aat_layout_substitute(alloc, plan, font, buffer)?)
 }
 
-/// Whether a line has these glyphs, each with its cluster.
-fn is_line(buffer: &hb_buffer_t, glyphs: &[(u32, u32)]) -> bool {
-    for (i, wanted) in glyphs.iter().enumerate() {
-        if i >= buffer.len() {
-            return false;
-        }
-        let glyph = buffer.info(i);
-        if (glyph.glyph_id, glyph.cluster) != *wanted {
-            return false;
-        }
-    }
-    buffer.len() == glyphs.len()
-}
-
 /// Substitutes the line, and says whether that took the turns and left the line that are wanted.
-fn with_plan(
-    alloc: Global,
-    given: &Given,
-    font: &hb_font_t,
-    plan: &hb_ot_shape_plan_t,
-) -> Result<bool, CallerError> {
-    let mut buffer = buffer_of(alloc, given)?;
-    let turns = substitute(alloc, plan, font, &mut buffer)?;
-    Ok(turns == TURNS && is_line(&buffer, &LEFT))
-}
-
-/// The same, with the plan.
-fn with_font(alloc: Global, given: &Given, font: &hb_font_t) -> Result<bool, CallerError> {
+fn is_left(alloc: Global, given: &Given, font: &hb_font_t) -> Result<bool, CallerError> {
     let plan = plan_of(alloc, given)?;
-    with_plan(alloc, given, font, &plan)
+    let mut buffer = buffer_of(alloc, given.max_len, given.glyphs)?;
+    let turns = substitute(alloc, &plan, font, &mut buffer)?;
+    let line = seen(alloc, &buffer)?;
+    Ok(turns == TURNS && line.as_slice() == LEFT.as_slice())
 }
 
 /// The same, with the font and the plan.
 fn is_substituted(alloc: Global, given: &Given) -> Result<bool, CallerError> {
-    let font = font_of(alloc, given)?;
-    with_font(alloc, given, &font)
+    let font = font_of(alloc, &given.font)?;
+    let answer = is_left(alloc, given, &font);
+    drop_font(font);
+    answer
 }
 
 #[test]
@@ -198,10 +159,10 @@ fn assert_fails(
 }
 
 /// The failures of the caller, one for each call that can refuse, each with its error and the text of that.
-const FAILURES: [(Given, CallerError, &str); 4] = [
+static FAILURES: [(Given, CallerError, &str); 4] = [
     (
         Given {
-            small_capitals: &[(5, 9), (5, 8)],
+            font: font!(&[(5, 9), (5, 8)]),
             ..GIVEN
         },
         CallerError::Font(TableError::NotRising(1)),
@@ -226,7 +187,7 @@ const FAILURES: [(Given, CallerError, &str); 4] = [
     ),
     (
         Given {
-            glyphs: &[(65536, 0)],
+            glyphs: &[(65536, 0, 0)],
             ..GIVEN
         },
         CallerError::LargeGlyph,

@@ -15,6 +15,8 @@ mod joining;
 #[cfg(test)]
 mod line_breaker_tests;
 #[cfg(test)]
+mod lines;
+#[cfg(test)]
 mod row_tests;
 #[cfg(test)]
 mod shaping_tests;

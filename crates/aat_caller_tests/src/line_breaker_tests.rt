@@ -1,34 +1,26 @@
 //! The line breaker on lines of four glyphs.
 use crate::asserting::wanted;
-use aat_layout::buffer::{BufferError, Direction, hb_buffer_t, hb_glyph_info_t};
-use aat_layout::font::{
-    FaceTables, Kern, KernKind, KernSubtable, Pairs, hb_font_t, hb_ot_shape_plan_t,
-};
-use aat_layout::{AatError, KERX_SKIPS, has_kern_pairs_alone, hb_aat_layout_position};
+use crate::lines::{Seen, buffer_of, placed};
+use aat_described_fonts::{FontData, KernData, NO_TABLES, drop_font, font_of};
+use aat_layout::buffer::{BufferError, Direction, hb_buffer_t};
+use aat_layout::font::{hb_font_t, hb_ot_shape_plan_t};
+use aat_layout::{KERX_SKIPS, has_kern_pairs_alone, hb_aat_layout_position};
 use aat_line_breaker::{kern_and_cut, last_cut};
-use std::alloc::{Allocator, Global};
+use std::alloc::Global;
 use std::process::Abort;
 use std::test::Fail;
 
-/// A buffer of glyphs with their clusters, which all ask for kerning by the bit 8.
-fn glyphs_of(alloc: Global, glyphs: &[(u32, u32)]) -> Result<hb_buffer_t, BufferError> {
-    let mut buffer = hb_buffer_t::new(alloc, 16384, 16384);
-    add_all(&mut buffer, glyphs)?;
-    Ok(buffer)
-}
-
-/// Adds glyphs with their clusters.
-fn add_all(buffer: &mut hb_buffer_t, glyphs: &[(u32, u32)]) -> Result<(), BufferError> {
-    for (glyph_id, cluster) in glyphs {
-        let glyph = hb_glyph_info_t::new(*glyph_id, *cluster);
-        buffer.add(hb_glyph_info_t { mask: 8, ..glyph })?;
-    }
-    Ok(())
-}
+/// A font whose pairs move the first two glyphs of 1 2 3 4 together, and the last two apart.
+const FONT: FontData<'static> = FontData {
+    kern: Some(KernData::Pairs(&[(1, 2, -20), (2, 3, 0), (3, 4, 10)])),
+    ..NO_TABLES
+};
 
 /// Gives the glyph at a place an advance of 500, which goes down in a column.
-fn advance(rt: &impl Abort, buffer: &mut hb_buffer_t, place: usize) {
-    assert!(rt; buffer.has_positions() && place < buffer.len());
+fn advance(buffer: &mut hb_buffer_t, place: usize) {
+    if !buffer.has_positions() || place >= buffer.len() {
+        return;
+    }
     if buffer.direction().is_horizontal() {
         buffer.pos_mut(place).x_advance = 500;
     } else {
@@ -37,24 +29,24 @@ fn advance(rt: &impl Abort, buffer: &mut hb_buffer_t, place: usize) {
 }
 
 /// Gives each glyph its advance.
-fn advance_all(rt: &impl Abort, buffer: &mut hb_buffer_t) -> Result<(), BufferError> {
+fn advance_all(buffer: &mut hb_buffer_t) -> Result<(), BufferError> {
     buffer.clear_positions()?;
     for place in 0..buffer.len() {
-        advance(rt, buffer, place);
+        advance(buffer, place);
     }
     Ok(())
 }
 
-/// A line of these glyphs, each with an advance of 500, which goes down in a column.
+/// A line of these glyphs, each with an advance of 500, which goes down in a column. They all ask for kerning by the
+/// bit 8.
 fn line_of(
-    rt: &impl Abort,
     alloc: Global,
     direction: Direction,
-    glyphs: &[(u32, u32)],
+    glyphs: &[Seen],
 ) -> Result<hb_buffer_t, BufferError> {
-    let mut buffer = glyphs_of(alloc, glyphs)?;
+    let mut buffer = buffer_of(alloc, 16384, glyphs)?;
     buffer.set_direction(direction);
-    advance_all(rt, &mut buffer)?;
+    advance_all(&mut buffer)?;
     Ok(buffer)
 }
 
@@ -67,38 +59,29 @@ fn plan_of(alloc: Global) -> hb_ot_shape_plan_t {
     }
 }
 
-/// A font whose pairs move the first two glyphs of 1 2 3 4 together, and the last two apart.
-fn font_of(alloc: Global) -> Result<hb_font_t, Fail> {
-    let pairs = Pairs::new(alloc, &[(1, 2, -20), (2, 3, 0), (3, 4, 10)])?;
-    let subtable = KernSubtable::new(KernKind::Pairs(pairs), true);
-    let kern = Kern::new(vec![in alloc; subtable]?)?;
-    Ok(hb_font_t::from_tables(FaceTables::default().with_kern(kern)))
-}
-
-/// Breaks a line, where the conditions hold.
-fn cut<A: Allocator + Copy>(
-    rt: &impl Abort,
+/// Where a line is cut when it is kerned: nothing where the conditions of the call do not hold.
+fn cut(
     alloc: Global,
     font: &hb_font_t,
     limit: i64,
-    buffer: &mut hb_buffer_t<A>,
-) -> Result<Option<usize>, AatError> {
-    assert!(rt; buffer.all_glyphs_16() && buffer.has_positions() && has_kern_pairs_alone(font));
-    kern_and_cut(&plan_of(alloc), font, limit, buffer)
+    buffer: &mut hb_buffer_t,
+) -> Result<Option<usize>, Fail> {
+    if !(buffer.all_glyphs_16() && buffer.has_positions() && has_kern_pairs_alone(font)) {
+        return Err(Fail::new("the conditions do not hold"));
+    }
+    let plan = plan_of(alloc);
+    Ok(kern_and_cut(&plan, font, limit, buffer)?)
 }
 
-/// Whether these are the advance and the offset in x at each place of a buffer.
-fn are_positions<A: Allocator + Copy>(buffer: &hb_buffer_t<A>, wanted: &[(i32, i32)]) -> bool {
-    for (i, place) in wanted.iter().enumerate() {
-        if !buffer.has_positions() || i >= buffer.len() {
-            return false;
-        }
-        let position = buffer.pos(i);
-        if (position.x_advance, position.x_offset) != *place {
-            return false;
+/// Whether the glyphs of a line stand at these advances and offsets in x.
+fn are_positions(alloc: Global, buffer: &hb_buffer_t, wanted: &[(i32, i32)]) -> Result<bool, Fail> {
+    let places = placed(alloc, buffer)?;
+    for (i, place) in places.iter().enumerate() {
+        if i < wanted.len() && (place.0, place.2) != wanted[i] {
+            return Ok(false);
         }
     }
-    buffer.len() == wanted.len()
+    Ok(places.len() == wanted.len())
 }
 
 /// A line that is kerned and broken.
@@ -106,7 +89,7 @@ fn are_positions<A: Allocator + Copy>(buffer: &hb_buffer_t<A>, wanted: &[(i32, i
 struct Line {
     direction: Direction,
     /// Its glyphs, with their clusters.
-    glyphs: &'static [(u32, u32)],
+    glyphs: &'static [Seen],
     limit: i64,
     /// Where it may be cut.
     place: Option<usize>,
@@ -117,23 +100,23 @@ struct Line {
 /// The four glyphs, and where kerning leaves them.
 const WHOLE: Line = Line {
     direction: Direction::LeftToRight,
-    glyphs: &[(1, 0), (2, 1), (3, 2), (4, 3)],
+    glyphs: &[(1, 0, 8), (2, 1, 8), (3, 2, 8), (4, 3, 8)],
     limit: 1000,
     place: Some(2),
     positions: &[(490, 0), (490, -10), (505, 0), (505, 5)],
 };
 
-const LINES: [Line; 7] = [
+static LINES: [Line; 7] = [
     WHOLE,
     // its parts have the positions of the whole
     Line {
-        glyphs: &[(1, 0), (2, 1)],
+        glyphs: &[(1, 0, 8), (2, 1, 8)],
         place: None,
         positions: &[(490, 0), (490, -10)],
         ..WHOLE
     },
     Line {
-        glyphs: &[(3, 2), (4, 3)],
+        glyphs: &[(3, 2, 8), (4, 3, 8)],
         place: None,
         positions: &[(505, 0), (505, 5)],
         ..WHOLE
@@ -155,72 +138,74 @@ const LINES: [Line; 7] = [
     // a backward line is cut from its last glyph on
     Line {
         direction: Direction::RightToLeft,
-        glyphs: &[(5, 3), (3, 2), (2, 1), (1, 0)],
+        glyphs: &[(5, 3, 8), (3, 2, 8), (2, 1, 8), (1, 0, 8)],
         positions: &[(500, 0), (500, 0), (490, -10), (490, 0)],
         ..WHOLE
     },
 ];
 
-/// Asserts where a line may be cut, and where its glyphs stand. A failure tells the number of the line.
-fn assert_cut(
-    rt: &impl Abort,
-    alloc: Global,
-    font: &hb_font_t,
-    number: usize,
-    line: &Line,
-) -> Result<(), Fail> {
-    let mut buffer = line_of(rt, alloc, line.direction, line.glyphs)?;
-    let place = cut(rt, alloc, font, line.limit, &mut buffer);
-    let is_cut = place == Ok(line.place) && are_positions(&buffer, line.positions);
-    assert!(rt; is_cut, "line {number}");
-    Ok(())
+/// Whether a line is cut where it may be, and its glyphs stand where they have to.
+fn is_cut(alloc: Global, font: &hb_font_t, line: &Line) -> Result<bool, Fail> {
+    let mut buffer = line_of(alloc, line.direction, line.glyphs)?;
+    let place = cut(alloc, font, line.limit, &mut buffer)?;
+    Ok(place == line.place && are_positions(alloc, &buffer, line.positions)?)
 }
 
-/// Asserts so of each line.
-fn assert_cuts(rt: &impl Abort, alloc: Global, font: &hb_font_t) -> Result<(), Fail> {
+/// The number of the first line that is cut elsewhere, or whose glyphs stand elsewhere.
+fn first_fault(alloc: Global, font: &hb_font_t) -> Result<Option<usize>, Fail> {
     for (number, line) in LINES.iter().enumerate() {
-        assert_cut(rt, alloc, font, number, line)?;
+        if !is_cut(alloc, font, line)? {
+            return Ok(Some(number));
+        }
     }
-    Ok(())
+    Ok(None)
 }
 
 #[test]
 fn lines_are_cut(rt: HostRuntime) -> Result<(), Fail> {
-    let font = font_of(rt.alloc())?;
-    assert_cuts(&rt, rt.alloc(), &font)
+    let font = font_of(rt.alloc(), &FONT)?;
+    let fault = first_fault(rt.alloc(), &font);
+    drop_font(font);
+    let fault = fault?;
+    assert!(rt; fault.is_none(), "line {}", fault.unwrap_or(0));
+    Ok(())
 }
 
 /// Kerns a line, and says whether that succeeds.
-fn is_kerned(rt: &impl Abort, alloc: Global, font: &hb_font_t, line: &mut hb_buffer_t) -> bool {
-    assert!(rt; line.all_glyphs_16() && line.has_positions());
-    hb_aat_layout_position(&plan_of(alloc), font, line).is_ok()
+fn is_kerned(alloc: Global, font: &hb_font_t, line: &mut hb_buffer_t) -> bool {
+    let plan = plan_of(alloc);
+    line.all_glyphs_16()
+        && line.has_positions()
+        && hb_aat_layout_position(&plan, font, line).is_ok()
 }
 
-/// The last place where a line may be cut.
-fn cut_within(rt: &impl Abort, limit: i64, line: &hb_buffer_t) -> Option<usize> {
-    assert!(rt; line.has_positions());
-    last_cut(limit, KERX_SKIPS, line)
+/// The last place where a line with positions may be cut.
+fn cut_within(limit: i64, line: &hb_buffer_t) -> Option<usize> {
+    if line.has_positions() {
+        last_cut(limit, KERX_SKIPS, line)
+    } else {
+        None
+    }
 }
 
-/// Asserts where a column may be cut.
-fn assert_column_cut(rt: &impl Abort, alloc: Global, font: &hb_font_t) -> Result<(), Fail> {
-    let mut line = line_of(rt, alloc, Direction::TopToBottom, WHOLE.glyphs)?;
-    wanted(
-        rt,
-        is_kerned(rt, alloc, font, &mut line),
-        "a column is kerned",
-    );
-    wanted(rt, cut_within(rt, 499, &line).is_none(), "no glyph goes in");
-    wanted(
-        rt,
-        cut_within(rt, 600, &line) == Some(1),
-        "one glyph goes in",
-    );
-    Ok(())
+/// A column that is kerned, if that succeeds.
+fn kerned_column(alloc: Global) -> Result<Option<hb_buffer_t>, Fail> {
+    let mut line = line_of(alloc, Direction::TopToBottom, WHOLE.glyphs)?;
+    let font = font_of(alloc, &FONT)?;
+    let is_kerned = is_kerned(alloc, &font, &mut line);
+    drop_font(font);
+    Ok(if is_kerned { Some(line) } else { None })
 }
 
 #[test]
 fn a_column_goes_down(rt: HostRuntime) -> Result<(), Fail> {
-    let font = font_of(rt.alloc())?;
-    assert_column_cut(&rt, rt.alloc(), &font)
+    match kerned_column(rt.alloc())? {
+        Some(line) => {
+            wanted(&rt, line.has_positions(), "positions");
+            wanted(&rt, cut_within(499, &line).is_none(), "no glyph goes in");
+            wanted(&rt, cut_within(600, &line) == Some(1), "one glyph goes in");
+        }
+        None => wanted(&rt, false, "a column is kerned"),
+    }
+    Ok(())
 }

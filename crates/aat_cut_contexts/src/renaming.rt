@@ -50,9 +50,10 @@ pub struct RenamingCtx {
 }
 
 impl driver_context_t<u16> for RenamingCtx {
-    ghost use Rattle.std.specs.Prelude.{true};
+    ghost use Rattle.std.specs.Prelude.{false, true};
     ghost use Rattle.aat_font.specs.Entries.{goes_on};
     ghost use Rattle.aat_run.specs.Laws.{FitsAlways};
+    ghost use Rattle.aat_run.specs.facts.IdleRuns.{never_rests};
     ghost use Rattle.aat_cut_contexts.specs.Renaming as r;
     ghost use Rattle.aat_cut_contexts.specs.facts.RenamingHolds as laws;
 
@@ -66,6 +67,8 @@ impl driver_context_t<u16> for RenamingCtx {
 
     ghost advances = { goes_on };
 
+    ghost resting = { λ e. false };
+
     ghost actionable = { r.actionable };
 
     ghost act = { r.act };
@@ -76,6 +79,10 @@ impl driver_context_t<u16> for RenamingCtx {
 
     fn can_advance(&self, entry: &GenericStateEntry<u16>) -> bool {
         entry.has_advance()
+    }
+
+    fn rests(&self, _entry: &GenericStateEntry<u16>) -> bool {
+        false
     }
 
     fn is_actionable<A: Allocator + Copy>(
@@ -99,6 +106,8 @@ impl driver_context_t<u16> for RenamingCtx {
         }
         Ok(())
     }
+
+    ghost rests_alone = { never_rests };
 
     ghost fits_fresh = { laws.fits_fresh };
 

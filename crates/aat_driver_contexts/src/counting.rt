@@ -11,9 +11,10 @@ pub struct CountingCtx {
 }
 
 impl driver_context_t<u16> for CountingCtx {
-    ghost use Rattle.std.specs.Prelude.{true};
+    ghost use Rattle.std.specs.Prelude.{false, true};
     ghost use Rattle.aat_font.specs.Entries.{goes_on};
     ghost use Rattle.aat_run.specs.Laws.{FitsAlways};
+    ghost use Rattle.aat_run.specs.facts.IdleRuns.{never_rests};
     ghost use Rattle.aat_driver_contexts.specs.Counting as c;
     ghost use Rattle.aat_driver_contexts.specs.facts.CountingHolds as laws;
 
@@ -27,6 +28,8 @@ impl driver_context_t<u16> for CountingCtx {
 
     ghost advances = { goes_on };
 
+    ghost resting = { λ e. false };
+
     ghost actionable = { c.actionable };
 
     ghost act = { c.act };
@@ -37,6 +40,10 @@ impl driver_context_t<u16> for CountingCtx {
 
     fn can_advance(&self, entry: &GenericStateEntry<u16>) -> bool {
         entry.has_advance()
+    }
+
+    fn rests(&self, _entry: &GenericStateEntry<u16>) -> bool {
+        false
     }
 
     fn is_actionable<A: Allocator + Copy>(
@@ -58,6 +65,8 @@ impl driver_context_t<u16> for CountingCtx {
         }
         Ok(())
     }
+
+    ghost rests_alone = { never_rests };
 
     ghost fits_fresh = { laws.fits_fresh };
 

@@ -33,6 +33,7 @@ impl driver_context_t<u16> for PuttingCtx {
     ghost use Rattle.std.specs.Prelude.{false};
     ghost use Rattle.aat_font.specs.Entries.{goes_on};
     ghost use Rattle.aat_run.specs.Laws.{FitsAlways};
+    ghost use Rattle.aat_run.specs.facts.IdleRuns.{never_rests};
     ghost use Rattle.aat_driver_contexts.specs.Putting as p;
     ghost use Rattle.aat_driver_contexts.specs.facts.PuttingHolds as laws;
 
@@ -46,6 +47,8 @@ impl driver_context_t<u16> for PuttingCtx {
 
     ghost advances = { goes_on };
 
+    ghost resting = { λ e. false };
+
     ghost actionable = { p.actionable };
 
     ghost act = { p.act };
@@ -56,6 +59,10 @@ impl driver_context_t<u16> for PuttingCtx {
 
     fn can_advance(&self, entry: &GenericStateEntry<u16>) -> bool {
         entry.has_advance()
+    }
+
+    fn rests(&self, _entry: &GenericStateEntry<u16>) -> bool {
+        false
     }
 
     fn is_actionable<A: Allocator + Copy>(
@@ -79,6 +86,8 @@ impl driver_context_t<u16> for PuttingCtx {
         }
         Ok(())
     }
+
+    ghost rests_alone = { never_rests };
 
     ghost fits_fresh = { laws.fits_fresh };
 

@@ -19,11 +19,11 @@ module _ (lowest glyph : ℕ) (cells : List (Option ℕ)) where
   in_array high = let t : ltb glyph lowest ≡ false = grind (arith, nat_tests) in rw t refl
 
 module _ (lowest count : ℕ) (pairs : List (ℕ × ℕ)) where
-  none_below : (glyph : ℕ) → PairsWithin lowest count pairs → glyph < lowest → None ≡ value_in pairs glyph
+  pub none_below : (glyph : ℕ) → PairsWithin lowest count pairs → glyph < lowest → None ≡ value_in pairs glyph
   none_below glyph within low =
       sym (ap (option_map (λ (p : ℕ × ℕ). p.1)) (at_key_none first pairs glyph (λ i d lt. λ e. omega (arith, e, (within i d lt).0))))
 
-  none_above : (glyph : ℕ) → PairsWithin lowest count pairs → lowest + count ≤ glyph → None ≡ value_in pairs glyph
+  pub none_above : (glyph : ℕ) → PairsWithin lowest count pairs → lowest + count ≤ glyph → None ≡ value_in pairs glyph
   none_above glyph within high =
       sym (ap (option_map (λ (p : ℕ × ℕ). p.1)) (at_key_none first pairs glyph (λ i d lt. λ e. omega (arith, e, (within i d lt).1))))
 

@@ -6,13 +6,16 @@ pub mod Entries
 pub mod Face
 pub mod FeatureNames
 pub mod KerningTables
+pub mod Idle
 pub mod Keys
 pub mod Morx
+pub mod Moves
 pub mod Pairs
 pub mod Segments
 pub mod Subtables
 pub mod Table
 pub mod TableErrors
 pub mod TableExamples
+pub mod Wakers
 pub mod facts
 pub mod inside

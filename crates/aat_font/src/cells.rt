@@ -46,7 +46,7 @@ pub(crate) fn append_values<A: Allocator>(
 }
 
 /// The value of a glyph among rising pairs, if it has one, at the place to which a walk to the glyph has come.
-fn value_here(pairs: &[(u16, u16)], place: usize, glyph: u16) -> Option<u16>
+pub(crate) fn value_here(pairs: &[(u16, u16)], place: usize, glyph: u16) -> Option<u16>
     requires rising { IsRising first pairs.now }
     requires below { AreBelow first pairs.now place glyph }
     requires above { AreNotBelow first pairs.now place glyph }

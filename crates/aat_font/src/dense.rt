@@ -1,10 +1,12 @@
 //! Values of glyphs that are found without a search, beside the pairs that a contract sees.
-ghost use Rattle.std.specs.Prelude.{◌≡◌, ◌+◌, ◌<◌, ◌≤◌, ℕ, None, IfOk, length, slice_index_or};
+ghost use Rattle.std.specs.Prelude.{◌≡◌, ◌+◌, ◌<◌, ◌≤◌, IfOk, IfSome, length};
 ghost use Rattle.aat_font.specs.Keys.{first, value_in, IsRising};
+ghost use Rattle.aat_font.specs.Moves.{AreMovesOf};
 ghost use Rattle.aat_font.specs.inside.Dense.{span_count, value_over, AnswersAsPairs, AnswersOver, PairsWithin};
 
 use crate::cells::{append_values, cell_at};
 use crate::keys::row_at;
+use crate::moves::{GlyphMoves, MoveArray, keeps_one};
 use crate::pages::{GlyphPages, page_count};
 use std::alloc::{AllocError, Allocator};
 
@@ -18,8 +20,10 @@ const PAIRS_A_PAGE: usize = 256 / CELLS_A_PAIR;
 /// How the value of a glyph is found among pairs of a glyph and its value.
 #[derive(Drop)]
 pub(crate) enum Dense<A: Allocator> {
-    /// The glyphs lie close: in an array over their span.
+    /// The glyphs lie close, and one has itself as its value: in an array over their span.
     Array(GlyphArray<A>),
+    /// They lie close, and none has itself as its value: in an array of what each glyph of their span becomes.
+    Moves(MoveArray<A>),
     /// They lie close on pages of 256 glyphs: on those that hold one.
     Pages(GlyphPages<A>),
     /// They lie apart: by bisection.
@@ -46,7 +50,7 @@ impl<A: Allocator + Copy> Dense<A> {
     {
         let (lowest, count) = span_of(pairs);
         if count > 0 {
-            return Ok(Dense::Array(GlyphArray::over(alloc, pairs, lowest, count)?));
+            return Dense::over_span(alloc, pairs, lowest, count);
         }
         if pairs.len() < PAIRS_A_PAGE {
             return Ok(Dense::Search);
@@ -56,6 +60,26 @@ impl<A: Allocator + Copy> Dense<A> {
             return Ok(Dense::Pages(GlyphPages::over(alloc, pairs, pages)?));
         }
         Ok(Dense::Search)
+    }
+
+    /// An array over so many glyphs from the lowest on, among which are those of rising pairs. Fails where it gets no
+    /// memory.
+    fn over_span(
+        alloc: A,
+        pairs: &[(u16, u16)],
+        lowest: u16,
+        count: usize,
+    ) -> Result<Dense<A>, AllocError>
+        requires rising { IsRising first pairs.now }
+        requires some { 0 < count }
+        requires small { lowest + count ≤ 65536 }
+        requires within { PairsWithin lowest count pairs.now }
+        ensures answers { IfOk result (λ dense. AnswersAsPairs dense pairs.now) }
+    {
+        if keeps_one(pairs) {
+            return Ok(Dense::Array(GlyphArray::over(alloc, pairs, lowest, count)?));
+        }
+        Ok(Dense::Moves(MoveArray::over(alloc, pairs, lowest, count)?))
     }
 }
 
@@ -68,8 +92,21 @@ impl<A: Allocator> Dense<A> {
     {
         match self {
             Dense::Array(array) => array.value(glyph),
+            Dense::Moves(array) => array.value(glyph),
             Dense::Pages(pages) => pages.value(glyph),
             Dense::Search => row_at(pairs, glyph as u32).map(|pair| pair.1),
+        }
+    }
+
+    /// What each glyph becomes, where that stands in an array. It has the values of pairs of which this tells how they
+    /// are found.
+    pub(crate) fn moves(&self, pairs: &[(u16, u16)]) -> Option<GlyphMoves<'_>>
+        requires answers { AnswersAsPairs self.now pairs.now }
+        ensures { IfSome result (λ moves. AreMovesOf moves pairs.now) }
+    {
+        match self {
+            Dense::Moves(array) => Some(array.moves()),
+            Dense::Array(_) | Dense::Pages(_) | Dense::Search => None,
         }
     }
 }

@@ -3,8 +3,10 @@ ghost use Rattle.std.specs.Prelude.{◌≡◌, ◌+◌, ◌*◌, ◌<◌, ◌≤
 ghost use Rattle.aat_font.specs.Keys.{IsRising};
 ghost use Rattle.aat_font.specs.Pairs.{key_of_pair};
 ghost use Rattle.aat_font.specs.inside.Lefts.{left_count, AreLeftStarts, BeginAt, KernsAlike, LeftsWithin};
+ghost use Rattle.aat_font.specs.inside.Rights.{may_have, TellRights};
 
 use crate::keys::Keyed;
+use crate::rights::{may_have, rights_from};
 use crate::walk::walk_to;
 use std::alloc::{AllocError, Allocator};
 
@@ -15,7 +17,7 @@ const STARTS_A_PAIR: usize = 8;
 /// The number of right glyphs, and of keys of one left glyph.
 const RIGHT_GLYPHS: u32 = 65536;
 
-/// Where the pairs of each left glyph begin.
+/// Where the pairs of each left glyph begin, and which right glyphs it may have.
 #[derive(Drop)]
 pub(crate) struct Lefts<A: Allocator> {
     /// The left glyph of the first start.
@@ -23,17 +25,35 @@ pub(crate) struct Lefts<A: Allocator> {
     /// The place of the first pair of each left glyph from the lowest to the highest, or where it would stand. Empty
     /// where the left glyphs do not lie close.
     starts: Vec<usize, A>,
+    /// For each left glyph that has a start, 64 bits: that of a right glyph is clear only where the two are no pair.
+    rights: Vec<u64, A>,
 }
 
-impl<A: Allocator> Lefts<A> {
-    /// Where the pairs of each left glyph begin among rising pairs. Fails where the starts get no memory.
+impl<A: Allocator + Copy> Lefts<A> {
+    /// Where the pairs of each left glyph begin among rising pairs, and which right glyphs it may have. Fails where these
+    /// get no memory.
     pub(crate) fn over(alloc: A, pairs: &[(u16, u16, i16)]) -> Result<Lefts<A>, AllocError>
         requires { IsRising key_of_pair pairs.now }
         ensures starts { IfOk result (λ lefts. AreLeftStarts lefts.lowest lefts.starts.items pairs.now) }
+        ensures rights { IfOk result (λ lefts. TellRights lefts.lowest lefts.rights.items pairs.now) }
     {
         let (lowest, count) = lefts_of(pairs);
         let starts = starts_from(alloc, pairs, lowest, count)?;
-        Ok(Lefts { lowest, starts })
+        let rights = rights_from(alloc, &starts, lowest, pairs)?;
+        Ok(Lefts {
+            lowest,
+            starts,
+            rights,
+        })
+    }
+}
+
+impl<A: Allocator> Lefts<A> {
+    /// Whether a left glyph may have a pair with a right one.
+    pub(crate) fn may_have(&self, left: u16, right: u16) -> bool
+        ensures { result ≡ may_have self.now.lowest self.now.rights.items left right }
+    {
+        may_have(&self.rights, self.lowest, left, right)
     }
 
     /// The pairs of a left glyph among the pairs of which these are the starts, or all pairs where the left glyphs do
@@ -54,7 +74,7 @@ impl<A: Allocator> Lefts<A> {
 
 /// The pairs of a left glyph, where those of each glyph from the lowest on begin at its start, or all pairs where there
 /// are no starts.
-fn pairs_from<'a>(
+pub(crate) fn pairs_from<'a>(
     starts: &[usize],
     lowest: u16,
     pairs: &'a [(u16, u16, i16)],

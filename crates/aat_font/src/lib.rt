@@ -13,19 +13,23 @@ pub mod entry_bits;
 mod error;
 mod face;
 mod feat;
+mod idle;
 mod kern;
 mod kerx;
 pub mod keys;
 mod lefts;
 mod lookup;
 mod morx;
+mod moves;
 mod pages;
 mod pairs;
 mod plan;
+mod rights;
 mod segments;
 mod state_table;
 mod subtables;
 mod tag;
+mod wakers;
 mod walk;
 #[doc(hidden)]
 pub mod worked;
@@ -36,13 +40,18 @@ pub use entries::{ContextualEntryData, EntryData, InsertionEntryData, KernEntryD
 pub use error::TableError;
 pub use face::{FaceTables, hb_font_t};
 pub use feat::{Feat, FeatureName};
+pub use idle::{
+    contextual_entry_rests, insertion_entry_rests, ligature_entry_rests, rearrangement_entry_rests,
+};
 pub use kern::{Kern, KernKind, KernMachine, KernSubtable};
 pub use kerx::{Kerx, KerxFormat, KerxSubtable, Subtable1, Subtable4};
 pub use lookup::Lookup;
 pub use morx::{Chain, ChainFeature, Coverage, Morx, Subtable, SubtableKind};
+pub use moves::GlyphMoves;
 pub use pairs::Pairs;
 pub use plan::{Feature, GlyphId, hb_ot_shape_plan_t};
 pub use segments::LookupSegment;
 pub use state_table::{ExtendedStateTable, GenericStateEntry};
 pub use subtables::{ContextualSubtable, InsertionSubtable, LigatureSubtable};
 pub use tag::hb_tag_t;
+pub use wakers::GlyphWords;

@@ -1,12 +1,14 @@
 //! Lookups: values of glyphs.
-ghost use Rattle.std.specs.Prelude.{◌≡◌, IfOk, IfErr, OnOk, None};
+ghost use Rattle.std.specs.Prelude.{◌≡◌, IfOk, IfErr, IfSome, OnOk, None};
 ghost use Rattle.aat_font.specs.Keys.{first, first_fall, value_in, IsRising};
+ghost use Rattle.aat_font.specs.Moves.{AreMovesOf};
 ghost use Rattle.aat_font.specs.Segments.{first_segment_fall, pairs_of_segments};
 ghost use Rattle.aat_font.specs.TableErrors.{RefusesRising};
 
 use crate::dense::Dense;
 use crate::error::TableError;
 use crate::keys::first_fall;
+use crate::moves::GlyphMoves;
 use crate::plan::GlyphId;
 use crate::segments::{LookupSegment, append_segments, first_segment_fall, value_in_segments};
 use std::alloc::{AllocError, Allocator, Global};
@@ -113,6 +115,16 @@ impl<A: Allocator> Lookup<A> {
         match &self.values {
             Values::Listed(pairs, dense) => dense.value(pairs, glyph.0),
             Values::Segments(segments) => value_in_segments(segments, glyph.0),
+        }
+    }
+    /// What each glyph becomes that gets its value here, for who asks for many glyphs: where the values stand in an array
+    /// and none is that of its own glyph.
+    pub fn moves(&self) -> Option<GlyphMoves<'_>>
+        ensures { IfSome result (λ moves. AreMovesOf moves self.now) }
+    {
+        match &self.values {
+            Values::Listed(pairs, dense) => dense.moves(pairs),
+            Values::Segments(_) => None,
         }
     }
 }

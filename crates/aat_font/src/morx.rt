@@ -1,12 +1,14 @@
 //! The extended glyph metamorphosis table.
 ghost use Rattle.std.specs.Prelude.{⊤, ◌≡◌, ◌≤◌, IfOk, IfErr, OnOk};
 ghost use Rattle.aat_font.specs.Chains.{subtable_count};
+ghost use Rattle.aat_font.specs.Wakers.{AreChainWakers};
 
 use crate::error::TableError;
 use crate::lookup::Lookup;
 use crate::plan::hb_mask_t;
 use crate::state_table::ExtendedStateTable;
 use crate::subtables::{ContextualSubtable, InsertionSubtable, LigatureSubtable, MAX_SUBTABLES};
+use crate::wakers::{GlyphWords, words_of_chains};
 use bitflags::{Flag, Flags, bitflag_items};
 
 /// For which text a subtable is, and in which order it takes the glyphs: the four highest bits of
@@ -206,16 +208,21 @@ impl Chain {
 #[derive(Drop)]
 pub struct Morx {
     chains: Vec<Chain>,
+    wakers: Vec<Vec<GlyphWords>>,
     ghost few: { subtable_count chains.items ≤ 65535 },
+    ghost awake: { AreChainWakers chains.items wakers.items },
 }
 
 impl Morx {
-    ghost use Rattle.std.specs.Prelude.{◌≡◌, ◌≤◌, IfOk, IfErr, OnOk};
+    ghost use Rattle.std.specs.Prelude.{◌≡◌, ◌≤◌, IfOk, IfErr, OnOk, Some, slice_get};
     ghost use Rattle.aat_font.specs.Chains.{subtable_count};
     ghost use Rattle.aat_font.specs.Morx.{chains_of};
+    ghost use Rattle.aat_font.specs.Wakers.{AreWakers};
+    ghost use Rattle.aat_font.specs.declared.morx.Chain.{Chain};
     ghost use Rattle.aat_font.specs.TableErrors.{RefusesMany};
 
-    /// Makes the table of its chains, which are kept as they are handed in. Takes no memory.
+    /// Makes the table of its chains, which are kept as they are handed in. Beside them it keeps which subtables a glyph
+    /// may wake, where there is memory for that; without it each subtable takes its turns at each glyph.
     ///
     /// Refused as 4, `TooManySubtables`, where the chains have more than 65,535 subtables together.
     /// The chains are then dropped.
@@ -231,7 +238,24 @@ impl Morx {
                 return Err(TableError::TooManySubtables);
             }
         }
-        Ok(Morx { chains })
+        let alloc = *chains.allocator();
+        let wakers = match words_of_chains(alloc, &chains) {
+            Ok(wakers) => wakers,
+            Err(_) => Vec::new(alloc),
+        };
+        Ok(Morx { chains, wakers })
+    }
+
+    /// For each 64 subtables of a chain the words that tell which of them a glyph may wake, or for the first of them.
+    /// Fewer words are right too: a subtable without one runs. How many there are is not proved.
+    pub fn wakers(&self, chain: usize) -> &[GlyphWords]
+        ensures { (c : Chain) → slice_get (chains_of self.now) chain ≡ Some c
+            → AreWakers c.subtables.items result.now }
+    {
+        match self.wakers.get(chain) {
+            Some(words) => words,
+            None => &[],
+        }
     }
 
     /// The chains in their order.

@@ -26,13 +26,15 @@ impl<A: Allocator> Model for Pairs<A> {
     ghost use Rattle.aat_font.specs.Keys.{IsRising};
     ghost use Rattle.aat_font.specs.Pairs.{key_of_pair};
     ghost use Rattle.aat_font.specs.inside.Lefts.{AreLeftStarts};
+    ghost use Rattle.aat_font.specs.inside.Rights.{TellRights};
 
     ghost Value = { List (ℕ × ℕ × ℤ) };
 
     ghost view = { λ m. m.pairs.items };
 
     ghost invariant = { λ m. IsRising key_of_pair m.pairs.items
-        × AreLeftStarts m.lefts.lowest m.lefts.starts.items m.pairs.items };
+        × AreLeftStarts m.lefts.lowest m.lefts.starts.items m.pairs.items
+        × TellRights m.lefts.lowest m.lefts.rights.items m.pairs.items };
 }
 
 impl<A: Allocator + Copy> Pairs<A> {
@@ -40,7 +42,7 @@ impl<A: Allocator + Copy> Pairs<A> {
     /// glyph, then by the right one.
     ///
     /// Refused as 1, `NotRising`, with the place of the first pair that is not above the one before it, and else as 5,
-    /// `OutOfMemory`, where the copy or the starts beside it get no memory.
+    /// `OutOfMemory`, where the copy or what stands beside it gets no memory.
     pub fn new(alloc: A, pairs: &[(u16, u16, i16)]) -> Result<Pairs<A>, TableError>
         ensures ok { IfOk result (λ table. table ≡ pairs.now) }
         ensures rising { OnOk result (first_fall key_of_pair pairs.now ≡ None) }
@@ -65,17 +67,21 @@ impl<A: Allocator> Pairs<A> {
     }
 
     /// The value of a left and a right glyph, if they have one, found by bisection among the pairs of the left glyph,
-    /// or among all where the left glyphs do not lie close.
+    /// or among all where the left glyphs do not lie close. Most glyphs that are no pair are told from a pair by one bit,
+    /// without a search.
     pub fn glyphs_kerning(&self, left: GlyphId, right: GlyphId) -> Option<i16>
         ensures { result ≡ kerning_of self.now left.0 right.0 }
     {
+        if !self.lefts.may_have(left.0, right.0) {
+            return None;
+        }
         let pairs = self.lefts.pairs_of(&self.pairs, left.0);
         row_at(pairs, pair_key(left.0, right.0)).map(|pair| pair.2)
     }
 }
 
 /// The number by which pairs rise.
-fn pair_key(left: u16, right: u16) -> u32
+pub(crate) fn pair_key(left: u16, right: u16) -> u32
     ensures { result ≡ pair_key left right }
 {
     left as u32 * 65536 + right as u32

@@ -11,7 +11,7 @@ use Rattle.aat_machine_reader.specs.Weights.{machine_weight}
 use Rattle.aat_kern_reader.specs.Kern.{KernValue}
 use Rattle.aat_kern_reader.specs.declared.weights.TheConstants.{KERN_RULE_SIZE, KERN_SUBTABLE_SIZE, LEFT_OUT_SIZE, PAIR_SIZE, START_SIZE}
 
--- pairs that are listed, and the starts beside them
+-- pairs that are listed, and the starts and words beside them
 abbrev pub pairs_weight : List (ℕ × ℕ × ℤ) → ℕ
 pairs_weight pairs = PAIR_SIZE * length pairs + START_SIZE * left_count pairs
 

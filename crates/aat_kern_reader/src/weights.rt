@@ -10,8 +10,8 @@ pub const KERN_RULE_SIZE: usize = size_of::<(u16, u16, GenericStateEntry<KernEnt
 /// The bytes of a pair that is listed.
 pub const PAIR_SIZE: usize = size_of::<(u16, u16, i16)>();
 
-/// The bytes of the start of the pairs of a left glyph.
-pub const START_SIZE: usize = size_of::<usize>();
+/// The bytes of the start of the pairs of a left glyph, and of the word with their bits.
+pub const START_SIZE: usize = size_of::<usize>() + size_of::<u64>();
 
 /// The bytes of a subtable that kerns, besides what it has in lists.
 pub const KERN_SUBTABLE_SIZE: usize = size_of::<KernSubtable>();

@@ -40,7 +40,7 @@ abbrev pub anchor_weight : List ℕ → ℕ → ℕ → KerxAnchorTables → ℕ
 anchor_weight bytes place glyph_count t =
     machine_weight KERX_RULE_SIZE t.state_table + 4 * length t.anchor_points + classes_weight bytes place glyph_count
 
--- pairs that are listed, and the starts beside them
+-- pairs that are listed, and the starts and words beside them
 abbrev pub pairs_weight : List (ℕ × ℕ × ℤ) → ℕ
 pairs_weight pairs = PAIR_SIZE * length pairs + START_SIZE * left_count pairs
 

@@ -4,6 +4,7 @@ pub mod KindsKeep
 pub mod LaterDeleted
 pub mod LawsHold
 pub mod Ligating
+pub mod Moved
 pub mod Moves
 pub mod OrderOfKinds
 pub mod Parts

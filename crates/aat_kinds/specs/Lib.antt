@@ -5,6 +5,7 @@ pub use Rattle.aat_run.specs.Driven
 pub use Rattle.aat_run.specs.Outcome
 pub use Rattle.aat_run.specs.Ranges
 pub mod Contextual
+pub mod Idle
 pub mod Insertion
 pub mod Kinds
 pub mod Lawful

@@ -1,6 +1,7 @@
 pub mod ContextualHeld
 pub mod ContextualLaws
 pub mod ContextualSmall
+pub mod IdleKinds
 pub mod InPlaceRuns
 pub mod InsertionHeld
 pub mod InsertionLaws
@@ -10,3 +11,4 @@ pub mod OrderHolds
 pub mod Permutation
 pub mod RearrangementKeeps
 pub mod RearrangementLaws
+pub mod Resting

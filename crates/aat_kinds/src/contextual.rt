@@ -12,7 +12,8 @@ ghost use Rattle.aat_kinds.specs.Contextual.{answer_of, at_cursor, at_mark, held
 use crate::values::props_after;
 use aat_buffer::{hb_buffer_t, hb_glyph_info_t};
 use aat_font::{
-    ContextualEntryData, ContextualSubtable, GenericStateEntry, GlyphId, Lookup, hb_font_t,
+    ContextualEntryData, ContextualSubtable, GenericStateEntry, GlyphId, Lookup,
+    contextual_entry_rests, hb_font_t,
 };
 use aat_run::{AatError, driver_context_t};
 use std::alloc::Allocator;
@@ -151,6 +152,8 @@ impl<'a> ContextualCtx<'a> {
 impl<'a> driver_context_t<ContextualEntryData> for ContextualCtx<'a> {
     ghost use Rattle.std.specs.Prelude.{true};
     ghost use Rattle.aat_font.specs.Entries.{goes_on};
+    ghost use Rattle.aat_font.specs.Idle.{contextual_rests};
+    ghost use Rattle.aat_kinds.specs.facts.Resting.{contextual_held_rest};
     ghost use Rattle.aat_kinds.specs.Contextual as contextual;
     ghost use Rattle.aat_kinds.specs.facts.ContextualHeld as laws;
 
@@ -164,6 +167,8 @@ impl<'a> driver_context_t<ContextualEntryData> for ContextualCtx<'a> {
 
     ghost advances = { goes_on };
 
+    ghost resting = { contextual_rests };
+
     ghost actionable = { contextual.held_actionable };
 
     ghost act = { contextual.held_act };
@@ -174,6 +179,10 @@ impl<'a> driver_context_t<ContextualEntryData> for ContextualCtx<'a> {
 
     fn can_advance(&self, entry: &GenericStateEntry<ContextualEntryData>) -> bool {
         entry.has_advance()
+    }
+
+    fn rests(&self, entry: &GenericStateEntry<ContextualEntryData>) -> bool {
+        contextual_entry_rests(entry)
     }
 
     fn is_actionable<A: Allocator + Copy>(
@@ -205,6 +214,8 @@ impl<'a> driver_context_t<ContextualEntryData> for ContextualCtx<'a> {
         self.act(entry, buffer);
         Ok(())
     }
+
+    ghost rests_alone = { contextual_held_rest };
 
     ghost fits_fresh = { laws.fits_where_fresh };
 

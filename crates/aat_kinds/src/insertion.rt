@@ -13,7 +13,7 @@ use aat_buffer::{hb_buffer_t, hb_glyph_info_t};
 use aat_font::entry_bits::insertion::{
     CURRENT_INSERT_BEFORE, CURRENT_INSERT_COUNT, MARKED_INSERT_BEFORE, MARKED_INSERT_COUNT,
 };
-use aat_font::{GenericStateEntry, GlyphId, InsertionEntryData};
+use aat_font::{GenericStateEntry, GlyphId, InsertionEntryData, insertion_entry_rests};
 use aat_run::{AatError, driver_context_t};
 use std::alloc::Allocator;
 use std::marker::Model;
@@ -135,6 +135,8 @@ impl<'a> InsertionCtx<'a> {
 impl<'a> driver_context_t<InsertionEntryData> for InsertionCtx<'a> {
     ghost use Rattle.std.specs.Prelude.{false};
     ghost use Rattle.aat_font.specs.Entries.{goes_on};
+    ghost use Rattle.aat_font.specs.Idle.{insertion_rests};
+    ghost use Rattle.aat_kinds.specs.facts.Resting.{insertion_held_rest};
     ghost use Rattle.aat_kinds.specs.Insertion as insertion;
     ghost use Rattle.aat_kinds.specs.facts.InsertionHeld as laws;
 
@@ -148,6 +150,8 @@ impl<'a> driver_context_t<InsertionEntryData> for InsertionCtx<'a> {
 
     ghost advances = { goes_on };
 
+    ghost resting = { insertion_rests };
+
     ghost actionable = { insertion.held_actionable };
 
     ghost act = { insertion.held_act };
@@ -158,6 +162,10 @@ impl<'a> driver_context_t<InsertionEntryData> for InsertionCtx<'a> {
 
     fn can_advance(&self, entry: &GenericStateEntry<InsertionEntryData>) -> bool {
         entry.has_advance()
+    }
+
+    fn rests(&self, entry: &GenericStateEntry<InsertionEntryData>) -> bool {
+        insertion_entry_rests(entry)
     }
 
     fn is_actionable<A: Allocator + Copy>(
@@ -211,6 +219,8 @@ impl<'a> driver_context_t<InsertionEntryData> for InsertionCtx<'a> {
         self.insert_marked(entry, buffer)?;
         self.mark_and_insert(entry, place, buffer)
     }
+
+    ghost rests_alone = { insertion_held_rest };
 
     ghost fits_fresh = { laws.fits_where_fresh };
 

@@ -13,7 +13,7 @@ ghost use Rattle.aat_kinds.specs.inside.Taken.{all_taken, step_of};
 
 use aat_buffer::{DELETED_GLYPH, UnicodeProps, hb_buffer_t, hb_glyph_info_t};
 use aat_font::entry_bits::ligature::{LIG_ACTION_LAST, LIG_ACTION_STORE, PERFORM_ACTION};
-use aat_font::{GenericStateEntry, GlyphId, LigatureSubtable};
+use aat_font::{GenericStateEntry, GlyphId, LigatureSubtable, ligature_entry_rests};
 use aat_run::{AatError, driver_context_t};
 use bitflags::Flags;
 use std::alloc::Allocator;
@@ -305,6 +305,8 @@ impl<'a, const SLOTS: usize> LigatureCtx<'a, SLOTS> {
 impl<'a, const SLOTS: usize> driver_context_t<u16> for LigatureCtx<'a, SLOTS> {
     ghost use Rattle.std.specs.Prelude.{false, true};
     ghost use Rattle.aat_font.specs.Entries.{goes_on};
+    ghost use Rattle.aat_font.specs.Idle.{ligature_rests};
+    ghost use Rattle.aat_kinds.specs.facts.Resting.{ligature_held_rest};
     ghost use Rattle.aat_kinds.specs.Ligature as ligature;
     ghost use Rattle.aat_kinds.specs.facts.LigatureHeld as laws;
 
@@ -318,6 +320,8 @@ impl<'a, const SLOTS: usize> driver_context_t<u16> for LigatureCtx<'a, SLOTS> {
 
     ghost advances = { goes_on };
 
+    ghost resting = { ligature_rests };
+
     ghost actionable = { ligature.held_actionable };
 
     ghost act = { ligature.held_act };
@@ -328,6 +332,10 @@ impl<'a, const SLOTS: usize> driver_context_t<u16> for LigatureCtx<'a, SLOTS> {
 
     fn can_advance(&self, entry: &GenericStateEntry<u16>) -> bool {
         entry.has_advance()
+    }
+
+    fn rests(&self, entry: &GenericStateEntry<u16>) -> bool {
+        ligature_entry_rests(entry)
     }
 
     fn is_actionable<A: Allocator + Copy>(
@@ -363,6 +371,8 @@ impl<'a, const SLOTS: usize> driver_context_t<u16> for LigatureCtx<'a, SLOTS> {
         self.act(entry, buffer);
         Ok(())
     }
+
+    ghost rests_alone = { ligature_held_rest };
 
     ghost fits_fresh = { laws.fits_where_fresh };
 

@@ -1,8 +1,9 @@
 //! Noncontextual subtables: each glyph by itself gets its value of a lookup.
-ghost use Rattle.std.specs.Prelude.{◌≡◌, ◌≤◌, All, ℕ, Bool, length};
+ghost use Rattle.std.specs.Prelude.{◌≡◌, All, ℕ, Bool, List, None, true, length};
 ghost use Rattle.aat_buffer.specs.Buffer.{Is16Bit, with_line};
 ghost use Rattle.aat_buffer.specs.Clusters.{IsSmall};
 ghost use Rattle.aat_font.specs.Face.{glyph_classes_of};
+ghost use Rattle.aat_font.specs.Moves.{AreMovesOf, HasCells};
 ghost use Rattle.aat_run.specs.Ranges.{IsGapless, switch_for};
 ghost use Rattle.aat_run.specs.Stretches.{IsSwitchedAlike};
 ghost use Rattle.aat_kinds.specs.Runs.{is_on_in};
@@ -11,7 +12,7 @@ ghost use Rattle.aat_kinds.specs.Values.{with_looked_up_value, noncontextual};
 use crate::run::SubtableRun;
 use crate::values::props_after;
 use aat_buffer::{hb_buffer_t, hb_glyph_info_t};
-use aat_font::{GlyphId, Lookup, hb_font_t};
+use aat_font::{GlyphId, GlyphMoves, Lookup, hb_font_t};
 use aat_run::{Stretch, range_flags_t, ranges_to_ask};
 use std::alloc::Allocator;
 
@@ -40,6 +41,20 @@ fn replacement(
     }
 }
 
+/// A glyph with what it becomes, where the subtable is on and the font has no classes of glyphs.
+fn moved_alone(moves: GlyphMoves, glyph: hb_glyph_info_t) -> hb_glyph_info_t
+    requires cells { HasCells moves }
+    requires id { Is16Bit glyph }
+    ensures replaced { (on : ℕ → Bool) (lookup : List (ℕ × ℕ)) → on glyph.cluster ≡ true → AreMovesOf moves.entry lookup
+        → result ≡ with_looked_up_value on None lookup glyph }
+    ensures small { Is16Bit result }
+{
+    hb_glyph_info_t {
+        glyph_id: moves.moved(glyph.glyph_id as u16) as u32,
+        ..glyph
+    }
+}
+
 /// Whether a subtable is on at a cluster, by some ranges: always where there are none, and else as on the stretch that
 /// holds the cluster, which is remembered.
 fn is_on_along(
@@ -60,8 +75,8 @@ fn is_on_along(
     stretch.is_on
 }
 
-/// Gives each of some glyphs at whose own cluster the subtable is on, by some ranges, its value.
-fn replace_glyphs(
+/// Gives each of some glyphs at whose own cluster the subtable is on, by some ranges, its value, which is looked up.
+fn replace_each(
     run: &SubtableRun,
     ranges: &[range_flags_t],
     lookup: &Lookup,
@@ -80,6 +95,44 @@ fn replace_glyphs(
         let is_on = is_on_along(run, ranges, &mut stretch, glyph.cluster);
         *glyph = replacement(run.face, lookup, is_on, *glyph);
     }
+}
+
+/// Gives each of some glyphs its value, by what each becomes, where the subtable is on everywhere and the font has no
+/// classes of glyphs.
+fn move_all(lookup: &Lookup, moves: GlyphMoves, glyphs: &mut [hb_glyph_info_t])
+    requires ids { All Is16Bit glyphs.old }
+    requires moves { AreMovesOf moves lookup.now }
+    ensures replaced { glyphs.new ≡ noncontextual (λ _. true) None lookup.now glyphs.old }
+    ensures ids { All Is16Bit glyphs.new }
+    ensures len { length glyphs.new ≡ length glyphs.old }
+{
+    for glyph in glyphs.iter_mut() {
+        *glyph = moved_alone(moves, *glyph);
+    }
+}
+
+/// Gives each of some glyphs at whose own cluster the subtable is on, by some ranges, its value.
+fn replace_glyphs(
+    run: &SubtableRun,
+    ranges: &[range_flags_t],
+    lookup: &Lookup,
+    glyphs: &mut [hb_glyph_info_t],
+)
+    requires ids { All Is16Bit glyphs.old }
+    requires gapless { IsGapless ranges.now }
+    ensures replaced { glyphs.new ≡
+        noncontextual ((switch_for ranges.now).is_on run.now.feature_flags) (glyph_classes_of run.now.face.now)
+        lookup.now glyphs.old }
+    ensures ids { All Is16Bit glyphs.new }
+    ensures len { length glyphs.new ≡ length glyphs.old }
+{
+    if ranges.is_empty() && !run.face.has_glyph_classes() {
+        if let Some(moves) = lookup.moves() {
+            move_all(lookup, moves, glyphs);
+            return;
+        }
+    }
+    replace_each(run, ranges, lookup, glyphs);
 }
 
 /// Gives each glyph of a line at whose own cluster the subtable is on its value. The line is one slice while the cursor

@@ -9,8 +9,8 @@ ghost use Rattle.aat_kinds.specs.Rearrangement.{IsFit, act, fresh, is_within, mo
 use crate::rearrangement_span::move_span;
 use crate::verb::{Verb, verb_of};
 use aat_buffer::{HB_BUFFER_CLUSTER_LEVEL_CHARACTERS, hb_buffer_t};
-use aat_font::GenericStateEntry;
 use aat_font::entry_bits::rearrangement::{MARK_FIRST, MARK_LAST, VERB};
+use aat_font::{GenericStateEntry, rearrangement_entry_rests};
 use aat_run::{AatError, driver_context_t};
 use std::alloc::Allocator;
 use std::marker::Model;
@@ -136,6 +136,8 @@ impl<const LONGEST: usize> RearrangementCtx<LONGEST> {
 impl<const LONGEST: usize> driver_context_t<()> for RearrangementCtx<LONGEST> {
     ghost use Rattle.std.specs.Prelude.{true};
     ghost use Rattle.aat_font.specs.Entries.{goes_on};
+    ghost use Rattle.aat_font.specs.Idle.{rearrangement_rests};
+    ghost use Rattle.aat_kinds.specs.facts.Resting.{rearrangement_rest};
     ghost use Rattle.aat_kinds.specs.Rearrangement as rearrangement;
     ghost use Rattle.aat_kinds.specs.facts.RearrangementLaws as laws;
     ghost use Rattle.aat_kinds.specs.facts.RearrangementKeeps as keeps;
@@ -150,6 +152,8 @@ impl<const LONGEST: usize> driver_context_t<()> for RearrangementCtx<LONGEST> {
 
     ghost advances = { goes_on };
 
+    ghost resting = { rearrangement_rests };
+
     ghost actionable = { rearrangement.actionable };
 
     ghost act = { rearrangement.act LONGEST };
@@ -160,6 +164,10 @@ impl<const LONGEST: usize> driver_context_t<()> for RearrangementCtx<LONGEST> {
 
     fn can_advance(&self, entry: &GenericStateEntry<()>) -> bool {
         entry.has_advance()
+    }
+
+    fn rests(&self, entry: &GenericStateEntry<()>) -> bool {
+        rearrangement_entry_rests(entry)
     }
 
     fn is_actionable<A: Allocator + Copy>(
@@ -190,6 +198,8 @@ impl<const LONGEST: usize> driver_context_t<()> for RearrangementCtx<LONGEST> {
         self.act(entry, buffer);
         Ok(())
     }
+
+    ghost rests_alone = { rearrangement_rest LONGEST };
 
     ghost fits_fresh = { laws.fits_where_fresh };
 

@@ -1,2 +1,3 @@
 pub mod Isolating
 pub mod Refusing
+pub mod Requesting

@@ -15,11 +15,9 @@ use Rattle.aat_layout.specs.Planned.{substitution_with}
 abbrev pub first_too_large : hb_ot_shape_plan_t → hb_font_t → Option ℕ
 first_too_large plan face = first_too_large_among (tables_of face).feat plan.user_features.items
 
--- a plan makes a request, or where no feature is too large has its requests compiled
+-- a plan makes a request, before any feature that is too large
 abbrev pub wants_memory : hb_ot_shape_plan_t → hb_font_t → Bool
-wants_memory plan face =
-    makes_request (tables_of face).feat plan.user_features.items
-    || (plan.apply_morx && is_none (first_too_large plan face))
+wants_memory plan face = makes_request (tables_of face).feat plan.user_features.items
 
 -- why a plan is refused
 abbrev pub RefusesPlan : hb_ot_shape_plan_t → hb_font_t → AatError → Type 0

@@ -1,5 +1,5 @@
 //! The entry points of the layer.
-ghost use Rattle.std.specs.Prelude.{◌≡◌, ◌^◌, ◌<◌, ◌≤◌, ◌↔◌, IfOk, IfErr, IsErrOf, IsTrue, OnErr, OnOk, ◌++◌, None, find, false, length};
+ghost use Rattle.std.specs.Prelude.{◌≡◌, ◌^◌, ◌<◌, ◌≤◌, ◌↔◌, IfOk, IfErr, IfSome, IsErrOf, IsTrue, OnErr, OnOk, ◌++◌, None, find, false, length};
 ghost use Rattle.std.specs.List.{list_all};
 ghost use Rattle.aat_buffer.specs.Clusters.{IsSmall};
 ghost use Rattle.aat_font.specs.Chains.{subtable_count};
@@ -7,6 +7,7 @@ ghost use Rattle.aat_font.specs.Face.{chains_in, tables_of};
 ghost use Rattle.aat_kinds.specs.Kinds.{sizes_of};
 ghost use Rattle.aat_layout.specs.Planned.{IsIsolated, IsIsolatedWith, substitution, substitution_with};
 ghost use Rattle.aat_layout.specs.Refusals.{LeavesBehind, LeavesBehindWith, RefusesBeforeRuns, RefusesPlan, RefusesSubstitution, RefusesSubstitutionWith, first_too_large};
+ghost use Rattle.aat_map.specs.Map.{lists_for};
 ghost use Rattle.aat_map.specs.SwitchedChains.{plan_requests, switched, switched_by};
 ghost use Rattle.aat_morx.specs.Kept.{has_insertion};
 ghost use Rattle.aat_run.specs.Budget.{extent};
@@ -42,7 +43,8 @@ pub type Turns = u64;
 /// Refused, in this order: as 4, `BufferFailed`, where a call of the buffer was refused before; then for each feature
 /// in turn as 1, `AaltValue`, for a value of alternates that is no setting, and as 3, `OutOfMemory`, where its request
 /// gets no memory, so that 3, `OutOfMemory`, may come in place of 1, `AaltValue`, where a feature before has a request;
-/// then as 3, `OutOfMemory`, where compiling gets no memory. After each of these the buffer is unchanged (of 3,
+/// then as 3, `OutOfMemory`, where compiling requests gets no memory; where the features make no request nothing is
+/// compiled, and each chain runs under its default flags. After each of these the buffer is unchanged (of 3,
 /// `OutOfMemory`, the contract says so where substitution leaves no longer line, or a feature asks for alternates by
 /// such a value). At last, in the middle of a run, as 2, `TooLong`, only where substitution leaves a line longer than
 /// the buffer's `max_len`, and as 3, `OutOfMemory`, only where it leaves a longer line than it found, and that one was
@@ -129,26 +131,32 @@ pub fn hb_aat_layout_substitute_with<const SLOTS: usize, const LONGEST: usize>(
         return Err(AatError::BufferFailed);
     }
     let map = compiled_map(alloc, plan, face)?;
-    let turns = run_table::<SLOTS, LONGEST, _, _>(face, &map, buffer)?;
+    let turns = run_table::<SLOTS, LONGEST, _, _>(face, map.as_ref(), buffer)?;
     Ok(turns.unwrap_or(0))
 }
 
-/// The map that a plan makes of a font: compiled where the plan applies the flags, and else empty.
+/// The map that a plan makes of a font: empty where the plan does not apply the flags, none where it applies them and
+/// makes no request, so that each chain has its default ones, and else compiled. It takes no memory but for requests.
 fn compiled_map<H: Allocator + Copy>(
     alloc: H,
     plan: &hb_ot_shape_plan_t,
     face: &hb_font_t,
-) -> Result<hb_aat_map_t<H>, AatError>
-    ensures ok { IfOk result (λ map. switched_by (chains_in (tables_of face.now).morx) map
+) -> Result<Option<hb_aat_map_t<H>>, AatError>
+    ensures ok { IfOk result (λ map. switched_by (chains_in (tables_of face.now).morx)
+        (lists_for map (chains_in (tables_of face.now).morx))
         ≡ switched plan.now.apply_morx (plan_requests plan.now face.now) (chains_in (tables_of face.now).morx)) }
-    ensures whole { IfOk result (λ map. IsTrue (list_all is_whole_list map)) }
+    ensures whole { IfOk result (λ map. IfSome map (λ m. IsTrue (list_all is_whole_list m))) }
     ensures reason { IfErr result (RefusesPlan plan.now face.now) }
     ensures fits { OnOk result (first_too_large plan.now face.now ≡ None) }
 {
     let mut builder = hb_aat_map_builder_t::with_features(alloc, face, &plan.user_features)?;
-    let mut map = hb_aat_map_t::default(alloc);
-    if plan.apply_morx {
-        builder.compile(face, &mut map)?;
+    if !plan.apply_morx {
+        return Ok(Some(hb_aat_map_t::default(alloc)));
     }
-    Ok(map)
+    if builder.features().is_empty() {
+        return Ok(None);
+    }
+    let mut map = hb_aat_map_t::default(alloc);
+    builder.compile(face, &mut map)?;
+    Ok(Some(map))
 }

@@ -25,7 +25,7 @@ cells_beside count span =
     if nat_le (span / 32) count then span else
     if nat_lt count 8 then 0 else 256 + 256 * (count / 8)
 
--- how many bytes pairs take: 4 for each, and 4 for each cell beside them
+-- how many bytes pairs take at most: 4 for each, and 4 for each cell beside them
 abbrev pub pairs_size : List (ℕ × ℕ) → ℕ
 pairs_size pairs = 4 * length pairs + 4 * cells_beside (length pairs) (glyph_span first (0, 0) pairs)
 

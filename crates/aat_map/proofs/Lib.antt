@@ -2,6 +2,7 @@ pub mod ByStart
 pub mod CompileLemmas
 pub mod CompiledLemmas
 pub mod CutLemmas
+pub mod DefaultLists
 pub mod FirstLemmas
 pub mod GatherLemmas
 pub mod KeptFirsts
@@ -9,6 +10,7 @@ pub mod KeptSearch
 pub mod MapLemmas
 pub mod MappingsRise
 pub mod OneRange
+pub mod OverAll
 pub mod PlacedLemmas
 pub mod RequestLemmas
 pub mod SpanLemmas

@@ -140,7 +140,7 @@ any_placed :
 any_placed t [] r = or-false (t r)
 any_placed t (q ∷ qs) r = put_step (nat_le q.start r.start) t q r qs (placed_by_start qs r) (any_placed t qs r)
 
-any_ordered :
+pub any_ordered :
     (t : feature_range_t → Bool) (qs rs : List feature_range_t)
     → list_any t (fold placed_by_start qs rs) ≡ (list_any t qs || list_any t rs)
 any_ordered t qs [] = sym (or-false _)

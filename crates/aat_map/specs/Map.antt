@@ -1,8 +1,9 @@
 -- Lists of ranges with flags, and what they say of a cluster.
-use Rattle.std.specs.Prelude.{◌≡◌, ℕ, ◌-◌, ◌==◌, ◌||◌, List, [], ◌∷◌, ◌++◌, length, map, take, replicate, Option, slice_index_or, Vec}
+use Rattle.std.specs.Prelude.{◌≡◌, ℕ, ◌-◌, ◌==◌, ◌||◌, List, [], ◌∷◌, ◌++◌, length, map, take, replicate, Option, Some, None, slice_index_or, Vec}
 use Rattle.std.specs.List.{list_any}
 use Rattle.std.specs.List.Sorted.{IsStrictlyIncreasing}
-use Rattle.aat_run.specs.Ranges.{flags_in}
+use Rattle.aat_font.specs.declared.morx.Chain.{Chain}
+use Rattle.aat_run.specs.Ranges.{flags_in, last_cluster, range}
 use Rattle.aat_map.specs.Live.{is_cut}
 use Rattle.aat_map.specs.declared.feature.feature_range_t.{feature_range_t}
 use Rattle.aat_run.specs.declared.ranges.range_flags_t.{range_flags_t}
@@ -18,6 +19,20 @@ list_at map k = slice_index_or map k []
 -- the flags of a chain at a cluster, if its list has them
 abbrev pub flags_at : List (List range_flags_t) → ℕ → ℕ → Option ℕ
 flags_at map k x = flags_in (list_at map k) x
+
+-- a chain's list where nothing is requested: its default flags over the whole text
+abbrev pub default_list : Chain → List range_flags_t
+default_list c = range 0 last_cluster c.default_flags ∷ []
+
+-- the list of each chain: that of a map, and without one that of its default flags
+abbrev pub lists_for : Option (List (List range_flags_t)) → List Chain → List (List range_flags_t)
+lists_for None chains = map default_list chains
+lists_for (Some m) chains = m
+
+-- a chain's list in a map, and without one another list
+abbrev pub list_or : Option (List (List range_flags_t)) → ℕ → List range_flags_t → List range_flags_t
+list_or None k other = other
+list_or (Some m) k other = list_at m k
 
 -- a list for each of n chains: lists past them go, and missing ones are empty
 abbrev pub resized : ℕ → List (List range_flags_t) → List (List range_flags_t)

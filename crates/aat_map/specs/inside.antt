@@ -4,5 +4,6 @@ pub mod Collected
 pub mod CompiledSpans
 pub mod Firsts
 pub mod MapLists
+pub mod OverAll
 pub mod Placed
 pub mod Walked

@@ -1,5 +1,5 @@
 //! Compiling requests into the flags of each chain, range by range.
-ghost use Rattle.std.specs.Prelude.{◌≡◌, ◌<◌, ◌≤◌, [], length, slice_get, slice_index_or, All, IsTrue, IsPermutation, Some};
+ghost use Rattle.std.specs.Prelude.{◌≡◌, ◌<◌, ◌≤◌, [], length, slice_get, slice_index_or, true, All, IsTrue, IsPermutation, Some};
 ghost use Rattle.std.specs.Prelude.{IfOk, IfErr, OnOk, OnErr};
 ghost use Rattle.std.specs.List.{list_all};
 ghost use Rattle.aat_font.specs.Face.{tables_of, chains_in};
@@ -10,13 +10,15 @@ ghost use Rattle.aat_map.specs.Live.{by_start, kept_at};
 ghost use Rattle.aat_map.specs.Map.{AreStarts, range_starts};
 ghost use Rattle.aat_map.specs.Spans.{spans};
 ghost use Rattle.aat_map.specs.SwitchedChains.{switched_by, by_requests};
-ghost use Rattle.aat_map.specs.inside.CompiledSpans.{compiled_lists, last_of, RiseFromZero, IsLastSpan, IsCompiled};
+ghost use Rattle.aat_map.specs.inside.CompiledSpans.{compiled_lists, last_of, EndsWithinText, RiseFromZero, IsLastSpan, IsCompiled};
 ghost use Rattle.aat_map.specs.inside.Firsts.{present};
+ghost use Rattle.aat_map.specs.inside.OverAll.{are_over_all};
 ghost use Rattle.aat_map.specs.inside.Walked.{AreWalked};
 
 use crate::builder::hb_aat_map_builder_t;
+use crate::chain_flags::push_ranges;
 use crate::feature::{feature_info_t, feature_range_t};
-use crate::gather::{by_start, count_up_to, kept_of};
+use crate::gather::{by_start, count_up_to, groups_of, kept_of};
 use crate::live::{Live, live_at_start};
 use crate::map::hb_aat_map_t;
 use crate::placed::placed_in;
@@ -72,12 +74,62 @@ fn compile_ranges<A: Allocator + Copy>(
     ensures requests { builder.new.features ≡ builder.old.features }
     ensures err { IfErr result (λ e. e ≡ AatError.OutOfMemory) }
 {
-    let alloc = builder.allocator();
-    let ordered = by_start(alloc, builder.features())?;
-    let ending = by_end(alloc, &ordered)?;
-    let starts = starts_of(alloc, &ordered, &ending)?;
+    let ordered = by_start(builder.allocator(), builder.features())?;
+    if are_over_all(&ordered) {
+        compile_over_all(builder, chains, map, &ordered)
+    } else {
+        compile_parts(builder, chains, map, &ordered)
+    }
+}
+
+/// Whether each request starts at 0 and never ends.
+fn are_over_all(requests: &[feature_range_t]) -> bool
+    ensures { result ≡ are_over_all requests.now }
+{
+    requests.iter().all(|r| r.start == 0 && r.end == u32::MAX)
+}
+
+/// Compiles requests over the whole text, over an empty map: each chain has one range, with what is first of each
+/// group. Nothing starts or ends within the text, so no walk is needed.
+fn compile_over_all<A: Allocator + Copy>(
+    builder: &mut hb_aat_map_builder_t<A>,
+    chains: &[Chain],
+    map: &mut hb_aat_map_t<A>,
+    ordered: &[feature_range_t],
+) -> Result<(), AatError>
+    requires empty { map.old ≡ [] }
+    requires ordered { ordered.now ≡ by_start builder.old.features }
+    requires over_all { are_over_all ordered.now ≡ true }
+    requires bounded { All EndsWithinText builder.old.features }
+    ensures ok { OnOk result (IsCompiled builder.old.features chains.now map.new builder.new) }
+    ensures requests { builder.new.features ≡ builder.old.features }
+    ensures err { IfErr result (λ e. e ≡ AatError.OutOfMemory) }
+{
+    let kept = groups_of(builder.allocator(), ordered)?;
+    builder.set_range((0, u32::MAX), kept);
     map.resize(chains.len())?;
-    let live = compile_spans(builder, chains, map, &ordered, &ending, &starts)?;
+    push_ranges(chains, builder, map)
+}
+
+/// Compiles requests over parts of the text, range by range, over an empty map.
+fn compile_parts<A: Allocator + Copy>(
+    builder: &mut hb_aat_map_builder_t<A>,
+    chains: &[Chain],
+    map: &mut hb_aat_map_t<A>,
+    ordered: &[feature_range_t],
+) -> Result<(), AatError>
+    requires empty { map.old ≡ [] }
+    requires ordered { ordered.now ≡ by_start builder.old.features }
+    requires bounded { All EndsWithinText builder.old.features }
+    ensures ok { OnOk result (IsCompiled builder.old.features chains.now map.new builder.new) }
+    ensures requests { builder.new.features ≡ builder.old.features }
+    ensures err { IfErr result (λ e. e ≡ AatError.OutOfMemory) }
+{
+    let alloc = builder.allocator();
+    let ending = by_end(alloc, ordered)?;
+    let starts = starts_of(alloc, ordered, &ending)?;
+    map.resize(chains.len())?;
+    let live = compile_spans(builder, chains, map, ordered, &ending, &starts)?;
     tell_last(builder, &starts, &live.firsts)
 }
 

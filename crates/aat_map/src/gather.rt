@@ -121,7 +121,7 @@ fn present_of<A: Allocator>(
     ensures ok { IfOk result (λ list. list.items ≡ present firsts.now) }
     ensures err { IfErr result (λ e. e ≡ AatError.OutOfMemory) }
 {
-    let mut list = Vec::new(alloc);
+    let mut list = Vec::with_capacity(alloc, firsts.len())?;
     for first in firsts {
         push_present(&mut list, first)?;
     }
@@ -142,12 +142,13 @@ fn push_present<A: Allocator>(
     Ok(())
 }
 
-/// Of each group of requests one, in the order of groups, so that a bisection finds where those of a kind begin.
+/// Of each group of requests the first, in the order of groups, so that a bisection finds where those of a kind begin.
 pub(crate) fn groups_of<A: Allocator + Copy>(
     alloc: A,
     requests: &[feature_range_t],
 ) -> Result<Vec<feature_info_t, A>, AatError>
     ensures ok { IfOk result (λ groups. AreGroupsOf (infos requests.now) groups.items) }
+    ensures kept { IfOk result (λ groups. IsPermutation (kept (infos requests.now)) groups.items) }
     ensures rising { IfOk result (λ groups. IsRisingByGroup groups.items) }
     ensures err { IfErr result (λ e. e ≡ AatError.OutOfMemory) }
 {

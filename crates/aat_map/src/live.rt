@@ -72,7 +72,7 @@ fn firsts_of<A: Allocator + Copy>(
     ensures ok { IfOk result (λ firsts. firsts.items ≡ firsts_of groups.now list.now.items) }
     ensures err { IfErr result (λ e. e ≡ AatError.OutOfMemory) }
 {
-    let mut firsts = Vec::new(alloc);
+    let mut firsts = Vec::with_capacity(alloc, groups.len())?;
     for group in groups {
         firsts.push(first_of(list, group))?;
     }

@@ -53,7 +53,7 @@ fn places_of_chains<A: Allocator + Copy>(
     ensures ok { IfOk result (λ lists. place_lists lists.items ≡ map (places_for groups.now) chains.now) }
     ensures err { IfErr result (λ e. e ≡ AatError.OutOfMemory) }
 {
-    let mut lists = Vec::new(alloc);
+    let mut lists = Vec::with_capacity(alloc, chains.len())?;
     for chain in chains {
         lists.push(places_for(alloc, groups, chain)?)?;
     }
@@ -70,7 +70,7 @@ fn places_for<A: Allocator>(
     ensures ok { IfOk result (λ places. places.items ≡ places_for groups.now chain.now) }
     ensures err { IfErr result (λ e. e ≡ AatError.OutOfMemory) }
 {
-    let mut places = Vec::new(alloc);
+    let mut places = Vec::with_capacity(alloc, chain.features.len())?;
     for feature in &chain.features {
         places.push(places_of(groups, (feature.kind, feature.setting)))?;
     }

@@ -31,7 +31,7 @@ fn collected<A: Allocator>(
     ensures ok { IfOk result (λ starts. starts.items ≡ with_ends (with_starts (0 ∷ []) ordered.now) ending.now) }
     ensures err { IfErr result (λ e. e ≡ AatError.OutOfMemory) }
 {
-    let mut starts = Vec::new(alloc);
+    let mut starts = Vec::with_capacity(alloc, 1 + ordered.len() + ending.len())?;
     starts.push(0)?;
     push_starts(&mut starts, ordered)?;
     push_ends(&mut starts, ending)?;

@@ -1,9 +1,11 @@
+pub mod Asleep
 pub mod Alike
 pub mod BestBounds
 pub mod Chained
 pub mod ComingClusters
 pub mod Isolated
 pub mod LawsHold
+pub mod LineBits
 pub mod OrderOfRuns
 pub mod Prepared
 pub mod Refused

@@ -18,3 +18,4 @@ pub mod LigatureRows
 pub mod RearrangementRows
 pub mod Rows
 pub mod Substitution
+pub mod inside

@@ -1,11 +1,12 @@
 //! Running the table under a map.
 ghost use Rattle.std.specs.Prelude.{◌≡◌, ◌+◌, ◌-◌, ◌*◌, ◌^◌, ◌<◌, ◌≤◌, ◌↔◌, IfOk, IfErr, IfSome, IsErrOf, IsTrue, None, OnErr, OnOk, IsOk, MatchOption, false, is_none, length, true};
 ghost use Rattle.std.specs.List.{list_all};
+ghost use Rattle.std.specs.Option.{option_copied};
 ghost use Rattle.aat_buffer.specs.Clusters.{IsSmall};
 ghost use Rattle.aat_font.specs.Chains.{subtable_count};
 ghost use Rattle.aat_font.specs.Face.{chains_in, tables_of};
 ghost use Rattle.aat_kinds.specs.Kinds.{sizes_for, sizes_of};
-ghost use Rattle.aat_morx.specs.Applying.{RefusesRun, applied};
+ghost use Rattle.aat_morx.specs.Applying.{RefusesRun, applied, applied_by};
 ghost use Rattle.aat_morx.specs.Kept.{has_insertion};
 ghost use Rattle.aat_morx.specs.Substitution.{prepared};
 ghost use Rattle.aat_run.specs.Budget.{extent};
@@ -139,7 +140,7 @@ pub fn apply_with<const SLOTS: usize, const LONGEST: usize>(
     }
     let face = c.face;
     let buffer = &mut *c.buffer;
-    match run_table::<SLOTS, LONGEST, _, _>(face, map, buffer) {
+    match run_table::<SLOTS, LONGEST, _, _>(face, Some(map), buffer) {
         Ok(Some(turns)) => {
             c.turns += turns;
             c.range_flags = None;
@@ -163,7 +164,8 @@ fn prepare<A: Allocator + Copy>(buffer: &mut hb_buffer_t<A>)
     buffer.unsafe_to_concat(None, None);
 }
 
-/// Prepares the line, runs the table under a map, and answers the turns, or none without the table.
+/// Prepares the line, runs the table under a map, and answers the turns, or none without the table. Without a map each
+/// chain runs under its default flags, which takes no memory.
 ///
 /// Each glyph id has to be at most 0xFFFF, and the map whole; there has to be a slot, and at most 2^59 of them. A
 /// buffer that had failed is run as any other; else refused as `apply` is.
@@ -175,21 +177,22 @@ pub fn run_table<
     M: Allocator + Copy,
 >(
     face: &hb_font_t,
-    map: &hb_aat_map_t<M>,
+    map: Option<&hb_aat_map_t<M>>,
     buffer: &mut hb_buffer_t<A>,
 ) -> Result<Option<u64>, AatError>
     requires slots { 0 < SLOTS }
     requires memory { SLOTS ≤ 2 ^ 59 }
-    requires whole { IsTrue (list_all is_whole_list map.now) }
+    requires whole { IfSome (option_copied map) (λ m. IsTrue (list_all is_whole_list m)) }
     requires ids { IsSmall buffer.old }
     ensures known { IfOk result (λ answer. is_none answer ≡ is_none (tables_of face.now).morx) }
     ensures run { IfOk result (λ answer. MatchOption answer (buffer.new ≡ prepared buffer.old)
-        (IsOutcome (applied (sizes_of SLOTS LONGEST face.now) face.now map.now buffer.old) buffer.new)) }
+        (IsOutcome (applied_by (sizes_of SLOTS LONGEST face.now) face.now (option_copied map.entry) buffer.old)
+        buffer.new)) }
     ensures within { IfOk result (λ answer. MatchOption answer (StaysWithin 0 buffer.old buffer.new 0)
         (StaysWithin (subtable_count (chains_in (tables_of face.now).morx)) buffer.old buffer.new)) }
     ensures few { IfOk result (λ answer. IfSome answer (λ turns. turns ≤ 2 ^ 62)) }
     ensures reason { IfErr result (IsRefusal buffer.old
-        (applied (sizes_of SLOTS LONGEST face.now) face.now map.now buffer.old).buffer) }
+        (applied_by (sizes_of SLOTS LONGEST face.now) face.now (option_copied map.entry) buffer.old).buffer) }
     ensures refused { OnErr result (IsRefused buffer.old buffer.new) }
     ensures order { OnOk result (HasOrderOf buffer.old buffer.new) }
     ensures room { IsErrOf result AatError.TooLong → buffer.old.max_len < extent buffer.old }
@@ -203,6 +206,7 @@ pub fn run_table<
     match &face.tables().morx {
         Some(morx) => Ok(Some(run_chains::<SLOTS, LONGEST, A, M>(
             face,
+            morx,
             morx.chains(),
             map,
             buffer,

@@ -1,9 +1,13 @@
 //! Subtables and chains in their order.
-ghost use Rattle.std.specs.Prelude.{◌≡◌, ◌^◌, ◌<◌, ◌≤◌, IfOk, IfErr, OnErr, IsTrue, length};
+ghost use Rattle.std.specs.Prelude.{◌≡◌, ◌^◌, ◌<◌, ◌≤◌, IfOk, IfErr, IfSome, OnErr, IsTrue, length};
 ghost use Rattle.std.specs.List.{list_all};
+ghost use Rattle.std.specs.Option.{option_copied};
 ghost use Rattle.aat_buffer.specs.Clusters.{IsSmall};
 ghost use Rattle.aat_font.specs.Chains.{subtable_count};
+ghost use Rattle.aat_font.specs.Morx.{chains_of};
+ghost use Rattle.aat_font.specs.Wakers.{AreWakers};
 ghost use Rattle.aat_kinds.specs.Kinds.{sizes_of};
+ghost use Rattle.aat_map.specs.Map.{lists_for};
 ghost use Rattle.aat_map.specs.SwitchedChains.{SwitchedChain, switched_by};
 ghost use Rattle.aat_morx.specs.Substitution.{chain_run};
 ghost use Rattle.aat_run.specs.Driven.{IsRefusal, IsRefused, StaysWithin};
@@ -11,24 +15,27 @@ ghost use Rattle.aat_run.specs.Outcome.{IsOutcome, in_order};
 ghost use Rattle.aat_run.specs.Ranges.{IsGapless, is_whole_list, switch_for};
 
 use crate::subtable::run_subtable;
+use crate::waking::LineWord;
 use aat_buffer::hb_buffer_t;
-use aat_font::{Chain, Subtable, hb_font_t};
+use aat_font::{Chain, GlyphWords, Morx, Subtable, hb_font_t};
 use aat_kinds::SubtableRun;
-use aat_map::hb_aat_map_t;
+use aat_map::{default_range, hb_aat_map_t, ranges_of};
 use aat_run::{AatError, range_flags_t};
 use std::alloc::Allocator;
 
-/// Runs the subtables of a chain in their order, and answers the turns.
+/// Runs the subtables of a chain in their order, and answers the turns. Words tell which glyphs may wake them.
 #[tactic(auto, using(aat_run::specs::facts::Settings::refused_behind))]
 fn run_chain<const SLOTS: usize, const LONGEST: usize, A: Allocator + Copy>(
     face: &hb_font_t,
     ranges: &[range_flags_t],
     subtables: &[Subtable],
+    words: &[GlyphWords],
     buffer: &mut hb_buffer_t<A>,
 ) -> Result<u64, AatError>
     requires slots { 0 < SLOTS }
     requires memory { SLOTS ≤ 2 ^ 59 }
     requires few { length subtables.now ≤ 65535 }
+    requires wakers { AreWakers subtables.now words.now }
     requires gapless { IsGapless ranges.now }
     requires whole { IsTrue (is_whole_list ranges.now) }
     requires ids { IsSmall buffer.old }
@@ -42,18 +49,20 @@ fn run_chain<const SLOTS: usize, const LONGEST: usize, A: Allocator + Copy>(
     let _length = buffer.len();
     let _budget = buffer.max_ops();
     let mut turns = 0;
-    for subtable in subtables {
+    let mut known = LineWord::unknown();
+    for (i, subtable) in subtables.iter().enumerate() {
         let run = SubtableRun {
             face,
             ranges,
             feature_flags: subtable.feature_flags,
         };
-        turns += run_subtable::<SLOTS, LONGEST, A>(&run, subtable, buffer)?;
+        turns += run_subtable::<SLOTS, LONGEST, A>(&run, subtable, &mut known, words, i, buffer)?;
     }
     Ok(turns)
 }
 
-/// Runs all chains in their order, each under its list of the map, and answers the turns.
+/// Runs the chains of a table in their order, each under its list of the map, and without a map under its default flags.
+/// Answers the turns.
 #[tactic(auto, using(aat_run::specs::facts::Settings::refused_behind))]
 pub(crate) fn run_chains<
     const SLOTS: usize,
@@ -62,27 +71,32 @@ pub(crate) fn run_chains<
     M: Allocator + Copy,
 >(
     face: &hb_font_t,
+    morx: &Morx,
     chains: &[Chain],
-    map: &hb_aat_map_t<M>,
+    map: Option<&hb_aat_map_t<M>>,
     buffer: &mut hb_buffer_t<A>,
 ) -> Result<u64, AatError>
     requires slots { 0 < SLOTS }
     requires memory { SLOTS ≤ 2 ^ 59 }
+    requires chains { chains.now ≡ chains_of morx.now }
     requires few { subtable_count chains.now ≤ 65535 }
-    requires whole { IsTrue (list_all is_whole_list map.now) }
+    requires whole { IfSome (option_copied map) (λ m. IsTrue (list_all is_whole_list m)) }
     requires ids { IsSmall buffer.old }
     ensures run { IfOk result (IsOutcome (in_order (chain_run (sizes_of SLOTS LONGEST face.now))
-        (switched_by chains.now map.now) buffer.old) buffer.new) }
+        (switched_by chains.now (lists_for (option_copied map.entry) chains.now)) buffer.old) buffer.new) }
     ensures within { IfOk result (StaysWithin (subtable_count chains.now) buffer.old buffer.new) }
-    ensures reason { IfErr result (IsRefusal buffer.old
-        (in_order (chain_run (sizes_of SLOTS LONGEST face.now)) (switched_by chains.now map.now) buffer.old).buffer) }
+    ensures reason { IfErr result (IsRefusal buffer.old (in_order (chain_run (sizes_of SLOTS LONGEST face.now))
+        (switched_by chains.now (lists_for (option_copied map.entry) chains.now)) buffer.old).buffer) }
     ensures refused { OnErr result (IsRefused buffer.old buffer.new) }
 {
     let _length = buffer.len();
     let _budget = buffer.max_ops();
     let mut turns = 0;
     for (i, chain) in chains.iter().enumerate() {
-        turns += run_chain::<SLOTS, LONGEST, A>(face, map.ranges(i), &chain.subtables, buffer)?;
+        let default = [default_range(chain)];
+        let ranges = ranges_of(map, i, &default);
+        let words = morx.wakers(i);
+        turns += run_chain::<SLOTS, LONGEST, A>(face, ranges, &chain.subtables, words, buffer)?;
     }
     Ok(turns)
 }

@@ -6,6 +6,7 @@ mod chains;
 #[doc(hidden)]
 pub mod laws;
 mod subtable;
+mod waking;
 
 pub use applying::{apply, apply_with, run_table};
 

@@ -1,16 +1,18 @@
 //! A subtable in its chain: whether it runs, and in which order of the line.
-ghost use Rattle.std.specs.Prelude.{◌≡◌, ◌^◌, ◌<◌, ◌≤◌, IfOk, IfErr, OnErr, IsTrue, false, length, true};
+ghost use Rattle.std.specs.Prelude.{◌≡◌, ◌^◌, ◌<◌, ◌≤◌, IfOk, IfErr, OnOk, OnErr, IsTrue, false, length, true};
 ghost use Rattle.aat_buffer.specs.Clusters.{IsSmall};
-ghost use Rattle.aat_kinds.specs.Kinds.{is_for, is_reversed, kind_run, reversed_run, sizes_of};
+ghost use Rattle.aat_kinds.specs.Kinds.{is_for, is_reversed, kind_run, ordered_run, reversed_run, sizes_of};
 ghost use Rattle.aat_kinds.specs.Runs.{is_on_in};
 ghost use Rattle.aat_morx.specs.Substitution.{is_skipped, subtable_run};
+ghost use Rattle.aat_morx.specs.inside.LineWords.{TellsOf, WakeAt};
 ghost use Rattle.aat_run.specs.Driven.{IsRefusal, IsRefused, StaysWithin};
 ghost use Rattle.aat_run.specs.Outcome.{IsOutcome};
 ghost use Rattle.aat_run.specs.Ranges.{IsGapless, is_whole_list, switch_for};
 
+use crate::waking::LineWord;
 use aat_buffer::{Direction, hb_buffer_t};
-use aat_font::{Coverage, Subtable};
-use aat_kinds::{SubtableRun, run_kind};
+use aat_font::{Coverage, GlyphWords, Subtable};
+use aat_kinds::{SubtableRun, pass_over, run_kind};
 use aat_run::AatError;
 use std::alloc::Allocator;
 
@@ -73,12 +75,42 @@ fn run_reversed<const SLOTS: usize, const LONGEST: usize, A: Allocator + Copy>(
     Ok(turns)
 }
 
-/// Runs a subtable under the ranges of its chain, and answers the turns: by its kind, in the order of its coverage. One
-/// that is left out takes none.
+/// Runs a subtable by its kind, in the order of its coverage.
+fn run_ordered<const SLOTS: usize, const LONGEST: usize, A: Allocator + Copy>(
+    run: &SubtableRun,
+    subtable: &Subtable,
+    buffer: &mut hb_buffer_t<A>,
+) -> Result<u64, AatError>
+    requires slots { 0 < SLOTS }
+    requires memory { SLOTS ≤ 2 ^ 59 }
+    requires gapless { IsGapless run.now.ranges.now }
+    requires whole { IsTrue (is_whole_list run.now.ranges.now) }
+    requires on { length run.now.ranges.now ≡ 1 → is_on_in run.now 0 ≡ true }
+    requires ids { IsSmall buffer.old }
+    ensures run { IfOk result (IsOutcome (ordered_run subtable.now.coverage
+        (kind_run (sizes_of SLOTS LONGEST run.now.face.now) (is_on_in run.now) subtable.now.kind) buffer.old)
+        buffer.new) }
+    ensures within { IfOk result (StaysWithin 1 buffer.old buffer.new) }
+    ensures reason { IfErr result (IsRefusal buffer.old (ordered_run subtable.now.coverage
+        (kind_run (sizes_of SLOTS LONGEST run.now.face.now) (is_on_in run.now) subtable.now.kind) buffer.old).buffer) }
+    ensures refused { OnErr result (IsRefused buffer.old buffer.new) }
+{
+    if is_reversed(subtable.coverage, buffer.direction()) {
+        run_reversed::<SLOTS, LONGEST, A>(run, subtable, buffer)
+    } else {
+        run_kind::<SLOTS, LONGEST, A>(run, &subtable.kind, buffer)
+    }
+}
+
+/// Runs subtable i of a chain under the chain's ranges, and answers the turns: by its kind, in the order of its
+/// coverage. One that is left out takes none, and one that no glyph of the line wakes is passed over.
 #[tactic(auto, unfolding(crate::specs::Substitution::subtable_run))]
 pub(crate) fn run_subtable<const SLOTS: usize, const LONGEST: usize, A: Allocator + Copy>(
     run: &SubtableRun,
     subtable: &Subtable,
+    known: &mut LineWord,
+    words: &[GlyphWords],
+    i: usize,
     buffer: &mut hb_buffer_t<A>,
 ) -> Result<u64, AatError>
     requires slots { 0 < SLOTS }
@@ -87,6 +119,8 @@ pub(crate) fn run_subtable<const SLOTS: usize, const LONGEST: usize, A: Allocato
     requires gapless { IsGapless run.now.ranges.now }
     requires whole { IsTrue (is_whole_list run.now.ranges.now) }
     requires ids { IsSmall buffer.old }
+    requires wake { WakeAt subtable.now words.now i }
+    requires tells { TellsOf known.old words.now buffer.old.line }
     ensures run { IfOk result (IsOutcome (subtable_run (sizes_of SLOTS LONGEST run.now.face.now)
         (switch_for run.now.ranges.now) subtable.now buffer.old) buffer.new) }
     ensures within { IfOk result (StaysWithin 1 buffer.old buffer.new) }
@@ -94,13 +128,15 @@ pub(crate) fn run_subtable<const SLOTS: usize, const LONGEST: usize, A: Allocato
         (subtable_run (sizes_of SLOTS LONGEST run.now.face.now) (switch_for run.now.ranges.now) subtable.now
         buffer.old).buffer) }
     ensures refused { OnErr result (IsRefused buffer.old buffer.new) }
+    ensures tells { OnOk result (TellsOf known.new words.now buffer.new.line) }
 {
     if is_skipped(run, subtable, buffer.direction()) {
         return Ok(0);
     }
-    if is_reversed(subtable.coverage, buffer.direction()) {
-        run_reversed::<SLOTS, LONGEST, A>(run, subtable, buffer)
-    } else {
-        run_kind::<SLOTS, LONGEST, A>(run, &subtable.kind, buffer)
+    if !known.wakes(words, i, buffer) {
+        return Ok(pass_over(&subtable.kind, buffer));
     }
+    let turns = run_ordered::<SLOTS, LONGEST, A>(run, subtable, buffer)?;
+    *known = LineWord::unknown();
+    Ok(turns)
 }

@@ -100,7 +100,7 @@ fn chains(
 ///
 /// A chain has its features and subtables inside its length. What a subtable does may reach behind its length, by an
 /// equal share of a fourth of the chain's length, and not past the end of the table. So a table that is read takes at
-/// most 24 bytes of memory for each of its bytes.
+/// most 24 bytes of memory for each of its bytes, and bits of glyphs beside it (`Morx::new`) at most 8.5 megabytes.
 ///
 /// The first fault in this order, of the table `morx`, with its place from the start of the table: 1, `PastEnd`, a
 /// header of 8 bytes that is not there, at 0; 2, `UnknownFormat`, another version, at 0. Then for each chain: 1, its

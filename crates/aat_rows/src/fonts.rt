@@ -1,10 +1,8 @@
 //! The fonts of the parts of rows.
 
-use crate::build::face_of;
-use crate::kerned::kerned_face_of;
 use crate::rows::{FROM_7, FROM_13, FROM_19, FROM_25, FROM_31, Part, Row, Shown, TO_6};
-use crate::shaped::shaped_face_of;
 use crate::stop::Stop;
+use aat_described_fonts::{FontData, font_of};
 use aat_layout::font::hb_font_t;
 use std::alloc::Global;
 
@@ -13,8 +11,11 @@ use std::alloc::Global;
 ///
 /// Stopped as `Refused` with 3 for want of memory.
 pub fn font_of_part(alloc: Global, name: &str) -> Result<Option<hb_font_t>, Stop> {
-    match part_named(name) {
-        Some(part) => font_of(alloc, &part.shown),
+    let Some(part) = part_named(name) else {
+        return Ok(None);
+    };
+    match font_in(&part.shown) {
+        Some(font) => Ok(Some(font_of(alloc, font)?)),
         None => Ok(None),
     }
 }
@@ -46,14 +47,13 @@ fn part_of(parts: &'static [Part], name: &str) -> Option<&'static Part> {
 }
 
 /// The font of what a part shows, if it needs one.
-fn font_of(alloc: Global, shown: &Shown) -> Result<Option<hb_font_t>, Stop> {
+pub(crate) fn font_in(shown: &Shown) -> Option<&FontData<'static>> {
     match shown {
-        Shown::Substitution(shown) => Ok(Some(face_of(alloc, &shown.font)?)),
-        Shown::Refusals(shown) => Ok(Some(face_of(alloc, &shown.font)?)),
-        Shown::Compilation(shown) => Ok(Some(face_of(alloc, &shown.font)?)),
-        Shown::Addition(shown) => Ok(Some(face_of(alloc, &shown.font)?)),
-        Shown::Kerning(shown) => Ok(Some(kerned_face_of(alloc, &shown.table)?)),
-        Shown::Shaping(shown) => Ok(Some(shaped_face_of(alloc, shown)?)),
-        Shown::Zeroing(_) | Shown::Removal(_) => Ok(None),
+        Shown::Substitution(shown) | Shown::Refusals(shown) => Some(&shown.font),
+        Shown::Compilation(shown) => Some(&shown.font),
+        Shown::Addition(shown) => Some(&shown.font),
+        Shown::Kerning(shown) => Some(&shown.font),
+        Shown::Shaping(shown) => Some(&shown.font),
+        Shown::Zeroing(_) | Shown::Removal(_) => None,
     }
 }

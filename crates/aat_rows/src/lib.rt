@@ -4,9 +4,9 @@
 mod build;
 mod fonts;
 mod kerned;
+mod made;
 mod print;
 mod rows;
-mod shaped;
 mod stop;
 
 pub use fonts::font_of_part;

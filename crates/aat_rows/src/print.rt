@@ -1,25 +1,9 @@
-//! Shaping the worked rows and printing what comes out.
-ghost use Rattle.std.specs.Prelude.{◌<◌, length};
-ghost use Rattle.aat_layout.specs.Clusters.{IsSmall};
+//! Printing the worked rows.
 
-use crate::build::{buffer_of, builder_of, face_of, feature_of, plan_of, set_advances};
-use crate::kerned::{asking_buffer_of, kerned_face_of, kerning_plan_of, placed_buffer_of};
-use crate::rows::{
-    Addition, After, Compilation, FROM_7, FROM_13, FROM_19, FROM_25, FROM_31, Kerning,
-    KerningTable, MAX_LEN, MAX_OPS, Part, Row, Run, Shaping, Shown, Sizes, Substitution, TO_6,
-    Zeroing,
-};
-use crate::shaped::{shaped_face_of, shaping_plan_of};
+use crate::made::{Glyph, Line, Made, Place, Range, make};
+use crate::rows::{FROM_7, FROM_13, FROM_19, FROM_25, FROM_31, Part, Row, TO_6};
 use crate::stop::Stop;
-use aat_layout::buffer::{glyph_flag, hb_buffer_t};
-use aat_layout::font::{hb_font_t, hb_ot_shape_plan_t};
-use aat_layout::{
-    AatError, LIGATURE_SLOTS, MAX_CONTEXT_LENGTH, Turns, hb_aat_layout_position,
-    hb_aat_layout_remove_deleted_glyphs, hb_aat_layout_substitute, hb_aat_layout_substitute_with,
-    hb_aat_layout_zero_width_deleted_glyphs, hb_aat_map_builder_t, hb_aat_map_t, hb_ot_layout_kern,
-    range_flags_t,
-};
-use aat_shaping::shape;
+use aat_layout::{AatError, Turns};
 use std::alloc::Global;
 use std::io::Write;
 
@@ -78,83 +62,22 @@ fn print_row<W: Write>(alloc: Global, row: &Row, out: &mut W) -> Result<(), Stop
 /// Prints a part of a row: its name, and then what it shows.
 fn print_part<W: Write>(alloc: Global, part: &Part, out: &mut W) -> Result<(), Stop> {
     writeln!(out, "row {}", part.name)?;
-    match &part.shown {
-        Shown::Substitution(shown) => print_substitution(alloc, shown, out),
-        Shown::Refusals(shown) => print_refusals(alloc, shown, out),
-        Shown::Compilation(shown) => print_compilation(alloc, shown, out),
-        Shown::Addition(shown) => print_addition(alloc, shown, out),
-        Shown::Kerning(shown) => print_kerning(alloc, shown, out),
-        Shown::Zeroing(shown) => print_zeroing(alloc, shown, out),
-        Shown::Removal(line) => print_removal(alloc, line, out),
-        Shown::Shaping(shown) => print_shaping(alloc, shown, out),
+    let made = make(alloc, &part.shown)?;
+    print_made(&made, out)
+}
+
+/// Prints what a part shows: the numbers of the errors where two calls are refused, 2 for a line that would become
+/// longer than its greatest length, and 4 for a buffer that has failed.
+fn print_made<W: Write>(made: &Made, out: &mut W) -> Result<(), Stop> {
+    match made {
+        Made::Left(line) => print_line(line, out),
+        Made::Answers(first, second) => {
+            print_refusal(*first, out)?;
+            print_refusal(*second, out)
+        }
+        Made::Ranges(ranges) => print_ranges(ranges, out),
+        Made::Added(answer, requests) => print_addition(*answer, *requests, out),
     }
-}
-
-/// Substitutes a line, removes its deleted glyphs if that is asked for, and prints it with the turns and the budget.
-fn print_substitution<W: Write>(
-    alloc: Global,
-    shown: &Substitution,
-    out: &mut W,
-) -> Result<(), Stop> {
-    let face = face_of(alloc, &shown.font)?;
-    let plan = plan_of(alloc, shown.requests)?;
-    print_substituted(alloc, shown, &plan, &face, out)
-}
-
-/// Substitutes the line by a plan and a font.
-fn print_substituted<W: Write>(
-    alloc: Global,
-    shown: &Substitution,
-    plan: &hb_ot_shape_plan_t,
-    face: &hb_font_t,
-    out: &mut W,
-) -> Result<(), Stop> {
-    let mut buffer = buffer_of(alloc, shown.line, shown.max_len, shown.max_ops)?;
-    buffer.set_direction(shown.direction);
-    let turns = substitute(alloc, plan, face, &shown.sizes, &mut buffer)?;
-    match shown.after {
-        After::Nothing => (),
-        After::Removal => hb_aat_layout_remove_deleted_glyphs(&mut buffer),
-    }
-    print_buffer(&buffer, turns, out)
-}
-
-/// Substitutes a line twice, where each call is refused, and prints the number of each error: 2 for a line that would
-/// become longer than its greatest length, and 4 for a buffer that has failed.
-fn print_refusals<W: Write>(alloc: Global, shown: &Substitution, out: &mut W) -> Result<(), Stop> {
-    let face = face_of(alloc, &shown.font)?;
-    let plan = plan_of(alloc, shown.requests)?;
-    print_refused(alloc, shown, &plan, &face, out)
-}
-
-/// Substitutes the line by a plan and a font, twice.
-fn print_refused<W: Write>(
-    alloc: Global,
-    shown: &Substitution,
-    plan: &hb_ot_shape_plan_t,
-    face: &hb_font_t,
-    out: &mut W,
-) -> Result<(), Stop> {
-    let mut buffer = buffer_of(alloc, shown.line, shown.max_len, shown.max_ops)?;
-    buffer.set_direction(shown.direction);
-    print_calls(alloc, plan, face, &shown.sizes, &mut buffer, out)
-}
-
-/// Substitutes a line twice, and prints the number of the error of each call that is refused.
-fn print_calls<W: Write>(
-    alloc: Global,
-    plan: &hb_ot_shape_plan_t,
-    face: &hb_font_t,
-    sizes: &Sizes,
-    buffer: &mut hb_buffer_t,
-    out: &mut W,
-) -> Result<(), Stop>
-    requires { IsSmall buffer.old }
-{
-    let first = substitute(alloc, plan, face, sizes, buffer);
-    print_refusal(first, out)?;
-    let second = substitute(alloc, plan, face, sizes, buffer);
-    print_refusal(second, out)
 }
 
 /// Prints the number of the error of a refused call, and nothing of a call that answers.
@@ -169,69 +92,16 @@ fn print_refusal<W: Write>(answer: Result<Turns, AatError>, out: &mut W) -> Resu
     }
 }
 
-/// Substitutes a line by a plan with sizes, and answers the turns.
-fn substitute(
-    alloc: Global,
-    plan: &hb_ot_shape_plan_t,
-    face: &hb_font_t,
-    sizes: &Sizes,
-    buffer: &mut hb_buffer_t,
-) -> Result<Turns, AatError>
-    requires { IsSmall buffer.old }
-    ensures { IsSmall buffer.new }
-{
-    match sizes {
-        Sizes::Usual => hb_aat_layout_substitute(alloc, plan, face, buffer),
-        Sizes::SpansOfThree => hb_aat_layout_substitute_with::<LIGATURE_SLOTS, 3>(
-            alloc, plan, face, buffer,
-        ),
-        Sizes::SpansOfTwo => hb_aat_layout_substitute_with::<LIGATURE_SLOTS, 2>(
-            alloc, plan, face, buffer,
-        ),
-        Sizes::OneSlot => hb_aat_layout_substitute_with::<1, MAX_CONTEXT_LENGTH>(
-            alloc, plan, face, buffer,
-        ),
-        Sizes::TwoSlots => hb_aat_layout_substitute_with::<2, MAX_CONTEXT_LENGTH>(
-            alloc, plan, face, buffer,
-        ),
-    }
-}
-
-/// Compiles requests and prints the ranges of each chain.
-fn print_compilation<W: Write>(
-    alloc: Global,
-    shown: &Compilation,
-    out: &mut W,
-) -> Result<(), Stop> {
-    let face = face_of(alloc, &shown.font)?;
-    let mut builder = builder_of(alloc, &face, shown.requests)?;
-    print_compiled(alloc, &face, &mut builder, out)
-}
-
-/// Compiles the requests of a builder and prints the ranges of each chain.
-fn print_compiled<W: Write>(
-    alloc: Global,
-    face: &hb_font_t,
-    builder: &mut hb_aat_map_builder_t,
-    out: &mut W,
-) -> Result<(), Stop> {
-    let mut map = hb_aat_map_t::default(alloc);
-    builder.compile(face, &mut map)?;
-    for ranges in map.chain_flags() {
-        print_ranges(ranges, out)?;
-    }
-    Ok(())
-}
-
-/// Adds a request to a new builder, and prints the answer and then the number of the builder's
-/// requests.
+/// Prints the answer to a request, and then the number of the builder's requests.
 ///
 /// The answer is `some` for a feature that is known, `none` for one that is not, and `error` with the
 /// error's number and the value for a value of alternates that is no setting.
-fn print_addition<W: Write>(alloc: Global, shown: &Addition, out: &mut W) -> Result<(), Stop> {
-    let face = face_of(alloc, &shown.font)?;
-    let mut builder = hb_aat_map_builder_t::default(alloc);
-    match builder.add_feature(&face, &feature_of(&shown.request)) {
+fn print_addition<W: Write>(
+    answer: Result<Option<()>, AatError>,
+    requests: usize,
+    out: &mut W,
+) -> Result<(), Stop> {
+    match answer {
         Ok(Some(())) => writeln!(out, "some")?,
         Ok(None) => writeln!(out, "none")?,
         Err(AatError::AaltValue(value)) => {
@@ -240,108 +110,39 @@ fn print_addition<W: Write>(alloc: Global, shown: &Addition, out: &mut W) -> Res
         }
         Err(error) => return Err(Stop::from(error)),
     }
-    writeln!(out, "requests {}", builder.features().len())?;
+    writeln!(out, "requests {requests}")?;
     Ok(())
 }
 
-/// Kerns a line by the table of its font, and prints it with the turns and the budget.
-fn print_kerning<W: Write>(alloc: Global, shown: &Kerning, out: &mut W) -> Result<(), Stop> {
-    let face = kerned_face_of(alloc, &shown.table)?;
-    let plan = kerning_plan_of(alloc, shown.requested_kerning);
-    print_kerned(alloc, shown, &plan, &face, out)
-}
-
-/// Kerns the line by a plan and a font.
-fn print_kerned<W: Write>(
-    alloc: Global,
-    shown: &Kerning,
-    plan: &hb_ot_shape_plan_t,
-    face: &hb_font_t,
-    out: &mut W,
-) -> Result<(), Stop> {
-    let mut buffer = placed_buffer_of(alloc, shown.line, shown.max_ops)?;
-    buffer.set_direction(shown.direction);
-    let turns = match &shown.table {
-        KerningTable::Kern(_) => hb_ot_layout_kern(plan, face, &mut buffer)?,
-        KerningTable::Kerx(_) | KerningTable::KerxWithPoints(_, _) => {
-            hb_aat_layout_position(plan, face, &mut buffer)?
-        }
-    };
-    print_buffer(&buffer, turns, out)
-}
-
-/// Gives the glyphs of a line positions, takes the room from its deleted glyphs, and prints it.
-fn print_zeroing<W: Write>(alloc: Global, shown: &Zeroing, out: &mut W) -> Result<(), Stop> {
-    let mut buffer = buffer_of(alloc, shown.line, MAX_LEN, MAX_OPS)?;
-    set_advances(&mut buffer, shown.x_advance)?;
-    hb_aat_layout_zero_width_deleted_glyphs(&mut buffer);
-    print_buffer(&buffer, 0, out)
-}
-
-/// Removes the deleted glyphs of a line, and prints it.
-fn print_removal<W: Write>(alloc: Global, line: &[Run], out: &mut W) -> Result<(), Stop> {
-    let mut buffer = buffer_of(alloc, line, MAX_LEN, MAX_OPS)?;
-    hb_aat_layout_remove_deleted_glyphs(&mut buffer);
-    print_buffer(&buffer, 0, out)
-}
-
-/// Shapes a line, and prints it with the turns and the budget.
-fn print_shaping<W: Write>(alloc: Global, shown: &Shaping, out: &mut W) -> Result<(), Stop> {
-    let face = shaped_face_of(alloc, shown)?;
-    let plan = shaping_plan_of(alloc, shown.apply_morx);
-    print_shaped(alloc, shown, &plan, &face, out)
-}
-
-/// Shapes the line by a plan and a font.
-fn print_shaped<W: Write>(
-    alloc: Global,
-    shown: &Shaping,
-    plan: &hb_ot_shape_plan_t,
-    face: &hb_font_t,
-    out: &mut W,
-) -> Result<(), Stop> {
-    let mut buffer = asking_buffer_of(alloc, shown.line, MAX_OPS)?;
-    buffer.set_direction(shown.direction);
-    let turns = shape(alloc, plan, face, &mut buffer)?;
-    print_buffer(&buffer, turns, out)
-}
-
 /// Prints a line, a glyph to a line of text, and then the turns and the budget that is left.
-fn print_buffer<W: Write>(buffer: &hb_buffer_t, turns: Turns, out: &mut W) -> Result<(), Stop> {
-    for i in 0..buffer.len() {
-        print_glyph(buffer, i, out)?;
+fn print_line<W: Write>(line: &Line, out: &mut W) -> Result<(), Stop> {
+    for (i, glyph) in line.glyphs.iter().enumerate() {
+        print_glyph(glyph, line.places.get(i), out)?;
     }
-    let budget = buffer.max_ops();
-    writeln!(out, "turns {turns} budget {budget}")?;
+    writeln!(out, "turns {} budget {}", line.turns, line.budget)?;
     Ok(())
 }
 
 /// Prints a glyph of a line: its id, its cluster and its flags, and where positions stand its advances and offsets.
-fn print_glyph<W: Write>(buffer: &hb_buffer_t, i: usize, out: &mut W) -> Result<(), Stop>
-    requires { i < length buffer.now.line }
-{
-    let glyph = buffer.info(i);
-    let (id, cluster) = (glyph.glyph_id, glyph.cluster);
-    let flags = glyph.mask & glyph_flag::DEFINED;
-    if !buffer.has_positions() {
-        writeln!(out, "{id} {cluster} {flags}")?;
-        return Ok(());
+fn print_glyph<W: Write>(glyph: &Glyph, place: Option<&Place>, out: &mut W) -> Result<(), Stop> {
+    let (id, cluster, flags) = *glyph;
+    match place {
+        None => writeln!(out, "{id} {cluster} {flags}")?,
+        Some(place) => {
+            let (x_advance, y_advance, x_offset, y_offset) = *place;
+            writeln!(
+                out,
+                "{id} {cluster} {flags} {x_advance} {y_advance} {x_offset} {y_offset}"
+            )?;
+        }
     }
-    let position = buffer.pos(i);
-    let (x_advance, y_advance) = (position.x_advance, position.y_advance);
-    let (x_offset, y_offset) = (position.x_offset, position.y_offset);
-    writeln!(
-        out,
-        "{id} {cluster} {flags} {x_advance} {y_advance} {x_offset} {y_offset}"
-    )?;
     Ok(())
 }
 
 /// Prints ranges, each on a line with its first and its last cluster and its flags.
-fn print_ranges<W: Write>(ranges: &[range_flags_t], out: &mut W) -> Result<(), Stop> {
-    for range in ranges {
-        let (first, last) = (range.cluster_first, range.cluster_last);
-        writeln!(out, "range {first} {last} {}", range.flags)?;
+fn print_ranges<W: Write>(ranges: &[Range], out: &mut W) -> Result<(), Stop> {
+    for (first, last, flags) in ranges {
+        writeln!(out, "range {first} {last} {flags}")?;
     }
     Ok(())
 }

@@ -1,23 +1,36 @@
 //! The worked rows, as descriptions of what is shaped.
 
-use aat_layout::buffer::Direction;
-use aat_layout::font::{
-    ChainFeature, ContextualEntryData, EntryData, FeatureName, GenericStateEntry, GlyphId,
-    InsertionEntryData, KernEntryData, Point,
+use aat_described_fonts::{
+    ChainData, FontData, KernData, KerxData, KindData, LigatureData, MachineData, NO_TABLES,
+    SubtableData,
 };
+use aat_layout::buffer::Direction;
+use aat_layout::font::{Coverage, FeatureName};
+
+/// The flags that a subtable is on at.
+const FEATURE_FLAGS: u32 = 1;
+
+/// Subtables for all directions.
+const ALL_DIRECTIONS: &[Coverage] = &[Coverage::ALL_DIRECTIONS];
+
+/// Subtables for all directions, in the order of the characters.
+const LOGICAL: &[Coverage] = &[Coverage::ALL_DIRECTIONS, Coverage::LOGICAL];
+
+/// Subtables for horizontal text alone.
+const HORIZONTAL: &[Coverage] = &[];
 
 /// A part that shows a line that is substituted by the one subtable of a font, without requests: its name, the kind
 /// of the subtable and the line, and if not the usual budget, the budget, or if not the usual sizes, the sizes, or if
 /// not for all directions and left to right, the coverage and the direction.
 macro_rules! substituted {
     ($name:literal, $kind:expr, $line:expr) => {
-        substituted!($name, $kind, $line, AllDirections, LeftToRight, MAX_OPS, Usual)
+        substituted!($name, $kind, $line, ALL_DIRECTIONS, LeftToRight, MAX_OPS, Usual)
     };
     ($name:literal, $kind:expr, $line:expr, $max_ops:literal) => {
-        substituted!($name, $kind, $line, AllDirections, LeftToRight, $max_ops, Usual)
+        substituted!($name, $kind, $line, ALL_DIRECTIONS, LeftToRight, $max_ops, Usual)
     };
     ($name:literal, $kind:expr, $line:expr, $sizes:ident) => {
-        substituted!($name, $kind, $line, AllDirections, LeftToRight, MAX_OPS, $sizes)
+        substituted!($name, $kind, $line, ALL_DIRECTIONS, LeftToRight, MAX_OPS, $sizes)
     };
     ($name:literal, $kind:expr, $line:expr, $coverage:ident, $direction:ident) => {
         substituted!($name, $kind, $line, $coverage, $direction, MAX_OPS, Usual)
@@ -27,13 +40,17 @@ macro_rules! substituted {
             name: $name,
             shown: Shown::Substitution(Substitution {
                 font: FontData {
-                    default_flags: 1,
-                    features: &[],
-                    subtables: &[SubtableData {
-                        kind: $kind,
-                        coverage: CoverageData::$coverage,
-                    }],
+                    chains: Some(&[ChainData {
+                        default_flags: 1,
+                        features: &[],
+                        subtables: &[SubtableData {
+                            kind: $kind,
+                            coverage: $coverage,
+                            feature_flags: FEATURE_FLAGS,
+                        }],
+                    }]),
                     names: Some(LIGATURES),
+                    ..NO_TABLES
                 },
                 requests: &[],
                 line: $line,
@@ -96,7 +113,7 @@ macro_rules! kerned {
         Part {
             name: $name,
             shown: Shown::Kerning(Kerning {
-                table: $table,
+                font: $table,
                 line: $line,
                 direction: Direction::$direction,
                 requested_kerning: $requested,
@@ -187,7 +204,7 @@ pub(crate) enum Shown {
 
 /// A line that is substituted under requests.
 pub(crate) struct Substitution {
-    pub(crate) font: FontData,
+    pub(crate) font: FontData<'static>,
     /// The requests, in their order.
     pub(crate) requests: &'static [Request],
     /// The line, run by run.
@@ -233,20 +250,20 @@ pub(crate) struct Run {
 
 /// Requests that are compiled into the flags of each chain.
 pub(crate) struct Compilation {
-    pub(crate) font: FontData,
+    pub(crate) font: FontData<'static>,
     /// The requests, in their order.
     pub(crate) requests: &'static [Request],
 }
 
 /// A request that is added to a new builder.
 pub(crate) struct Addition {
-    pub(crate) font: FontData,
+    pub(crate) font: FontData<'static>,
     pub(crate) request: Request,
 }
 
-/// A line that is kerned by the table of a font.
+/// A line that is kerned by the table of a font: the kerning table, or the extended one.
 pub(crate) struct Kerning {
-    pub(crate) table: KerningTable,
+    pub(crate) font: FontData<'static>,
     /// The line, glyph by glyph.
     pub(crate) line: &'static [Placed],
     /// The direction of the line.
@@ -255,34 +272,6 @@ pub(crate) struct Kerning {
     pub(crate) requested_kerning: bool,
     /// The budget of the buffer.
     pub(crate) max_ops: i32,
-}
-
-/// A kerning table with one subtable for horizontal text.
-pub(crate) enum KerningTable {
-    /// The kerning table.
-    Kern(KernData),
-    /// The extended kerning table.
-    Kerx(KerxData),
-    /// The extended kerning table, and the table of anchor points: each glyph with its points.
-    KerxWithPoints(KerxData, &'static [(u16, &'static [Point])]),
-}
-
-/// How a subtable of the kerning table kerns, along the line.
-pub(crate) enum KernData {
-    /// By pairs: the left glyph, the right glyph and the value, in font units.
-    Pairs(&'static [(u16, u16, i16)]),
-    /// By a machine with a stack, and its values, in font units.
-    Machine(TableData<KernEntryData>, &'static [i16]),
-}
-
-/// How a subtable of the extended kerning table kerns.
-pub(crate) enum KerxData {
-    /// By pairs, across the line: the left glyph, the right glyph and the value, in font units. Format 0.
-    PairsAcross(&'static [(u16, u16, i16)]),
-    /// By a machine with a stack, its values, in font units, and its tuple count. Format 1.
-    Stack(TableData<EntryData>, &'static [i16], u32),
-    /// By a machine that attaches glyphs, and its pairs of indexes of points. Format 4.
-    Anchors(TableData<EntryData>, &'static [(u16, u16)]),
 }
 
 /// A glyph with a position, which asks for kerning.
@@ -305,83 +294,13 @@ pub(crate) struct Zeroing {
 
 /// A line that is shaped, where kerning is requested.
 pub(crate) struct Shaping {
-    pub(crate) font: FontData,
-    /// The advances of glyphs, in font units.
-    pub(crate) advances: &'static [(u16, u16)],
-    /// How the one horizontal subtable of the kerning table kerns.
-    pub(crate) kern: KernData,
+    pub(crate) font: FontData<'static>,
     /// Whether the plan applies the font's substitution.
     pub(crate) apply_morx: bool,
     /// The line, glyph by glyph. Its glyphs have the advances of the font.
     pub(crate) line: &'static [Placed],
     /// The direction of the line.
     pub(crate) direction: Direction,
-}
-
-/// A font with one chain, and perhaps with feature names.
-pub(crate) struct FontData {
-    /// The flags that the chain begins with.
-    pub(crate) default_flags: u32,
-    /// The features of the chain, in their order.
-    pub(crate) features: &'static [ChainFeature],
-    /// The subtables of the chain, in their order.
-    pub(crate) subtables: &'static [SubtableData],
-    /// The feature names, if the font has the table of them.
-    pub(crate) names: Option<&'static [FeatureName]>,
-}
-
-/// A subtable that is on at the lowest flag.
-pub(crate) struct SubtableData {
-    pub(crate) kind: KindData,
-    pub(crate) coverage: CoverageData,
-}
-
-/// For which text a subtable is, and in which order it takes the glyphs.
-pub(crate) enum CoverageData {
-    /// For all directions.
-    AllDirections,
-    /// For all directions, in the order of the characters.
-    Logical,
-    /// For horizontal text alone.
-    Horizontal,
-}
-
-/// What a subtable does.
-pub(crate) enum KindData {
-    /// Each glyph gets its value.
-    NonContextual(&'static [(u16, u16)]),
-    /// Glyphs are put in another order.
-    Rearrangement(TableData<()>),
-    /// The marked and the current glyph get their values of the lookups that entries name.
-    Contextual(TableData<ContextualEntryData>, &'static [&'static [(u16, u16)]]),
-    /// Glyphs are joined.
-    Ligature(LigatureData),
-    /// Glyphs of the list that entries name are inserted.
-    Insertion(TableData<InsertionEntryData>, &'static [GlyphId]),
-}
-
-/// How glyphs are joined.
-pub(crate) struct LigatureData {
-    pub(crate) state: TableData<u16>,
-    /// The actions in their order, each with the number of times that it stands there.
-    pub(crate) actions: &'static [(u32, usize)],
-    pub(crate) components: &'static [u16],
-    pub(crate) ligatures: &'static [GlyphId],
-}
-
-/// A state table. Its first states have an entry for each class: the listed one, and else one that goes to state 0
-/// and does nothing.
-pub(crate) struct TableData<T: Copy + 'static> {
-    /// The number of classes.
-    pub(crate) class_count: u16,
-    /// The number of states that have entries.
-    pub(crate) states: u16,
-    /// Each glyph with its class.
-    pub(crate) classes: &'static [(u16, u16)],
-    /// The listed entries, each with its state and its class.
-    pub(crate) listed: &'static [(u16, u16, GenericStateEntry<T>)],
-    /// What the kind adds to an entry that does nothing.
-    pub(crate) idle: T,
 }
 
 /// What the user asks of a feature: a value over the clusters `start` to `end - 1`.

@@ -1,15 +1,19 @@
 -- A run on its way: a turn that goes on, one that ends, and one that is refused.
-use Rattle.std.proofs.Common.{◌≡◌, ℕ, ◌+◌, ◌<◌, ◌≤◌, length, arith}
+use Rattle.std.proofs.Common.{◌≡◌, ◌∙◌, ℕ, ◌+◌, ◌<◌, ◌≤◌, length, arith}
 use Rattle.aat_run.specs.Budget.{potential}
 use Rattle.aat_run.specs.Context.{Machine, Config}
 use Rattle.aat_run.specs.Driven.{IsRefusal}
 use Rattle.aat_run.specs.Laws.{KeepsFit, PassesFit, Pays, Lengthens, KeepsSettings, SameSettings}
-use Rattle.aat_run.specs.Machine.{Goes, Ends, left_by, turn, run_to_end}
+use Rattle.aat_run.specs.Machine.{Turn, Goes, Ends, left_by, turn, run_to_end}
 use Rattle.aat_run.specs.facts.MachineRuns.{turn_falls, turn_counts, turn_settings, turn_longer, longer_after}
 use Rattle.aat_run.specs.facts.Turns.{comes_on, comes_to_end}
 use Rattle.aat_run.specs.inside.Standing.{HasCome}
 use Rattle.aat_run.specs.declared.error.AatError.{AatError}
 use Rattle.aat_run.specs.declared.error.AatError.TheVariants.{AaltValue, TooLong, OutOfMemory, BufferFailed}
+
+-- two parts of a way
+pub come_then : {R : Type 0} (turn : Config R → Turn (Config R)) (fits : R → ℕ → ℕ → Type 0) (a b c : Config R) → HasCome turn fits a b → HasCome turn fits b c → HasCome turn fits a c
+come_then turn fits a b c first second = record { run = second.run ∙ first.run; fit = second.fit; counted = omega (arith, first.counted, second.counted) }
 
 module _ {R E : Type 0} (m : Machine R E) (fits : R → ℕ → ℕ → Type 0)
     (keeps : KeepsFit m.act fits) (passes : PassesFit fits) (pays : Pays m.act fits) (from to : Config R) (come : HasCome (turn m) fits from to)

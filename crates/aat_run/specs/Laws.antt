@@ -1,5 +1,5 @@
 -- The laws of an act, which a run asks for, and what a run keeps.
-use Rattle.std.specs.Prelude.{◌≡◌, ℕ, ◌+◌, ◌<◌, ◌≤◌, Bool, true, length, None}
+use Rattle.std.specs.Prelude.{◌≡◌, ℕ, ◌+◌, ◌<◌, ◌≤◌, Bool, true, false, length, None}
 use Rattle.aat_buffer.specs.Buffer.{Buffer}
 use Rattle.aat_run.specs.Budget.{potential, extent}
 use Rattle.aat_run.specs.Context.{Moved, Context, Config}
@@ -106,6 +106,13 @@ module _ {R E : Type 0} (act : E → R → Buffer → Moved R) (fits : R → ℕ
   KeepsClusters =
       (e : E) (r : R) (b : Buffer) → fits r b.cursor (length b.line)
       → ComesFrom b.line (act e r b).buffer.line
+
+-- an entry that rests, by a test, is actionable by no registers, and its act leaves them and the line as they are
+pub record RestsBy {R E : Type 0} (rests : E → Bool) (actionable : E → R → ℕ → ℕ → Bool) (act : E → R → Buffer → Moved R)
+    : Type 0
+  where
+    pub unactionable : (e : E) → rests e ≡ true → (r : R) (p n : ℕ) → actionable e r p n ≡ false
+    pub stays : (e : E) → rests e ≡ true → (r : R) (b : Buffer) → act e r b ≡ record { registers = r; buffer = b }
 
 -- what a run asks of every context
 pub record IsLawful {R E : Type 0} (context : Context R E) (fits : R → ℕ → ℕ → Type 0) : Type 0 where

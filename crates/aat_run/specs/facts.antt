@@ -1,5 +1,6 @@
 pub mod DrivenRuns
 pub mod Held
+pub mod IdleRuns
 pub mod InOrder
 pub mod InPlace
 pub mod MachineRuns

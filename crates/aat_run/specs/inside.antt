@@ -1,4 +1,5 @@
 pub mod Branches
 pub mod Near
+pub mod Passing
 pub mod Places
 pub mod Standing

@@ -2,26 +2,69 @@
 //!
 //! Here and in the crates of substitution the driver is the loop that takes the turns, and a context is what is plugged
 //! in. In `aat_kerning_machines` a driver is what is plugged in, as in the crate `rustybuzz`.
-ghost use Rattle.std.specs.Prelude.{◌≡◌, ◌+◌, ◌-◌, ◌<◌, ◌≤◌, ◌^◌, if◌then◌else◌, true, length, IsOk, OnOk, OnErr, IfOk, IfErr};
+ghost use Rattle.std.specs.Prelude.{◌≡◌, ◌+◌, ◌-◌, ◌<◌, ◌≤◌, ◌^◌, if◌then◌else◌, ℕ, Bool, true, length, IsOk, OnOk, OnErr, IfOk, IfErr};
 ghost use Rattle.aat_buffer.specs.Buffer.{with_cursor, without_positions};
 ghost use Rattle.aat_buffer.specs.Clusters.{IsSmall};
-ghost use Rattle.aat_run.specs.Budget.{potential};
+ghost use Rattle.aat_font.specs.Idle.{has_entry};
+ghost use Rattle.aat_font.specs.Table.{entry_of};
+ghost use Rattle.aat_run.specs.Budget.{potential, rest};
+ghost use Rattle.aat_run.specs.Context.{machine_with};
 ghost use Rattle.aat_run.specs.Driven.{IsRefusal, IsRefused, driven_registers, driven_run, driven_to_end, outcome_of, positions_behind};
 ghost use Rattle.aat_run.specs.Laws.{IsBounded, SameSettings};
 ghost use Rattle.aat_run.specs.Outcome.{IsOutcome};
-ghost use Rattle.aat_run.specs.Ranges.{IsGapless, ranges_of};
-ghost use Rattle.aat_run.specs.inside.Places.{IsRun};
+ghost use Rattle.aat_run.specs.Ranges.{IsGapless, is_driven_on, ranges_of};
+ghost use Rattle.aat_run.specs.Machine.{turn};
+ghost use Rattle.aat_run.specs.inside.Places.{IsRun, config};
+ghost use Rattle.aat_run.specs.inside.Standing.{HasCome};
 
 use crate::aat_layout_common::hb_aat_apply_context_t;
 use crate::driver_context::driver_context_t;
 use crate::error::AatError;
 use crate::ranges::{is_nowhere_on, range_flags_t, ranges_to_ask};
 use crate::run_state::RunState;
-use crate::turns::turn_once;
+use crate::turns::{pass_glyphs, rests_at_end, turn_once};
 use aat_buffer::{hb_buffer_t, hb_mask_t};
 use aat_font::ExtendedStateTable;
 use aat_font::entry_bits::state::START_OF_TEXT;
 use std::alloc::Allocator;
+
+/// Whether glyphs may be passed: the machine is on everywhere, since it has fewer than two ranges, and at rest at the end.
+fn may_pass<T: Copy, C: driver_context_t<T>>(
+    machine: &ExtendedStateTable<T>,
+    context: &C,
+    ranges: &[range_flags_t],
+) -> bool
+    ensures end { result ≡ true → has_entry C.resting (entry_of machine.now 0 0) ≡ true }
+    ensures on { (feature_flags x : ℕ) → result ≡ true → is_driven_on ranges.now feature_flags x ≡ true }
+{
+    ranges.len() < 2 && rests_at_end(machine, context)
+}
+
+/// Takes the turns at glyphs that are passed, where the machine is in the state for the start of the text, on everywhere,
+/// and at rest at the end.
+fn pass_on<T: Copy, C: driver_context_t<T>, A: Allocator + Copy>(
+    machine: &ExtendedStateTable<T>,
+    context: &C,
+    buffer: &mut hb_buffer_t<A>,
+    does_pass: bool,
+    run_state: &mut RunState,
+)
+    requires end { does_pass ≡ true → has_entry C.resting (entry_of machine.now 0 0) ≡ true }
+    requires fit { C.fits context.now buffer.old.cursor (length buffer.old.line) }
+    requires ids { IsSmall buffer.old }
+    requires turns { run_state.old.turns + rest buffer.old < 2 ^ 64 }
+    ensures come { (on : ℕ → Bool) → (does_pass ≡ true → (x : ℕ) → on x ≡ true)
+        → HasCome (turn (machine_with on machine.now C.advances C.actionable C.act)) C.fits
+        (config buffer.old context.now run_state.old) (config buffer.new context.now run_state.new) }
+    ensures ids { IsSmall buffer.new }
+    ensures settings { SameSettings buffer.old buffer.new }
+    ensures length { length buffer.new.line ≡ length buffer.old.line }
+    ensures less { potential buffer.new ≤ potential buffer.old }
+{
+    if does_pass && run_state.state == START_OF_TEXT {
+        pass_glyphs(machine, context, buffer, run_state);
+    }
+}
 
 /// Takes turns until one ends, and answers their number.
 #[tactic(auto, using(crate::specs::facts::Settings::refused_behind))]
@@ -51,6 +94,7 @@ fn run_turns<T: Copy, C: driver_context_t<T>, A: Allocator + Copy>(
         last_cluster: 0,
         turns: 0,
     };
+    let does_pass = may_pass(machine, &*context, ranges);
     while turn_once(
         machine,
         context,
@@ -59,7 +103,9 @@ fn run_turns<T: Copy, C: driver_context_t<T>, A: Allocator + Copy>(
         feature_flags,
         &mut last_range,
         &mut run_state,
-    )? {}
+    )? {
+        pass_on(machine, &*context, buffer, does_pass, &mut run_state);
+    }
     Ok(run_state.turns)
 }
 

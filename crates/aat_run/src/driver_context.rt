@@ -17,10 +17,12 @@ use std::alloc::Allocator;
 /// `max_ops`, in operations; a negative one counts as 0 here. An entry is found by the state and the class of the
 /// glyph at the cursor; at the end, class 0. Its `extra` is the context's own.
 ///
-/// Whoever writes a context gives the ghost members and proves the clauses of its four calls, and then the laws, of
-/// which `specs/Laws.antt` has each as a word, and all eleven as `MeetsLaws`. They hold for every entry, whatever its
+/// Whoever writes a context gives the ghost members and proves the clauses of its five calls, and then the laws, of
+/// which `specs/Laws.antt` has each as a word, and all but the first as `MeetsLaws`. They hold for every entry, whatever its
 /// numbers, and for all registers that fit:
 ///
+/// - `rests_alone`: an entry of which `rests` says so is actionable by no registers, and its act leaves them and the line
+///   as they are;
 /// - `fits_fresh`: fresh registers fit at the front of each line, so that a run may start with them;
 /// - `keeps_fit`, `passes_fit`: an act that leaves the cursor before the end leaves registers that fit, and so does
 ///   a cursor that moves over a glyph;
@@ -42,7 +44,7 @@ pub trait driver_context_t<T: Copy> {
     ghost use Rattle.aat_font.specs.declared.state_table.GenericStateEntry.{GenericStateEntry};
     ghost use Rattle.aat_run.specs.Context.{Moved};
     ghost use Rattle.aat_run.specs.Driven.{IsRefusal, IsRefused};
-    ghost use Rattle.aat_run.specs.Laws.{FitsWhereFresh, KeepsFit, PassesFit, Pays, Bounded, Lengthens, MakesNoPositions, KeepsSettings, KeepsPlaceWhere, KeepsLengthWhere, KeepsClusterOrder};
+    ghost use Rattle.aat_run.specs.Laws.{RestsBy, FitsWhereFresh, KeepsFit, PassesFit, Pays, Bounded, Lengthens, MakesNoPositions, KeepsSettings, KeepsPlaceWhere, KeepsLengthWhere, KeepsClusterOrder};
 
     /// The registers fit a cursor and a length: the places that they name lie on the line, and their numbers in their
     /// types. `drive` requires it of the registers that it is handed, at cursor 0.
@@ -62,6 +64,9 @@ pub trait driver_context_t<T: Copy> {
 
     /// What `is_actionable` answers of an entry, by the registers, the cursor and the length.
     ghost actionable: { GenericStateEntry T → Self → ℕ → ℕ → Bool };
+
+    /// What `rests` answers of an entry.
+    ghost resting: { GenericStateEntry T → Bool };
 
     /// The act of an entry: the registers and the buffer that `transition` leaves where it is not refused.
     ghost act: { GenericStateEntry T → Self → Buffer → Moved Self };
@@ -87,6 +92,11 @@ pub trait driver_context_t<T: Copy> {
     ) -> bool
         ensures { result ≡ actionable entry.now self.now buffer.now.cursor (length buffer.now.line) };
 
+    /// Whether the entry never acts and sets nothing, whatever the registers hold. The driver passes a glyph at once where
+    /// state 0 has such an entry for it. `false` is right of each entry.
+    fn rests(&self, entry: &GenericStateEntry<T>) -> bool
+        ensures { result ≡ resting entry.now };
+
     /// Does what the entry says. The state, and the cursor's step over the glyph, are the driver's. The registers have
     /// to fit, and each glyph id has to be at most 0xFFFF, and is so again.
     ///
@@ -107,6 +117,8 @@ pub trait driver_context_t<T: Copy> {
         ensures ids { OnOk result (IsSmall buffer.new) }
         ensures reason { IfErr result (IsRefusal buffer.old (act entry.now self.old buffer.old).buffer) }
         ensures refused { OnErr result (IsRefused buffer.old buffer.new) };
+
+    ghost rests_alone: { RestsBy resting actionable act };
 
     ghost fits_fresh: { FitsWhereFresh is_fresh fits };
 

@@ -5,19 +5,23 @@
 mod asserting;
 pub mod callers;
 #[cfg(test)]
+mod calls;
+#[cfg(test)]
+mod hoard;
+#[cfg(test)]
 mod inserting;
 #[cfg(test)]
-mod longest_run_tests;
+mod lines;
 #[cfg(test)]
 mod mapping_tests;
 pub mod paths;
 #[cfg(test)]
-mod promise_tests;
-#[cfg(test)]
 mod refusal_tests;
 #[cfg(test)]
-mod refused_insertion_tests;
-#[cfg(test)]
 mod request_tests;
+#[cfg(test)]
+mod requests;
+#[cfg(test)]
+mod states;
 #[cfg(test)]
 mod substitution_tests;

@@ -2,7 +2,6 @@
 //! in turn, until a run meets no refusal. After each the state is looked at, and the call made again with ample memory.
 
 mod growing_tests;
-mod hoard;
 mod request_tests;
 mod rows;
 mod substitution_tests;

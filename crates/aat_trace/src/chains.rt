@@ -1,9 +1,11 @@
 //! Subtables and chains in their order, with what each changed told.
-ghost use Rattle.std.specs.Prelude.{◌≡◌, ◌^◌, ◌<◌, ◌≤◌, ◌∷◌, [], IfOk, IfErr, OnErr, OnOk, IsTrue, length};
+ghost use Rattle.std.specs.Prelude.{◌≡◌, ◌^◌, ◌<◌, ◌≤◌, ◌∷◌, [], IfOk, IfErr, IfSome, OnErr, OnOk, IsTrue, length};
 ghost use Rattle.std.specs.List.{list_all};
+ghost use Rattle.std.specs.Option.{option_copied};
 ghost use Rattle.aat_buffer.specs.Clusters.{IsSmall};
 ghost use Rattle.aat_font.specs.Chains.{subtable_count};
 ghost use Rattle.aat_kinds.specs.Kinds.{sizes_of};
+ghost use Rattle.aat_map.specs.Map.{lists_for};
 ghost use Rattle.aat_map.specs.SwitchedChains.{SwitchedChain, switched_by};
 ghost use Rattle.aat_morx.specs.Substitution.{chain_run, subtable_run};
 ghost use Rattle.aat_run.specs.Driven.{IsRefusal, IsRefused, StaysWithin};
@@ -19,7 +21,7 @@ use crate::traced::Trace;
 use aat_buffer::hb_buffer_t;
 use aat_font::{Chain, Subtable, hb_font_t};
 use aat_kinds::SubtableRun;
-use aat_map::hb_aat_map_t;
+use aat_map::{default_range, hb_aat_map_t, ranges_of};
 use aat_run::{AatError, range_flags_t};
 use std::alloc::{Allocator, Global};
 
@@ -105,38 +107,41 @@ fn trace_chain<const SLOTS: usize, const LONGEST: usize, A: Allocator + Copy>(
     Ok(turns)
 }
 
-/// Runs all chains in their order, each under its list of the map, tells what each subtable did, and answers the turns.
+/// Runs all chains in their order, each under its list of the map, and without a map under its default flags. Tells
+/// what each subtable did, and answers the turns.
 #[tactic(auto, using(aat_run::specs::facts::Settings::refused_behind))]
 pub(crate) fn trace_chains<const SLOTS: usize, const LONGEST: usize, A: Allocator + Copy>(
     alloc: Global,
     face: &hb_font_t,
     chains: &[Chain],
-    map: &hb_aat_map_t,
+    map: Option<&hb_aat_map_t>,
     buffer: &mut hb_buffer_t<A>,
     trace: &mut Trace,
 ) -> Result<u64, AatError>
     requires slots { 0 < SLOTS }
     requires memory { SLOTS ≤ 2 ^ 59 }
     requires few { subtable_count chains.now ≤ 65535 }
-    requires whole { IsTrue (list_all is_whole_list map.now) }
+    requires whole { IfSome (option_copied map) (λ m. IsTrue (list_all is_whole_list m)) }
     requires ids { IsSmall buffer.old }
     ensures run { IfOk result (IsOutcome (in_order (chain_run (sizes_of SLOTS LONGEST face.now))
-        (switched_by chains.now map.now) buffer.old) buffer.new) }
+        (switched_by chains.now (lists_for (option_copied map.entry) chains.now)) buffer.old) buffer.new) }
     ensures within { IfOk result (StaysWithin (subtable_count chains.now) buffer.old buffer.new) }
     ensures told { OnOk result (TellsMore trace.old trace.new (told_of_chains (sizes_of SLOTS LONGEST face.now) 0
-        (switched_by chains.now map.now) buffer.old)) }
-    ensures reason { IfErr result (IsRefusal buffer.old
-        (in_order (chain_run (sizes_of SLOTS LONGEST face.now)) (switched_by chains.now map.now) buffer.old).buffer) }
+        (switched_by chains.now (lists_for (option_copied map.entry) chains.now)) buffer.old)) }
+    ensures reason { IfErr result (IsRefusal buffer.old (in_order (chain_run (sizes_of SLOTS LONGEST face.now))
+        (switched_by chains.now (lists_for (option_copied map.entry) chains.now)) buffer.old).buffer) }
     ensures refused { OnErr result (IsRefused buffer.old buffer.new) }
 {
     let _length = buffer.len();
     let _budget = buffer.max_ops();
     let mut turns = 0;
     for (i, chain) in chains.iter().enumerate() {
+        let default = [default_range(chain)];
+        let ranges = ranges_of(map, i, &default);
         turns += trace_chain::<SLOTS, LONGEST, A>(
             alloc,
             face,
-            map.ranges(i),
+            ranges,
             i,
             &chain.subtables,
             buffer,

@@ -40,6 +40,9 @@ impl<'a, C> Traced<'a, C> {
 }
 
 impl<'a, T: Copy, C: driver_context_t<T>> driver_context_t<T> for Traced<'a, C> {
+    ghost use Rattle.std.specs.Prelude.{false};
+    ghost use Rattle.aat_run.specs.facts.IdleRuns.{never_rests};
+
     ghost fits = { C.fits };
 
     ghost is_fresh = { C.is_fresh };
@@ -49,6 +52,8 @@ impl<'a, T: Copy, C: driver_context_t<T>> driver_context_t<T> for Traced<'a, C> 
     ghost keeps_length = { C.keeps_length };
 
     ghost advances = { C.advances };
+
+    ghost resting = { λ e. false };
 
     ghost actionable = { C.actionable };
 
@@ -60,6 +65,11 @@ impl<'a, T: Copy, C: driver_context_t<T>> driver_context_t<T> for Traced<'a, C> 
 
     fn can_advance(&self, entry: &GenericStateEntry<T>) -> bool {
         self.inner.can_advance(entry)
+    }
+
+    /// No entry rests, since each transition is counted.
+    fn rests(&self, _entry: &GenericStateEntry<T>) -> bool {
+        false
     }
 
     fn is_actionable<A: Allocator + Copy>(
@@ -81,6 +91,8 @@ impl<'a, T: Copy, C: driver_context_t<T>> driver_context_t<T> for Traced<'a, C> 
         self.log.note(cursor, buffer);
         Ok(())
     }
+
+    ghost rests_alone = { never_rests };
 
     ghost fits_fresh = { C.fits_fresh };
 

@@ -1,13 +1,15 @@
 //! A substitution that is told.
-ghost use Rattle.std.specs.Prelude.{◌≡◌, ◌^◌, ◌<◌, ◌≤◌, ◌↔◌, IfOk, IfErr, IsErrOf, IsTrue, OnErr, OnOk, None, false};
+ghost use Rattle.std.specs.Prelude.{◌≡◌, ◌^◌, ◌<◌, ◌≤◌, ◌↔◌, IfOk, IfErr, IfSome, IsErrOf, IsTrue, OnErr, OnOk, None, false};
 ghost use Rattle.std.specs.List.{list_all};
+ghost use Rattle.std.specs.Option.{option_copied};
 ghost use Rattle.aat_buffer.specs.Clusters.{IsSmall};
 ghost use Rattle.aat_font.specs.Face.{chains_in, tables_of};
 ghost use Rattle.aat_kinds.specs.Kinds.{sizes_of};
 ghost use Rattle.aat_layout.specs.Planned.{substitution};
 ghost use Rattle.aat_layout.specs.Refusals.{LeavesBehind, RefusesPlan, RefusesSubstitution, first_too_large};
+ghost use Rattle.aat_map.specs.Map.{lists_for};
 ghost use Rattle.aat_map.specs.SwitchedChains.{plan_requests, switched, switched_by};
-ghost use Rattle.aat_morx.specs.Applying.{applied};
+ghost use Rattle.aat_morx.specs.Applying.{applied_by};
 ghost use Rattle.aat_morx.specs.Substitution.{prepared};
 ghost use Rattle.aat_run.specs.Driven.{IsRefusal, IsRefused};
 ghost use Rattle.aat_run.specs.Outcome.{IsOutcome};
@@ -39,10 +41,10 @@ use std::alloc::{Allocator, Global};
 ///
 /// Refused as `hb_aat_layout_substitute` is, and what is left of the buffer is as with that call: as 4, `BufferFailed`,
 /// where a call of the buffer was refused before; then as 1, `AaltValue`, for a value of alternates that is no setting,
-/// and as 3, `OutOfMemory`, where a request or compiling gets no memory; and in the middle of a run as 2, `TooLong`,
-/// only where substitution leaves a line longer than the buffer's `max_len`, and as 3, `OutOfMemory`, only where it
-/// leaves a longer line than it found, and that one was shorter than `max_len`. In the middle of a run the buffer
-/// fails; else it is unchanged. Nothing is told then.
+/// and as 3, `OutOfMemory`, where a request or compiling requests gets no memory; and in the middle of a run as 2,
+/// `TooLong`, only where substitution leaves a line longer than the buffer's `max_len`, and as 3, `OutOfMemory`, only
+/// where it leaves a longer line than it found, and that one was shorter than `max_len`. In the middle of a run the
+/// buffer fails; else it is unchanged. Nothing is told then.
 ///
 /// Besides the steps of the run, each transition of a machine takes as many as the line is long, and so does each act
 /// once more. A subtable takes memory for four lines and its acts.
@@ -69,7 +71,7 @@ pub fn trace_substitution<A: Allocator + Copy>(
         return Err(AatError::BufferFailed);
     }
     let map = compiled_map(alloc, plan, face)?;
-    trace_table::<LIGATURE_SLOTS, MAX_CONTEXT_LENGTH, A>(alloc, face, &map, buffer)
+    trace_table::<LIGATURE_SLOTS, MAX_CONTEXT_LENGTH, A>(alloc, face, map.as_ref(), buffer)
 }
 
 /// Drops the positions, and marks the whole line against joining, where the buffer asks for it.
@@ -80,25 +82,28 @@ fn prepare<A: Allocator + Copy>(buffer: &mut hb_buffer_t<A>)
     buffer.unsafe_to_concat(None, None);
 }
 
-/// Prepares the line, runs the table under a map, and tells what each subtable did, nothing without the table.
+/// Prepares the line, runs the table under a map, and without a map each chain under its default flags. Tells what each
+/// subtable did, nothing without the table.
 fn trace_table<const SLOTS: usize, const LONGEST: usize, A: Allocator + Copy>(
     alloc: Global,
     face: &hb_font_t,
-    map: &hb_aat_map_t,
+    map: Option<&hb_aat_map_t>,
     buffer: &mut hb_buffer_t<A>,
 ) -> Result<Trace, AatError>
     requires slots { 0 < SLOTS }
     requires memory { SLOTS ≤ 2 ^ 59 }
-    requires whole { IsTrue (list_all is_whole_list map.now) }
+    requires whole { IfSome (option_copied map) (λ m. IsTrue (list_all is_whole_list m)) }
     requires ids { IsSmall buffer.old }
     ensures run { IfOk result (λ trace. IsOutcome
-        (applied (sizes_of SLOTS LONGEST face.now) face.now map.now buffer.old) buffer.new trace.turns) }
+        (applied_by (sizes_of SLOTS LONGEST face.now) face.now (option_copied map.entry) buffer.old)
+        buffer.new trace.turns) }
     ensures told { IfOk result (λ trace. trace.is_incomplete ≡ false
         → tells trace ≡ told_of_chains (sizes_of SLOTS LONGEST face.now) 0
-        (switched_by (chains_in (tables_of face.now).morx) map.now) (prepared buffer.old)) }
+        (switched_by (chains_in (tables_of face.now).morx)
+        (lists_for (option_copied map.entry) (chains_in (tables_of face.now).morx))) (prepared buffer.old)) }
     ensures acts { IfOk result (λ trace. AreReplayed trace) }
     ensures reason { IfErr result (IsRefusal buffer.old
-        (applied (sizes_of SLOTS LONGEST face.now) face.now map.now buffer.old).buffer) }
+        (applied_by (sizes_of SLOTS LONGEST face.now) face.now (option_copied map.entry) buffer.old).buffer) }
     ensures refused { OnErr result (IsRefused buffer.old buffer.new) }
 {
     prepare(buffer);
@@ -108,22 +113,28 @@ fn trace_table<const SLOTS: usize, const LONGEST: usize, A: Allocator + Copy>(
     Ok(trace)
 }
 
-/// The map that a plan makes of a font: compiled where the plan applies the flags, and else empty.
+/// The map that a plan makes of a font: empty where the plan does not apply the flags, none where it applies them and
+/// makes no request, so that each chain has its default ones, and else compiled. It takes no memory but for requests.
 fn compiled_map(
     alloc: Global,
     plan: &hb_ot_shape_plan_t,
     face: &hb_font_t,
-) -> Result<hb_aat_map_t, AatError>
-    ensures ok { IfOk result (λ map. switched_by (chains_in (tables_of face.now).morx) map
+) -> Result<Option<hb_aat_map_t>, AatError>
+    ensures ok { IfOk result (λ map. switched_by (chains_in (tables_of face.now).morx)
+        (lists_for map (chains_in (tables_of face.now).morx))
         ≡ switched plan.now.apply_morx (plan_requests plan.now face.now) (chains_in (tables_of face.now).morx)) }
-    ensures whole { IfOk result (λ map. IsTrue (list_all is_whole_list map)) }
+    ensures whole { IfOk result (λ map. IfSome map (λ m. IsTrue (list_all is_whole_list m))) }
     ensures reason { IfErr result (RefusesPlan plan.now face.now) }
     ensures fits { OnOk result (first_too_large plan.now face.now ≡ None) }
 {
     let mut builder = hb_aat_map_builder_t::with_features(alloc, face, &plan.user_features)?;
-    let mut map = hb_aat_map_t::default(alloc);
-    if plan.apply_morx {
-        builder.compile(face, &mut map)?;
+    if !plan.apply_morx {
+        return Ok(Some(hb_aat_map_t::default(alloc)));
     }
-    Ok(map)
+    if builder.features().is_empty() {
+        return Ok(None);
+    }
+    let mut map = hb_aat_map_t::default(alloc);
+    builder.compile(face, &mut map)?;
+    Ok(Some(map))
 }

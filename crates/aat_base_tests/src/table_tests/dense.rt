@@ -72,6 +72,21 @@ fn bordered(alloc: Global, pages: &[u16], low: u16) -> Result<Vec<(u16, u16)>, A
     Ok(pairs)
 }
 
+/// An array tells what each glyph becomes: those without a value stay, also outside its span. There is none where a glyph
+/// is its own value.
+#[test]
+fn what_glyphs_become(rt: HostRuntime) -> Result<(), Fail> {
+    let lookup = Lookup::new(rt.alloc(), &[(2, 7), (4, 3)])?;
+    let Some(moves) = lookup.moves() else {
+        return Err(Fail::new("there is no array"));
+    };
+    let glyphs = [0u16, 1, 2, 3, 4, 5, 65535];
+    assert!(&rt; glyphs.map(|glyph| moves.moved(glyph)) == [0, 1, 7, 3, 3, 5, 65535]);
+    let kept = Lookup::new(rt.alloc(), &[(2, 2), (4, 3)])?;
+    assert!(&rt; kept.moves().is_none() && kept.value(GlyphId(2)) == Some(2));
+    Ok(())
+}
+
 /// Eight glyphs on each of three pages are answered by the pages, and seven on each are searched.
 #[test]
 fn glyphs_at_the_borders_of_pages(rt: HostRuntime) -> Result<(), Fail> {

@@ -1,9 +1,10 @@
 -- Arrays that answer as the rows of a table do. No contract but those of the tables and their arrays cites this.
-use Rattle.std.specs.Prelude.{◌≡◌, ◌+◌, ◌*◌, ◌-◌, ◌/◌, ◌%◌, ◌<◌, ◌≤◌, ℕ, Bool, List, ◌&&◌, Option, None, Some, if◌then◌else◌, nat_lt, nat_le, length, slice_get, slice_index_or, option_map}
+use Rattle.std.specs.Prelude.{◌≡◌, ◌+◌, ◌*◌, ◌-◌, ◌/◌, ◌%◌, ◌<◌, ◌≤◌, ℕ, Bool, List, ◌&&◌, ◌==◌, Option, None, Some, if◌then◌else◌, nat_lt, nat_le, length, slice_get, slice_index_or, option_map}
 use Rattle.std.specs.List.{list_any}
 use Rattle.aat_font.specs.declared.dense.Dense.{Dense}
-use Rattle.aat_font.specs.declared.dense.Dense.TheVariants.{Array, Pages, Search}
+use Rattle.aat_font.specs.declared.dense.Dense.TheVariants.{Array, Moves, Pages, Search}
 use Rattle.aat_font.specs.Keys.{first, value_in, at_key}
+use Rattle.aat_font.specs.Moves.{AreMoved}
 use Rattle.aat_font.specs.Table.{Rule, rule_key}
 use Rattle.aat_font.specs.inside.GlyphSpans.{cell_count}
 
@@ -42,9 +43,14 @@ abbrev pub AnswersOnPages : List (Option ℕ) → List (Option ℕ) → List (�
 AnswersOnPages starts cells pairs =
     (glyph : ℕ) → glyph < 65536 → value_on_pages starts cells glyph ≡ value_in pairs glyph
 
+-- whether a pair has its glyph as value
+abbrev pub keeps_one : List (ℕ × ℕ) → Bool
+keeps_one pairs = list_any (λ p. p.1 == p.0) pairs
+
 -- an array or pages answer as pairs do; a search needs nothing
 abbrev pub AnswersAsPairs : {A : Type 0} → Dense A → List (ℕ × ℕ) → Type 0
 AnswersAsPairs (Array array) pairs = AnswersOver array.lowest array.cells.items pairs
+AnswersAsPairs (Moves array) pairs = AreMoved array.lowest array.cells.items pairs
 AnswersAsPairs (Pages pages) pairs = AnswersOnPages pages.starts.items pages.cells.items pairs
 AnswersAsPairs Search pairs = Unit
 

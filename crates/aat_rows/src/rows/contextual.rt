@@ -1,8 +1,8 @@
 //! The rows of contextual substitution.
 
 use super::{
-    After, CoverageData, FontData, KindData, LIGATURES, MAX_LEN, MAX_OPS, Part, Row, Run, Shown,
-    Sizes, Substitution, SubtableData, TableData,
+    ALL_DIRECTIONS, After, ChainData, FEATURE_FLAGS, FontData, KindData, LIGATURES, MAX_LEN,
+    MAX_OPS, MachineData, NO_TABLES, Part, Row, Run, Shown, Sizes, Substitution, SubtableData,
 };
 use aat_layout::buffer::Direction;
 use aat_layout::font::{ContextualEntryData, GenericStateEntry};
@@ -25,16 +25,10 @@ macro_rules! lookups {
 macro_rules! at_end {
     ($flags:literal, $named:expr) => {
         KindData::Contextual(
-            TableData {
-                class_count: 6,
-                states: 2,
-                classes: &[(1, 4)],
-                listed: &[
+            MachineData { class_count: 6, classes: &[(1, 4)], rules: &[
                     rule!(0, 0, 0, 0, lookups!(0, NONE)),
                     rule!(0, 4, 0, $flags, $named),
-                ],
-                idle: lookups!(NONE, NONE),
-            },
+                ], idle: Some((2, lookups!(NONE, NONE))), },
             &[&[(1, 2)]],
         )
     };
@@ -64,12 +58,11 @@ pub(super) const ROW_35: Row = Row {
     parts: &[substituted!(
         "35",
         KindData::Contextual(
-            TableData {
+            MachineData {
                 class_count: 6,
-                states: 2,
                 classes: &[(0xFFFF, 4)],
-                listed: &[rule!(0, 4, 0, 0, lookups!(NONE, 0))],
-                idle: lookups!(NONE, NONE),
+                rules: &[rule!(0, 4, 0, 0, lookups!(NONE, 0))],
+                idle: Some((2, lookups!(NONE, NONE))),
             },
             &[&[(0xFFFF, 9)]],
         ),

@@ -1,8 +1,8 @@
 //! The rows of insertion.
 
 use super::{
-    After, CoverageData, FontData, KindData, LIGATURES, MAX_LEN, MAX_OPS, Part, Row, Run, Shown,
-    Sizes, Substitution, SubtableData, TableData,
+    ALL_DIRECTIONS, After, ChainData, FEATURE_FLAGS, FontData, KindData, LIGATURES, MAX_LEN,
+    MAX_OPS, MachineData, NO_TABLES, Part, Row, Run, Shown, Sizes, Substitution, SubtableData,
 };
 use aat_layout::buffer::Direction;
 use aat_layout::font::{GenericStateEntry, GlyphId, InsertionEntryData};
@@ -30,13 +30,7 @@ macro_rules! places {
 macro_rules! inserting {
     ($glyphs:expr, $classes:expr, $listed:expr) => {
         KindData::Insertion(
-            TableData {
-                class_count: 6,
-                states: 2,
-                classes: $classes,
-                listed: $listed,
-                idle: places!(NONE, NONE),
-            },
+            MachineData { class_count: 6, classes: $classes, rules: $listed, idle: Some((2, places!(NONE, NONE))), },
             $glyphs,
         )
     };
@@ -103,14 +97,16 @@ pub(super) const ROW_25: Row = Row {
 };
 
 /// The same subtable twice, which share the budget.
-const TWICE: &[SubtableData] = &[
+const TWICE: &[SubtableData<'static>] = &[
     SubtableData {
         kind: two_before!(4, 0),
-        coverage: CoverageData::AllDirections,
+        coverage: ALL_DIRECTIONS,
+        feature_flags: FEATURE_FLAGS,
     },
     SubtableData {
         kind: two_before!(4, 0),
-        coverage: CoverageData::AllDirections,
+        coverage: ALL_DIRECTIONS,
+        feature_flags: FEATURE_FLAGS,
     },
 ];
 
@@ -121,10 +117,13 @@ pub(super) const ROW_27: Row = Row {
         name: "27",
         shown: Shown::Substitution(Substitution {
             font: FontData {
-                default_flags: 1,
-                features: &[],
-                subtables: TWICE,
+                chains: Some(&[ChainData {
+                    default_flags: 1,
+                    features: &[],
+                    subtables: TWICE,
+                }]),
                 names: Some(LIGATURES),
+                ..NO_TABLES
             },
             requests: &[],
             line: &[run!(5, 3)],
@@ -141,15 +140,10 @@ pub(super) const ROW_27: Row = Row {
 macro_rules! two_within {
     ($max_len:literal) => {
         Substitution {
-            font: FontData {
-                default_flags: 1,
-                features: &[],
-                subtables: &[SubtableData {
+            font: FontData { chains: Some(&[ChainData { default_flags: 1, features: &[], subtables: &[SubtableData {
                     kind: two_before!(4, 0),
-                    coverage: CoverageData::AllDirections,
-                }],
-                names: Some(LIGATURES),
-            },
+                    coverage: ALL_DIRECTIONS, feature_flags: FEATURE_FLAGS,
+                }], }]), names: Some(LIGATURES), ..NO_TABLES },
             requests: &[],
             line: &[run!(5, 3)],
             direction: Direction::LeftToRight,

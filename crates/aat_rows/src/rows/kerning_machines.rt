@@ -1,7 +1,8 @@
 //! The rows of machines that kern.
 
 use super::{
-    KernData, Kerning, KerningTable, KerxData, MAX_OPS, Part, Placed, Row, Shown, TableData,
+    FontData, KernData, Kerning, KerxData, MAX_OPS, MachineData, NO_TABLES, Part, Placed, Row,
+    Shown,
 };
 use aat_layout::buffer::Direction;
 use aat_layout::font::{EntryData, GenericStateEntry, KernEntryData, Point};
@@ -18,16 +19,10 @@ const NONE: u16 = 0xFFFF;
 /// A table in which the glyphs 1 and 2 have an entry each: its flags and what it names.
 macro_rules! taking {
     ($flags_1:expr, $named_1:expr, $flags_2:expr, $named_2:expr, $idle:expr) => {
-        TableData {
-            class_count: 6,
-            states: 2,
-            classes: &[(1, 4), (2, 5)],
-            listed: &[
+        MachineData { class_count: 6, classes: &[(1, 4), (2, 5)], rules: &[
                 rule!(0, 4, 0, $flags_1, $named_1),
                 rule!(0, 5, 0, $flags_2, $named_2),
-            ],
-            idle: $idle,
-        }
+            ], idle: Some((2, $idle)), }
     };
 }
 
@@ -50,19 +45,25 @@ macro_rules! action {
 }
 
 /// A `kern` machine in which the glyphs 1 and 2 are put on the stack, and 2 takes the values.
-const KERN_MACHINE: KerningTable = KerningTable::Kern(KernData::Machine(
-    taking!(PUSH, value!(NONE), PUSH, value!(0), value!(NONE)),
-    &[20, 11],
-));
+const KERN_MACHINE: FontData<'static> = FontData {
+    kern: Some(KernData::Machine(
+        taking!(PUSH, value!(NONE), PUSH, value!(0), value!(NONE)),
+        &[20, 11],
+    )),
+    ..NO_TABLES
+};
 
 /// A `kerx` machine with a tuple count in which the glyphs 1 and 2 are put on the stack, and 2 takes the values.
 macro_rules! stack {
     ($tuple_count:literal) => {
-        KerningTable::Kerx(KerxData::Stack(
-            taking!(PUSH, action!(NONE), PUSH, action!(0), action!(NONE)),
-            &[20, 0, 11],
-            $tuple_count,
-        ))
+        FontData {
+            kerx: Some(KerxData::Stack(
+                taking!(PUSH, action!(NONE), PUSH, action!(0), action!(NONE)),
+                &[20, 0, 11],
+                $tuple_count,
+            )),
+            ..NO_TABLES
+        }
     };
 }
 
@@ -97,16 +98,17 @@ pub(super) const ROW_21: Row = Row {
     number: "21",
     parts: &[kerned!(
         "21",
-        KerningTable::KerxWithPoints(
-            KerxData::Anchors(
+        FontData {
+            kerx: Some(KerxData::Anchors(
                 taking!(MARK, action!(NONE), 0, action!(0), action!(NONE)),
                 &[(0, 0)],
-            ),
-            &[
+            )),
+            points: Some(&[
                 (1, &[Point { x: 100, y: 200 }]),
                 (2, &[Point { x: 30, y: -50 }])
-            ],
-        ),
+            ]),
+            ..NO_TABLES
+        },
         ONE_AND_TWO
     )],
 };

@@ -1,8 +1,9 @@
 //! The rows of ligatures.
 
 use super::{
-    After, CoverageData, FontData, KindData, LIGATURES, LigatureData, MAX_LEN, MAX_OPS, Part,
-    Request, Row, Run, Shown, Sizes, Substitution, SubtableData, TableData,
+    ALL_DIRECTIONS, After, ChainData, FEATURE_FLAGS, FontData, KindData, LIGATURES, LigatureData,
+    MAX_LEN, MAX_OPS, MachineData, NO_TABLES, Part, Request, Row, Run, Shown, Sizes, Substitution,
+    SubtableData,
 };
 use aat_layout::buffer::Direction;
 use aat_layout::font::{ChainFeature, GenericStateEntry, GlyphId};
@@ -29,13 +30,7 @@ const LAST: u32 = 0xBFFF_FFF6;
 macro_rules! pair {
     ($listed:expr) => {
         KindData::Ligature(LigatureData {
-            state: TableData {
-                class_count: 6,
-                states: 2,
-                classes: &[(10, 4), (11, 5)],
-                listed: $listed,
-                idle: NONE,
-            },
+            machine: MachineData { class_count: 6, classes: &[(10, 4), (11, 5)], rules: $listed, idle: Some((2, NONE)), },
             actions: &[(TAKE, 1), (LAST, 1)],
             components: &[0, 0],
             ligatures: &[GlyphId(20)],
@@ -44,19 +39,21 @@ macro_rules! pair {
 }
 
 /// The two glyphs are joined in state 1 alone.
-pub(super) const PAIR: &[SubtableData] = &[SubtableData {
+pub(super) const PAIR: &[SubtableData<'static>] = &[SubtableData {
     kind: pair!(&[rule!(0, 4, 1, HOLD, NONE), rule!(1, 5, 0, JOIN, 0)]),
-    coverage: CoverageData::AllDirections,
+    coverage: ALL_DIRECTIONS,
+    feature_flags: FEATURE_FLAGS,
 }];
 
 /// The two glyphs are joined in both states.
-const PAIR_IN_BOTH: &[SubtableData] = &[SubtableData {
+const PAIR_IN_BOTH: &[SubtableData<'static>] = &[SubtableData {
     kind: pair!(&[
         rule!(0, 4, 1, HOLD, NONE),
         rule!(0, 5, 0, JOIN, 0),
         rule!(1, 5, 0, JOIN, 0),
     ]),
-    coverage: CoverageData::AllDirections,
+    coverage: ALL_DIRECTIONS,
+    feature_flags: FEATURE_FLAGS,
 }];
 
 /// The pair of 10 and 11, with which sizes they are joined if not the usual ones, and what is done then.
@@ -68,12 +65,7 @@ macro_rules! joined {
         Part {
             name: $name,
             shown: Shown::Substitution(Substitution {
-                font: FontData {
-                    default_flags: 1,
-                    features: &[],
-                    subtables: PAIR,
-                    names: Some(LIGATURES),
-                },
+                font: FontData { chains: Some(&[ChainData { default_flags: 1, features: &[], subtables: PAIR, }]), names: Some(LIGATURES), ..NO_TABLES },
                 requests: &[],
                 line: &[run!(10, 0), run!(11, 1)],
                 direction: Direction::LeftToRight,
@@ -99,15 +91,18 @@ pub(super) const ROW_12: Row = Row {
         name: "12",
         shown: Shown::Substitution(Substitution {
             font: FontData {
-                default_flags: 1,
-                features: &[ChainFeature {
-                    kind: 1,
-                    setting: 3,
-                    enable_flags: 0,
-                    disable_flags: 0,
-                }],
-                subtables: PAIR_IN_BOTH,
+                chains: Some(&[ChainData {
+                    default_flags: 1,
+                    features: &[ChainFeature {
+                        kind: 1,
+                        setting: 3,
+                        enable_flags: 0,
+                        disable_flags: 0,
+                    }],
+                    subtables: PAIR_IN_BOTH,
+                }]),
                 names: Some(LIGATURES),
+                ..NO_TABLES
             },
             requests: &[request!(b"liga", 0, 1, 2)],
             line: &[run!(10, 0), run!(50, 1), run!(11, 2)],
@@ -126,16 +121,15 @@ pub(super) const ROW_24: Row = Row {
     parts: &[substituted!(
         "24",
         KindData::Ligature(LigatureData {
-            state: TableData {
+            machine: MachineData {
                 class_count: 7,
-                states: 2,
                 classes: &[(10, 4), (11, 5), (12, 6)],
-                listed: &[
+                rules: &[
                     rule!(0, 4, 1, HOLD, NONE),
                     rule!(1, 5, 1, HOLD, NONE),
                     rule!(1, 6, 0, JOIN, 0),
                 ],
-                idle: NONE,
+                idle: Some((2, NONE)),
             },
             actions: &[(TAKE, 1), (STORE, 1), (LAST, 1)],
             components: &[1, 1, 0],
@@ -149,13 +143,7 @@ pub(super) const ROW_24: Row = Row {
 macro_rules! many {
     ($actions:expr) => {
         KindData::Ligature(LigatureData {
-            state: TableData {
-                class_count: 6,
-                states: 2,
-                classes: &[(10, 4), (11, 5)],
-                listed: &[rule!(0, 4, 0, HOLD, NONE), rule!(0, 5, 0, JOIN, 0)],
-                idle: NONE,
-            },
+            machine: MachineData { class_count: 6, classes: &[(10, 4), (11, 5)], rules: &[rule!(0, 4, 0, HOLD, NONE), rule!(0, 5, 0, JOIN, 0)], idle: Some((2, NONE)), },
             actions: $actions,
             components: &[0, 0],
             ligatures: &[GlyphId(20)],

@@ -1,19 +1,25 @@
 //! The rows of kerning by pairs.
 
-use super::{KernData, Kerning, KerningTable, KerxData, MAX_OPS, Part, Placed, Row, Shown};
+use super::{FontData, KernData, Kerning, KerxData, MAX_OPS, NO_TABLES, Part, Placed, Row, Shown};
 use aat_layout::buffer::Direction;
 
 /// A kerning table of these pairs.
 macro_rules! pairs {
     ($pairs:expr) => {
-        KerningTable::Kern(KernData::Pairs($pairs))
+        FontData {
+            kern: Some(KernData::Pairs($pairs)),
+            ..NO_TABLES
+        }
     };
 }
 
 /// An extended kerning table of these pairs, across the line.
 macro_rules! pairs_across {
     ($pairs:expr) => {
-        KerningTable::Kerx(KerxData::PairsAcross($pairs))
+        FontData {
+            kerx: Some(KerxData::PairsAcross($pairs)),
+            ..NO_TABLES
+        }
     };
 }
 

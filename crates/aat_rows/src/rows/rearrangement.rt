@@ -1,8 +1,9 @@
 //! The rows of rearrangement.
 
 use super::{
-    After, CoverageData, FontData, KindData, LIGATURES, MAX_LEN, MAX_OPS, Part, Row, Run, Shown,
-    Sizes, Substitution, SubtableData, TableData,
+    ALL_DIRECTIONS, After, ChainData, FEATURE_FLAGS, FontData, HORIZONTAL, KindData, LIGATURES,
+    LOGICAL, MAX_LEN, MAX_OPS, MachineData, NO_TABLES, Part, Row, Run, Shown, Sizes, Substitution,
+    SubtableData,
 };
 use aat_layout::buffer::Direction;
 use aat_layout::font::GenericStateEntry;
@@ -16,16 +17,10 @@ const MARK_LAST: u16 = 0x2000;
 /// A table in which a first glyph marks the start of a span, and a last one marks its end and has a verb.
 macro_rules! moving {
     ($first:literal, $last:literal, $verb:literal) => {
-        KindData::Rearrangement(TableData {
-            class_count: 6,
-            states: 2,
-            classes: &[($first, 4), ($last, 5)],
-            listed: &[
+        KindData::Rearrangement(MachineData { class_count: 6, classes: &[($first, 4), ($last, 5)], rules: &[
                 rule!(0, 4, 0, MARK_FIRST, ()),
                 rule!(0, 5, 0, MARK_LAST | $verb, ()),
-            ],
-            idle: (),
-        })
+            ], idle: Some((2, ())), })
     };
 }
 
@@ -79,12 +74,11 @@ pub(super) const ROW_22: Row = Row {
     number: "22",
     parts: &[substituted!(
         "22",
-        KindData::Rearrangement(TableData {
+        KindData::Rearrangement(MachineData {
             class_count: 6,
-            states: 0,
             classes: &[],
-            listed: &[],
-            idle: (),
+            rules: &[],
+            idle: Some((0, ())),
         }),
         &[run!(5, 0)]
     )],
@@ -95,16 +89,15 @@ pub(super) const ROW_23: Row = Row {
     number: "23",
     parts: &[substituted!(
         "23",
-        KindData::Rearrangement(TableData {
+        KindData::Rearrangement(MachineData {
             class_count: 7,
-            states: 2,
             classes: &[(1, 4), (2, 5), (3, 6)],
-            listed: &[
+            rules: &[
                 rule!(0, 4, 0, MARK_FIRST, ()),
                 rule!(0, 5, 0, MARK_LAST, ()),
                 rule!(0, 6, 0, 1, ()),
             ],
-            idle: (),
+            idle: Some((2, ())),
         }),
         &[run!(1, 0), run!(2, 1), run!(3, 2)]
     )],
@@ -118,21 +111,21 @@ pub(super) const ROW_26: Row = Row {
             "26a",
             moving!(1, 3, 1),
             &[run!(1, 0), run!(3, 1)],
-            AllDirections,
+            ALL_DIRECTIONS,
             RightToLeft
         ),
         substituted!(
             "26b",
             moving!(1, 3, 1),
             &[run!(1, 0), run!(3, 1)],
-            Logical,
+            LOGICAL,
             RightToLeft
         ),
         substituted!(
             "26c",
             moving!(1, 3, 1),
             &[run!(1, 0), run!(3, 1)],
-            Horizontal,
+            HORIZONTAL,
             TopToBottom
         ),
     ],

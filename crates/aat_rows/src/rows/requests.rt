@@ -1,8 +1,9 @@
 //! The rows of noncontextual substitution and of requests.
 
 use super::{
-    Addition, After, Compilation, CoverageData, FontData, KindData, LIGATURES, MAX_LEN, MAX_OPS,
-    Part, Request, Row, Run, Shown, Sizes, Substitution, SubtableData,
+    ALL_DIRECTIONS, Addition, After, ChainData, Compilation, FEATURE_FLAGS, FontData, KindData,
+    LIGATURES, MAX_LEN, MAX_OPS, NO_TABLES, Part, Request, Row, Run, Shown, Sizes, Substitution,
+    SubtableData,
 };
 use aat_layout::buffer::Direction;
 use aat_layout::font::{ChainFeature, FeatureName};
@@ -31,29 +32,28 @@ const LIGATURES_OFF: ChainFeature = ChainFeature {
 };
 
 /// A font whose only chain feature is that of common ligatures on.
-const LIGATURES_FONT: FontData = FontData {
-    default_flags: 1,
-    features: &[LIGATURES_ON],
-    subtables: &[],
+const LIGATURES_FONT: FontData<'static> = FontData {
+    chains: Some(&[ChainData {
+        default_flags: 1,
+        features: &[LIGATURES_ON],
+        subtables: &[],
+    }]),
     names: Some(LIGATURES),
+    ..NO_TABLES
 };
 
 /// A font whose chain has no feature, with some feature names.
 macro_rules! font_with_names {
     ($names:expr) => {
-        FontData {
-            default_flags: 1,
-            features: &[],
-            subtables: &[],
-            names: $names,
-        }
+        FontData { chains: Some(&[ChainData { default_flags: 1, features: &[], subtables: &[], }]), names: $names, ..NO_TABLES }
     };
 }
 
 /// One subtable that turns 5 into 9.
-const FIVE_TO_NINE: &[SubtableData] = &[SubtableData {
+const FIVE_TO_NINE: &[SubtableData<'static>] = &[SubtableData {
     kind: KindData::NonContextual(&[(5, 9)]),
-    coverage: CoverageData::AllDirections,
+    coverage: ALL_DIRECTIONS,
+    feature_flags: FEATURE_FLAGS,
 }];
 
 /// A noncontextual substitution.
@@ -73,15 +73,18 @@ pub(super) const ROW_2: Row = Row {
         name: "2",
         shown: Shown::Substitution(Substitution {
             font: FontData {
-                default_flags: 1,
-                features: &[ChainFeature {
-                    kind: 1,
-                    setting: 3,
-                    enable_flags: 0,
-                    disable_flags: 0,
-                }],
-                subtables: FIVE_TO_NINE,
+                chains: Some(&[ChainData {
+                    default_flags: 1,
+                    features: &[ChainFeature {
+                        kind: 1,
+                        setting: 3,
+                        enable_flags: 0,
+                        disable_flags: 0,
+                    }],
+                    subtables: FIVE_TO_NINE,
+                }]),
                 names: Some(LIGATURES),
+                ..NO_TABLES
             },
             requests: &[request!(b"liga", 0, 1, 2)],
             line: &[run!(5, 0), run!(5, 1), run!(5, 2)],
@@ -134,10 +137,13 @@ pub(super) const ROW_5: Row = Row {
         name: "5",
         shown: Shown::Compilation(Compilation {
             font: FontData {
-                default_flags: 1,
-                features: &[LIGATURES_ON, LIGATURES_OFF],
-                subtables: &[],
+                chains: Some(&[ChainData {
+                    default_flags: 1,
+                    features: &[LIGATURES_ON, LIGATURES_OFF],
+                    subtables: &[],
+                }]),
                 names: Some(LIGATURES),
+                ..NO_TABLES
             },
             requests: &[
                 request!(b"liga", 1, 0, 10),
@@ -155,15 +161,18 @@ pub(super) const ROW_6: Row = Row {
         name: "6",
         shown: Shown::Substitution(Substitution {
             font: FontData {
-                default_flags: 0,
-                features: &[ChainFeature {
-                    kind: 1,
-                    setting: 2,
-                    enable_flags: 1,
-                    disable_flags: u32::MAX,
-                }],
-                subtables: FIVE_TO_NINE,
+                chains: Some(&[ChainData {
+                    default_flags: 0,
+                    features: &[ChainFeature {
+                        kind: 1,
+                        setting: 2,
+                        enable_flags: 1,
+                        disable_flags: u32::MAX,
+                    }],
+                    subtables: FIVE_TO_NINE,
+                }]),
                 names: Some(LIGATURES),
+                ..NO_TABLES
             },
             requests: &[request!(b"liga", 1, 0, u32::MAX)],
             line: &[run!(5, u32::MAX)],

@@ -1,7 +1,9 @@
 //! The row of shaping.
 
 use super::ligature::PAIR;
-use super::{FontData, KernData, LIGATURES, Part, Placed, Row, Shaping, Shown};
+use super::{
+    ChainData, FontData, KernData, LIGATURES, NO_TABLES, Part, Placed, Row, Shaping, Shown,
+};
 use aat_layout::buffer::Direction;
 
 /// A part that shows a line that is shaped by a font that joins 10 and 11 and moves 20 and 12 together: its name,
@@ -12,13 +14,16 @@ macro_rules! shaped {
             name: $name,
             shown: Shown::Shaping(Shaping {
                 font: FontData {
-                    default_flags: 1,
-                    features: &[],
-                    subtables: PAIR,
+                    chains: Some(&[ChainData {
+                        default_flags: 1,
+                        features: &[],
+                        subtables: PAIR,
+                    }]),
                     names: Some(LIGATURES),
+                    kern: Some(KernData::Pairs(&[(20, 12, -50)])),
+                    advances: Some(&[(12, 400), (20, 600), (65535, 300)]),
+                    ..NO_TABLES
                 },
-                advances: &[(12, 400), (20, 600), (65535, 300)],
-                kern: KernData::Pairs(&[(20, 12, -50)]),
                 apply_morx: $apply_morx,
                 line: $line,
                 direction: Direction::$direction,

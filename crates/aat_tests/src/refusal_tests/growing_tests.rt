@@ -1,9 +1,9 @@
 //! The calls of the buffer that take memory, again and again over one line with positions. Before each call the heap is
 //! filled, and where the call is refused it is emptied and the call made again.
 
-use crate::asserting::wanted;
-use crate::refusal_tests::hoard::{HEAP, Hoard};
-use crate::refusal_tests::rows::{Settings, line_over};
+use crate::hoard::{HEAP, Hoard};
+use crate::lines::line_over;
+use crate::states::{State, are_same, state_of};
 use aat_layout::buffer::{
     BufferError, BufferFlags, Direction, GlyphPosition, HB_BUFFER_CLUSTER_LEVEL_CHARACTERS,
     ScratchFlags, hb_buffer_t, hb_glyph_info_t,
@@ -32,14 +32,6 @@ enum Call {
     Positions,
 }
 
-/// A line before a call: its glyphs, its cursor and its settings.
-#[derive(Drop)]
-struct Before {
-    glyphs: Vec<hb_glyph_info_t>,
-    cursor: usize,
-    settings: Settings,
-}
-
 /// The glyph that `add` and `insert_glyphs` put in.
 fn nine() -> hb_glyph_info_t {
     hb_glyph_info_t::new(9, 99)
@@ -53,248 +45,279 @@ fn position_of(place: usize, times: i32) -> GlyphPosition {
     }
 }
 
-/// Asserts that positions stand, and that each glyph's advance is its place so many times.
-fn assert_positions(rt: &impl Abort, buffer: &Line, times: i32) {
-    assert!(rt; buffer.has_positions());
-    for place in 0..buffer.len() {
-        assert!(rt; *buffer.pos(place) == position_of(place, times));
+/// Whether positions stand, and each glyph's advance is its place so many times.
+fn is_placed(state: &State, times: i32) -> bool {
+    for (place, position) in state.positions.iter().enumerate() {
+        if *position != position_of(place, times) {
+            return false;
+        }
+    }
+    state.has_positions && state.positions.len() == state.glyphs.len()
+}
+
+/// Gives the glyph at a place an advance, where positions stand.
+fn place_glyph(buffer: &mut Line, place: usize) {
+    if buffer.has_positions() && place < buffer.len() {
+        *buffer.pos_mut(place) = position_of(place, 1);
     }
 }
 
 /// Gives each glyph an advance that is its place.
-fn place_line(rt: &impl Abort, buffer: &mut Line) -> Result<(), BufferError> {
+fn place_line(buffer: &mut Line) -> Result<(), BufferError> {
     buffer.clear_positions()?;
     for place in 0..buffer.len() {
-        assert!(rt; buffer.has_positions() && place < buffer.len());
-        *buffer.pos_mut(place) = position_of(place, 1);
+        place_glyph(buffer, place);
     }
     Ok(())
 }
 
+/// Copies the glyph at the cursor. A cursor at the end is told as a line that is too long, as which no call of these
+/// tests is refused.
+fn copy_glyph(buffer: &mut Line) -> Result<(), BufferError> {
+    if buffer.backtrack_len() < buffer.len() {
+        buffer.copy_glyph()
+    } else {
+        Err(BufferError::TooLong)
+    }
+}
+
 /// Makes a call.
-fn call_once(rt: &impl Abort, buffer: &mut Line, call: Call) -> Result<(), BufferError> {
+fn call_once(buffer: &mut Line, call: Call) -> Result<(), BufferError> {
     match call {
         Call::Add => buffer.add(nine()),
-        Call::Copy => {
-            assert!(rt; buffer.backtrack_len() < buffer.len());
-            buffer.copy_glyph()
-        }
+        Call::Copy => copy_glyph(buffer),
         Call::Output => buffer.output_glyph(6),
         Call::Insert => buffer.insert_glyphs(&[nine()]),
         Call::Positions => buffer.clear_positions(),
     }
 }
 
-impl Before {
-    /// What a line is.
-    fn of(alloc: Global, buffer: &Line) -> Result<Before, AllocError> {
-        let mut glyphs = Vec::new(alloc);
-        for place in 0..buffer.len() {
-            glyphs.push(*buffer.info(place))?;
-        }
-        Ok(Before {
-            glyphs,
-            cursor: buffer.backtrack_len(),
-            settings: Settings::of(buffer),
-        })
+/// The glyph at a place, or that at the last place.
+fn glyph_at(glyphs: &[hb_glyph_info_t], place: usize) -> hb_glyph_info_t {
+    if place < glyphs.len() {
+        glyphs[place]
+    } else if glyphs.is_empty() {
+        hb_glyph_info_t::default()
+    } else {
+        glyphs[glyphs.len() - 1]
     }
+}
 
-    /// The glyph at a place, or that at the last place.
-    fn at(&self, place: usize) -> hb_glyph_info_t {
-        let glyphs = self.glyphs.as_slice();
-        if place < glyphs.len() {
-            glyphs[place]
-        } else if glyphs.is_empty() {
-            hb_glyph_info_t::default()
-        } else {
-            glyphs[glyphs.len() - 1]
-        }
+/// The glyph that a call puts in.
+fn new_glyph(before: &State, call: Call) -> hb_glyph_info_t {
+    let current = glyph_at(&before.glyphs, before.cursor);
+    match call {
+        Call::Copy => current,
+        Call::Output => hb_glyph_info_t {
+            glyph_id: 6,
+            ..current
+        },
+        _ => nine(),
     }
+}
 
-    /// The glyph that a call puts in.
-    fn new_glyph(&self, call: Call) -> hb_glyph_info_t {
-        match call {
-            Call::Copy => self.at(self.cursor),
-            Call::Output => hb_glyph_info_t {
-                glyph_id: 6,
-                ..self.at(self.cursor)
-            },
-            _ => nine(),
-        }
-    }
-
-    /// The glyph at a place of the line in which a call has put one.
-    fn glyph_after(&self, call: Call, place: usize) -> hb_glyph_info_t {
-        let new_place = match call {
-            Call::Add => self.glyphs.len(),
-            _ => self.cursor,
-        };
-        if place == new_place {
-            self.new_glyph(call)
+/// Whether a line has a further glyph at a place, and else the glyphs of another line.
+fn is_longer_line(
+    after: &[hb_glyph_info_t],
+    before: &[hb_glyph_info_t],
+    new_place: usize,
+    new_glyph: &hb_glyph_info_t,
+) -> bool {
+    for (place, glyph) in after.iter().enumerate() {
+        let wanted = if place == new_place {
+            *new_glyph
         } else if place < new_place {
-            self.at(place)
+            glyph_at(before, place)
         } else {
-            self.at(place.saturating_sub(1))
+            glyph_at(before, place.saturating_sub(1))
+        };
+        if *glyph != wanted {
+            return false;
         }
     }
+    after.len() == before.len().saturating_add(1)
+}
 
-    /// Asserts that a line, its cursor and its settings are as before.
-    fn assert_same(&self, rt: &impl Abort, buffer: &Line) {
-        wanted(rt, buffer.len() == self.glyphs.len(), "the length");
-        wanted(rt, buffer.backtrack_len() == self.cursor, "the cursor");
-        wanted(rt, buffer.max_ops() == MAX_OPS, "the budget");
-        wanted(rt, Settings::of(buffer) == self.settings, "the settings");
-        for place in 0..buffer.len() {
-            assert!(rt; *buffer.info(place) == self.at(place));
-        }
-    }
+/// Whether a line has the glyph that a call puts in, and no positions.
+fn is_longer(before: &State, after: &State, call: Call) -> bool {
+    let (new_place, moved) = if call == Call::Add {
+        (before.glyphs.len(), 0)
+    } else {
+        (before.cursor, 1)
+    };
+    is_longer_line(
+        &after.glyphs,
+        &before.glyphs,
+        new_place,
+        &new_glyph(before, call),
+    ) && after.cursor == before.cursor.saturating_add(moved)
+        && !after.has_positions
+        && after.budget == MAX_OPS
+        && after.settings == before.settings
+}
 
-    /// Asserts that a line has the glyph that a call puts in, and no positions.
-    fn assert_longer(&self, rt: &impl Abort, buffer: &Line, call: Call) {
-        let moved = if call == Call::Add { 0 } else { 1 };
-        wanted(
-            rt,
-            buffer.backtrack_len() == self.cursor.saturating_add(moved),
-            "the cursor",
-        );
-        wanted(
-            rt,
-            buffer.len() == self.glyphs.len().saturating_add(1),
-            "the length",
-        );
-        wanted(rt, !buffer.has_positions(), "no positions");
-        wanted(rt, buffer.max_ops() == MAX_OPS, "the budget");
-        wanted(rt, Settings::of(buffer) == self.settings, "the settings");
-        for place in 0..buffer.len() {
-            assert!(rt; *buffer.info(place) == self.glyph_after(call, place));
-        }
+/// Whether a call that was not refused leaves what it has to.
+fn is_done(before: &State, after: &State, call: Call) -> bool {
+    if call == Call::Positions {
+        are_same(before, after) && after.budget == MAX_OPS && is_placed(after, 0)
+    } else {
+        is_longer(before, after, call)
     }
+}
 
-    /// Asserts what a call that was not refused leaves.
-    fn assert_done(&self, rt: &impl Abort, buffer: &Line, call: Call) {
-        if call == Call::Positions {
-            self.assert_same(rt, buffer);
-            assert_positions(rt, buffer, 0);
-        } else {
-            self.assert_longer(rt, buffer, call);
-        }
-    }
-
-    /// Asserts what a call that was refused leaves: all as before, but that the buffer has failed, and that
-    /// `clear_positions` leaves no positions.
-    fn assert_refused(&self, rt: &impl Abort, buffer: &Line, call: Call) {
-        wanted(rt, !buffer.is_successful(), "a failed line");
-        self.assert_same(rt, buffer);
-        if call == Call::Positions {
-            wanted(rt, !buffer.has_positions(), "no positions");
-        } else {
-            assert_positions(rt, buffer, 1);
-        }
-    }
+/// Whether a call that was refused leaves what it has to: all as before, but that the buffer has failed, and that
+/// `clear_positions` leaves no positions.
+fn is_left(before: &State, after: &State, call: Call) -> bool {
+    let has_positions = if call == Call::Positions {
+        !after.has_positions
+    } else {
+        is_placed(after, 1)
+    };
+    has_positions && !after.is_successful && are_same(before, after) && after.budget == MAX_OPS
 }
 
 /// Makes a call while so many blocks are left of the heap.
 fn call_filled<'h>(
-    rt: &impl Abort,
     alloc: Global,
     heap: &'h LocalHeap,
     buffer: &mut Line<'h>,
     call: Call,
     blocks: usize,
-) -> Result<Result<(), BufferError>, AllocError> {
+) -> Result<Result<(), BufferError>, Fail> {
     let hoard = Hoard::but(alloc, heap, blocks)?;
-    let answer = call_once(rt, buffer, call);
-    wanted(rt, hoard.is_filled(), "a filled heap");
-    Ok(answer)
+    let answer = call_once(buffer, call);
+    if hoard.is_filled() {
+        Ok(answer)
+    } else {
+        Err(Fail::new("nothing was taken of the heap"))
+    }
+}
+
+/// Makes a call once more with ample memory where it was refused as this, and says whether the refusal left what it has
+/// to, and the call was done.
+fn is_done_again(
+    alloc: Global,
+    buffer: &mut Line,
+    before: &State,
+    call: Call,
+    error: BufferError,
+) -> Result<bool, AllocError> {
+    let refused = state_of(alloc, buffer)?;
+    let again = call_once(buffer, call);
+    let after = state_of(alloc, buffer)?;
+    Ok(
+        error == BufferError::OutOfMemory
+            && is_left(before, &refused, call)
+            && again == Ok(())
+            && !after.is_successful
+            && is_done(before, &after, call),
+    )
 }
 
 /// Makes a call while so many blocks are left of the heap, and once more with ample memory where it is refused. Says
-/// whether it was refused.
+/// whether it was refused: nothing where what it leaves is wrong.
 fn is_refused<'h>(
-    rt: &impl Abort,
     alloc: Global,
     heap: &'h LocalHeap,
     buffer: &mut Line<'h>,
     call: Call,
     blocks: usize,
-) -> Result<bool, AllocError> {
-    let before = Before::of(alloc, buffer)?;
-    let answer = call_filled(rt, alloc, heap, buffer, call, blocks)?;
-    if let Err(error) = answer {
-        wanted(rt, error == BufferError::OutOfMemory, "want of memory");
-        wanted(rt, error.number() == 2, "its number");
-        before.assert_refused(rt, buffer, call);
-        wanted(
-            rt,
-            call_once(rt, buffer, call) == Ok(()),
-            "the call made again",
-        );
-        wanted(rt, !buffer.is_successful(), "a line that stays failed");
+) -> Result<Option<bool>, Fail> {
+    let before = state_of(alloc, buffer)?;
+    match call_filled(alloc, heap, buffer, call, blocks)? {
+        Ok(()) => {
+            let after = state_of(alloc, buffer)?;
+            Ok(if is_done(&before, &after, call) {
+                Some(false)
+            } else {
+                None
+            })
+        }
+        Err(error) => {
+            let is_right = is_done_again(alloc, buffer, &before, call, error)?;
+            Ok(if is_right { Some(true) } else { None })
+        }
     }
-    before.assert_done(rt, buffer, call);
-    Ok(answer.is_err())
 }
 
-/// Makes a call over a line that is placed, and adds a glyph where the call adds none. Says whether it was refused.
-fn is_refused_placed<'h>(
-    rt: &impl Abort,
-    alloc: Global,
-    heap: &'h LocalHeap,
-    buffer: &mut Line<'h>,
-    call: Call,
-    blocks: usize,
-) -> Result<bool, Fail> {
+/// Makes a line ready for a call: it is placed, or gets a further glyph where the call places it.
+fn make_ready(buffer: &mut Line, call: Call) -> Result<(), BufferError> {
     if call == Call::Positions {
-        buffer.add(nine())?;
+        buffer.add(nine())
     } else {
-        place_line(rt, buffer)?;
+        place_line(buffer)
     }
-    Ok(is_refused(rt, alloc, heap, buffer, call, blocks)?)
 }
 
 /// An empty line for `add`, and for the other calls one of two glyphs with the cursor behind its first one, with
 /// settings that a new buffer has not.
-fn line_for<'h>(rt: &impl Abort, heap: &'h LocalHeap, call: Call) -> Result<Line<'h>, BufferError> {
-    let glyphs = [(5, 0, 0), (5, 1, 0)];
+fn line_for<'h>(heap: &'h LocalHeap, call: Call) -> Result<Line<'h>, BufferError> {
     let count = if call == Call::Add { 0 } else { 2 };
-    let mut buffer = line_over(heap, &glyphs[..count], MAX_OPS)?;
+    let glyphs = [(5, 0, 0), (5, 1, 0)];
+    let mut buffer = line_over(heap, 16384, MAX_OPS, &glyphs[..count])?;
     buffer.set_direction(Direction::BottomToTop);
     buffer.set_cluster_level(HB_BUFFER_CLUSTER_LEVEL_CHARACTERS);
     buffer.set_flags(BufferFlags::PRODUCE_UNSAFE_TO_CONCAT);
     buffer.set_scratch_flags(ScratchFlags::HAS_GPOS_ATTACHMENT);
-    assert!(rt; buffer.len() == count);
-    buffer.move_to(count / 2);
+    move_to(&mut buffer, count / 2);
     Ok(buffer)
 }
 
-/// Makes a call many times over one line while so many blocks are left of the heap, and says how often it was refused.
-fn refusals_of(rt: &impl Abort, alloc: Global, call: Call, blocks: usize) -> Result<usize, Fail> {
+/// Moves the cursor to a place of the line.
+fn move_to(buffer: &mut Line, place: usize) {
+    if place < buffer.len() {
+        buffer.move_to(place);
+    }
+}
+
+/// Makes a call many times over one line while so many blocks are left of the heap, and says how often it was refused:
+/// nothing where what a call leaves is wrong.
+fn refusals_of(alloc: Global, call: Call, blocks: usize) -> Result<Option<usize>, Fail> {
     let heap = LocalHeap::new(alloc, HEAP)?;
-    let mut buffer = line_for(rt, &heap, call)?;
+    let mut buffer = line_for(&heap, call)?;
     let mut refusals = 0usize;
     for _ in 0..TIMES {
-        if is_refused_placed(rt, alloc, &heap, &mut buffer, call, blocks)? {
-            refusals = refusals.saturating_add(1);
+        make_ready(&mut buffer, call)?;
+        match is_refused(alloc, &heap, &mut buffer, call, blocks)? {
+            Some(true) => refusals = refusals.saturating_add(1),
+            Some(false) => {}
+            None => return Ok(None),
         }
     }
-    Ok(refusals)
+    Ok(Some(refusals))
+}
+
+/// The calls, and how often each is refused at least.
+const CALLS: [(Call, usize); 5] = [
+    (Call::Add, 5),
+    (Call::Copy, 2),
+    (Call::Output, 2),
+    (Call::Insert, 2),
+    (Call::Positions, 3),
+];
+
+/// Whether a call is refused so often at least, while nothing and too little is left of a heap.
+fn is_refused_often(alloc: Global, call: Call, least: usize) -> Result<bool, Fail> {
+    for blocks in 0..3usize {
+        match refusals_of(alloc, call, blocks)? {
+            Some(refusals) if refusals >= least => {}
+            _ => return Ok(false),
+        }
+    }
+    Ok(true)
 }
 
 /// Each growth asks for memory once, and is refused where nothing or too little is left. The line grows five times at
 /// least where glyphs are added, with its first glyph too, and twice where they go in at the cursor.
 #[test]
 fn each_growth_of_a_buffer_refused(rt: HostRuntime) -> Result<(), Fail> {
-    let calls = [
-        (Call::Add, 5),
-        (Call::Copy, 2),
-        (Call::Output, 2),
-        (Call::Insert, 2),
-        (Call::Positions, 3),
-    ];
-    for (call, refusals) in calls {
-        for blocks in 0..3usize {
-            assert!(&rt; refusals_of(&rt, rt.alloc(), call, blocks)? >= refusals);
-        }
+    assert!(rt; BufferError::OutOfMemory.number() == 2);
+    for (call, least) in CALLS {
+        assert!(&rt;
+            is_refused_often(rt.alloc(), call, least)?,
+            "call {}",
+            call as u8
+        );
     }
     Ok(())
 }

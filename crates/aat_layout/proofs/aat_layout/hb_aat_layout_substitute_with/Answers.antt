@@ -10,12 +10,12 @@ pub returns-in_err-turns-clause-reason : goal.returns-in_err-turns-clause-reason
 returns-in_err-turns-clause-reason g c =
     let p = err_from_is_err_and c.from_residual-in_err-turns.result c.from_residual-in_err-turns.ensures.1 in
     let good : c.args.buffer.now.successful ≡ true = search rules in
-    rw (p.1, p.2) (reason_of_run (sizes_of g.row.SLOTS g.row.LONGEST c.args.face.now) c.args.plan.now c.args.face.now c.args.buffer.now _ good c.in_ok-map.ensures.fits (rw c.in_ok-map.ensures.ok at c.in_err-turns.ensures.reason))
+    rw (p.1, p.2) (reason_of_run (sizes_of g.row.SLOTS g.row.LONGEST c.args.face.now) c.args.plan.now c.args.face.now c.args.buffer.now _ good c.in_ok-map.ensures.fits (rw c.in_ok-map.ensures.ok at (rw c.as_ref.ensures.value at c.in_err-turns.ensures.reason)))
 
 pub returns-in_err-turns-clause-left : goal.returns-in_err-turns-clause-left
 returns-in_err-turns-clause-left g c =
     let p = err_from_is_err_and c.from_residual-in_err-turns.result c.from_residual-in_err-turns.ensures.1 in
-    rw (p.1, p.2) (left_by_run (sizes_of g.row.SLOTS g.row.LONGEST c.args.face.now) c.args.plan.now c.args.face.now c.args.buffer.now c.run_table.new.buffer _ c.in_ok-map.ensures.fits (rw c.in_ok-map.ensures.ok at c.in_err-turns.ensures.reason) c.in_err-turns.ensures.refused)
+    rw (p.1, p.2) (left_by_run (sizes_of g.row.SLOTS g.row.LONGEST c.args.face.now) c.args.plan.now c.args.face.now c.args.buffer.now c.run_table.new.buffer _ c.in_ok-map.ensures.fits (rw c.in_ok-map.ensures.ok at (rw c.as_ref.ensures.value at c.in_err-turns.ensures.reason)) c.in_err-turns.ensures.refused)
 
 pub returns-clause-isolation : goal.returns-clause-isolation
 returns-clause-isolation g c =

@@ -12,6 +12,9 @@ returns-clause-ok g c =
     groups_moved (infos c.args.requests.now) c.sort_unstable_by.new.self.items
     (rw c.in_ok-groups.ensures.ok at c.sort_unstable_by.ensures.permutation)
 
+pub returns-clause-kept : goal.returns-clause-kept
+returns-clause-kept g c = rw c.in_ok-groups.ensures.ok at c.sort_unstable_by.ensures.permutation
+
 pub returns-clause-rising : goal.returns-clause-rising
 returns-clause-rising g c =
     let moved = rw c.in_ok-groups.ensures.ok at c.sort_unstable_by.ensures.permutation in

@@ -1,10 +1,12 @@
 use Rattle.std.proofs.Common.{◌≡◌, ◌∙◌, ◌<◌, ◌≤◌, ap, sym, false, length, arith, rules}
 use Rattle.std.proofs.lemmas.Grind.{common_steps}
+use Rattle.std.specs.Option.{option_copied}
 use Rattle.std.proofs.lemmas.Result.{err_from_is_err_and}
 use Rattle.aat_buffer.specs.Buffer.{Buffer}
 use Rattle.aat_font.specs.Chains.{subtable_count}
 use Rattle.aat_font.specs.Face.{chains_in, tables_of}
 use Rattle.aat_kinds.specs.Kinds.{sizes_of}
+use Rattle.aat_map.specs.Map.{lists_for}
 use Rattle.aat_map.specs.SwitchedChains.{switched_by}
 use Rattle.aat_morx.proofs.Room.{none_refused, number_of_ran, order_of_prepared, order_of_ran, too_long_by_extent}
 use Rattle.aat_morx.specs.Kept.{has_insertion}
@@ -34,20 +36,20 @@ returns-in-None-clause-order g c =
 
 pub returns-in_ok-run_chains-in-Some-clause-order : goal.returns-in_ok-run_chains-in-Some-clause-order
 returns-in_ok-run_chains-in-Some-clause-order g c =
-    order_of_ran (sizes_of g.row.SLOTS g.row.LONGEST c.args.face.now) c.chains.result.now c.args.map.now c.args.buffer.now c.prepare.new.buffer c.run_chains.new.buffer
+    order_of_ran (sizes_of g.row.SLOTS g.row.LONGEST c.args.face.now) c.chains.result.now (lists_for (option_copied c.args.map) c.chains.result.now) c.args.buffer.now c.prepare.new.buffer c.run_chains.new.buffer
     c.in_ok-run_chains-in-Some.field-0 c.requires.slots c.prepare.ensures c.in_ok-run_chains-in-Some.ensures.run
 
 pub returns-in_ok-run_chains-in-Some-clause-number : goal.returns-in_ok-run_chains-in-Some-clause-number
 returns-in_ok-run_chains-in-Some-clause-number g c = λ none.
     let same : c.chains.result.now ≡ chains_in (tables_of c.args.face.now).morx = search rules in
-    number_of_ran (sizes_of g.row.SLOTS g.row.LONGEST c.args.face.now) c.chains.result.now c.args.map.now c.args.buffer.now c.prepare.new.buffer c.run_chains.new.buffer
+    number_of_ran (sizes_of g.row.SLOTS g.row.LONGEST c.args.face.now) c.chains.result.now (lists_for (option_copied c.args.map) c.chains.result.now) c.args.buffer.now c.prepare.new.buffer c.run_chains.new.buffer
     c.in_ok-run_chains-in-Some.field-0 c.requires.slots c.prepare.ensures c.in_ok-run_chains-in-Some.ensures.run (ap has_insertion same ∙ none)
 
 pub returns-in_err-run_chains-in-Some-clause-room : goal.returns-in_err-run_chains-in-Some-clause-room
 returns-in_err-run_chains-in-Some-clause-room g c = λ too_long.
     let p = err_from_is_err_and c.from_residual.result c.from_residual.ensures.1 in
     let error : c.in_err-run_chains-in-Some.field-0.0 ≡ TooLong = cc (p.1, p.2, too_long) in
-    too_long_by_extent (sizes_of g.row.SLOTS g.row.LONGEST c.args.face.now) (switched_by c.chains.result.now c.args.map.now) c.args.buffer.now c.prepare.new.buffer c.in_err-run_chains-in-Some.field-0.0 c.requires.slots c.prepare.ensures error
+    too_long_by_extent (sizes_of g.row.SLOTS g.row.LONGEST c.args.face.now) (switched_by c.chains.result.now (lists_for (option_copied c.args.map) c.chains.result.now)) c.args.buffer.now c.prepare.new.buffer c.in_err-run_chains-in-Some.field-0.0 c.requires.slots c.prepare.ensures error
     c.in_err-run_chains-in-Some.ensures.reason
 
 pub returns-in_err-run_chains-in-Some-clause-without_insertion : goal.returns-in_err-run_chains-in-Some-clause-without_insertion
@@ -56,4 +58,4 @@ returns-in_err-run_chains-in-Some-clause-without_insertion g c = λ none.
     let same : c.chains.result.now ≡ chains_in (tables_of c.args.face.now).morx = search rules in
     let few : has_insertion c.chains.result.now ≡ false = ap has_insertion same ∙ none in
     let within : length b.line ≤ b.max_len = omega (arith, c.len-length.ensures.count, c.len-length.ensures.within) in
-    absurd (none_refused (sizes_of g.row.SLOTS g.row.LONGEST c.args.face.now) c.chains.result.now c.args.map.now b c.prepare.new.buffer c.in_err-run_chains-in-Some.field-0.0 c.requires.slots few within c.prepare.ensures c.in_err-run_chains-in-Some.ensures.reason)
+    absurd (none_refused (sizes_of g.row.SLOTS g.row.LONGEST c.args.face.now) c.chains.result.now (lists_for (option_copied c.args.map) c.chains.result.now) b c.prepare.new.buffer c.in_err-run_chains-in-Some.field-0.0 c.requires.slots few within c.prepare.ensures c.in_err-run_chains-in-Some.ensures.reason)

@@ -7,7 +7,7 @@ use Rattle.aat_morx.proofs.chains.run_chain.Goals as goal
 pub returns-in_err-turns-clause-reason : goal.returns-in_err-turns-clause-reason
 returns-in_err-turns-clause-reason g c =
     let p = err_from_is_err_and c.from_residual.result c.from_residual.ensures.1 in
-    let l = c.loop-subtable in
-    rw (p.1, p.2) (subtable_refused (sizes_of g.row.SLOTS g.row.LONGEST c.args.face.now) (switch_for c.args.ranges.now) c.args.subtables.now l.subtable-index c.subtable-item.result
-    c.args.buffer.now l.buffer l.turns c.in_err-turns.field-0.0 c.requires.slots c.loop-subtable-test.true c.subtable-item.is l.invariant.same l.invariant.within.settings.max_len
+    let l = c.loop-i in
+    rw (p.1, p.2) (subtable_refused (sizes_of g.row.SLOTS g.row.LONGEST c.args.face.now) (switch_for c.args.ranges.now) c.args.subtables.now l.i c.index-subtables-i.result
+    c.args.buffer.now l.buffer l.turns c.in_err-turns.field-0.0 c.requires.slots c.loop-i-test.true c.index-subtables-i.is l.invariant.same l.invariant.within.settings.max_len
     c.in_err-turns.ensures.reason)

@@ -4,10 +4,12 @@ use Rattle.aat_run.specs.Outcome.{in_order}
 use Rattle.aat_run.specs.Ranges.{switch_for}
 use Rattle.aat_kinds.specs.Kinds.{sizes_of}
 use Rattle.aat_morx.specs.Substitution.{subtable_run}
+use Rattle.aat_morx.specs.inside.LineWords.{TellsOf}
 use Rattle.aat_morx.proofs.chains.run_chain.Given as goal
 
-abbrev pub invariant-loop-subtable : goal.invariant-loop-subtable
-invariant-loop-subtable g l = record {
-  same : record { buffer = l.buffer; turns = l.turns } ≡ in_order (subtable_run (sizes_of g.row.SLOTS g.row.LONGEST l.fn.face) (switch_for l.fn.ranges)) (take l.subtable-index l.fn.subtables) l.fn.buffer;
-  within : StaysWithin l.subtable-index l.fn.buffer l.buffer l.turns;
+abbrev pub invariant-loop-i : goal.invariant-loop-i
+invariant-loop-i g l = record {
+  same : record { buffer = l.buffer; turns = l.turns } ≡ in_order (subtable_run (sizes_of g.row.SLOTS g.row.LONGEST l.fn.face) (switch_for l.fn.ranges)) (take l.i l.fn.subtables) l.fn.buffer;
+  within : StaysWithin l.i l.fn.buffer l.buffer l.turns;
+  tells : TellsOf l.known l.fn.words l.buffer.line;
 }

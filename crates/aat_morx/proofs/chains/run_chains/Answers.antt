@@ -1,6 +1,9 @@
-use Rattle.std.proofs.Common.{length}
+use Rattle.std.proofs.Common.{◌∙◌, ap, length}
+use Rattle.std.specs.Option.{option_copied}
 use Rattle.std.proofs.lemmas.Result.{err_from_is_err_and}
 use Rattle.aat_kinds.specs.Kinds.{sizes_of}
+use Rattle.aat_map.specs.Map.{list_or, lists_for}
+use Rattle.aat_map.proofs.DefaultLists.{list_for}
 use Rattle.aat_morx.proofs.Chained.{all_chains_ran, chain_ran, chain_refused, stays_with_more}
 use Rattle.aat_morx.proofs.chains.run_chains.Goals as goal
 
@@ -8,16 +11,18 @@ pub returns-in_err-turns-clause-reason : goal.returns-in_err-turns-clause-reason
 returns-in_err-turns-clause-reason g c =
     let p = err_from_is_err_and c.from_residual.result c.from_residual.ensures.1 in
     let l = c.loop-i in
-    rw (p.1, p.2) (chain_refused (sizes_of g.row.SLOTS g.row.LONGEST c.args.face.now) c.args.chains.now c.args.map.now c.args.buffer.now l.i c.index-chains-i.result c.ranges-in-loop-i.result.now c.deref.result.now
-    c.loop-i-test.true c.index-chains-i.is c.ranges-in-loop-i.ensures.list c.deref.ensures.value l.buffer l.turns l.invariant.same
+    let listed = list_for (option_copied c.args.map) c.args.chains.now l.i c.index-chains-i.result c.ranges_of-ranges.result.now c.loop-i-test.true c.index-chains-i.is (c.ranges_of-ranges.ensures.list ∙ ap (list_or (option_copied c.args.map) l.i) c.default_range.ensures) in
+    rw (p.1, p.2) (chain_refused (sizes_of g.row.SLOTS g.row.LONGEST c.args.face.now) c.args.chains.now (lists_for (option_copied c.args.map) c.args.chains.now) c.args.buffer.now l.i c.index-chains-i.result c.ranges_of-ranges.result.now c.deref.result.now
+    c.loop-i-test.true c.index-chains-i.is listed c.deref.ensures.value l.buffer l.turns l.invariant.same
     c.in_err-turns.field-0.0 c.requires.slots l.invariant.within.settings.max_len c.in_err-turns.ensures.reason)
 
 pub loop-i-preserved : goal.loop-i-preserved
 loop-i-preserved g c =
     let l = c.loop-i in
+    let listed = list_for (option_copied c.args.map) c.args.chains.now l.i c.index-chains-i.result c.ranges_of-ranges.result.now c.loop-i-test.true c.index-chains-i.is (c.ranges_of-ranges.ensures.list ∙ ap (list_or (option_copied c.args.map) l.i) c.default_range.ensures) in
     record {
-      same = chain_ran (sizes_of g.row.SLOTS g.row.LONGEST c.args.face.now) c.args.chains.now c.args.map.now c.args.buffer.now l.i c.index-chains-i.result c.ranges-in-loop-i.result.now c.deref.result.now
-          c.loop-i-test.true c.index-chains-i.is c.ranges-in-loop-i.ensures.list c.deref.ensures.value l.buffer l.turns l.invariant.same
+      same = chain_ran (sizes_of g.row.SLOTS g.row.LONGEST c.args.face.now) c.args.chains.now (lists_for (option_copied c.args.map) c.args.chains.now) c.args.buffer.now l.i c.index-chains-i.result c.ranges_of-ranges.result.now c.deref.result.now
+          c.loop-i-test.true c.index-chains-i.is listed c.deref.ensures.value l.buffer l.turns l.invariant.same
           c.run_chain.new.buffer c.in_ok-turns.field-0 c.in_ok-turns.ensures.run;
       within = stays_with_more c.args.chains.now l.i c.index-chains-i.result (length c.deref.result.now) c.args.buffer.now l.buffer c.run_chain.new.buffer l.turns c.in_ok-turns.field-0
           c.loop-i-test.true c.index-chains-i.is c.deref.ensures.len l.invariant.within c.in_ok-turns.ensures.within;
@@ -26,4 +31,4 @@ loop-i-preserved g c =
 pub returns-clause-run : goal.returns-clause-run
 returns-clause-run g c =
     let l = c.loop-i in
-    all_chains_ran (sizes_of g.row.SLOTS g.row.LONGEST c.args.face.now) c.args.chains.now c.args.map.now c.args.buffer.now l.i l.buffer l.turns c.loop-i-test.false l.invariant.same
+    all_chains_ran (sizes_of g.row.SLOTS g.row.LONGEST c.args.face.now) c.args.chains.now (lists_for (option_copied c.args.map) c.args.chains.now) c.args.buffer.now l.i l.buffer l.turns c.loop-i-test.false l.invariant.same

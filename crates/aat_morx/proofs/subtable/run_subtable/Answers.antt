@@ -1,0 +1,14 @@
+use Rattle.std.proofs.Common.{◌≡◌, ◌∙◌, sym, ap, false}
+use Rattle.aat_kinds.specs.Kinds.{sizes_of}
+use Rattle.aat_run.specs.Ranges.{switch_for}
+use Rattle.aat_morx.specs.Substitution.{is_skipped}
+use Rattle.aat_morx.proofs.Asleep.{asleep_run}
+use Rattle.aat_morx.proofs.subtable.run_subtable.Goals as goal
+
+pub returns-then-not-wakes-clause-run : goal.returns-then-not-wakes-clause-run
+returns-then-not-wakes-clause-run g c =
+    let s = c.args.subtable.now in
+    let b = c.args.buffer.now in
+    let switch = switch_for c.args.run.now.ranges.now in
+    let runs : is_skipped switch s b.direction ≡ false = rw (← c.direction.ensures) (sym c.is_skipped.ensures.skipped ∙ c.if-is_skipped.false) in
+    c.pass_over.ensures.rest ∙ sym (asleep_run (sizes_of g.row.SLOTS g.row.LONGEST c.args.run.now.face.now) switch s b (c.wakes.ensures.asleep s c.requires.wake c.if-not-wakes.true) runs)

@@ -1,0 +1,29 @@
+-- What the bits of a line's glyphs tell. No contract but those of the runs of subtables cites this.
+use Rattle.std.specs.Prelude.{◌≡◌, ◌/◌, ◌%◌, ◌<◌, ℕ, true, List, Some, slice_get, length}
+use Rattle.std.specs.Int.{bit_at}
+use Rattle.aat_buffer.specs.Buffer.{glyph_at}
+use Rattle.aat_font.specs.Wakers.{word_of, IsAwakeIn}
+use Rattle.aat_font.specs.declared.morx.Subtable.{Subtable}
+use Rattle.aat_font.specs.declared.wakers.GlyphWords.{GlyphWords}
+use Rattle.aat_glyph.specs.declared.glyph.hb_glyph_info_t.{hb_glyph_info_t}
+use Rattle.aat_kinds.specs.Idle.{IsIdleLineOf}
+use Rattle.aat_morx.specs.declared.waking.LineWord.{LineWord}
+
+-- a bit that is clear in a word is clear in the word of each glyph of a line, which has one
+abbrev pub HasBitsOf : GlyphWords → ℕ → List hb_glyph_info_t → Type 0
+HasBitsOf w word line =
+    (k : ℕ) → k < 64 → bit_at word k ≡ 0
+    → (0 < length line) × ((i : ℕ) → i < length line → bit_at (word_of w (glyph_at line i).glyph_id) k ≡ 0)
+
+-- what is known of a line holds of it
+abbrev pub TellsOf : LineWord → List GlyphWords → List hb_glyph_info_t → Type 0
+TellsOf known words line =
+    known.is_known ≡ true → (w : GlyphWords) → slice_get words known.block ≡ Some w → HasBitsOf w known.word line
+
+-- words tell which glyphs may wake subtable i
+abbrev pub WakeAt : Subtable → List GlyphWords → ℕ → Type 0
+WakeAt s words i = (w : GlyphWords) → slice_get words (i / 64) ≡ Some w → IsAwakeIn s w (i % 64)
+
+-- a line has a glyph, and none of its glyphs wakes a subtable
+abbrev pub IsAsleep : Subtable → List hb_glyph_info_t → Type 0
+IsAsleep s line = (0 < length line) × IsIdleLineOf s.kind line

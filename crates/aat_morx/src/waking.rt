@@ -1,0 +1,126 @@
+//! Which subtables the glyphs of a line wake.
+ghost use Rattle.std.specs.Prelude.{◌≡◌, ◌<◌, ◌≤◌, ℕ, false, true, All, Some, slice_get, length};
+ghost use Rattle.std.specs.Int.{bit_at};
+ghost use Rattle.aat_buffer.specs.Buffer.{Is16Bit, glyph_at};
+ghost use Rattle.aat_buffer.specs.Clusters.{IsSmall};
+ghost use Rattle.aat_font.specs.Wakers.{word_of};
+ghost use Rattle.aat_font.specs.declared.morx.Subtable.{Subtable};
+ghost use Rattle.aat_morx.specs.inside.LineWords.{HasBitsOf, IsAsleep, TellsOf, WakeAt};
+
+use aat_buffer::{hb_buffer_t, hb_glyph_info_t};
+use aat_font::{GlyphId, GlyphWords};
+use std::alloc::Allocator;
+
+/// The number of subtables that have a bit in a word.
+const WORD: usize = 64;
+
+/// The bits of all glyphs of a line for 64 subtables, as long as they are known.
+#[derive(Clone, Copy)]
+pub(crate) struct LineWord {
+    /// Which 64 subtables these are: their first one has this number times 64.
+    block: usize,
+    /// The bits.
+    word: u64,
+    /// Whether the line is still the one whose bits these are.
+    is_known: bool,
+}
+
+impl LineWord {
+    /// Nothing is known of a line.
+    pub(crate) fn unknown() -> LineWord
+        ensures { result.is_known ≡ false }
+    {
+        LineWord {
+            block: 0,
+            word: 0,
+            is_known: false,
+        }
+    }
+
+    /// Whether a glyph of a line may wake subtable i, by the words of the subtables. It looks at the glyphs of the line
+    /// only where their bits for these 64 subtables are not known.
+    #[tactic(auto, using(crate::proofs::LineBits::asleep_by, crate::proofs::LineBits::tells_of))]
+    pub(crate) fn wakes<A: Allocator + Copy>(
+        &mut self,
+        words: &[GlyphWords],
+        i: usize,
+        buffer: &hb_buffer_t<A>,
+    ) -> bool
+        requires ids { IsSmall buffer.now }
+        requires tells { TellsOf self.old words.now buffer.now.line }
+        ensures tells { TellsOf self.new words.now buffer.now.line }
+        ensures asleep { (s : Subtable) → WakeAt s words.now i → result ≡ false → IsAsleep s buffer.now.line }
+    {
+        match words.get(i / WORD) {
+            Some(glyph_words) => {
+                self.learn(glyph_words, i / WORD, buffer);
+                self.has(i % WORD)
+            }
+            None => true,
+        }
+    }
+
+    /// Makes the bits of a line known for 64 subtables, where they are not.
+    fn learn<A: Allocator + Copy>(
+        &mut self,
+        words: &GlyphWords,
+        block: usize,
+        buffer: &hb_buffer_t<A>,
+    )
+        requires ids { IsSmall buffer.now }
+        requires tells { self.old.is_known ≡ true → self.old.block ≡ block
+            → HasBitsOf words.now self.old.word buffer.now.line }
+        ensures block { self.new.block ≡ block }
+        ensures bits { HasBitsOf words.now self.new.word buffer.now.line }
+    {
+        if self.is_known && self.block == block {
+            return;
+        }
+        *self = LineWord {
+            block,
+            word: line_bits(words, buffer),
+            is_known: true,
+        };
+    }
+
+    /// Whether a bit is set.
+    #[tactic(auto, using(std::proofs::lemmas::Nat::Bits::shr_and_one))]
+    fn has(&self, bit: usize) -> bool
+        requires { bit < 64 }
+        ensures { result ≡ false → bit_at self.now.word bit ≡ 0 }
+    {
+        self.word >> bit & 1 != 0
+    }
+}
+
+/// The bits of all glyphs of a line. All bits where the line is empty, or its cursor is not at the front.
+fn line_bits<A: Allocator + Copy>(words: &GlyphWords, buffer: &hb_buffer_t<A>) -> u64
+    requires ids { IsSmall buffer.now }
+    ensures { HasBitsOf words.now result buffer.now.line }
+{
+    if buffer.is_empty() || buffer.backtrack_len() > 0 {
+        return u64::MAX;
+    }
+    bits_of(words, buffer.from_cursor())
+}
+
+/// The bits of a glyph.
+fn bits_of_glyph(words: &GlyphWords, glyph: &hb_glyph_info_t) -> u64
+    requires { Is16Bit glyph.now }
+    ensures { result ≡ word_of words.now glyph.now.glyph_id }
+{
+    words.word(GlyphId(glyph.glyph_id as u16))
+}
+
+/// The bits of all of some glyphs.
+fn bits_of(words: &GlyphWords, glyphs: &[hb_glyph_info_t]) -> u64
+    requires ids { All Is16Bit glyphs.now }
+    ensures { (k i : ℕ) → i < length glyphs.now → bit_at result k ≡ 0
+        → bit_at (word_of words.now (glyph_at glyphs.now i).glyph_id) k ≡ 0 }
+{
+    let mut word = 0;
+    for glyph in glyphs {
+        word |= bits_of_glyph(words, glyph);
+    }
+    word
+}
