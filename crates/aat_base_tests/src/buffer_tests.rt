@@ -5,46 +5,48 @@ mod cluster_tests;
 mod lines;
 mod long_lines;
 mod memory;
+mod steps;
 
 use crate::asserting::wanted;
 use aat_buffer::{
-    BufferError, BufferFlags, Direction, GlyphPosition, HB_BUFFER_CLUSTER_LEVEL_CHARACTERS,
+    BufferError, BufferFlags, Direction, HB_BUFFER_CLUSTER_LEVEL_CHARACTERS,
     HB_BUFFER_CLUSTER_LEVEL_MONOTONE_CHARACTERS, HB_BUFFER_CLUSTER_LEVEL_MONOTONE_GRAPHEMES,
-    ScratchFlags, UnicodeProps, glyph_flag, hb_buffer_t,
+    ScratchFlags, UnicodeProps, glyph_flag, hb_buffer_t, hb_glyph_info_t,
 };
 use bitflags::Flags;
-use lines::{
-    advances_are, clusters_at, copy, delete_its_first, go_to, insert, is_at, line_is, line_of,
-    masks_are, number_positions, pass, record, remove_deleted, replace, skip,
-};
+use lines::BARE;
 use std::alloc::Global;
 use std::process::Abort;
-use std::test::Fail;
+use steps::{Call, Fact, Step, walk, walk_over};
 
 #[test]
 fn plain_fields(rt: HostRuntime) {
     let mut buffer = hb_buffer_t::new(rt.alloc(), 7, -3);
-    wanted(&rt, is_fresh(&buffer), "fields of a new buffer");
-    wanted(&rt, has_first_settings(&buffer), "settings of a new buffer");
+    wanted(&rt, is_fresh(&buffer), "a new buffer");
+    let first = (Direction::LeftToRight, 0, 0, 0, -3);
+    wanted(&rt, has_fields(&buffer, first), "fields of a new buffer");
     set_fields(&mut buffer);
-    wanted(&rt, has_fields(&buffer), "fields that were set");
-    wanted(&rt, flags_have_their_bits(), "flags");
-    wanted(&rt, numbers_are_fixed(), "numbers");
+    let set = (Direction::BottomToTop, 2, 0x40, 0x08, 5);
+    wanted(&rt, has_fields(&buffer, set), "fields that were set");
 }
 
 fn is_fresh(buffer: &hb_buffer_t) -> bool {
     buffer.is_empty()
-        && is_at(buffer, 0, 0)
+        && (buffer.len(), buffer.backtrack_len(), buffer.max_len()) == (0, 0, 7)
         && !buffer.has_positions()
         && buffer.is_successful()
         && buffer.all_glyphs_16()
 }
 
-fn has_first_settings(buffer: &hb_buffer_t) -> bool {
-    (buffer.max_len(), buffer.max_ops(), buffer.cluster_level()) == (7, -3, 0)
-        && buffer.direction() == Direction::LeftToRight
-        && buffer.flags().is_empty()
-        && buffer.scratch_flags().is_empty()
+/// Fields of a buffer: its direction, its cluster level, the bits of its flags and of its scratch flags, and its budget.
+type Fields = (Direction, u8, u32, u32, i32);
+
+fn has_fields(buffer: &hb_buffer_t, (direction, level, flags, scratch, budget): Fields) -> bool {
+    buffer.direction() == direction
+        && buffer.cluster_level() == level
+        && buffer.flags().bits() == flags
+        && buffer.scratch_flags().bits() == scratch
+        && buffer.max_ops() == budget
 }
 
 fn set_fields(buffer: &mut hb_buffer_t) {
@@ -55,421 +57,345 @@ fn set_fields(buffer: &mut hb_buffer_t) {
     buffer.set_max_ops(5);
 }
 
-fn has_fields(buffer: &hb_buffer_t) -> bool {
-    buffer.direction() == Direction::BottomToTop
-        && (buffer.cluster_level(), buffer.max_ops()) == (2, 5)
-        && buffer.flags().bits() == 0x40
-        && buffer.scratch_flags().bits() == 0x08
+#[test]
+fn flags_and_numbers(rt: HostRuntime) {
+    wanted(&rt, UnicodeProps::IGNORABLE.bits() == 0x20, "ignorable");
+    let flags = [
+        glyph_flag::UNSAFE_TO_BREAK,
+        glyph_flag::UNSAFE_TO_CONCAT,
+        glyph_flag::SAFE_TO_INSERT_TATWEEL,
+        glyph_flag::DEFINED,
+    ];
+    assert!(&rt; flags == [1, 2, 4, 7]);
+    let numbers = [
+        HB_BUFFER_CLUSTER_LEVEL_MONOTONE_GRAPHEMES,
+        HB_BUFFER_CLUSTER_LEVEL_MONOTONE_CHARACTERS,
+        BufferError::TooLong.number(),
+        BufferError::OutOfMemory.number(),
+    ];
+    assert!(&rt; numbers == [0, 1, 1, 2]);
 }
 
-fn flags_have_their_bits() -> bool {
-    UnicodeProps::IGNORABLE.bits() == 0x20
-        && glyph_flag::UNSAFE_TO_BREAK == 1
-        && glyph_flag::UNSAFE_TO_CONCAT == 2
-        && glyph_flag::SAFE_TO_INSERT_TATWEEL == 4
-        && glyph_flag::DEFINED == 7
-}
-
-fn numbers_are_fixed() -> bool {
-    HB_BUFFER_CLUSTER_LEVEL_MONOTONE_GRAPHEMES == 0
-        && HB_BUFFER_CLUSTER_LEVEL_MONOTONE_CHARACTERS == 1
-        && BufferError::TooLong.number() == 1
-        && BufferError::OutOfMemory.number() == 2
-}
+/// A direction, whether it is horizontal, and whether it is forward.
+static DIRECTIONS: [(Direction, bool, bool); 4] = [
+    (Direction::LeftToRight, true, true),
+    (Direction::RightToLeft, true, false),
+    (Direction::TopToBottom, false, true),
+    (Direction::BottomToTop, false, false),
+];
 
 #[test]
 fn directions(rt: HostRuntime) {
-    let rows = [
-        (Direction::LeftToRight, true, true),
-        (Direction::RightToLeft, true, false),
-        (Direction::TopToBottom, false, true),
-        (Direction::BottomToTop, false, false),
-    ];
-    for (direction, horizontal, forward) in rows {
-        assert!(rt; is_of(direction, horizontal, forward), "{direction:?}");
+    for (direction, horizontal, forward) in &DIRECTIONS {
+        let is_of = direction.is_horizontal() == *horizontal
+            && direction.is_vertical() != *horizontal
+            && direction.is_forward() == *forward
+            && direction.is_backward() != *forward;
+        assert!(rt; is_of, "{direction:?}");
     }
 }
 
-/// Whether a direction is horizontal and forward as this says.
-fn is_of(direction: Direction, horizontal: bool, forward: bool) -> bool {
-    direction.is_horizontal() == horizontal
-        && direction.is_vertical() != horizontal
-        && direction.is_forward() == forward
-        && direction.is_backward() != forward
-}
+/// Glyphs that are deleted, passed, replaced and marked, and a line that is turned round.
+static WRITTEN: [Step; 18] = [
+    Step::Do(Call::AddAll(&[(1, 0, 0), (2, 1, 0), (3, 2, 0)])),
+    Step::Has(Fact::At(0)),
+    Step::Do(Call::ReplaceFirst(0xFFFF)),
+    Step::Do(Call::Pass),
+    Step::Has(Fact::Id(2)),
+    Step::Do(Call::Replace(0x10000)),
+    Step::Has(Fact::At(2)),
+    Step::Has(Fact::Small(false)),
+    Step::Do(Call::Mask(8)),
+    Step::Has(Fact::Line(&[(0xFFFF, 0, 0), (0x10000, 1, 0), (3, 2, 8)])),
+    Step::Do(Call::MoveTo(1)),
+    Step::Has(Fact::At(1)),
+    Step::Do(Call::Reverse),
+    Step::Has(Fact::Line(&[(3, 2, 8), (0x10000, 1, 0), (0xFFFF, 0, 0)])),
+    Step::Has(Fact::At(1)),
+    Step::Do(Call::Sync),
+    Step::Has(Fact::At(0)),
+    Step::Has(Fact::Successful(true)),
+];
 
-#[test]
-fn line_calls(rt: HostRuntime) -> Result<(), Fail> {
-    let mut buffer = line_of(rt.alloc(), &[(1, 0, 0), (2, 1, 0), (3, 2, 0)])?;
-    assert_written(&rt, &mut buffer);
-    assert_turned(&rt, &mut buffer);
-    Ok(())
-}
+/// A run of two glyphs, and one of three.
+const TWO: [hb_glyph_info_t; 2] = [
+    hb_glyph_info_t {
+        glyph_id: 4,
+        cluster: 5,
+        mask: 1,
+        ..BARE
+    },
+    hb_glyph_info_t {
+        glyph_id: 6,
+        ..BARE
+    },
+];
 
-fn assert_written(rt: &impl Abort, buffer: &mut hb_buffer_t) {
-    wanted(rt, is_at(buffer, 3, 0), "a line of three glyphs");
-    delete_its_first(rt, buffer);
-    pass(rt, buffer);
-    wanted(rt, has_id_at_cursor(buffer, 2), "the second glyph");
-    replace(rt, buffer, 0x10000);
-    wanted(
-        rt,
-        is_at(buffer, 3, 2) && !buffer.all_glyphs_16(),
-        "behind a long id",
-    );
-    mask_at_cursor(rt, buffer, 8);
-    let line = [(0xFFFF, 0, 0), (0x10000, 1, 0), (3, 2, 8)];
-    wanted(rt, line_is(buffer, &line), "the line that was written");
-}
+const THREE: [hb_glyph_info_t; 3] = [
+    hb_glyph_info_t {
+        glyph_id: 2,
+        cluster: 1,
+        ..BARE
+    },
+    hb_glyph_info_t {
+        glyph_id: 3,
+        cluster: 1,
+        ..BARE
+    },
+    hb_glyph_info_t {
+        glyph_id: 4,
+        cluster: 1,
+        ..BARE
+    },
+];
 
-/// Whether the glyph at the cursor has this id.
-fn has_id_at_cursor(buffer: &hb_buffer_t, glyph_id: u32) -> bool {
-    buffer.backtrack_len() < buffer.len() && buffer.cur().glyph_id == glyph_id
-}
+/// The first two glyphs of the run of three.
+const FIRST_TWO: [hb_glyph_info_t; 2] = [
+    hb_glyph_info_t {
+        glyph_id: 2,
+        cluster: 1,
+        ..BARE
+    },
+    hb_glyph_info_t {
+        glyph_id: 3,
+        cluster: 1,
+        ..BARE
+    },
+];
 
-/// Gives the glyph at the cursor a mask.
-fn mask_at_cursor(rt: &impl Abort, buffer: &mut hb_buffer_t, mask: u32) {
-    assert!(rt; buffer.backtrack_len() < buffer.len());
-    buffer.cur_mut().mask = mask;
-}
-
-fn assert_turned(rt: &impl Abort, buffer: &mut hb_buffer_t) {
-    go_to(rt, buffer, 1);
-    wanted(
-        rt,
-        buffer.backtrack_len() == 1,
-        "the place that was gone to",
-    );
-    buffer.reverse();
-    let line = [(3, 2, 8), (0x10000, 1, 0), (0xFFFF, 0, 0)];
-    wanted(rt, line_is(buffer, &line), "the line that was turned round");
-    wanted(rt, buffer.backtrack_len() == 1, "the place after that");
-    buffer.sync();
-    wanted(
-        rt,
-        is_at(buffer, 3, 0) && buffer.is_successful(),
-        "the front",
-    );
-}
-
-#[test]
-fn glyphs_put_out(rt: HostRuntime) -> Result<(), Fail> {
-    let mut buffer = line_of(rt.alloc(), &[(2, 1, 0), (3, 2, 8)])?;
-    assert_copied(&rt, &mut buffer)?;
-    assert_put_out(&rt, &mut buffer)?;
-    assert_run_put_in(&rt, &mut buffer)?;
-    Ok(())
-}
-
-fn assert_copied(rt: &impl Abort, buffer: &mut hb_buffer_t) -> Result<(), BufferError> {
-    go_to(rt, buffer, 1);
-    copy(rt, buffer)?;
-    wanted(rt, buffer.backtrack_len() == 2, "behind the copy");
-    wanted(
-        rt,
-        line_is(buffer, &[(2, 1, 0), (3, 2, 8), (3, 2, 8)]),
-        "a copy",
-    );
-    Ok(())
-}
-
-fn assert_put_out(rt: &impl Abort, buffer: &mut hb_buffer_t) -> Result<(), BufferError> {
-    skip(rt, buffer);
-    buffer.output_glyph(9)?;
-    wanted(
-        rt,
-        line_is(buffer, &[(2, 1, 0), (3, 2, 8), (9, 2, 8)]),
-        "a glyph at the end",
-    );
-    wanted(rt, buffer.backtrack_len() == 3, "behind the end");
-    go_to(rt, buffer, 1);
-    buffer.output_glyph(7)?;
-    let line = [(2, 1, 0), (7, 2, 8), (3, 2, 8), (9, 2, 8)];
-    wanted(rt, line_is(buffer, &line), "a glyph before another");
-    wanted(rt, buffer.backtrack_len() == 2, "behind that glyph");
-    Ok(())
-}
-
-fn assert_run_put_in(rt: &impl Abort, buffer: &mut hb_buffer_t) -> Result<(), BufferError> {
-    insert(buffer, &[record((4, 5, 1)), record((6, 0, 0))])?;
-    let line = [
+/// A copy, glyphs at the end and before another, and a run.
+static PUT_OUT: [Step; 16] = [
+    Step::Do(Call::AddAll(&[(2, 1, 0), (3, 2, 8)])),
+    Step::Do(Call::MoveTo(1)),
+    Step::Do(Call::Copy),
+    Step::Has(Fact::At(2)),
+    Step::Has(Fact::Line(&[(2, 1, 0), (3, 2, 8), (3, 2, 8)])),
+    Step::Do(Call::Skip),
+    Step::Do(Call::Output(9)),
+    Step::Has(Fact::Line(&[(2, 1, 0), (3, 2, 8), (9, 2, 8)])),
+    Step::Has(Fact::At(3)),
+    Step::Do(Call::MoveTo(1)),
+    Step::Do(Call::Output(7)),
+    Step::Has(Fact::Line(&[(2, 1, 0), (7, 2, 8), (3, 2, 8), (9, 2, 8)])),
+    Step::Has(Fact::At(2)),
+    Step::Do(Call::Insert(&TWO)),
+    Step::Has(Fact::Line(&[
         (2, 1, 0),
         (7, 2, 8),
         (4, 5, 1),
         (6, 0, 0),
         (3, 2, 8),
         (9, 2, 8),
-    ];
-    wanted(rt, line_is(buffer, &line), "a run");
-    wanted(rt, buffer.backtrack_len() == 4, "behind the run");
-    Ok(())
-}
+    ])),
+    Step::Has(Fact::At(4)),
+];
 
-#[test]
-fn nothing_goes_into_an_empty_line(rt: HostRuntime) -> Result<(), Fail> {
-    let mut buffer = hb_buffer_t::new(rt.alloc(), 0, 0);
-    Ok(assert_stays_empty(&rt, &mut buffer)?)
-}
-
-fn assert_stays_empty(rt: &impl Abort, buffer: &mut hb_buffer_t) -> Result<(), BufferError> {
-    buffer.clear_positions()?;
-    wanted(
-        rt,
-        buffer.has_positions() && buffer.is_empty(),
-        "positions of no glyph",
-    );
-    buffer.output_glyph(5)?;
-    wanted(
-        rt,
-        !buffer.has_positions() && is_at(buffer, 0, 0),
-        "no glyph put out",
-    );
-    buffer.clear_positions()?;
-    turn_and_merge(buffer);
-    wanted(rt, buffer.has_positions(), "positions that stay");
-    buffer.drop_positions();
-    wanted(
-        rt,
-        !buffer.has_positions() && buffer.is_successful(),
-        "positions dropped",
-    );
-    Ok(())
-}
-
-/// Makes calls that keep positions.
-fn turn_and_merge(buffer: &mut hb_buffer_t) {
-    buffer.reverse();
-    remove_deleted(buffer);
-    buffer.merge_clusters(0, 2);
-}
-
-/// Numbers the positions of a line of three with the cursor in the middle.
-fn numbered(rt: &impl Abort, alloc: Global) -> Result<hb_buffer_t, BufferError> {
-    let mut buffer = clusters_at(rt, alloc, 1, &[0, 0, 1])?;
-    number_positions(rt, &mut buffer)?;
-    Ok(buffer)
-}
-
-#[test]
-fn positions_dropped(rt: HostRuntime) -> Result<(), Fail> {
-    for call in 0..7u32 {
-        assert!(rt; drops(&rt, rt.alloc(), call)?, "call {call}");
-    }
-    Ok(())
-}
-
-/// Whether one of the calls drops positions, and the fourth leaves all glyphs behind the cursor.
-fn drops(rt: &impl Abort, alloc: Global, call: u32) -> Result<bool, BufferError> {
-    let mut buffer = numbered(rt, alloc)?;
-    drop_by(rt, call, &mut buffer)?;
-    Ok(!buffer.has_positions() && (call != 4 || is_at(&buffer, 3, 0)))
-}
-
-/// Makes one of the calls that drop positions.
-fn drop_by(rt: &impl Abort, call: u32, buffer: &mut hb_buffer_t) -> Result<(), BufferError> {
-    assert!(rt; buffer.has_positions() && buffer.backtrack_len() < buffer.len());
-    match call {
-        0 => buffer.add(record((1, 2, 0))),
-        1 => {
-            buffer.skip_glyph();
-            Ok(())
-        }
-        2 => buffer.output_glyph(4),
-        3 => buffer.copy_glyph(),
-        4 => buffer.clear_output(),
-        5 => buffer.insert_glyphs(&[]),
-        _ => {
-            buffer.drop_positions();
-            Ok(())
-        }
-    }
-}
-
-#[test]
-fn positions_kept(rt: HostRuntime) -> Result<(), Fail> {
-    for call in 0..9u32 {
-        assert!(rt; keeps(&rt, rt.alloc(), call)?, "call {call}");
-    }
-    let mut buffer = numbered(&rt, rt.alloc())?;
-    assert_positions_turned(&rt, &mut buffer);
-    Ok(assert_positions_cleared(&rt, &mut buffer)?)
-}
-
-/// Whether one of the calls keeps positions.
-fn keeps(rt: &impl Abort, alloc: Global, call: u32) -> Result<bool, BufferError> {
-    let mut buffer = numbered(rt, alloc)?;
-    keep_by(rt, call, &mut buffer);
-    Ok(advances_are(&buffer, &[0, 1, 2]))
-}
-
-fn assert_positions_cleared(rt: &impl Abort, buffer: &mut hb_buffer_t) -> Result<(), BufferError> {
-    buffer.clear_positions()?;
-    wanted(
-        rt,
-        advances_are(buffer, &[0, 0, 0]),
-        "advances that are cleared",
-    );
-    wanted(rt, is_default_at(buffer, 2), "a position that is cleared");
-    Ok(())
-}
-
-/// Whether a glyph has a position of which nothing was set.
-fn is_default_at(buffer: &hb_buffer_t, place: usize) -> bool {
-    buffer.has_positions() && place < buffer.len() && *buffer.pos(place) == GlyphPosition::default()
-}
-
-fn assert_positions_turned(rt: &impl Abort, buffer: &mut hb_buffer_t) {
-    buffer.reverse();
-    assert!(rt; advances_are(buffer, &[2, 1, 0]) && buffer.backtrack_len() == 1);
-}
-
-/// Makes one of the calls that keep positions.
-fn keep_by(rt: &impl Abort, call: u32, buffer: &mut hb_buffer_t) {
-    assert!(rt; buffer.backtrack_len() < buffer.len() && buffer.len() >= 2);
-    match call {
-        0 => buffer.next_glyph(),
-        1 => buffer.replace_glyph(4),
-        2 => buffer.move_to(2),
-        3 => buffer.sync(),
-        4 => buffer.merge_clusters(0, 3),
-        5 => buffer.merge_out_clusters(0, 3),
-        6 => buffer.unsafe_to_break(None, None),
-        7 => buffer.unsafe_to_concat(None, None),
-        _ => buffer.unsafe_to_break_from_outbuffer(None, None),
-    }
-}
-
-#[test]
-fn marks(rt: HostRuntime) -> Result<(), Fail> {
-    marks_above_least(&rt, rt.alloc())?;
-    marks_within_span(&rt, rt.alloc())?;
-    Ok(marks_where_asked(&rt, rt.alloc())?)
-}
-
-fn marks_above_least(rt: &impl Abort, alloc: Global) -> Result<(), BufferError> {
-    let mut buffer = clusters_at(rt, alloc, 2, &[0, 1, 1, 2, 2])?;
-    buffer.unsafe_to_break(Some(1), Some(4));
-    wanted(
-        rt,
-        masks_are(&buffer, &[0, 0, 0, 3, 0]),
-        "the glyph above the least cluster",
-    );
-    buffer.unsafe_to_break_from_outbuffer(None, Some(9));
-    wanted(
-        rt,
-        masks_are(&buffer, &[0, 3, 3, 3, 3]),
-        "all glyphs above it",
-    );
-    wanted(rt, buffer.backtrack_len() == 2, "the cursor");
-    Ok(())
-}
-
-fn marks_within_span(rt: &impl Abort, alloc: Global) -> Result<(), BufferError> {
-    let mut buffer = clusters_at(rt, alloc, 0, &[3, 3, 2, 2])?;
-    buffer.unsafe_to_break(Some(2), Some(3));
-    buffer.unsafe_to_concat(None, None);
-    wanted(rt, masks_are(&buffer, &[0, 0, 0, 0]), "a span of one glyph");
-    buffer.unsafe_to_break(Some(1), None);
-    wanted(rt, masks_are(&buffer, &[0, 3, 0, 0]), "a span to the end");
-    Ok(())
-}
-
-fn marks_where_asked(rt: &impl Abort, alloc: Global) -> Result<(), BufferError> {
-    let mut buffer = clusters_at(rt, alloc, 0, &[7])?;
-    buffer.set_flags(BufferFlags::PRODUCE_UNSAFE_TO_CONCAT);
-    buffer.unsafe_to_break(None, None);
-    wanted(rt, masks_are(&buffer, &[0]), "one glyph alone");
-    buffer.unsafe_to_concat(None, None);
-    wanted(rt, masks_are(&buffer, &[2]), "one glyph that is asked for");
-    Ok(())
-}
-
-#[test]
-fn too_long(rt: HostRuntime) -> Result<(), Fail> {
-    for call in 0..4u32 {
-        assert!(rt; is_refused(&rt, rt.alloc(), call)?, "call {call}");
-    }
-    Ok(())
-}
-
-/// Whether one of the calls that make a line longer is refused where it is too long, and changes nothing else, and a
-/// glyph that goes in for another stays.
-fn is_refused(rt: &impl Abort, alloc: Global, call: u32) -> Result<bool, BufferError> {
-    let mut buffer = hb_buffer_t::new(alloc, 2, 0);
-    fill(rt, &mut buffer)?;
-    let refused = pass_length(rt, call, &mut buffer);
-    Ok(refused == Err(BufferError::TooLong) && is_full(&buffer) && stays_failed(rt, &mut buffer))
-}
-
-/// Whether a failed line is as `fill` leaves it.
-fn is_full(buffer: &hb_buffer_t) -> bool {
-    !buffer.is_successful()
-        && is_at(buffer, 2, 1)
-        && line_is(buffer, &[(1, 0, 0), (2, 1, 0)])
-        && advances_are(buffer, &[0, 1])
-}
-
-/// Whether a failed line takes a glyph for its last one, and stays failed.
-fn stays_failed(rt: &impl Abort, buffer: &mut hb_buffer_t) -> bool {
-    replace_last(rt, buffer).is_ok()
-        && !buffer.is_successful()
-        && line_is(buffer, &[(1, 0, 0), (3, 2, 0)])
-}
-
-/// Makes a line of two glyphs whose positions are numbered, with the cursor between them.
-fn fill(rt: &impl Abort, buffer: &mut hb_buffer_t) -> Result<(), BufferError> {
-    buffer.add(record((1, 0, 0)))?;
-    buffer.add(record((2, 1, 0)))?;
-    number_positions(rt, buffer)?;
-    assert!(rt; buffer.len() == 2);
-    buffer.move_to(1);
-    Ok(())
-}
-
-/// Makes one of the calls that make a line longer.
-fn pass_length(rt: &impl Abort, call: u32, buffer: &mut hb_buffer_t) -> Result<(), BufferError> {
-    assert!(rt; buffer.backtrack_len() < buffer.len());
-    match call {
-        0 => buffer.add(record((3, 2, 0))),
-        1 => buffer.output_glyph(3),
-        2 => buffer.copy_glyph(),
-        _ => buffer.insert_glyphs(&[record((3, 2, 0))]),
-    }
-}
-
-/// Takes the glyph at the cursor out and adds one.
-fn replace_last(rt: &impl Abort, buffer: &mut hb_buffer_t) -> Result<(), BufferError> {
-    assert!(rt; buffer.backtrack_len() < buffer.len());
-    buffer.skip_glyph();
-    buffer.add(record((3, 2, 0)))
-}
+/// Nothing goes into an empty line, and positions of no glyph stay until they are dropped.
+static INTO_AN_EMPTY_LINE: [Step; 15] = [
+    Step::Do(Call::ClearPositions),
+    Step::Has(Fact::Positions(true)),
+    Step::Has(Fact::Line(&[])),
+    Step::Do(Call::Output(5)),
+    Step::Has(Fact::Positions(false)),
+    Step::Has(Fact::Line(&[])),
+    Step::Has(Fact::At(0)),
+    Step::Do(Call::ClearPositions),
+    Step::Do(Call::Reverse),
+    Step::Do(Call::Remove),
+    Step::Do(Call::Merge(0, 2)),
+    Step::Has(Fact::Positions(true)),
+    Step::Do(Call::DropPositions),
+    Step::Has(Fact::Positions(false)),
+    Step::Has(Fact::Successful(true)),
+];
 
 /// A run that would pass the longest length by one glyph goes in by none, and one glyph fewer fits.
+static RUN_TOO_LONG: [Step; 7] = [
+    Step::Do(Call::Add((1, 0, 0))),
+    Step::Fails(Call::Insert(&THREE), BufferError::TooLong),
+    Step::Has(Fact::Successful(false)),
+    Step::Has(Fact::Line(&[(1, 0, 0)])),
+    Step::Do(Call::Insert(&FIRST_TWO)),
+    Step::Has(Fact::Line(&[(2, 1, 0), (3, 1, 0), (1, 0, 0)])),
+    Step::Has(Fact::At(2)),
+];
+
 #[test]
-fn run_too_long(rt: HostRuntime) -> Result<(), Fail> {
-    let mut buffer = hb_buffer_t::new(rt.alloc(), 3, 0);
-    Ok(assert_run_too_long(&rt, &mut buffer)?)
+fn glyphs_written_and_put_in(rt: HostRuntime) {
+    let alloc = rt.alloc();
+    walk_over(&rt, alloc, 100, "a line that is written", &WRITTEN);
+    walk_over(&rt, alloc, 100, "glyphs put out", &PUT_OUT);
+    walk_over(&rt, alloc, 0, "an empty line", &INTO_AN_EMPTY_LINE);
+    walk_over(&rt, alloc, 3, "a run that is too long", &RUN_TOO_LONG);
 }
 
-fn assert_run_too_long(rt: &impl Abort, buffer: &mut hb_buffer_t) -> Result<(), BufferError> {
-    buffer.add(record((1, 0, 0)))?;
-    let run = [record((2, 1, 0)), record((3, 1, 0)), record((4, 1, 0))];
-    wanted(
-        rt,
-        insert(buffer, &run) == Err(BufferError::TooLong),
-        "a run that is too long",
+/// Three glyphs whose positions are numbered, with the cursor behind the first.
+static NUMBERED: [Step; 3] = [
+    Step::Do(Call::AddClusters(&[0, 0, 1])),
+    Step::Do(Call::Number),
+    Step::Do(Call::MoveTo(1)),
+];
+
+/// Makes a call over three glyphs with positions, behind the first, and asserts what then has to hold.
+fn assert_between(rt: &impl Abort, alloc: Global, name: &str, call: Call, facts: &[Step]) {
+    let mut buffer = hb_buffer_t::new(alloc, 100, 16384);
+    walk(rt, &mut buffer, name, &NUMBERED);
+    walk(rt, &mut buffer, name, &[Step::Do(call)]);
+    walk(rt, &mut buffer, name, facts);
+}
+
+/// Calls that drop positions.
+static DROPPING: [(&str, Call); 7] = [
+    ("add", Call::Add((1, 2, 0))),
+    ("skip_glyph", Call::Skip),
+    ("output_glyph", Call::Output(4)),
+    ("copy_glyph", Call::Copy),
+    ("clear_output", Call::ClearOutput),
+    ("insert_glyphs", Call::Insert(&[])),
+    ("drop_positions", Call::DropPositions),
+];
+
+static ARE_DROPPED: [Step; 1] = [Step::Has(Fact::Positions(false))];
+
+/// What output that is cleared leaves: all glyphs are behind the cursor.
+static IS_CLEARED: [Step; 2] = [
+    Step::Has(Fact::At(0)),
+    Step::Has(Fact::Clusters(&[0, 0, 1])),
+];
+
+#[test]
+fn positions_dropped(rt: HostRuntime) {
+    for (name, call) in &DROPPING {
+        assert_between(&rt, rt.alloc(), name, *call, &ARE_DROPPED);
+    }
+    assert_between(
+        &rt,
+        rt.alloc(),
+        "all glyphs",
+        Call::ClearOutput,
+        &IS_CLEARED,
     );
-    wanted(
-        rt,
-        !buffer.is_successful() && line_is(buffer, &[(1, 0, 0)]),
-        "none of it",
+}
+
+/// Calls that keep positions.
+static KEEPING: [(&str, Call); 9] = [
+    ("next_glyph", Call::Pass),
+    ("replace_glyph", Call::Replace(4)),
+    ("move_to", Call::MoveTo(2)),
+    ("sync", Call::Sync),
+    ("merge_clusters", Call::Merge(0, 3)),
+    ("merge_out_clusters", Call::MergeOut(0, 3)),
+    ("unsafe_to_break", Call::Break(None, None)),
+    ("unsafe_to_concat", Call::Concat(None, None)),
+    ("unsafe_to_break_from_outbuffer", Call::BreakOut(None, None)),
+];
+
+static ARE_KEPT: [Step; 1] = [Step::Has(Fact::Advances(&[0, 1, 2]))];
+
+/// Positions that are turned round with the line, and then cleared.
+static TURNED_AND_CLEARED: [Step; 5] = [
+    Step::Has(Fact::Advances(&[2, 1, 0])),
+    Step::Has(Fact::At(1)),
+    Step::Do(Call::ClearPositions),
+    Step::Has(Fact::Advances(&[0, 0, 0])),
+    Step::Has(Fact::IsCleared(2)),
+];
+
+#[test]
+fn positions_kept(rt: HostRuntime) {
+    for (name, call) in &KEEPING {
+        assert_between(&rt, rt.alloc(), name, *call, &ARE_KEPT);
+    }
+    assert_between(
+        &rt,
+        rt.alloc(),
+        "reverse",
+        Call::Reverse,
+        &TURNED_AND_CLEARED,
     );
-    insert(buffer, &run[..2])?;
-    wanted(
-        rt,
-        line_is(buffer, &[(2, 1, 0), (3, 1, 0), (1, 0, 0)]),
-        "a run that fits",
-    );
-    wanted(rt, buffer.backtrack_len() == 2, "behind that run");
-    Ok(())
+}
+
+/// Marks above the least cluster of a span.
+static MARKED_ABOVE_LEAST: [Step; 7] = [
+    Step::Do(Call::AddClusters(&[0, 1, 1, 2, 2])),
+    Step::Do(Call::MoveTo(2)),
+    Step::Do(Call::Break(Some(1), Some(4))),
+    Step::Has(Fact::Masks(&[0, 0, 0, 3, 0])),
+    Step::Do(Call::BreakOut(None, Some(9))),
+    Step::Has(Fact::Masks(&[0, 3, 3, 3, 3])),
+    Step::Has(Fact::At(2)),
+];
+
+/// A span of one glyph is not marked, and one that goes to the end is.
+static MARKED_WITHIN_SPAN: [Step; 6] = [
+    Step::Do(Call::AddClusters(&[3, 3, 2, 2])),
+    Step::Do(Call::Break(Some(2), Some(3))),
+    Step::Do(Call::Concat(None, None)),
+    Step::Has(Fact::Masks(&[0, 0, 0, 0])),
+    Step::Do(Call::Break(Some(1), None)),
+    Step::Has(Fact::Masks(&[0, 3, 0, 0])),
+];
+
+/// One glyph is marked where it is asked for.
+static MARKED_WHERE_ASKED: [Step; 6] = [
+    Step::Do(Call::AddClusters(&[7])),
+    Step::Do(Call::AskForConcat),
+    Step::Do(Call::Break(None, None)),
+    Step::Has(Fact::Masks(&[0])),
+    Step::Do(Call::Concat(None, None)),
+    Step::Has(Fact::Masks(&[2])),
+];
+
+#[test]
+fn marks(rt: HostRuntime) {
+    let alloc = rt.alloc();
+    walk_over(&rt, alloc, 100, "above the least", &MARKED_ABOVE_LEAST);
+    walk_over(&rt, alloc, 100, "within a span", &MARKED_WITHIN_SPAN);
+    walk_over(&rt, alloc, 100, "where asked", &MARKED_WHERE_ASKED);
+}
+
+/// A line of two glyphs, which are all that go in, whose positions are numbered, with the cursor between them.
+static FULL: [Step; 4] = [
+    Step::Do(Call::Add((1, 0, 0))),
+    Step::Do(Call::Add((2, 1, 0))),
+    Step::Do(Call::Number),
+    Step::Do(Call::MoveTo(1)),
+];
+
+/// Calls that make a line longer.
+static LENGTHENING: [(&str, Call); 4] = [
+    ("add", Call::Add((3, 2, 0))),
+    ("output_glyph", Call::Output(3)),
+    ("copy_glyph", Call::Copy),
+    ("insert_glyphs", Call::Insert(&LAST)),
+];
+
+/// A run of one glyph.
+const LAST: [hb_glyph_info_t; 1] = [hb_glyph_info_t {
+    glyph_id: 3,
+    cluster: 2,
+    ..BARE
+}];
+
+/// What a refusal leaves: nothing else is changed. A glyph that goes in for another stays, and the line stays failed.
+static REFUSED: [Step; 8] = [
+    Step::Has(Fact::Successful(false)),
+    Step::Has(Fact::At(1)),
+    Step::Has(Fact::Line(&[(1, 0, 0), (2, 1, 0)])),
+    Step::Has(Fact::Advances(&[0, 1])),
+    Step::Do(Call::Skip),
+    Step::Do(Call::Add((3, 2, 0))),
+    Step::Has(Fact::Successful(false)),
+    Step::Has(Fact::Line(&[(1, 0, 0), (3, 2, 0)])),
+];
+
+#[test]
+fn too_long(rt: HostRuntime) {
+    for (name, call) in &LENGTHENING {
+        let mut buffer = hb_buffer_t::new(rt.alloc(), 2, 0);
+        let refusal = Step::Fails(*call, BufferError::TooLong);
+        walk(&rt, &mut buffer, name, &FULL);
+        walk(&rt, &mut buffer, name, &[refusal]);
+        walk(&rt, &mut buffer, name, &REFUSED);
+    }
 }

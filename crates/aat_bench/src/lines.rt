@@ -79,13 +79,13 @@ fn request_of(number: u32, size: &Size) -> Feature {
     Feature::new(tag_of(number), number / 4 % 2, start..end)
 }
 
-/// So many requests.
-pub(crate) fn requests_of(alloc: Global, count: u32, size: &Size) -> Result<Vec<Feature>, Stop> {
-    let mut requests = Vec::new(alloc);
+/// So many features of a plan, each on over the whole text.
+pub(crate) fn features_of(alloc: Global, count: u32) -> Result<Vec<Feature>, Stop> {
+    let mut features = Vec::new(alloc);
     for number in 0..count {
-        requests.push(request_of(number, size))?;
+        features.push(Feature::new(tag_of(number), 1, 0..u32::MAX))?;
     }
-    Ok(requests)
+    Ok(features)
 }
 
 /// A builder with so many requests.

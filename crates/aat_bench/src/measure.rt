@@ -6,7 +6,7 @@ ghost use Rattle.aat_layout.specs.Ranges.{is_whole_list};
 
 use crate::checksum::{checksum_of, checksum_of_map};
 use crate::kerned::{kerned_face_of, plan_of};
-use crate::lines::{builder_of, line_of, map_of, placed_line_of, requests_of};
+use crate::lines::{builder_of, features_of, line_of, map_of, placed_line_of};
 use crate::stop::Stop;
 use crate::substituted::face_of;
 use crate::workloads::{Kerned, Size, Substituted, Work};
@@ -133,7 +133,7 @@ fn call<R: Clock>(
     round: u32,
 ) -> Result<Outcome, Stop> {
     let face = face_of(alloc, subtables)?;
-    let plan = hb_ot_shape_plan_t::new(requests_of(alloc, features, size)?);
+    let plan = hb_ot_shape_plan_t::new(features_of(alloc, features)?);
     let mut buffer = line_of(alloc, size, round)?;
     let (turns, time) = timed_call(rt, alloc, &plan, &face, &mut buffer)?;
     Ok(outcome_of(&buffer, turns, time))

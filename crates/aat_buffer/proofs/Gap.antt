@@ -12,6 +12,10 @@ use Rattle.aat_buffer.specs.inside.Gap.{around_gap}
 pub carried_right : {X : Type 0} (xs : List X) (i j p : ℕ) → i ≤ p → i ≤ j → j + (p - i) ≤ length xs → around_gap (copy_within xs j (j + (p - i)) i) p (j + (p - i)) ≡ around_gap xs i j
 carried_right xs i j p le leq within = same_lists _ _ (search (rules, places)) (λ k d h. grind (arith, places))
 
+-- a gap without cells stands anywhere
+pub moved_empty : {X : Type 0} (xs : List X) (i p : ℕ) → i ≤ length xs → p ≤ length xs → around_gap xs p p ≡ around_gap xs i i
+moved_empty xs i p here there = same_lists _ _ (search (rules, places)) (λ k d h. grind (arith, places))
+
 -- the gap moves to the left
 pub carried_left : {X : Type 0} (xs : List X) (i j p : ℕ) → p ≤ i → i ≤ j → j ≤ length xs → around_gap (copy_within xs p i (j - (i - p))) p (j - (i - p)) ≡ around_gap xs i j
 carried_left xs i j p le leq within = same_lists _ _ (search (rules, places)) (λ k d h. grind (arith, places))

@@ -334,7 +334,7 @@ impl<A: Allocator + Copy> hb_buffer_t<A> {
         self.line.next();
     }
 
-    /// Moves the cursor to place `i`, which has to be at most the length, in as many steps as it is away.
+    /// Moves the cursor to place `i`, which has to be at most the length, in at most as many steps as it is away.
     pub fn move_to(&mut self, i: usize)
         requires { i ≤ length self.old.line }
         ensures { self.new ≡ with_cursor self.old i }

@@ -152,7 +152,7 @@ impl<A: Allocator + Copy> GapLine<A> {
         self.gap_end += 1;
     }
 
-    /// Moves the cursor to place `i`, in as many steps as it is away.
+    /// Moves the cursor to place `i`, in as many steps as it is away, and in one where the gap has no cells.
     #[tactic(auto, using(crate::proofs::Gap::carried_right, crate::proofs::Gap::carried_left))]
     pub(crate) fn move_to(&mut self, i: usize)
         requires { i ≤ length self.old.glyphs }
@@ -291,8 +291,8 @@ fn change_all<F: Fn(&hb_glyph_info_t) -> hb_glyph_info_t>(
     }
 }
 
-/// Moves the gap to `place` of the line, and gives its new end.
-#[tactic(auto, using(crate::proofs::Gap::carried_right, crate::proofs::Gap::carried_left))]
+/// Moves the gap to `place` of the line, and gives its new end. A gap without cells carries no glyph.
+#[tactic(auto, using(crate::proofs::Gap::carried_right, crate::proofs::Gap::carried_left, crate::proofs::Gap::moved_empty))]
 fn carry_gap(cells: &mut [hb_glyph_info_t], start: usize, end: usize, place: usize) -> usize
     requires ordered { start ≤ end }
     requires in_cells { end ≤ length cells.old }
@@ -302,6 +302,9 @@ fn carry_gap(cells: &mut [hb_glyph_info_t], start: usize, end: usize, place: usi
     ensures line { around_gap cells.new place result ≡ around_gap cells.old start end }
     ensures len { length cells.new ≡ length cells.old }
 {
+    if start == end {
+        return place;
+    }
     if start < place {
         let count = place - start;
         cells.copy_within(end..end + count, start);

@@ -44,7 +44,7 @@ fn renamed(alloc: Global, glyphs: &[u32]) -> Result<Vec<u32>, Fail> {
     }
     let machine = table(alloc)?;
     let mut context = RenamingCtx { count: 0 };
-    run_machine(&machine, &mut context, &mut buffer, &[], 1)?;
+    run_machine(&machine, None, &mut context, &mut buffer, &[], 1)?;
     ids(alloc, &buffer)
 }
 

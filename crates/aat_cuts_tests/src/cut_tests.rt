@@ -177,6 +177,7 @@ fn run(
         face,
         ranges: &[],
         feature_flags: 1,
+        wakers: None,
     };
     run_kind::<64, 64, Global>(&run, kind, &mut buffer)?;
     Ok(buffer)

@@ -1,10 +1,10 @@
 -- Words of glyphs that get more bits.
-use Rattle.std.proofs.Common.{◌≡◌, ℕ, ◌+◌, ◌*◌, ◌/◌, ◌%◌, ◌<◌, ◌≤◌, ◌^◌, ◌⊎◌, inl, inr, List, length, get_or, set, Some, None, Option, bit_or, arith, w64}
+use Rattle.std.proofs.Common.{◌≡◌, ℕ, ◌+◌, ◌*◌, ◌%◌, ◌<◌, ◌≤◌, ◌^◌, ◌⊎◌, inl, inr, List, length, get_or, set, bit_or, arith, w64}
 use Rattle.std.specs.Int.{bit_at}
 use Rattle.std.proofs.lemmas.Bool.{cases_eq}
 use Rattle.std.proofs.lemmas.List.{get_or-set_same, get_or-set_other}
 use Rattle.std.proofs.lemmas.Nat.Bits.{bit_at_or, bit_at_set_same, bit_at-lt}
-use Rattle.aat_font.specs.Wakers.{bits_on_page, word_of}
+use Rattle.aat_font.specs.Wakers.{word_of}
 use Rattle.aat_font.specs.inside.MarkedWords.{SameWords}
 use Rattle.aat_font.specs.declared.wakers.GlyphWords.{GlyphWords}
 
@@ -25,25 +25,17 @@ module _ (words : List ℕ) (place m : ℕ) (within : place < length words) wher
   pub words_wider : (i k : ℕ) → bit_at (get_or words i 0) k ≤ bit_at (get_or (set words place (bit_or (get_or words place 0) m)) i 0) k
   words_wider i k = at_place i k (cases_eq i place)
 
-  -- a glyph on a page
-  pub bits_wider : (start : Option ℕ) (i k : ℕ) → bit_at (bits_on_page words start i) k ≤ bit_at (bits_on_page (set words place (bit_or (get_or words place 0) m)) start i) k
-  bits_wider None i k = omega arith
-  bits_wider (Some s) i k = words_wider (s + i) k
-
--- a word on a page gets a mask, and no glyph loses a bit
+-- a glyph's word gets a mask, and no glyph loses a bit
 pub mark_keeps :
     (old w : GlyphWords) (place was m : ℕ) → place < length w.words.items → was ≡ get_or w.words.items place 0 → SameWords old w
-    → (g k : ℕ)
-    → bit_at (word_of old g) k ≤ bit_at (bit_or w.everywhere (bits_on_page (set w.words.items place (bit_or was m)) (get_or w.starts.items (g / 256) None) (g % 256))) k
+    → (g k : ℕ) → bit_at (word_of old g) k ≤ bit_at (bit_or w.everywhere (get_or (set w.words.items place (bit_or was m)) g 0)) k
 mark_keeps old w place was m within is same g k =
-    rw (is) (rw (← same g) (or_wider w.everywhere (bits_on_page w.words.items (get_or w.starts.items (g / 256) None) (g % 256)) w.everywhere _ k (omega arith)
-    (bits_wider w.words.items place m within (get_or w.starts.items (g / 256) None) (g % 256) k)))
+    rw is (rw (← same g) (or_wider w.everywhere (get_or w.words.items g 0) w.everywhere _ k (omega arith) (words_wider w.words.items place m within g k)))
 
 -- the glyph whose word it is has the bit
 pub mark_sets :
-    (w : GlyphWords) (start page i was bit : ℕ) → bit < 64 → start + i < length w.words.items
-    → get_or w.starts.items page None ≡ Some start
-    → bit_at (bit_or w.everywhere (bits_on_page (set w.words.items (start + i) (bit_or was (1 * 2 ^ bit % 18446744073709551616))) (get_or w.starts.items page None) i)) bit ≡ 1
-mark_sets w start page i was bit small within at =
-    let set_there = get_or-set_same w.words.items (start + i) (bit_or was (1 * 2 ^ bit % 18446744073709551616)) 0 within in
-    rw at (rw set_there (omega (arith, bit_at_or w.everywhere (bit_or was (1 * 2 ^ bit % 18446744073709551616)) bit, bit_at_set_same w64 was bit small, bit_at-lt w.everywhere bit)))
+    (w : GlyphWords) (place was bit : ℕ) → bit < 64 → place < length w.words.items
+    → bit_at (bit_or w.everywhere (get_or (set w.words.items place (bit_or was (1 * 2 ^ bit % 18446744073709551616))) place 0)) bit ≡ 1
+mark_sets w place was bit small within =
+    rw (get_or-set_same w.words.items place (bit_or was (1 * 2 ^ bit % 18446744073709551616)) 0 within)
+    (omega (arith, bit_at_or w.everywhere (bit_or was (1 * 2 ^ bit % 18446744073709551616)) bit, bit_at_set_same w64 was bit small, bit_at-lt w.everywhere bit))

@@ -1,19 +1,14 @@
 -- Which of 64 subtables a glyph may wake, as the bits of a word.
-use Rattle.std.specs.Prelude.{◌≡◌, ◌+◌, ◌/◌, ◌%◌, ℕ, true, List, Option, None, Some, slice_get, slice_index_or, Vec, bit_or}
+use Rattle.std.specs.Prelude.{◌≡◌, ◌/◌, ◌%◌, ℕ, true, List, Some, slice_get, slice_index_or, Vec, bit_or}
 use Rattle.std.specs.Int.{bit_at}
 use Rattle.aat_font.specs.Idle.{is_idle}
 use Rattle.aat_font.specs.declared.morx.Chain.{Chain}
 use Rattle.aat_font.specs.declared.morx.Subtable.{Subtable}
 use Rattle.aat_font.specs.declared.wakers.GlyphWords.{GlyphWords}
 
--- the bits at a place of a page whose words begin at a start, none where the page is not kept
-abbrev pub bits_on_page : List ℕ → Option ℕ → ℕ → ℕ
-bits_on_page words None place = 0
-bits_on_page words (Some start) place = slice_index_or words (start + place) 0
-
 -- the word of a glyph: the bits that each glyph has, and its own
 abbrev pub word_of : GlyphWords → ℕ → ℕ
-word_of w g = bit_or w.everywhere (bits_on_page w.words.items (slice_index_or w.starts.items (g / 256) None) (g % 256))
+word_of w g = bit_or w.everywhere (slice_index_or w.words.items g 0)
 
 -- where a glyph's bit of a subtable is clear, the subtable does nothing over it
 abbrev pub IsAwakeIn : Subtable → GlyphWords → ℕ → Type 0

@@ -54,4 +54,4 @@ pub use segments::LookupSegment;
 pub use state_table::{ExtendedStateTable, GenericStateEntry};
 pub use subtables::{ContextualSubtable, InsertionSubtable, LigatureSubtable};
 pub use tag::hb_tag_t;
-pub use wakers::GlyphWords;
+pub use wakers::{GlyphWords, word_at};

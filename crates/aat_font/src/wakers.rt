@@ -3,15 +3,14 @@
 //! A subtable that no glyph of a line wakes does nothing over it, and is passed over. The words are made once, with the
 //! table. Where there is no memory for them, or behind the first `MOST` times 64 subtables, there are none, and subtables
 //! run.
-ghost use Rattle.std.specs.Prelude.{◌≡◌, ◌%◌, ◌/◌, ◌<◌, ◌≤◌, ℕ, Some, None, IfOk, OnOk, true, is_none, length, slice_get, slice_index_or};
+ghost use Rattle.std.specs.Prelude.{◌≡◌, ◌+◌, ◌%◌, ◌/◌, ◌<◌, ◌≤◌, ℕ, Some, None, IfOk, OnOk, true, is_none, length, slice_get, slice_index_or};
 ghost use Rattle.std.specs.Int.{bit_at};
 ghost use Rattle.aat_font.specs.Idle.{is_idle_class, is_idle_glyph};
 ghost use Rattle.aat_font.specs.Keys.{value_in};
-ghost use Rattle.aat_font.specs.Wakers.{bits_on_page, word_of, IsAwakeIn, AreWakers, AreChainWakers};
-ghost use Rattle.aat_font.specs.inside.MarkedWords.{HasPages, KeepsBits, SameWords};
+ghost use Rattle.aat_font.specs.Wakers.{word_of, IsAwakeIn, AreWakers, AreChainWakers};
+ghost use Rattle.aat_font.specs.inside.MarkedWords.{KeepsBits, SameWords};
 ghost use Rattle.aat_font.specs.declared.morx.Subtable.{Subtable};
 
-use crate::cells::cell_at;
 use crate::entry_bits::class::{DELETED_GLYPH, OUT_OF_BOUNDS};
 use crate::idle::{Resting, is_idle_at_end, is_idle_class};
 use crate::lookup::Lookup;
@@ -20,102 +19,77 @@ use crate::plan::GlyphId;
 use crate::state_table::ExtendedStateTable;
 use std::alloc::{AllocError, Global};
 
-/// The number of pages, and of glyphs on each of them.
-const PAGE: usize = 256;
+/// By how many glyphs the words get more at least.
+const STEP: usize = 256;
 
 /// The number of subtables that have a bit in a word.
 const WORD: usize = 64;
 
 /// The largest number of words that a glyph has, of all chains of a table. It bounds the time that a hostile font takes,
-/// and the memory: 513 kibibytes for each word, where each page is kept.
+/// and the memory: 512 kibibytes for each word, where the last glyph has it.
 const MOST: usize = 16;
 
 /// The glyph that a machine puts in the place of one that it deletes.
 const DELETED: u16 = 0xFFFF;
 
 /// For each glyph a word of 64 bits, one for each of 64 subtables: where it is clear the subtable does nothing over the
-/// glyph. The words stand on pages of 256 glyphs.
+/// glyph.
 #[derive(Drop)]
 pub struct GlyphWords {
     /// The bits that each glyph has.
     everywhere: u64,
-    /// Where the words of each page begin, if it is kept.
-    starts: Vec<Option<u16>>,
-    /// The words of one page after the other.
+    /// The bits of each glyph besides, up to the last one that has any.
     words: Vec<u64>,
 }
 
 impl GlyphWords {
+    /// The bits that each glyph has.
+    pub fn everywhere(&self) -> u64
+        ensures { result ≡ self.now.everywhere }
+    {
+        self.everywhere
+    }
+
+    /// The bits of each glyph besides, up to the last one that has any, for who asks for many glyphs.
+    pub fn listed(&self) -> &[u64]
+        ensures { result.now ≡ self.now.words.items }
+    {
+        &self.words
+    }
+
     /// The word of a glyph.
     pub fn word(&self, glyph: GlyphId) -> u64
         ensures { result ≡ word_of self.now glyph.0 }
     {
-        self.everywhere | self.bits(glyph.0 as usize)
+        self.everywhere | word_at(&self.words, glyph)
     }
 
-    /// The bits that stand for a glyph on its page, none where that is not kept.
-    fn bits(&self, glyph: usize) -> u64
-        ensures { result ≡ bits_on_page self.now.words.items
-            (slice_index_or self.now.starts.items (glyph / 256) None) (glyph % 256) }
-    {
-        match cell_at(&self.starts, glyph / PAGE) {
-            Some(start) => word_at(&self.words, start as usize + glyph % PAGE),
-            None => 0,
-        }
-    }
-
-    /// Words with no bit.
-    fn empty(alloc: Global) -> Result<GlyphWords, AllocError>
-        ensures { IfOk result HasPages }
-    {
-        let mut starts = Vec::new(alloc);
-        starts.resize(PAGE, None)?;
-        Ok(GlyphWords {
-            everywhere: 0,
-            starts,
-            words: Vec::new(alloc),
-        })
-    }
-
-    /// Where the words of a page begin, which is made where it is not kept. Fails where it gets no memory.
-    fn start_of(&mut self, page: usize) -> Result<usize, AllocError>
-        requires page { page < 256 }
-        requires pages { HasPages self.old }
-        ensures pages { OnOk result (HasPages self.new) }
+    /// Makes the words reach a glyph. Fails where they get no memory.
+    fn reach(&mut self, glyph: u16) -> Result<(), AllocError>
         ensures same { OnOk result (SameWords self.old self.new) }
-        ensures start { IfOk result (λ start. slice_index_or self.new.starts.items page None ≡ Some start) }
+        ensures reached { OnOk result (glyph < length self.new.words.items) }
     {
-        if let Some(start) = self.starts[page] {
-            return Ok(start as usize);
+        let place = glyph as usize;
+        if place >= self.words.len() {
+            self.words.resize((place / STEP + 1) * STEP, 0)?;
         }
-        // Each of 256 pages is made once, so that a start is at most 65,280.
-        let length = self.words.len();
-        if length > u16::MAX as usize {
-            return Err(AllocError);
-        }
-        self.words.resize(length + PAGE, 0)?;
-        self.starts[page] = Some(length as u16);
-        Ok(length)
+        Ok(())
     }
 
     /// Sets a bit of a glyph. Fails where it gets no memory.
     fn mark(&mut self, glyph: u16, bit: u32) -> Result<(), AllocError>
         requires bit { bit < 64 }
-        requires pages { HasPages self.old }
-        ensures pages { OnOk result (HasPages self.new) }
         ensures kept { OnOk result (KeepsBits self.old self.new) }
         ensures set { OnOk result (bit_at (word_of self.new glyph) bit ≡ 1) }
     {
-        let place = self.start_of(glyph as usize / PAGE)? + glyph as usize % PAGE;
-        self.words[place] |= 1 << bit;
+        self.reach(glyph)?;
+        self.words[glyph as usize] |= 1 << bit;
         Ok(())
     }
 
     /// Sets a bit of each glyph.
     fn mark_everywhere(&mut self, bit: u32)
         requires bit { bit < 64 }
-        requires pages { HasPages self.old }
-        ensures pages { HasPages self.new }
         ensures kept { KeepsBits self.old self.new }
         ensures set { (g : ℕ) → bit_at (word_of self.new g) bit ≡ 1 }
     {
@@ -125,8 +99,6 @@ impl GlyphWords {
     /// Sets a bit of each glyph that has a value of a lookup. Fails where it gets no memory.
     fn mark_values(&mut self, alloc: Global, lookup: &Lookup, bit: u32) -> Result<(), AllocError>
         requires bit { bit < 64 }
-        requires pages { HasPages self.old }
-        ensures pages { OnOk result (HasPages self.new) }
         ensures kept { OnOk result (KeepsBits self.old self.new) }
         ensures awake { OnOk result ((g : ℕ) → bit_at (word_of self.new g) bit ≡ 0
             → is_none (value_in lookup.now g) ≡ true) }
@@ -145,8 +117,6 @@ impl GlyphWords {
         bit: u32,
     ) -> Result<(), AllocError>
         requires bit { bit < 64 }
-        requires pages { HasPages self.old }
-        ensures pages { OnOk result (HasPages self.new) }
         ensures kept { OnOk result (KeepsBits self.old self.new) }
         ensures awake { OnOk result ((g : ℕ) → bit_at (word_of self.new g) bit ≡ 0
             → is_idle_glyph T.rests table.now g ≡ true) }
@@ -170,8 +140,6 @@ impl GlyphWords {
         bit: u32,
     ) -> Result<(), AllocError>
         requires bit { bit < 64 }
-        requires pages { HasPages self.old }
-        ensures pages { OnOk result (HasPages self.new) }
         ensures kept { OnOk result (KeepsBits self.old self.new) }
         ensures awake { OnOk result ((g class : ℕ) → bit_at (word_of self.new g) bit ≡ 0
             → value_in table.now.classes g ≡ Some class → is_idle_class T.rests table.now class ≡ true) }
@@ -192,8 +160,6 @@ impl GlyphWords {
         bit: u32,
     ) -> Result<(), AllocError>
         requires bit { bit < 64 }
-        requires pages { HasPages self.old }
-        ensures pages { OnOk result (HasPages self.new) }
         ensures kept { OnOk result (KeepsBits self.old self.new) }
         ensures awake { OnOk result (IsAwakeIn subtable.now self.new bit) }
     {
@@ -212,7 +178,10 @@ impl GlyphWords {
         ensures awake { IfOk result (λ words. (i : ℕ) (s : Subtable) → slice_get subtables.now i ≡ Some s
             → IsAwakeIn s words i) }
     {
-        let mut words = GlyphWords::empty(alloc)?;
+        let mut words = GlyphWords {
+            everywhere: 0,
+            words: Vec::new(alloc),
+        };
         for (bit, subtable) in subtables.iter().enumerate() {
             words.mark_subtable(alloc, subtable, bit as u32)?;
         }
@@ -220,10 +189,11 @@ impl GlyphWords {
     }
 }
 
-/// The word at a place, none behind the last one.
-fn word_at(words: &[u64], place: usize) -> u64
-    ensures { result ≡ slice_index_or words.now place 0 }
+/// The bits of a glyph in a list, none behind the last one.
+pub fn word_at(words: &[u64], glyph: GlyphId) -> u64
+    ensures { result ≡ slice_index_or words.now glyph.0 0 }
 {
+    let place = glyph.0 as usize;
     if place < words.len() { words[place] } else { 0 }
 }
 

@@ -221,6 +221,7 @@ fn first_turns(font: &hb_font_t, is_passed: bool, buffer: &mut hb_buffer_t) -> R
         face: font,
         ranges: &[],
         feature_flags: 1,
+        wakers: None,
     };
     run_kind::<64, 64, Global>(&run, kind, buffer)
 }

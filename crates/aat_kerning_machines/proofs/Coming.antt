@@ -1,9 +1,10 @@
 -- A kerning machine's run on its way: a turn that goes on, and one that ends.
-use Rattle.std.proofs.Common.{◌≡◌, ℕ, ◌+◌, ◌<◌, ◌≤◌, arith}
+use Rattle.std.proofs.Common.{◌≡◌, ◌∙◌, refl, ℕ, ◌+◌, ◌<◌, ◌≤◌, ℤ, pos, negsuc, arith}
+use Rattle.std.specs.Int.Signed.{mag}
 use Rattle.aat_run.specs.Budget.{potential, operations_left}
 use Rattle.aat_run.specs.Context.{Config}
 use Rattle.aat_run.specs.Laws.{KeepsFit, PassesFit, Stands}
-use Rattle.aat_run.specs.Machine.{Goes, Ends}
+use Rattle.aat_run.specs.Machine.{Turn, Goes, Ends}
 use Rattle.aat_run.specs.facts.Turns.{comes_on, comes_to_end}
 use Rattle.aat_run.specs.inside.Standing.{HasCome}
 use Rattle.aat_kerning_machines.specs.KerningLaws.{ChangesPositionsAlone}
@@ -34,3 +35,17 @@ module _ {R E : Type 0} (m : KerningMachine R E) (fits : R → ℕ → ℕ → T
     ends_paid from d fit whole =
         let spent = spends m fits places keeps passes from fit in
         rw whole (omega (arith, spent))
+
+-- a run that has set out
+pub come_first : {R : Type 0} (turn : Config R → Turn (Config R)) (fits : R → ℕ → ℕ → Type 0) (c : Config R) → Stands fits c → HasCome turn fits c c
+come_first turn fits c stands = record { run = refl; fit = stands; counted = omega arith }
+
+-- two parts of a way
+pub come_then : {R : Type 0} (turn : Config R → Turn (Config R)) (fits : R → ℕ → ℕ → Type 0) (a b c : Config R) → HasCome turn fits a b → HasCome turn fits b c → HasCome turn fits a c
+come_then turn fits a b c first second =
+    record { run = second.run ∙ first.run; fit = second.fit; counted = omega (arith, first.counted, second.counted) }
+
+-- a budget of 32 bits
+pub few_operations : (budget : ℤ) → mag budget < 2147483648 → operations_left budget < 2147483648
+few_operations (pos n) fits = fits
+few_operations (negsuc n) fits = omega arith

@@ -1,3 +1,4 @@
 pub mod Coming
 pub mod LowBits
+pub mod Passed
 pub mod Popping

@@ -1,5 +1,5 @@
 -- The anchor act of kerning machines. TrueType Reference Manual: The 'kerx' table, format 4, and The 'ankr' table.
-use Rattle.std.specs.Prelude.{ℕ, ◌<◌, IfSome, ◌&&◌, nat_lt, List, length, pos, ◌-ℤ◌, Option, Some, None, option_map, slice_get, if◌then◌else◌}
+use Rattle.std.specs.Prelude.{ℕ, ◌<◌, IfSome, ◌&&◌, not, Bool, nat_lt, List, length, pos, ◌-ℤ◌, Option, Some, None, option_map, slice_get, if◌then◌else◌}
 use Rattle.std.specs.Int.{int_wrap, w16}
 use Rattle.aat_buffer.specs.Buffer.{Buffer, glyph_at}
 use Rattle.aat_glyph.specs.declared.glyph.GlyphPosition.{GlyphPosition}
@@ -57,6 +57,10 @@ by_mark points pairs e (Some mark) b =
 unfoldable pub anchor_act :
     Option Points → List (ℕ × ℕ) → GenericStateEntry EntryData → Option ℕ → Buffer → Moved (Option ℕ)
 anchor_act points pairs e mark b = by_mark points pairs e mark b
+
+-- an entry that never acts: it marks no place, and has no index
+abbrev pub anchor_rests : GenericStateEntry EntryData → Bool
+anchor_rests e = not (has_flag e 0x8000) && not (has_action e)
 
 -- the driver of an anchor subtable, with no mark
 abbrev pub anchor_driver : Option Points → List (ℕ × ℕ) → Driver (Option ℕ) (GenericStateEntry EntryData)

@@ -91,6 +91,10 @@ kerx_act is_cross kern_mask tuple_count values e stack b =
     then popped is_cross kern_mask (kerx_value values step) step filled e.extra.action_index b
     else record { registers = filled; buffer = b }
 
+-- a `kerx` entry that never acts: it puts no place on the stack, empties it not, and has no index
+abbrev pub kerx_rests : GenericStateEntry EntryData → Bool
+kerx_rests e = not (has_flag e 0x8000) && (not (has_flag e 0x2000) && not (has_action e))
+
 -- the driver of a `kerx` stack subtable: an empty stack, and an entry is actionable that has an index
 abbrev pub kerx_driver : Bool → ℕ → ℕ → List ℤ → Driver (List ℕ) (GenericStateEntry EntryData)
 kerx_driver is_cross kern_mask tuple_count values = record {
@@ -112,6 +116,10 @@ kern_act is_cross kern_mask values e stack b =
     if not (is_present index) then record { registers = filled; buffer = b }
     else (if nat_lt index (length values) then popped is_cross kern_mask (kern_value values) 1 filled index b
     else record { registers = []; buffer = b })
+
+-- a `kern` entry that never acts: it puts no place on the stack, and has no index
+abbrev pub kern_rests : GenericStateEntry KernEntryData → Bool
+kern_rests e = not (has_flag e 0x8000) && not (is_present e.extra.value_index)
 
 -- the driver of a `kern` machine: an empty stack, and an entry is actionable that has an index
 abbrev pub kern_driver : Bool → ℕ → List ℤ → Driver (List ℕ) (GenericStateEntry KernEntryData)

@@ -4,5 +4,6 @@ pub mod AnchorRuns
 pub mod KerningPayments
 pub mod KerningRuns
 pub mod KerningViews
+pub mod Resting
 pub mod StackLaws
 pub mod Writes

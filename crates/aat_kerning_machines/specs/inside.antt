@@ -1,2 +1,3 @@
+pub mod Passing
 pub mod RunStates
 pub mod StackValues

@@ -104,16 +104,23 @@ impl Driver1 {
 impl StateTableDriver<Subtable1, EntryData> for Driver1 {
     ghost use Rattle.aat_kerning_machines.specs.KerningMachine.{has_action};
     ghost use Rattle.aat_kerning_machines.specs.Stack as stack;
+    ghost use Rattle.aat_kerning_machines.specs.facts.Resting as alone;
     ghost use Rattle.aat_kerning_machines.specs.facts.StackLaws as laws;
 
     ghost fits = { FitsAlways };
 
     ghost actionable = { has_action };
 
+    ghost resting = { stack.kerx_rests };
+
     ghost act = { λ t is_cross kern_mask tuple_count. stack.kerx_act is_cross kern_mask tuple_count t.values };
 
     fn is_actionable(&self, entry: &GenericStateEntry<EntryData>) -> bool {
         entry.extra.action_index != NO_INDEX
+    }
+
+    fn rests(&self, entry: &GenericStateEntry<EntryData>) -> bool {
+        !entry.has_push() & (!entry.has_reset() & (entry.extra.action_index == NO_INDEX))
     }
 
     /// Does what the entry says. Each glyph has to have its position. In at most eight steps, with no memory.
@@ -134,6 +141,9 @@ impl StateTableDriver<Subtable1, EntryData> for Driver1 {
     {
         self.act(aat, entry, has_cross_stream, tuple_count, plan, buffer);
     }
+
+    ghost rests_alone = { λ t is_cross kern_mask tuple_count.
+        alone.kerx_rest is_cross kern_mask tuple_count t.values };
 
     ghost keeps_fit = { λ t is_cross kern_mask tuple_count.
         (laws.kerx_is_lawful is_cross kern_mask tuple_count t.values).keeps_fit };

@@ -109,15 +109,22 @@ impl<'a> StateTableDriver<Subtable4, EntryData> for Driver4<'a> {
     ghost use Rattle.aat_kerning_machines.specs.Anchors as anchors;
     ghost use Rattle.aat_kerning_machines.specs.KerningMachine as machine;
     ghost use Rattle.aat_kerning_machines.specs.facts.AnchorHeld as laws;
+    ghost use Rattle.aat_kerning_machines.specs.facts.Resting as alone;
 
     ghost fits = { anchors.held_fit };
 
     ghost actionable = { machine.has_action };
 
+    ghost resting = { anchors.anchor_rests };
+
     ghost act = { λ table is_cross kern_mask tuple_count. anchors.held_act table.anchor_points };
 
     fn is_actionable(&self, entry: &GenericStateEntry<EntryData>) -> bool {
         entry.extra.action_index != NO_INDEX
+    }
+
+    fn rests(&self, entry: &GenericStateEntry<EntryData>) -> bool {
+        !entry.has_mark() & (entry.extra.action_index == NO_INDEX)
     }
 
     /// Does what the entry says. Where a place is marked and the entry has an index, the glyph at the cursor is
@@ -134,6 +141,8 @@ impl<'a> StateTableDriver<Subtable4, EntryData> for Driver4<'a> {
     ) {
         self.act(aat, entry, buffer);
     }
+
+    ghost rests_alone = { λ table is_cross kern_mask tuple_count. alone.held_rest table.anchor_points };
 
     ghost keeps_fit = { λ table is_cross kern_mask tuple_count. laws.keeps_fit table.anchor_points };
 

@@ -12,6 +12,7 @@ ghost use Rattle.aat_run.specs.Context.{first_config};
 ghost use Rattle.aat_run.specs.inside.Places.{IsRun};
 
 use crate::kerning_turns::turn_once;
+use crate::passing::{may_pass, next_entry};
 use crate::run::KerningRun;
 use crate::run_state::RunState;
 use crate::state_table_driver::StateTableDriver;
@@ -41,8 +42,13 @@ fn run_turns<Table, E: Copy, D: StateTableDriver<Table, E>, A: Allocator + Copy>
         state: START_OF_TEXT,
         turns: 0,
     };
-    while turn_once(run, pays_first, driver, buffer, &mut run_state) {}
-    run_state.turns
+    let may_pass = may_pass(run, &*driver);
+    loop {
+        let entry = next_entry(run, &*driver, may_pass, buffer, &mut run_state);
+        if !turn_once(run, pays_first, driver, buffer, entry, &mut run_state) {
+            return run_state.turns;
+        }
+    }
 }
 
 /// Runs a machine over a line from the front, and answers the number of turns. `drive_kerx` has the rules.

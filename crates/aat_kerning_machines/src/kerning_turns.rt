@@ -12,7 +12,7 @@ ghost use Rattle.aat_kerning_machines.specs.Positions.{IsPlaced};
 ghost use Rattle.aat_kerning_machines.specs.Runs.{machine_over};
 ghost use Rattle.aat_kerning_machines.specs.inside.RunStates.{acted_if, behind_marks, config};
 ghost use Rattle.aat_run.specs.Budget.{paid};
-ghost use Rattle.aat_run.specs.Context.{Moved, is_at_end};
+ghost use Rattle.aat_run.specs.Context.{Moved, entry_at, is_at_end};
 ghost use Rattle.aat_run.specs.inside.Places.{turn_of};
 
 use crate::run::KerningRun;
@@ -22,7 +22,6 @@ use aat_buffer::hb_buffer_t;
 use aat_font::GenericStateEntry;
 use aat_font::entry_bits::class::END_OF_TEXT;
 use aat_font::entry_bits::state::START_OF_TEXT;
-use aat_run::class_at_cursor;
 use std::alloc::Allocator;
 
 /// Takes an operation from the budget.
@@ -233,18 +232,20 @@ fn take_entry<Table, E: Copy, D: StateTableDriver<Table, E>, A: Allocator + Copy
     act(run, pays_first, driver, buffer, entry, run_state)
 }
 
-/// One turn: whether the run goes on.
+/// One turn, by the entry of the state and of the glyph at the cursor: whether the run goes on.
 #[tactic(auto, unfolding(crate::specs::KerningMachine::kerning_turn, crate::specs::KerningMachine::kerning_by_entry))]
 pub(crate) fn turn_once<Table, E: Copy, D: StateTableDriver<Table, E>, A: Allocator + Copy>(
     run: &KerningRun<Table, E>,
     pays_first: bool,
     driver: &mut D,
     buffer: &mut hb_buffer_t<A>,
+    entry: Option<GenericStateEntry<E>>,
     run_state: &mut RunState,
 ) -> bool
     requires fit { D.fits driver.old buffer.old.cursor (length buffer.old.line) }
     requires ids { IsSmall buffer.old }
     requires placed { IsPlaced buffer.old }
+    requires entry { entry ≡ entry_at run.now.state_table.now run_state.old.state buffer.old }
     requires turns { run_state.old.turns + 1 < 2 ^ 64 }
     ensures turn { kerning_turn (machine_over run.now D.actionable D.act pays_first)
         (config buffer.old driver.old run_state.old)
@@ -253,8 +254,7 @@ pub(crate) fn turn_once<Table, E: Copy, D: StateTableDriver<Table, E>, A: Alloca
     ensures placed { IsPlaced buffer.new }
 {
     run_state.turns += 1;
-    let class = class_at_cursor(run.state_table, buffer);
-    match run.state_table.entry(run_state.state, class) {
+    match entry {
         Some(entry) => take_entry(run, pays_first, driver, buffer, &entry, run_state),
         None => false,
     }

@@ -9,6 +9,7 @@ mod kerning_run;
 mod kerning_turns;
 #[doc(hidden)]
 pub mod laws;
+mod passing;
 mod run;
 mod run_state;
 mod stack;

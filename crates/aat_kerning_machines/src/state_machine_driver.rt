@@ -96,16 +96,23 @@ impl StateMachineDriver {
 impl StateTableDriver<KernMachine, KernEntryData> for StateMachineDriver {
     ghost use Rattle.aat_font.specs.Entries.{is_present};
     ghost use Rattle.aat_kerning_machines.specs.Stack as stack;
+    ghost use Rattle.aat_kerning_machines.specs.facts.Resting as alone;
     ghost use Rattle.aat_kerning_machines.specs.facts.StackLaws as laws;
 
     ghost fits = { FitsAlways };
 
     ghost actionable = { λ e. is_present e.extra.value_index };
 
+    ghost resting = { stack.kern_rests };
+
     ghost act = { λ t is_cross kern_mask tuple_count. stack.kern_act is_cross kern_mask t.values };
 
     fn is_actionable(&self, entry: &GenericStateEntry<KernEntryData>) -> bool {
         entry.extra.value_index != NO_INDEX
+    }
+
+    fn rests(&self, entry: &GenericStateEntry<KernEntryData>) -> bool {
+        !entry.has_push() & (entry.extra.value_index == NO_INDEX)
     }
 
     /// Does what the entry says. Each glyph has to have its position. In at most eight steps, with no memory.
@@ -126,6 +133,8 @@ impl StateTableDriver<KernMachine, KernEntryData> for StateMachineDriver {
     {
         self.act(aat, entry, has_cross_stream, plan, buffer);
     }
+
+    ghost rests_alone = { λ t is_cross kern_mask tuple_count. alone.kern_rest is_cross kern_mask t.values };
 
     ghost keeps_fit = { λ t is_cross kern_mask tuple_count.
         (laws.kern_is_lawful is_cross kern_mask t.values).keeps_fit };

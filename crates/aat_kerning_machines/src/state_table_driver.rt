@@ -18,6 +18,8 @@ use std::alloc::Allocator;
 /// Whoever writes a driver gives the ghost members and proves the clauses of its calls, and then the laws, which hold
 /// for every entry, whatever its numbers, and for all registers that fit:
 ///
+/// - `rests_alone`: an entry of which `rests` says so is not actionable, and its act leaves registers and buffer as
+///   they are;
 /// - `keeps_fit`, `passes_fit`: an act that leaves the cursor before the end leaves registers that fit, and so does a
 ///   cursor that moves over a glyph;
 /// - `positions_alone`: an act changes positions and the scratch flag `HAS_GPOS_ATTACHMENT` alone: line, cursor,
@@ -32,13 +34,16 @@ pub trait StateTableDriver<Table, E: Copy> {
     ghost use Rattle.aat_kerning_machines.specs.KerningLaws.{ChangesPositionsAlone};
     ghost use Rattle.aat_kerning_machines.specs.Positions.{IsPlaced};
     ghost use Rattle.aat_run.specs.Context.{Moved};
-    ghost use Rattle.aat_run.specs.Laws.{KeepsFit, PassesFit};
+    ghost use Rattle.aat_run.specs.Laws.{KeepsFit, PassesFit, RestsBy};
 
     /// The registers fit a cursor and a length: the places that are used without a question lie on the line.
     ghost fits: { Self → ℕ → ℕ → Type 0 };
 
     /// What `is_actionable` answers of an entry.
     ghost actionable: { GenericStateEntry E → Bool };
+
+    /// What `rests` answers of an entry.
+    ghost resting: { GenericStateEntry E → Bool };
 
     /// The act of an entry, by the table, whether its values go across the line, the kern mask and the tuple count:
     /// the registers and the buffer that `transition` leaves.
@@ -49,6 +54,11 @@ pub trait StateTableDriver<Table, E: Copy> {
     /// where they hold a glyph from before, the line may depend on it and have no mark.
     fn is_actionable(&self, entry: &GenericStateEntry<E>) -> bool
         ensures { result ≡ actionable entry.now };
+
+    /// Whether the entry never acts and sets nothing, whatever the registers hold. The run passes a glyph at once where
+    /// state 0 has such an entry for it. `false` is right of each entry.
+    fn rests(&self, entry: &GenericStateEntry<E>) -> bool
+        ensures { result ≡ resting entry.now };
 
     /// Does what the entry says. The state, and the cursor's step over the glyph, are the run's. The registers have to
     /// fit, each glyph id has to be at most 0xFFFF, and each glyph has to have its position, as `has_positions` tells.
@@ -67,6 +77,9 @@ pub trait StateTableDriver<Table, E: Copy> {
         requires placed { IsPlaced buffer.old }
         ensures act { record { registers = self.new; buffer = buffer.new }
             ≡ act aat.now has_cross_stream plan.now.kern_mask tuple_count entry.now self.old buffer.old };
+
+    ghost rests_alone: { (table : Table) (is_cross : Bool) (kern_mask tuple_count : ℕ)
+        → RestsBy resting (λ e r p n. actionable e) (act table is_cross kern_mask tuple_count) };
 
     ghost keeps_fit: { (table : Table) (is_cross : Bool) (kern_mask tuple_count : ℕ)
         → KeepsFit (act table is_cross kern_mask tuple_count) fits };

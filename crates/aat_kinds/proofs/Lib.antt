@@ -12,3 +12,4 @@ pub mod Passed
 pub mod Putting
 pub mod Ran
 pub mod Refusals
+pub mod Woken

@@ -1,6 +1,8 @@
 //! Insertion subtables: runs of glyphs go in at the marked place and at the cursor.
-ghost use Rattle.std.specs.Prelude.{◌≡◌, ℕ, ◌+◌, ◌-◌, ◌<◌, ◌≤◌, ◌&&◌, if◌then◌else◌, nat_lt, length, map, not, All, Bool, take, false, true, IfErr, IsErrOf, IsTrue, OnErr, OnOk};
-ghost use Rattle.aat_buffer.specs.Buffer.{Buffer, Is16Bit, model_at};
+ghost use Rattle.std.specs.Prelude.{◌≡◌, ℕ, ◌+◌, ◌-◌, ◌<◌, ◌≤◌, ◌↔◌, ◌&&◌, if◌then◌else◌, nat_lt, length, map, not, All, Bool, take, false, true, IfErr, IsErrOf, IsTrue, OnErr, OnOk};
+ghost use Rattle.aat_buffer.specs.Buffer.{Buffer, Is16Bit, failed, model_at, with_glyphs_in};
+ghost use Rattle.aat_glyph.specs.declared.error.BufferError.{BufferError};
+ghost use Rattle.aat_glyph.specs.declared.error.BufferError.TheVariants as BufferError;
 ghost use Rattle.aat_buffer.specs.Clusters.{IsSmall};
 ghost use Rattle.aat_font.specs.Entries.{is_present};
 ghost use Rattle.aat_run.specs.Budget.{paid};
@@ -9,7 +11,7 @@ ghost use Rattle.aat_run.specs.Laws.{FitsFresh, SameSettings};
 ghost use Rattle.aat_kinds.specs.Insertion.{IsLineOfWholeRuns, at_cursor, at_mark, copies, current_part, fresh, held_act, held_fit, inserted, line_of_first_run, put_in, run_for, with_mark};
 ghost use Rattle.aat_kinds.specs.inside.Run.{IsRefusedRun};
 
-use aat_buffer::{hb_buffer_t, hb_glyph_info_t};
+use aat_buffer::{BufferError, hb_buffer_t, hb_glyph_info_t};
 use aat_font::entry_bits::insertion::{
     CURRENT_INSERT_BEFORE, CURRENT_INSERT_COUNT, MARKED_INSERT_BEFORE, MARKED_INSERT_COUNT,
 };
@@ -313,6 +315,17 @@ fn model_of<A: Allocator + Copy>(buffer: &hb_buffer_t<A>, place: usize) -> hb_gl
     *buffer.info(place.min(buffer.len() - 1))
 }
 
+/// A copy of a record with another id.
+fn copy_of(model: hb_glyph_info_t, glyph: GlyphId) -> hb_glyph_info_t
+    ensures copy { result ≡ record model { glyph_id = glyph.0 } }
+    ensures id { Is16Bit result }
+{
+    hb_glyph_info_t {
+        glyph_id: u32::from(glyph.0),
+        ..model
+    }
+}
+
 /// A run as records: copies of one, each with its own id.
 fn records_of(model: hb_glyph_info_t, run: &[GlyphId]) -> [hb_glyph_info_t; LONGEST_RUN]
     requires few { length run.now ≤ 31 }
@@ -322,12 +335,29 @@ fn records_of(model: hb_glyph_info_t, run: &[GlyphId]) -> [hb_glyph_info_t; LONG
 {
     let mut records = [model; LONGEST_RUN];
     for i in 0..run.len() {
-        records[i] = hb_glyph_info_t {
-            glyph_id: u32::from(run[i].0),
-            ..model
-        };
+        records[i] = copy_of(model, run[i]);
     }
     records
+}
+
+/// Puts a run in at the cursor as copies of a record. A run of one glyph, the most frequent, needs no room for others.
+fn insert_copies<A: Allocator + Copy>(
+    buffer: &mut hb_buffer_t<A>,
+    model: hb_glyph_info_t,
+    run: &[GlyphId],
+) -> Result<(), BufferError>
+    requires few { length run.now ≤ 31 }
+    ensures ok { OnOk result (buffer.new ≡ with_glyphs_in buffer.old (copies model run.now)) }
+    ensures small { All Is16Bit (copies model run.now) }
+    ensures too_long { IsErrOf result BufferError.TooLong
+        ↔ (buffer.old.max_len < length buffer.old.line + length run.now) }
+    ensures err { OnErr result (buffer.new ≡ failed buffer.old) }
+{
+    if run.len() == 1 {
+        return buffer.insert_glyphs(&[copy_of(model, run[0])]);
+    }
+    let records = records_of(model, run);
+    buffer.insert_glyphs(&records[..run.len()])
 }
 
 /// Where a run goes in: before the place, or behind the glyph there, if there is one.
@@ -375,9 +405,9 @@ fn put_in<A: Allocator + Copy>(
         buffer.move_to(cursor);
         return Ok(());
     }
-    let records = records_of(model_of(buffer, place), run);
+    let model = model_of(buffer, place);
     buffer.move_to(start_of(place, behind, len));
-    buffer.insert_glyphs(&records[..run.len()])?;
+    insert_copies(buffer, model, run)?;
     buffer.move_to(cursor);
     Ok(())
 }

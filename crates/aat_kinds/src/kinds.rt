@@ -1,6 +1,8 @@
 //! The run of a subtable by its kind.
-ghost use Rattle.std.specs.Prelude.{◌≡◌, ◌^◌, ◌<◌, ◌≤◌, IfOk, IfErr, IsOk, OnErr, IsTrue, false, length, true};
+ghost use Rattle.std.specs.Prelude.{◌≡◌, ◌^◌, ◌<◌, ◌≤◌, IfOk, IfErr, IsOk, OnErr, IfSome, IsTrue, false, length, true};
 ghost use Rattle.aat_buffer.specs.Clusters.{IsSmall};
+ghost use Rattle.aat_font.specs.Idle.{is_idle};
+ghost use Rattle.aat_kinds.specs.Idle.{SleepOthers};
 ghost use Rattle.aat_kinds.specs.Kinds.{is_insertion, kind_run, sizes_of, noncontextual_run};
 ghost use Rattle.aat_kinds.specs.Runs.{is_on_in};
 ghost use Rattle.aat_run.specs.Driven.{IsRefusal, IsRefused, StaysWithin};
@@ -20,7 +22,8 @@ use std::alloc::Allocator;
 ///
 /// There has to be a slot, and at most 2^59 of them, which already are more bytes than memory has. Each glyph id has
 /// to be at most 0xFFFF, the ranges begin at 0, follow without a gap and end at the last cluster, if there are any,
-/// and where there is one alone the subtable is on there.
+/// and where there is one alone the subtable is on there. Where it is said which glyphs may wake the subtable, it has to
+/// be idle over each other one.
 ///
 /// Only an insertion subtable is refused: as 2, `TooLong`, only where the run would leave a line longer than the
 /// buffer's `max_len`, and as 3, `OutOfMemory`, only where it would leave a longer line than it found, and the line was
@@ -40,6 +43,7 @@ pub fn run_kind<const SLOTS: usize, const LONGEST: usize, A: Allocator + Copy>(
     requires gapless { IsGapless run.now.ranges.now }
     requires whole { IsTrue (is_whole_list run.now.ranges.now) }
     requires on { length run.now.ranges.now ≡ 1 → is_on_in run.now 0 ≡ true }
+    requires wakers { IfSome run.now.wakers (SleepOthers (is_idle kind.now)) }
     requires ids { IsSmall buffer.old }
     ensures run { IfOk result (IsOutcome (kind_run (sizes_of SLOTS LONGEST run.now.face.now) (is_on_in run.now) kind.now
         buffer.old) buffer.new) }

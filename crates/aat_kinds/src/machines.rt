@@ -1,7 +1,9 @@
 //! The runs of the kinds that are state machines, each from fresh registers.
-ghost use Rattle.std.specs.Prelude.{◌^◌, ◌<◌, ◌≤◌, IfOk, IfErr, IsOk, OnErr};
+ghost use Rattle.std.specs.Prelude.{◌^◌, ◌<◌, ◌≤◌, IfOk, IfErr, IfSome, IsOk, OnErr};
 ghost use Rattle.aat_buffer.specs.Clusters.{IsSmall};
 ghost use Rattle.aat_font.specs.Face.{glyph_classes_of};
+ghost use Rattle.aat_font.specs.Idle.{contextual_rests, insertion_rests, is_idle_glyph, ligature_rests, rearrangement_rests};
+ghost use Rattle.aat_kinds.specs.Idle.{SleepOthers};
 ghost use Rattle.aat_kinds.specs.Kinds.{contextual_run, insertion_run, ligature_run, rearrangement_run};
 ghost use Rattle.aat_kinds.specs.Runs.{HasFitRanges, is_on_in};
 ghost use Rattle.aat_run.specs.Driven.{IsRefusal, IsRefused, StaysWithin};
@@ -24,6 +26,7 @@ pub(crate) fn run_rearrangement<const LONGEST: usize, A: Allocator + Copy>(
     table: &ExtendedStateTable<()>,
     buffer: &mut hb_buffer_t<A>,
 ) -> Result<u64, AatError>
+    requires wakers { IfSome run.now.wakers (SleepOthers (is_idle_glyph rearrangement_rests table.now)) }
     requires ranges { HasFitRanges run.now }
     requires ids { IsSmall buffer.old }
     ensures run { IfOk result (IsOutcome
@@ -32,7 +35,14 @@ pub(crate) fn run_rearrangement<const LONGEST: usize, A: Allocator + Copy>(
     ensures served { IsOk result }
 {
     let mut context: RearrangementCtx<LONGEST> = RearrangementCtx::with_longest();
-    run_machine(table, &mut context, buffer, run.ranges, run.feature_flags)
+    run_machine(
+        table,
+        run.wakers,
+        &mut context,
+        buffer,
+        run.ranges,
+        run.feature_flags,
+    )
 }
 
 /// Runs a contextual subtable, and answers the turns. It takes no memory, and is never refused.
@@ -41,6 +51,7 @@ pub(crate) fn run_contextual<A: Allocator + Copy>(
     subtable: &ContextualSubtable,
     buffer: &mut hb_buffer_t<A>,
 ) -> Result<u64, AatError>
+    requires wakers { IfSome run.now.wakers (SleepOthers (is_idle_glyph contextual_rests subtable.now.state)) }
     requires ranges { HasFitRanges run.now }
     requires ids { IsSmall buffer.old }
     ensures run { IfOk result (IsOutcome (contextual_run (is_on_in run.now) (glyph_classes_of run.now.face.now)
@@ -51,6 +62,7 @@ pub(crate) fn run_contextual<A: Allocator + Copy>(
     let mut context = ContextualCtx::new(run.face, subtable);
     run_machine(
         &subtable.state,
+        run.wakers,
         &mut context,
         buffer,
         run.ranges,
@@ -68,6 +80,7 @@ pub(crate) fn run_ligature<const SLOTS: usize, A: Allocator + Copy>(
 ) -> Result<u64, AatError>
     requires slots { 0 < SLOTS }
     requires memory { SLOTS ≤ 2 ^ 59 }
+    requires wakers { IfSome run.now.wakers (SleepOthers (is_idle_glyph ligature_rests subtable.now.state)) }
     requires ranges { HasFitRanges run.now }
     requires ids { IsSmall buffer.old }
     ensures run { IfOk result (IsOutcome (ligature_run SLOTS (is_on_in run.now) subtable.now.state subtable.now.actions
@@ -78,6 +91,7 @@ pub(crate) fn run_ligature<const SLOTS: usize, A: Allocator + Copy>(
     let mut context: LigatureCtx<SLOTS> = LigatureCtx::with_slots(subtable);
     run_machine(
         &subtable.state,
+        run.wakers,
         &mut context,
         buffer,
         run.ranges,
@@ -95,6 +109,7 @@ pub(crate) fn run_insertion<A: Allocator + Copy>(
     subtable: &InsertionSubtable,
     buffer: &mut hb_buffer_t<A>,
 ) -> Result<u64, AatError>
+    requires wakers { IfSome run.now.wakers (SleepOthers (is_idle_glyph insertion_rests subtable.now.state)) }
     requires ranges { HasFitRanges run.now }
     requires ids { IsSmall buffer.old }
     ensures run { IfOk result (IsOutcome
@@ -107,6 +122,7 @@ pub(crate) fn run_insertion<A: Allocator + Copy>(
     let mut context = InsertionCtx::new(&subtable.glyphs);
     run_machine(
         &subtable.state,
+        run.wakers,
         &mut context,
         buffer,
         run.ranges,

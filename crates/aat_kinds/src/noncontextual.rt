@@ -1,43 +1,32 @@
 //! Noncontextual subtables: each glyph by itself gets its value of a lookup.
-ghost use Rattle.std.specs.Prelude.{◌≡◌, All, ℕ, Bool, List, None, true, length};
+ghost use Rattle.std.specs.Prelude.{◌≡◌, ◌<◌, All, ℕ, Bool, IfSome, List, None, true, length};
 ghost use Rattle.aat_buffer.specs.Buffer.{Is16Bit, with_line};
 ghost use Rattle.aat_buffer.specs.Clusters.{IsSmall};
 ghost use Rattle.aat_font.specs.Face.{glyph_classes_of};
 ghost use Rattle.aat_font.specs.Moves.{AreMovesOf, HasCells};
+ghost use Rattle.aat_kinds.specs.Idle.{has_no_value, SleepOthers};
 ghost use Rattle.aat_run.specs.Ranges.{IsGapless, switch_for};
 ghost use Rattle.aat_run.specs.Stretches.{IsSwitchedAlike};
 ghost use Rattle.aat_kinds.specs.Runs.{is_on_in};
-ghost use Rattle.aat_kinds.specs.Values.{with_looked_up_value, noncontextual};
+ghost use Rattle.aat_kinds.specs.Values.{with_looked_up_value, noncontextual, MovesAlone};
 
 use crate::run::SubtableRun;
 use crate::values::props_after;
 use aat_buffer::{hb_buffer_t, hb_glyph_info_t};
-use aat_font::{GlyphId, GlyphMoves, Lookup, hb_font_t};
+use aat_font::{GlyphId, GlyphMoves, Lookup};
 use aat_run::{Stretch, range_flags_t, ranges_to_ask};
 use std::alloc::Allocator;
 
-/// A glyph with its value of a lookup, where it has one and the subtable is on.
-fn replacement(
-    face: &hb_font_t,
-    lookup: &Lookup,
-    is_on: bool,
-    glyph: hb_glyph_info_t,
-) -> hb_glyph_info_t
-    requires { Is16Bit glyph }
-    ensures replaced { (on : ℕ → Bool) → on glyph.cluster ≡ is_on
-        → result ≡ with_looked_up_value on (glyph_classes_of face.now) lookup.now glyph }
-    ensures small { Is16Bit result }
+/// Whether it is known that a glyph does not wake a subtable.
+fn is_asleep(run: &SubtableRun, glyph: &hb_glyph_info_t) -> bool
+    requires bit { IfSome run.now.wakers (λ wakers. wakers.bit < 64) }
+    requires id { Is16Bit glyph.now }
+    ensures { (test : ℕ → Bool) → IfSome run.now.wakers (SleepOthers test) → result ≡ true
+        → test glyph.now.glyph_id ≡ true }
 {
-    if !is_on {
-        return glyph;
-    }
-    match lookup.value(GlyphId(glyph.glyph_id as u16)) {
-        Some(value) => hb_glyph_info_t {
-            glyph_id: value as u32,
-            glyph_props: props_after(face, value, glyph.glyph_props),
-            ..glyph
-        },
-        None => glyph,
+    match run.wakers {
+        Some(wakers) => !wakers.wakes(glyph),
+        None => false,
     }
 }
 
@@ -52,6 +41,52 @@ fn moved_alone(moves: GlyphMoves, glyph: hb_glyph_info_t) -> hb_glyph_info_t
     hb_glyph_info_t {
         glyph_id: moves.moved(glyph.glyph_id as u16) as u32,
         ..glyph
+    }
+}
+
+/// A glyph with its value of a lookup, where it has one and the subtable is on. Where it is known what each glyph becomes,
+/// nothing is looked up.
+fn replacement(
+    run: &SubtableRun,
+    lookup: &Lookup,
+    moves: Option<GlyphMoves>,
+    is_on: bool,
+    glyph: hb_glyph_info_t,
+) -> hb_glyph_info_t
+    requires wakers { IfSome run.now.wakers (SleepOthers (has_no_value lookup.now)) }
+    requires moves { IfSome moves (MovesAlone (glyph_classes_of run.now.face.now) lookup.now) }
+    requires id { Is16Bit glyph }
+    ensures replaced { (on : ℕ → Bool) → on glyph.cluster ≡ is_on
+        → result ≡ with_looked_up_value on (glyph_classes_of run.now.face.now) lookup.now glyph }
+    ensures small { Is16Bit result }
+{
+    if !is_on {
+        return glyph;
+    }
+    match moves {
+        Some(moves) => moved_alone(moves, glyph),
+        None => looked_up(run, lookup, glyph),
+    }
+}
+
+/// A glyph with its value of a lookup, where it has one.
+fn looked_up(run: &SubtableRun, lookup: &Lookup, glyph: hb_glyph_info_t) -> hb_glyph_info_t
+    requires wakers { IfSome run.now.wakers (SleepOthers (has_no_value lookup.now)) }
+    requires id { Is16Bit glyph }
+    ensures replaced { (on : ℕ → Bool) → on glyph.cluster ≡ true
+        → result ≡ with_looked_up_value on (glyph_classes_of run.now.face.now) lookup.now glyph }
+    ensures small { Is16Bit result }
+{
+    if is_asleep(run, &glyph) {
+        return glyph;
+    }
+    match lookup.value(GlyphId(glyph.glyph_id as u16)) {
+        Some(value) => hb_glyph_info_t {
+            glyph_id: value as u32,
+            glyph_props: props_after(run.face, value, glyph.glyph_props),
+            ..glyph
+        },
+        None => glyph,
     }
 }
 
@@ -75,13 +110,26 @@ fn is_on_along(
     stretch.is_on
 }
 
-/// Gives each of some glyphs at whose own cluster the subtable is on, by some ranges, its value, which is looked up.
+/// What each glyph becomes that gets its value of a lookup, where that is kept and the font has no classes of glyphs.
+fn moves_alone<'a>(run: &SubtableRun, lookup: &'a Lookup) -> Option<GlyphMoves<'a>>
+    ensures { IfSome result (MovesAlone (glyph_classes_of run.now.face.now) lookup.now) }
+{
+    if run.face.has_glyph_classes() {
+        return None;
+    }
+    lookup.moves()
+}
+
+/// Gives each of some glyphs at whose own cluster the subtable is on, by some ranges, its value.
 fn replace_each(
     run: &SubtableRun,
     ranges: &[range_flags_t],
     lookup: &Lookup,
+    moves: Option<GlyphMoves>,
     glyphs: &mut [hb_glyph_info_t],
 )
+    requires wakers { IfSome run.now.wakers (SleepOthers (has_no_value lookup.now)) }
+    requires moves { IfSome moves (MovesAlone (glyph_classes_of run.now.face.now) lookup.now) }
     requires ids { All Is16Bit glyphs.old }
     requires gapless { IsGapless ranges.now }
     ensures replaced { glyphs.new ≡
@@ -93,7 +141,7 @@ fn replace_each(
     let mut stretch = Stretch::none();
     for glyph in glyphs.iter_mut() {
         let is_on = is_on_along(run, ranges, &mut stretch, glyph.cluster);
-        *glyph = replacement(run.face, lookup, is_on, *glyph);
+        *glyph = replacement(run, lookup, moves, is_on, *glyph);
     }
 }
 
@@ -111,13 +159,15 @@ fn move_all(lookup: &Lookup, moves: GlyphMoves, glyphs: &mut [hb_glyph_info_t])
     }
 }
 
-/// Gives each of some glyphs at whose own cluster the subtable is on, by some ranges, its value.
+/// Gives each of some glyphs at whose own cluster the subtable is on, by some ranges, its value. Without ranges none asks
+/// whether the subtable is on.
 fn replace_glyphs(
     run: &SubtableRun,
     ranges: &[range_flags_t],
     lookup: &Lookup,
     glyphs: &mut [hb_glyph_info_t],
 )
+    requires wakers { IfSome run.now.wakers (SleepOthers (has_no_value lookup.now)) }
     requires ids { All Is16Bit glyphs.old }
     requires gapless { IsGapless ranges.now }
     ensures replaced { glyphs.new ≡
@@ -126,13 +176,11 @@ fn replace_glyphs(
     ensures ids { All Is16Bit glyphs.new }
     ensures len { length glyphs.new ≡ length glyphs.old }
 {
-    if ranges.is_empty() && !run.face.has_glyph_classes() {
-        if let Some(moves) = lookup.moves() {
-            move_all(lookup, moves, glyphs);
-            return;
-        }
+    let moves = moves_alone(run, lookup);
+    match moves {
+        Some(moves) if ranges.is_empty() => move_all(lookup, moves, glyphs),
+        _ => replace_each(run, ranges, lookup, moves, glyphs),
     }
-    replace_each(run, ranges, lookup, glyphs);
 }
 
 /// Gives each glyph of a line at whose own cluster the subtable is on its value. The line is one slice while the cursor
@@ -142,6 +190,7 @@ pub(crate) fn replace_all<A: Allocator + Copy>(
     lookup: &Lookup,
     buffer: &mut hb_buffer_t<A>,
 )
+    requires wakers { IfSome run.now.wakers (SleepOthers (has_no_value lookup.now)) }
     requires ids { IsSmall buffer.old }
     requires gapless { IsGapless run.now.ranges.now }
     ensures replaced { buffer.new ≡ with_line buffer.old

@@ -4,7 +4,7 @@ ghost use Rattle.aat_run.specs.Ranges.{switch_for};
 
 use aat_font::hb_font_t;
 use aat_glyph::hb_mask_t;
-use aat_run::{is_on, range_flags_t};
+use aat_run::{Wakers, is_on, range_flags_t};
 
 /// What the run of a subtable is given besides the line.
 #[derive(Clone, Copy)]
@@ -15,6 +15,8 @@ pub struct SubtableRun<'a> {
     pub ranges: &'a [range_flags_t],
     /// The subtable is on where the chain's flags share a bit with these.
     pub feature_flags: hb_mask_t,
+    /// Which glyphs may wake the subtable, where that is known.
+    pub wakers: Option<Wakers<'a>>,
 }
 
 impl SubtableRun<'_> {

@@ -13,21 +13,16 @@ pub(crate) fn wanted_at(rt: &impl Abort, place: usize, holds: bool, what: &str) 
     assert!(rt; holds, "wanted at {place}: {what}");
 }
 
-/// Gives the glyph at a place this position.
-fn put(rt: &impl Abort, buffer: &mut hb_buffer_t, place: usize, position: GlyphPosition) {
-    assert!(rt; buffer.has_positions() && place < buffer.len());
-    *buffer.pos_mut(place) = position;
-}
-
 /// Gives each glyph this position.
 pub(crate) fn place_all(
-    rt: &impl Abort,
     buffer: &mut hb_buffer_t,
     position: GlyphPosition,
 ) -> Result<(), BufferError> {
     buffer.clear_positions()?;
     for place in 0..buffer.len() {
-        put(rt, buffer, place, position);
+        if buffer.has_positions() && place < buffer.len() {
+            *buffer.pos_mut(place) = position;
+        }
     }
     Ok(())
 }

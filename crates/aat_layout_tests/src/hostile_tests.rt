@@ -11,9 +11,11 @@ mod plans;
 mod subtables;
 mod tables;
 
+use crate::checks::wanted_at;
+use crate::kerning::Call;
 use aat_layout::buffer::hb_buffer_t;
 use aat_layout::font::{hb_font_t, hb_ot_shape_plan_t};
-use bounds::{Call, Fault, Outcome, deleted_fault, kerning_fault, second_fault, substitution};
+use bounds::{Fault, Outcome, deleted_fault, kerning_fault, second_fault, substitution};
 use fonts::font;
 use lines::{line, place};
 use numbers::Numbers;
@@ -101,11 +103,6 @@ impl Counts {
     }
 }
 
-/// Ends the test at a case that breaks a bound, and tells which.
-fn broken(rt: &impl Abort, case: u64, fault: Fault) {
-    assert!(rt; false, "case {case} of seed {SEED}: {fault}");
-}
-
 /// Runs all cases, and answers how often each outcome came.
 fn counts_of_cases(rt: &impl Abort, alloc: Global) -> Result<Counts, Fail> {
     let mut counts = Counts {
@@ -117,7 +114,7 @@ fn counts_of_cases(rt: &impl Abort, alloc: Global) -> Result<Counts, Fail> {
     for case in 0..CASES {
         match run(alloc, case)? {
             Ok(outcome) => counts.add(outcome),
-            Err(fault) => broken(rt, case, fault),
+            Err(fault) => wanted_at(rt, case as usize, false, fault),
         }
     }
     Ok(counts)

@@ -1,26 +1,15 @@
 //! Machines that kern, by what both calls leave of lines: stacks and their values, anchors, marks, numbers at their
 //! ends, and long lines.
 
-use crate::checks::{wanted, wanted_at};
-use crate::kerning::{ASKS, Glyph, Seen, attached_at, line_is, line_of, seen_at};
-use crate::kerning_machines::{
-    KINDS, Kind, Machine, NONE, PUSH, Rule, STAYS, kern_with, kerned, machine_of,
+use crate::checks::wanted_at;
+use crate::kerning::{
+    BUDGET, CASE, Call, Case, Glyph, Left, NONE, PUSH, Rule, STAYS, TABLE, TWO, Table, Way,
+    are_left, case_of, check, check_calls, check_each, kern, line_of, table_of,
 };
-use aat_layout::buffer::{Direction, ScratchFlags, hb_buffer_t, hb_glyph_info_t};
+use aat_layout::buffer::{BufferError, Direction};
 use std::alloc::{AllocError, Global};
 use std::process::Abort;
 use std::test::Fail;
-
-/// The budget of a line, if a test gives no other.
-const BUDGET: i32 = 16384;
-
-/// Whether so many turns were taken, and so much of the budget is left.
-fn is_ended(buffer: &hb_buffer_t, turns: u64, (wanted, left): (u64, i32)) -> bool {
-    turns == wanted && buffer.max_ops() == left
-}
-
-/// The glyphs 1 and 2.
-const TWO: &[Glyph] = &[(1, 0), (2, 1)];
 
 /// Two glyphs of rising clusters, of which the second one takes values for both.
 const BY_TWO: [Rule; 3] = [
@@ -45,167 +34,188 @@ const TWICE: [Rule; 5] = [
     (1, 4, 0, PUSH, 0),
 ];
 
-/// A line that is kerned along it: its direction, the entries, the values, and the offsets that the glyphs begin with.
-type Along = (Direction, &'static [Rule], [i16; 3], i32);
+/// A line that is kerned along it: its direction, the entries, the values, the offsets that the glyphs begin with, and
+/// what is left.
+type Along = (
+    Direction,
+    &'static [Rule],
+    &'static [i16],
+    i32,
+    &'static [Left],
+);
 
 /// Lines along which values are taken, each with what is left.
-const ALONG: [(Along, [Seen; 2]); 5] = [
+const ALONG: [Along; 5] = [
     (
-        (Direction::LeftToRight, &AT_END, [11, 20, 41], 0),
-        [(1, 0, 540, 500, 40, 0), (2, 3, 520, 500, 20, 0)],
+        Direction::LeftToRight,
+        &AT_END,
+        &[11, 20, 41],
+        0,
+        &[
+            Left::Seen(1, 0, 540, 500, 40, 0),
+            Left::Seen(2, 3, 520, 500, 20, 0),
+        ],
     ),
     (
-        (Direction::LeftToRight, &BY_TWO, [20, 11, 40], 3),
-        [(1, 0, 510, 500, 13, 3), (2, 0, 520, 500, 23, 3)],
+        Direction::LeftToRight,
+        &BY_TWO,
+        &[20, 11, 40],
+        3,
+        &[
+            Left::Seen(1, 0, 510, 500, 13, 3),
+            Left::Seen(2, 0, 520, 500, 23, 3),
+        ],
     ),
     (
-        (Direction::RightToLeft, &BY_TWO, [20, 11, 40], 0),
-        [(1, 0, 500, 500, 0, 0), (2, 0, 520, 500, 20, 0)],
+        Direction::RightToLeft,
+        &BY_TWO,
+        &[20, 11, 40],
+        0,
+        &[
+            Left::Seen(1, 0, 500, 500, 0, 0),
+            Left::Seen(2, 0, 520, 500, 20, 0),
+        ],
     ),
     (
-        (Direction::TopToBottom, &BY_TWO, [20, 11, 40], 0),
-        [(1, 0, 500, 510, 0, 10), (2, 0, 500, 520, 0, 20)],
+        Direction::TopToBottom,
+        &BY_TWO,
+        &[20, 11, 40],
+        0,
+        &[
+            Left::Seen(1, 0, 500, 510, 0, 10),
+            Left::Seen(2, 0, 500, 520, 0, 20),
+        ],
     ),
     (
-        (Direction::TopToBottom, &BY_TWO, [20, 11, 40], 3),
-        [(1, 0, 500, 500, 3, 3), (2, 0, 500, 500, 3, 3)],
+        Direction::TopToBottom,
+        &BY_TWO,
+        &[20, 11, 40],
+        3,
+        &[
+            Left::Seen(1, 0, 500, 500, 3, 3),
+            Left::Seen(2, 0, 500, 500, 3, 3),
+        ],
     ),
 ];
+
+/// Checks a line along which a machine with a stack takes values, by both tables, where kerning is requested and where
+/// it is not.
+fn check_along(rt: &impl Abort, alloc: Global, line: &Along) -> Result<(), BufferError> {
+    let (direction, rules, values, offset, left) = *line;
+    let table = Table {
+        direction,
+        ..table_of(Call::Kern, Way::Stack(rules, values))
+    };
+    let case = Case {
+        place: (500, offset),
+        turns: Some(3),
+        budget: Some(BUDGET - 2),
+        ..case_of(table, left)
+    };
+    check_calls(rt, alloc, "requested", &case)?;
+    let case = Case {
+        is_requested: false,
+        ..case
+    };
+    check_calls(rt, alloc, "not requested", &case)
+}
 
 /// Values along lines. An odd one at a place behind the line ends no list. In vertical text none is added where an
 /// offset stands. The machine looks ahead to the end of the text, whose entry marks the glyph behind.
 #[test]
 fn values_along_the_line(rt: HostRuntime) -> Result<(), Fail> {
-    for (line, left) in ALONG {
-        check_along(&rt, rt.alloc(), line, &left)?;
+    for line in &ALONG {
+        check_along(&rt, rt.alloc(), line)?;
     }
     Ok(())
 }
 
-/// The machines with a stack, and whether kerning is requested.
-const REQUESTED: [(Kind, bool); 4] = [
-    (Kind::Kern, false),
-    (Kind::Kern, true),
-    (Kind::Stack, false),
-    (Kind::Stack, true),
-];
-
-/// Ends the test where a machine with a stack leaves other glyphs of the glyphs 1 and 2, where kerning is requested or
-/// not.
-fn check_along(rt: &impl Abort, alloc: Global, line: Along, left: &[Seen]) -> Result<(), Fail> {
-    let (direction, rules, values, offset) = line;
-    for (kind, is_requested) in REQUESTED {
-        let machine = Machine {
-            direction,
-            ..machine_of(kind, rules, &values)
-        };
-        let is_left = leaves_along(rt, alloc, &machine, is_requested, offset, left)?;
-        wanted(rt, is_left, kind.name());
-    }
-    Ok(())
-}
-
-/// Whether a machine leaves these glyphs of the glyphs 1 and 2.
-fn leaves_along(
-    rt: &impl Abort,
-    alloc: Global,
-    machine: &Machine,
-    is_requested: bool,
-    offset: i32,
-    left: &[Seen],
-) -> Result<bool, Fail> {
-    let mut buffer = line_of(alloc, machine.direction, TWO)?;
-    let turns = kern_with(rt, alloc, machine, is_requested, offset, &mut buffer)?;
-    Ok(is_ended(&buffer, turns, (3, BUDGET - 2)) && line_is(&buffer, left))
-}
-
-/// What is left of a glyph across a line: its offsets in x and y, its attach type and its chain.
-type Left = (i32, i32, u8, i16);
-
-/// What is left of the glyph at a place.
-fn left_at(buffer: &hb_buffer_t, place: usize) -> Option<Left> {
-    let (attach_type, chain) = attached_at(buffer, place)?;
-    let (_, _, _, _, x_offset, y_offset) = seen_at(buffer, place)?;
-    Some((x_offset, y_offset, attach_type, chain))
-}
-
-/// Whether this is left of the glyphs.
-fn are_left(buffer: &hb_buffer_t, wanted: &[Left]) -> bool {
-    for (place, left) in wanted.iter().enumerate() {
-        if left_at(buffer, place) != Some(*left) {
-            return false;
-        }
-    }
-    true
-}
-
-/// Whether the buffer notes attachments.
-fn is_noted(buffer: &hb_buffer_t) -> bool {
-    buffer.scratch_flags() == ScratchFlags::HAS_GPOS_ATTACHMENT
-}
-
-/// A line that is kerned across it: its direction, the entries and the values.
-type Across = (Direction, &'static [Rule], [i16; 2]);
-
-/// Lines across which values are taken, each with what is left, and whether the buffer notes attachments.
-const ACROSS: [(Across, [Left; 2], bool); 5] = [
-    (
-        (Direction::LeftToRight, &BY_TWO, [-32768, 7]),
-        [(3, 9, 2, -1), (3, 0, 0, 0)],
-        true,
-    ),
-    (
-        (Direction::LeftToRight, &BY_TWO, [-32767, 8]),
-        [(3, 3, 2, -1), (3, 0, 0, 0)],
-        false,
-    ),
-    (
-        (Direction::LeftToRight, &TWICE, [-32768, 7]),
-        [(3, 0, 0, 0), (3, 3, 2, -1)],
-        false,
-    ),
-    (
-        (Direction::TopToBottom, &BY_TWO, [20, 11]),
-        [(13, 3, 2, -1), (23, 3, 2, -1)],
-        true,
-    ),
-    (
-        (Direction::TopToBottom, &BY_TWO, [-32768, 7]),
-        [(9, 3, 2, -1), (0, 3, 0, 0)],
-        true,
-    ),
-];
+/// A line whose offsets begin at 3, with turns that are not asked.
+const AT_3: Case = Case {
+    place: (500, 3),
+    turns: None,
+    budget: None,
+    ..CASE
+};
 
 /// Values across lines, whose offsets begin at 3. The least one, and the one above it, which is odd, take the
 /// attachment and the offset away. No other value is added to a glyph that is not attached.
+static ACROSS: [(&str, Case); 5] = [
+    (
+        "the least value across a row",
+        Case {
+            table: Table {
+                way: Way::Stack(&BY_TWO, &[-32768, 7]),
+                direction: Direction::LeftToRight,
+                is_across: true,
+                ..TABLE
+            },
+            left: &[Left::Moved(3, 9, 2, -1), Left::Moved(3, 0, 0, 0)],
+            is_noted: Some(true),
+            ..AT_3
+        },
+    ),
+    (
+        "the next value across a row",
+        Case {
+            table: Table {
+                way: Way::Stack(&BY_TWO, &[-32767, 8]),
+                direction: Direction::LeftToRight,
+                is_across: true,
+                ..TABLE
+            },
+            left: &[Left::Moved(3, 3, 2, -1), Left::Moved(3, 0, 0, 0)],
+            is_noted: Some(false),
+            ..AT_3
+        },
+    ),
+    (
+        "the least value, of a glyph that is taken twice",
+        Case {
+            table: Table {
+                way: Way::Stack(&TWICE, &[-32768, 7]),
+                direction: Direction::LeftToRight,
+                is_across: true,
+                ..TABLE
+            },
+            left: &[Left::Moved(3, 0, 0, 0), Left::Moved(3, 3, 2, -1)],
+            is_noted: Some(false),
+            ..AT_3
+        },
+    ),
+    (
+        "values across a column",
+        Case {
+            table: Table {
+                way: Way::Stack(&BY_TWO, &[20, 11]),
+                direction: Direction::TopToBottom,
+                is_across: true,
+                ..TABLE
+            },
+            left: &[Left::Moved(13, 3, 2, -1), Left::Moved(23, 3, 2, -1)],
+            is_noted: Some(true),
+            ..AT_3
+        },
+    ),
+    (
+        "the least value across a column",
+        Case {
+            table: Table {
+                way: Way::Stack(&BY_TWO, &[-32768, 7]),
+                direction: Direction::TopToBottom,
+                is_across: true,
+                ..TABLE
+            },
+            left: &[Left::Moved(9, 3, 2, -1), Left::Moved(0, 3, 0, 0)],
+            is_noted: Some(true),
+            ..AT_3
+        },
+    ),
+];
+
 #[test]
 fn values_across_the_line(rt: HostRuntime) -> Result<(), Fail> {
-    for (line, left, has_note) in ACROSS {
-        check_across(&rt, rt.alloc(), line, left, has_note)?;
-    }
-    Ok(())
-}
-
-/// Ends the test where a machine with a stack leaves something else of the glyphs 1 and 2.
-fn check_across(
-    rt: &impl Abort,
-    alloc: Global,
-    line: Across,
-    left: [Left; 2],
-    has_note: bool,
-) -> Result<(), Fail> {
-    let (direction, rules, values) = line;
-    for kind in [Kind::Kern, Kind::Stack] {
-        let machine = Machine {
-            direction,
-            is_across: true,
-            ..machine_of(kind, rules, &values)
-        };
-        let (buffer, _) = kerned(rt, alloc, &machine, 3, TWO)?;
-        wanted(rt, are_left(&buffer, &left), kind.name());
-        wanted(rt, is_noted(&buffer) == has_note, "a note of attachments");
-    }
-    Ok(())
+    Ok(check_each(&rt, rt.alloc(), &ACROSS)?)
 }
 
 /// As many values as 16 bits can number, and one more: 8 at 65535, and 4 at each other place.
@@ -215,76 +225,128 @@ fn many_values(alloc: Global) -> Result<Vec<i16>, AllocError> {
     Ok(values)
 }
 
-/// The widths of the first three glyphs.
-fn widths_of(buffer: &hb_buffer_t) -> Option<[i32; 3]> {
-    let (first, second, third) = (
-        seen_at(buffer, 0)?,
-        seen_at(buffer, 1)?,
-        seen_at(buffer, 2)?,
-    );
-    Some([first.2, second.2, third.2])
-}
-
-/// A list of values that begins at an index, for three places: the kind, the tuple count, the index, and what widths are
+/// A list of values that begins at an index, for three places: the call, the tuple count, the index, and what widths are
 /// left.
-type List = (Kind, u32, u16, [i32; 3]);
+type List = (Call, u32, u16, [i32; 3]);
 
-/// Lists with indexes and counts at their ends. `kerx` takes no value whose next index is above 65535, and `kern` takes 0 for a missing one. The index 65535
-/// names none.
+/// Lists with indexes and counts at their ends. `kerx` takes no value whose next index is above 65535, and `kern` takes
+/// 0 for a missing one. The index 65535 names none.
 const LISTS: [List; 9] = [
-    (Kind::Kern, 0, 65534, [500, 508, 504]),
-    (Kind::Kern, 0, 65535, [500, 500, 500]),
-    (Kind::Stack, 0, 65534, [500, 500, 504]),
-    (Kind::Stack, 0, 65535, [500, 500, 500]),
-    (Kind::Stack, 2, 65533, [500, 500, 504]),
-    (Kind::Stack, 2, 65534, [500, 500, 500]),
-    (Kind::Stack, 65535, 0, [500, 500, 504]),
-    (Kind::Stack, 65536, 0, [500, 500, 500]),
-    (Kind::Stack, u32::MAX, 0, [500, 500, 500]),
+    (Call::Kern, 0, 65534, [500, 508, 504]),
+    (Call::Kern, 0, 65535, [500, 500, 500]),
+    (Call::Position, 0, 65534, [500, 500, 504]),
+    (Call::Position, 0, 65535, [500, 500, 500]),
+    (Call::Position, 2, 65533, [500, 500, 504]),
+    (Call::Position, 2, 65534, [500, 500, 500]),
+    (Call::Position, 65535, 0, [500, 500, 504]),
+    (Call::Position, 65536, 0, [500, 500, 500]),
+    (Call::Position, u32::MAX, 0, [500, 500, 500]),
 ];
 
 #[test]
 fn indexes_at_their_ends(rt: HostRuntime) -> Result<(), Fail> {
     let values = many_values(rt.alloc())?;
-    for list in LISTS {
-        check_list(&rt, rt.alloc(), &values, list)?;
+    for (number, list) in LISTS.iter().enumerate() {
+        let is_left = leaves_widths(rt.alloc(), &values, list)?;
+        wanted_at(&rt, number, is_left, "the widths");
     }
     Ok(())
 }
 
-/// Ends the test where a list of these values leaves other widths.
-fn check_list(rt: &impl Abort, alloc: Global, values: &[i16], list: List) -> Result<(), Fail> {
-    let (kind, tuple_count, index, widths) = list;
+/// Whether a list of these values leaves its widths, in four turns.
+fn leaves_widths(alloc: Global, values: &[i16], list: &List) -> Result<bool, BufferError> {
+    let (call, tuple_count, index, [first, second, third]) = *list;
     let rules = [
         (0, 0, 0, 0, NONE),
         (0, 4, 0, PUSH, NONE),
         (0, 5, 0, PUSH, index),
     ];
-    let machine = Machine {
+    let table = Table {
         tuple_count,
-        ..machine_of(kind, &rules, values)
+        ..table_of(call, Way::Stack(&rules, values))
     };
-    let (buffer, turns) = kerned(rt, alloc, &machine, 0, &[(1, 0), (1, 1), (2, 2)])?;
-    let is_left = turns == 4 && widths_of(&buffer) == Some(widths);
-    wanted_at(rt, index as usize, is_left, kind.name());
-    Ok(())
+    let glyphs = [(1, 0), (1, 1), (2, 2)];
+    let mut buffer = line_of(alloc, Direction::LeftToRight, (500, 0), &glyphs)?;
+    let answer = kern(alloc, &table, true, &mut buffer);
+    let left = [Left::Width(first), Left::Width(second), Left::Width(third)];
+    Ok(answer == Ok(4) && are_left(&buffer, &left))
 }
 
 /// What anchors leave of the glyphs 2 and 65535 behind a marked one, where the font has points or not, and the entry of
 /// the glyph 2 has these flags and names this pair.
-type Attaching = (bool, u16, u16, [Left; 2]);
+type Attaching = (&'static str, bool, u16, u16, [Left; 2]);
 
 /// Pairs and points that are there or missing. A missing pair ends the act before the mark, and a missing point is
 /// (0, 0). Without points the offsets stay, which begin at 3.
 const ATTACHED: [Attaching; 8] = [
-    (true, 0, 0, [(70, 250, 1, -1), (32868, -32567, 1, -2)]),
-    (true, PUSH, 0, [(70, 250, 1, -1), (32798, -32817, 1, -1)]),
-    (true, 0, 1, [(100, 200, 1, -1), (32868, -32567, 1, -2)]),
-    (true, 0, 2, [(-30, 50, 1, -1), (32868, -32567, 1, -2)]),
-    (true, PUSH, 65534, [(3, 3, 0, 0), (32868, -32567, 1, -2)]),
-    (true, PUSH, NONE, [(3, 3, 0, 0), (32798, -32817, 1, -1)]),
-    (false, 0, 0, [(3, 3, 1, -1), (3, 3, 1, -2)]),
-    (false, PUSH, 65534, [(3, 3, 1, -1), (3, 3, 1, -1)]),
+    (
+        "no mark",
+        true,
+        0,
+        0,
+        [
+            Left::Moved(70, 250, 1, -1),
+            Left::Moved(32868, -32567, 1, -2),
+        ],
+    ),
+    (
+        "a mark",
+        true,
+        PUSH,
+        0,
+        [
+            Left::Moved(70, 250, 1, -1),
+            Left::Moved(32798, -32817, 1, -1),
+        ],
+    ),
+    (
+        "no mark, missing point",
+        true,
+        0,
+        1,
+        [
+            Left::Moved(100, 200, 1, -1),
+            Left::Moved(32868, -32567, 1, -2),
+        ],
+    ),
+    (
+        "no mark, other point",
+        true,
+        0,
+        2,
+        [
+            Left::Moved(-30, 50, 1, -1),
+            Left::Moved(32868, -32567, 1, -2),
+        ],
+    ),
+    (
+        "a mark, missing pair",
+        true,
+        PUSH,
+        65534,
+        [Left::Moved(3, 3, 0, 0), Left::Moved(32868, -32567, 1, -2)],
+    ),
+    (
+        "a mark, no pair",
+        true,
+        PUSH,
+        NONE,
+        [Left::Moved(3, 3, 0, 0), Left::Moved(32798, -32817, 1, -1)],
+    ),
+    (
+        "without points",
+        false,
+        0,
+        0,
+        [Left::Moved(3, 3, 1, -1), Left::Moved(3, 3, 1, -2)],
+    ),
+    (
+        "without points, missing pair",
+        false,
+        PUSH,
+        65534,
+        [Left::Moved(3, 3, 1, -1), Left::Moved(3, 3, 1, -1)],
+    ),
 ];
 
 #[test]
@@ -295,27 +357,30 @@ fn attachments_to_marks(rt: HostRuntime) -> Result<(), Fail> {
     Ok(())
 }
 
-/// Ends the test where anchors leave something else of the glyphs 2 and 65535 behind the glyph 1. The entry of that one
-/// marks it and names a pair, which does nothing where no mark is set.
-fn check_attached(rt: &impl Abort, alloc: Global, attaching: Attaching) -> Result<(), Fail> {
-    let (has_points, flags, index, [second, third]) = attaching;
+/// Checks what anchors leave of the glyphs 2 and 65535 behind the glyph 1. The entry of that one marks it and names a
+/// pair, which does nothing where no mark is set.
+fn check_attached(rt: &impl Abort, alloc: Global, attaching: Attaching) -> Result<(), BufferError> {
+    let (name, has_points, flags, index, [second, third]) = attaching;
     let rules = [
         (0, 0, 0, 0, NONE),
         (0, 2, 0, 0, 0),
         (0, 4, 0, PUSH, 0),
         (0, 5, 0, flags, index),
     ];
-    let machine = Machine {
+    let table = Table {
         has_points,
-        ..machine_of(Kind::Anchors, &rules, &[])
+        ..table_of(Call::Position, Way::Anchors(&rules))
     };
-    let glyphs = [(1, 0), (2, 1), (65535, 2)];
-    let (buffer, turns) = kerned(rt, alloc, &machine, 3, &glyphs)?;
-    let is_left = are_left(&buffer, &[(3, 3, 0, 0), second, third]);
-    wanted_at(rt, index as usize, is_left, "what is left by the pair");
-    wanted(rt, is_ended(&buffer, turns, (4, BUDGET - 3)), "turns");
-    wanted(rt, is_noted(&buffer), "a note of attachments");
-    Ok(())
+    let left = [Left::Moved(3, 3, 0, 0), second, third];
+    let case = Case {
+        glyphs: &[(1, 0), (2, 1), (65535, 2)],
+        place: (500, 3),
+        turns: Some(4),
+        budget: Some(BUDGET - 3),
+        is_noted: Some(true),
+        ..case_of(table, &left)
+    };
+    check(rt, alloc, name, &case)
 }
 
 /// The glyph 1 is put on the stack or marked. The glyph 2 behind it takes values for both, or is attached to it.
@@ -326,106 +391,183 @@ const BEHIND: [Rule; 4] = [
     (1, 5, 0, PUSH, 0),
 ];
 
-/// What values and anchors leave of the glyphs 1, 2 and 1 where a machine takes them from the first on.
-const FROM_FIRST: [(Kind, [Seen; 3]); 2] = [
-    (
-        Kind::Stack,
-        [
-            (1, 0, 510, 500, 10, 0),
-            (2, 3, 520, 500, 20, 0),
-            (1, 0, 500, 500, 0, 0),
-        ],
-    ),
-    (
-        Kind::Anchors,
-        [
-            (1, 0, 500, 500, 0, 0),
-            (2, 3, 500, 500, 70, 250),
-            (1, 0, 500, 500, 0, 0),
-        ],
-    ),
+/// What values leave where a machine takes them from the first on, and from the last on: of the two glyphs that are
+/// marked the last one has the greater cluster.
+const VALUES_FROM_FIRST: &[Left] = &[
+    Left::Seen(1, 0, 510, 500, 10, 0),
+    Left::Seen(2, 3, 520, 500, 20, 0),
+    Left::Seen(1, 0, 500, 500, 0, 0),
 ];
 
-/// The same where it takes them from the last on: of the two glyphs that are marked the last one has the greater
-/// cluster.
-const FROM_LAST: [(Kind, [Seen; 3]); 2] = [
-    (
-        Kind::Stack,
-        [
-            (1, 0, 500, 500, 0, 0),
-            (2, 0, 520, 500, 20, 0),
-            (1, 3, 510, 500, 10, 0),
-        ],
-    ),
-    (
-        Kind::Anchors,
-        [
-            (1, 0, 500, 500, 0, 0),
-            (2, 0, 500, 500, 70, 250),
-            (1, 3, 500, 500, 0, 0),
-        ],
-    ),
+const VALUES_FROM_LAST: &[Left] = &[
+    Left::Seen(1, 0, 500, 500, 0, 0),
+    Left::Seen(2, 0, 520, 500, 20, 0),
+    Left::Seen(1, 3, 510, 500, 10, 0),
 ];
+
+/// The same of anchors.
+const ANCHORS_FROM_FIRST: &[Left] = &[
+    Left::Seen(1, 0, 500, 500, 0, 0),
+    Left::Seen(2, 3, 500, 500, 70, 250),
+    Left::Seen(1, 0, 500, 500, 0, 0),
+];
+
+const ANCHORS_FROM_LAST: &[Left] = &[
+    Left::Seen(1, 0, 500, 500, 0, 0),
+    Left::Seen(2, 0, 500, 500, 70, 250),
+    Left::Seen(1, 3, 500, 500, 0, 0),
+];
+
+/// The glyph 2 is not attached by values, and by anchors to the glyph before it in the order in which the machine takes
+/// the glyphs.
+const BY_VALUES: &[Left] = &[Left::Attached(0, 0), Left::Attached(0, 0)];
+
+const BY_ANCHORS: &[Left] = &[Left::Attached(0, 0), Left::Attached(1, -1)];
+
+/// Values and anchors behind the glyph 1.
+const VALUES: Way = Way::Stack(&BEHIND, &[20, 11]);
+
+const ANCHORS: Way = Way::Anchors(&BEHIND);
+
+/// The glyphs 1, 2 and 1.
+const ONE_TWO_ONE: Case = Case {
+    glyphs: &[(1, 0), (2, 1), (1, 2)],
+    turns: Some(4),
+    budget: Some(BUDGET - 3),
+    ..CASE
+};
 
 /// Machines of both orders, in both directions. A line is taken from its last glyph on where the machine is from last
 /// to first or the text is backward, and not both.
+static ORDERS: [(&str, Case); 8] = [
+    (
+        "values, forward",
+        Case {
+            table: Table {
+                call: Call::Position,
+                way: VALUES,
+                direction: Direction::LeftToRight,
+                is_last_to_first: false,
+                ..TABLE
+            },
+            left: VALUES_FROM_FIRST,
+            also: BY_VALUES,
+            ..ONE_TWO_ONE
+        },
+    ),
+    (
+        "anchors, forward",
+        Case {
+            table: Table {
+                call: Call::Position,
+                way: ANCHORS,
+                direction: Direction::LeftToRight,
+                is_last_to_first: false,
+                ..TABLE
+            },
+            left: ANCHORS_FROM_FIRST,
+            also: BY_ANCHORS,
+            ..ONE_TWO_ONE
+        },
+    ),
+    (
+        "values, forward, from last to first",
+        Case {
+            table: Table {
+                call: Call::Position,
+                way: VALUES,
+                direction: Direction::LeftToRight,
+                is_last_to_first: true,
+                ..TABLE
+            },
+            left: VALUES_FROM_LAST,
+            also: BY_VALUES,
+            ..ONE_TWO_ONE
+        },
+    ),
+    (
+        "anchors, forward, from last to first",
+        Case {
+            table: Table {
+                call: Call::Position,
+                way: ANCHORS,
+                direction: Direction::LeftToRight,
+                is_last_to_first: true,
+                ..TABLE
+            },
+            left: ANCHORS_FROM_LAST,
+            also: BY_ANCHORS,
+            ..ONE_TWO_ONE
+        },
+    ),
+    (
+        "values, backward",
+        Case {
+            table: Table {
+                call: Call::Position,
+                way: VALUES,
+                direction: Direction::RightToLeft,
+                is_last_to_first: false,
+                ..TABLE
+            },
+            left: VALUES_FROM_LAST,
+            also: BY_VALUES,
+            ..ONE_TWO_ONE
+        },
+    ),
+    (
+        "anchors, backward",
+        Case {
+            table: Table {
+                call: Call::Position,
+                way: ANCHORS,
+                direction: Direction::RightToLeft,
+                is_last_to_first: false,
+                ..TABLE
+            },
+            left: ANCHORS_FROM_LAST,
+            also: BY_ANCHORS,
+            ..ONE_TWO_ONE
+        },
+    ),
+    (
+        "values, backward, from last to first",
+        Case {
+            table: Table {
+                call: Call::Position,
+                way: VALUES,
+                direction: Direction::RightToLeft,
+                is_last_to_first: true,
+                ..TABLE
+            },
+            left: VALUES_FROM_FIRST,
+            also: BY_VALUES,
+            ..ONE_TWO_ONE
+        },
+    ),
+    (
+        "anchors, backward, from last to first",
+        Case {
+            table: Table {
+                call: Call::Position,
+                way: ANCHORS,
+                direction: Direction::RightToLeft,
+                is_last_to_first: true,
+                ..TABLE
+            },
+            left: ANCHORS_FROM_FIRST,
+            also: BY_ANCHORS,
+            ..ONE_TWO_ONE
+        },
+    ),
+];
+
 #[test]
 fn machines_from_last_to_first(rt: HostRuntime) -> Result<(), Fail> {
-    for (direction, is_last_to_first, wanted) in [
-        (Direction::LeftToRight, false, FROM_FIRST),
-        (Direction::LeftToRight, true, FROM_LAST),
-        (Direction::RightToLeft, false, FROM_LAST),
-        (Direction::RightToLeft, true, FROM_FIRST),
-    ] {
-        for (kind, left) in wanted {
-            let machine = Machine {
-                direction,
-                is_last_to_first,
-                ..machine_of(kind, &BEHIND, &[20, 11])
-            };
-            check_three(&rt, rt.alloc(), &machine, &left)?;
-        }
+    for (name, case) in &ORDERS {
+        check(&rt, rt.alloc(), name, case)?;
     }
     Ok(())
-}
-
-/// The type and the chain by which the glyph 2 is attached. The chain is counted in the order in which the machine takes
-/// the glyphs.
-fn attached_by(kind: Kind) -> (u8, i16) {
-    match kind {
-        Kind::Anchors => (1, -1),
-        _ => (0, 0),
-    }
-}
-
-/// Ends the test where a machine leaves other glyphs of the glyphs 1, 2 and 1.
-fn check_three(
-    rt: &impl Abort,
-    alloc: Global,
-    machine: &Machine,
-    left: &[Seen],
-) -> Result<(), Fail> {
-    let (buffer, turns) = kerned(rt, alloc, machine, 0, &[(1, 0), (2, 1), (1, 2)])?;
-    wanted(rt, is_ended(&buffer, turns, (4, BUDGET - 3)), "turns");
-    wanted(rt, line_is(&buffer, left), machine.kind.name());
-    let attached = Some(attached_by(machine.kind));
-    wanted(
-        rt,
-        attached_at(&buffer, 1) == attached,
-        "attachment of the glyph 2",
-    );
-    Ok(())
-}
-
-/// Whether the glyphs have these flags.
-fn flags_are(buffer: &hb_buffer_t, wanted: &[u32]) -> bool {
-    for (place, flags) in wanted.iter().enumerate() {
-        match seen_at(buffer, place) {
-            Some((_, found, _, _, _, _)) if found == *flags => (),
-            _ => return false,
-        }
-    }
-    true
 }
 
 /// Three glyphs of class 1.
@@ -444,59 +586,137 @@ const TO_0: Rule = (0, 4, 0, PUSH, NONE);
 const TO_1: Rule = (0, 4, 1, PUSH, NONE);
 
 /// Entries and glyphs, and the flags, the turns and the budget that are left.
-type Marked = (&'static [Rule], &'static [Glyph], &'static [u32], u64, i32);
+type Marked = (
+    &'static str,
+    &'static [Rule],
+    &'static [Glyph],
+    &'static [Left],
+    u64,
+    i32,
+);
 
 /// Entries that mark glyphs, and others that do not. The entry of the glyph 2 marks it in a
 /// state that is not 0, where it is actionable, goes to a state that is not 0, or goes on to the next glyph. With two
 /// glyphs or more to go, an actionable entry at the end of the text marks the glyph behind, and a missing one ends the
 /// run. The last turn takes no operation.
 const MARKED: [Marked; 10] = [
-    (&[IDLE, TO_0, (0, 5, 0, 0, 0)], TWO, &[0, 0], 3, 16382),
-    (&[IDLE, TO_0, (0, 5, 2, 0, 0)], TWO, &[0, 0], 3, 16382),
     (
+        "an entry that goes to state 0",
+        &[IDLE, TO_0, (0, 5, 0, 0, 0)],
+        TWO,
+        &[Left::Flags(0), Left::Flags(0)],
+        3,
+        16382,
+    ),
+    (
+        "an entry that goes to state 2",
+        &[IDLE, TO_0, (0, 5, 2, 0, 0)],
+        TWO,
+        &[Left::Flags(0), Left::Flags(0)],
+        3,
+        16382,
+    ),
+    (
+        "an entry that stays and does nothing",
         &[IDLE, TO_1, (1, 5, 0, STAYS, NONE)],
         TWO,
-        &[0, 0],
+        &[Left::Flags(0), Left::Flags(0)],
         3,
         16382,
     ),
-    (&[IDLE, TO_1, (1, 5, 0, STAYS, 0)], TWO, &[0, 3], 3, 16382),
     (
+        "an entry that stays and acts",
+        &[IDLE, TO_1, (1, 5, 0, STAYS, 0)],
+        TWO,
+        &[Left::Flags(0), Left::Flags(3)],
+        3,
+        16382,
+    ),
+    (
+        "an entry that stays and goes to state 2",
         &[IDLE, TO_1, (1, 5, 2, STAYS, NONE)],
         TWO,
-        &[0, 3],
+        &[Left::Flags(0), Left::Flags(3)],
         3,
         16382,
     ),
-    (&[IDLE, TO_1, (1, 5, 0, 0, NONE)], TWO, &[0, 3], 3, 16382),
-    (&[IDLE, OUT_OF_BOUNDS], THREE, &[0, 0, 0], 4, 16381),
     (
-        &[(0, 0, 0, 0, 0), OUT_OF_BOUNDS],
+        "an entry that goes on",
+        &[IDLE, TO_1, (1, 5, 0, 0, NONE)],
+        TWO,
+        &[Left::Flags(0), Left::Flags(3)],
+        3,
+        16382,
+    ),
+    (
+        "an end that does nothing",
+        &[IDLE, OUT_OF_BOUNDS],
         THREE,
-        &[0, 3, 3],
+        &[Left::Flags(0), Left::Flags(0), Left::Flags(0)],
         4,
         16381,
     ),
-    (&[OUT_OF_BOUNDS], THREE, &[0, 0, 0], 1, 16384),
-    (&[OUT_OF_BOUNDS], &[(7, 0)], &[0], 2, 16383),
+    (
+        "an end that acts",
+        &[(0, 0, 0, 0, 0), OUT_OF_BOUNDS],
+        THREE,
+        &[Left::Flags(0), Left::Flags(3), Left::Flags(3)],
+        4,
+        16381,
+    ),
+    (
+        "a missing end",
+        &[OUT_OF_BOUNDS],
+        THREE,
+        &[Left::Flags(0), Left::Flags(0), Left::Flags(0)],
+        1,
+        16384,
+    ),
+    (
+        "a missing end of one glyph",
+        &[OUT_OF_BOUNDS],
+        &[(7, 0)],
+        &[Left::Flags(0)],
+        2,
+        16383,
+    ),
 ];
+
+/// The machines of kerning without values: that of `kern`, that of `kerx` with a stack, and that with anchors.
+const MACHINES: [(Call, bool); 3] = [
+    (Call::Kern, false),
+    (Call::Position, false),
+    (Call::Position, true),
+];
+
+/// How a machine kerns.
+pub(crate) fn way_of<'a>(attaches: bool, rules: &'a [Rule], values: &'a [i16]) -> Way<'a> {
+    if attaches {
+        Way::Anchors(rules)
+    } else {
+        Way::Stack(rules, values)
+    }
+}
 
 #[test]
 fn marks_of_machines(rt: HostRuntime) -> Result<(), Fail> {
-    for (case, marked) in MARKED.iter().enumerate() {
-        check_marked(&rt, rt.alloc(), case, marked)?;
+    for marked in &MARKED {
+        check_marked(&rt, rt.alloc(), marked)?;
     }
     Ok(())
 }
 
-/// Ends the test where a machine leaves other flags, turns or budget.
-fn check_marked(rt: &impl Abort, alloc: Global, case: usize, marked: &Marked) -> Result<(), Fail> {
-    let (rules, glyphs, flags, turns, left) = *marked;
-    for kind in KINDS {
-        let machine = machine_of(kind, rules, &[]);
-        let (buffer, taken) = kerned(rt, alloc, &machine, 0, glyphs)?;
-        let is_left = is_ended(&buffer, taken, (turns, left)) && flags_are(&buffer, flags);
-        wanted_at(rt, case, is_left, kind.name());
+/// Checks the flags that each machine leaves, its turns and its budget.
+fn check_marked(rt: &impl Abort, alloc: Global, marked: &Marked) -> Result<(), BufferError> {
+    let (name, rules, glyphs, flags, turns, left) = *marked;
+    for (call, attaches) in MACHINES {
+        let case = Case {
+            glyphs,
+            turns: Some(turns),
+            budget: Some(left),
+            ..case_of(table_of(call, way_of(attaches, rules, &[])), flags)
+        };
+        check(rt, alloc, name, &case)?;
     }
     Ok(())
 }
@@ -511,115 +731,36 @@ const AT_THEIR_ENDS: [Rule; 5] = [
 ];
 
 /// What values leave of the glyphs 0, 65535 and 3.
-const KERNED_AT_ENDS: [Seen; 3] = [
-    (0, 0, 510, 500, 10, 0),
-    (65535, 3, 520, 500, 20, 0),
-    (3, 3, 520, 500, 20, 0),
+const KERNED_AT_ENDS: [Left; 3] = [
+    Left::Seen(0, 0, 510, 500, 10, 0),
+    Left::Seen(65535, 3, 520, 500, 20, 0),
+    Left::Seen(3, 3, 520, 500, 20, 0),
 ];
 
 /// What anchors leave of them.
-const ATTACHED_AT_ENDS: [Seen; 3] = [
-    (0, 0, 500, 500, 0, 0),
-    (65535, 3, 500, 500, 32868, -32567),
-    (3, 3, 500, 500, -32768, 32767),
+const ATTACHED_AT_ENDS: [Left; 3] = [
+    Left::Seen(0, 0, 500, 500, 0, 0),
+    Left::Seen(65535, 3, 500, 500, 32868, -32567),
+    Left::Seen(3, 3, 500, 500, -32768, 32767),
 ];
 
 /// Tables are asked by the least and the greatest glyph, state and class.
 #[test]
 fn questions_at_their_ends(rt: HostRuntime) -> Result<(), Fail> {
-    for kind in KINDS {
-        let machine = machine_of(kind, &AT_THEIR_ENDS, &[20, 11]);
-        let glyphs = [(0, 0), (65535, 1), (3, 2)];
-        let (buffer, turns) = kerned(&rt, rt.alloc(), &machine, 0, &glyphs)?;
-        let left = match kind {
-            Kind::Anchors => &ATTACHED_AT_ENDS,
-            _ => &KERNED_AT_ENDS,
+    for (call, attaches) in MACHINES {
+        let way = way_of(attaches, &AT_THEIR_ENDS, &[20, 11]);
+        let left = if attaches {
+            &ATTACHED_AT_ENDS
+        } else {
+            &KERNED_AT_ENDS
         };
-        wanted(&rt, turns == 4 && line_is(&buffer, left), kind.name());
+        let case = Case {
+            glyphs: &[(0, 0), (65535, 1), (3, 2)],
+            turns: Some(4),
+            budget: None,
+            ..case_of(table_of(call, way), left)
+        };
+        check(&rt, rt.alloc(), "questions at their ends", &case)?;
     }
-    Ok(())
-}
-
-/// At each glyph two entries stay, and the third goes on. The first puts it on the stack or marks it, and the third
-/// takes the value or the pair 3.
-const THREE_TURNS_EACH: [Rule; 6] = [
-    (0, 0, 0, 0, NONE),
-    (0, 4, 1, PUSH | STAYS, NONE),
-    (1, 0, 0, 0, NONE),
-    (1, 4, 2, STAYS, NONE),
-    (2, 0, 0, 0, NONE),
-    (2, 4, 0, 0, 3),
-];
-
-/// Ten thousand glyphs 1 of rising clusters.
-fn long_line(alloc: Global, max_ops: i32) -> Result<hb_buffer_t, Fail> {
-    let mut buffer = line_of(alloc, Direction::LeftToRight, &[])?;
-    buffer.set_max_ops(max_ops);
-    for cluster in 0..10_000u32 {
-        buffer.add(hb_glyph_info_t {
-            mask: ASKS,
-            ..hb_glyph_info_t::new(1, cluster)
-        })?;
-    }
-    Ok(buffer)
-}
-
-/// A long line: the kind, the budget, the turns, the budget that is left, and the third glyph, which tells for which
-/// place the values and points are.
-type LongLine = (Kind, i32, u64, i32, Seen);
-
-/// Long lines by each machine. With 16384 operations, 5461 glyphs take three turns each. One operation is left
-/// then: in `kerx` the next entry stays by it, and in `kern` it is taken first. From there on each turn goes on, as all
-/// do with the least budget. The end takes one turn more.
-const LONG: [LongLine; 6] = [
-    (Kind::Kern, 16384, 20923, -4538, (1, 3, 520, 500, 20, 0)),
-    (Kind::Stack, 16384, 20924, -4539, (1, 3, 520, 500, 20, 0)),
-    (
-        Kind::Anchors,
-        16384,
-        20924,
-        -4539,
-        (1, 3, 500, 500, 70, 250),
-    ),
-    (
-        Kind::Kern,
-        i32::MIN,
-        10001,
-        i32::MIN,
-        (1, 3, 500, 500, 0, 0),
-    ),
-    (
-        Kind::Stack,
-        i32::MIN,
-        10001,
-        i32::MIN,
-        (1, 3, 500, 500, 0, 0),
-    ),
-    (
-        Kind::Anchors,
-        i32::MIN,
-        10001,
-        i32::MIN,
-        (1, 3, 500, 500, 70, 250),
-    ),
-];
-
-#[test]
-fn long_lines(rt: HostRuntime) -> Result<(), Fail> {
-    for line in LONG {
-        check_long_line(&rt, rt.alloc(), line)?;
-    }
-    Ok(())
-}
-
-/// Ends the test where a machine leaves something else of a long line.
-fn check_long_line(rt: &impl Abort, alloc: Global, line: LongLine) -> Result<(), Fail> {
-    let (kind, budget, turns, left, third) = line;
-    let machine = machine_of(kind, &THREE_TURNS_EACH, &[2, 2, 2, 21]);
-    let mut buffer = long_line(alloc, budget)?;
-    let taken = kern_with(rt, alloc, &machine, true, 0, &mut buffer)?;
-    wanted(rt, is_ended(&buffer, taken, (turns, left)), "turns");
-    let is_left = buffer.len() == 10_000 && seen_at(&buffer, 2) == Some(third);
-    wanted(rt, is_left, kind.name());
     Ok(())
 }

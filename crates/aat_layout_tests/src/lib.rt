@@ -13,6 +13,8 @@ mod kerning;
 #[cfg(test)]
 mod kerning_machine_tests;
 #[cfg(test)]
-mod kerning_machines;
-#[cfg(test)]
 mod kerning_tests;
+#[cfg(test)]
+mod long_machine_tests;
+#[cfg(test)]
+mod passing_tests;

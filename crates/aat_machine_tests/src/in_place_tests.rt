@@ -2,14 +2,12 @@
 //! a long line at each cluster level.
 
 use crate::asserting::wanted;
-use aat_buffer::{BufferError, hb_buffer_t, hb_glyph_info_t};
-use aat_font::{
-    ContextualEntryData, ContextualSubtable, ExtendedStateTable, FaceTables, GenericStateEntry,
-    Lookup, TableError, hb_font_t,
-};
-use aat_kinds::{ContextualCtx, MAX_CONTEXT_LENGTH, RearrangementCtx};
-use aat_run::{AatError, run_machine};
-use std::alloc::{AllocError, Global};
+use crate::runs::{Seen, Size, add_last, ends_with, is_seen, line_of, long_line, run};
+use aat_buffer::{BufferError, hb_buffer_t};
+use aat_described_fonts::{KindData, MachineData, Rule, Value};
+use aat_font::{ContextualEntryData, GenericStateEntry};
+use aat_kinds::MAX_CONTEXT_LENGTH;
+use std::alloc::Global;
 use std::process::Abort;
 use std::test::Fail;
 
@@ -24,138 +22,34 @@ const MARK: u16 = 0x8000;
 /// No lookup.
 const NONE: u16 = 0xFFFF;
 
-/// The classes that the tables of these tests have.
-const CLASS_COUNT: u16 = 6;
-
-/// A line of `count` glyphs, each with its place as its cluster: `first` and `second` by turns.
-fn line_by_turns(
-    alloc: Global,
-    count: u32,
-    first: u32,
-    second: u32,
-) -> Result<hb_buffer_t, BufferError> {
-    let mut buffer = hb_buffer_t::new(alloc, 100_000, 16384);
-    for i in 0..count {
-        buffer.add(hb_glyph_info_t::new(if i % 2 == 0 { first } else { second }, i))?;
-    }
-    Ok(buffer)
-}
-
-/// A line of glyphs, each with its place as its cluster.
-fn line_of(alloc: Global, ids: &[u32]) -> Result<hb_buffer_t, BufferError> {
-    let mut buffer = hb_buffer_t::new(alloc, 100, 16384);
-    let mut cluster = 0;
-    for id in ids {
-        buffer.add(hb_glyph_info_t::new(*id, cluster))?;
-        cluster = cluster.wrapping_add(1);
-    }
-    Ok(buffer)
-}
-
-/// A glyph as it is compared: its id, its cluster and its mask.
-type Seen = (u32, u32, u32);
-
-/// The glyphs of a line.
-fn seen(alloc: Global, buffer: &hb_buffer_t) -> Result<Vec<Seen>, AllocError> {
-    let mut glyphs = Vec::new(alloc);
-    for i in 0..buffer.len() {
-        let glyph = buffer.info(i);
-        glyphs.push((glyph.glyph_id, glyph.cluster, glyph.mask))?;
-    }
-    Ok(glyphs)
-}
-
-/// Asserts the last glyphs of a line.
-fn assert_ends_with(
-    rt: &impl Abort,
-    alloc: Global,
-    buffer: &hb_buffer_t,
-    wanted: &[Seen],
-) -> Result<(), Fail> {
-    assert!(rt; seen(alloc, buffer)?.as_slice().ends_with(wanted));
-    Ok(())
-}
-
-fn rearrangement(new_state: u16, flags: u16) -> GenericStateEntry<()> {
-    GenericStateEntry {
+/// The rule of a rearrangement.
+fn rule(state: u16, class: u16, new_state: u16, flags: u16) -> Rule<()> {
+    let entry = GenericStateEntry {
         new_state,
         flags,
         extra: (),
-    }
+    };
+    (state, class, entry)
 }
 
-fn contextual(
-    new_state: u16,
-    flags: u16,
-    mark_index: u16,
-    current_index: u16,
-) -> GenericStateEntry<ContextualEntryData> {
-    GenericStateEntry {
-        new_state,
-        flags,
-        extra: ContextualEntryData {
-            mark_index,
-            current_index,
-        },
-    }
+/// The rules of a machine that marks a span from a glyph of class 4 to one of class 5, and moves it by a verb there.
+fn span_rules(verb: u16) -> [Rule<()>; 4] {
+    [
+        rule(0, 0, 0, 0),
+        rule(0, 1, 0, 0),
+        rule(0, 4, 0, START),
+        rule(0, 5, 0, END | verb),
+    ]
 }
 
-/// A table that marks a span from the glyph `first` to the glyph `last`, and moves it by a verb there.
-fn span_table(
-    alloc: Global,
-    first: u16,
-    last: u16,
-    verb: u16,
-) -> Result<ExtendedStateTable<()>, TableError> {
-    ExtendedStateTable::new(
-        alloc,
-        CLASS_COUNT,
-        &[(first, 4), (last, 5)],
-        &[
-            (0, 0, rearrangement(0, 0)),
-            (0, 1, rearrangement(0, 0)),
-            (0, 4, rearrangement(0, START)),
-            (0, 5, rearrangement(0, END | verb)),
-        ],
-    )
-}
-
-/// Runs a rearrangement table over a line.
-fn rearrange(
-    table: &ExtendedStateTable<()>,
-    buffer: &mut hb_buffer_t,
-) -> Option<Result<u64, AatError>> {
-    if !buffer.all_glyphs_16() {
-        return None;
-    }
-    Some(run_machine(table, &mut RearrangementCtx::new(), buffer, &[], 1))
-}
-
-/// Runs a rearrangement table over a line, with spans of up to 65 glyphs.
-fn rearrange_up_to_65(
-    table: &ExtendedStateTable<()>,
-    buffer: &mut hb_buffer_t,
-) -> Option<Result<u64, AatError>> {
-    if !buffer.all_glyphs_16() {
-        return None;
-    }
-    let mut context = RearrangementCtx::<65>::with_longest();
-    Some(run_machine(table, &mut context, buffer, &[], 1))
-}
-
-/// Runs a contextual subtable over a line, with a font that has no classes of glyphs.
-fn substitute(
-    subtable: &ContextualSubtable,
-    buffer: &mut hb_buffer_t,
-) -> Option<Result<u64, AatError>> {
-    if !buffer.all_glyphs_16() {
-        return None;
-    }
-    let face = hb_font_t::from_tables(FaceTables::default());
-    let mut context = ContextualCtx::new(&face, subtable);
-    let answer = run_machine(&subtable.state, &mut context, buffer, &[], 1);
-    drop(face);
-    Some(answer)
+/// A rearrangement of these classes and rules.
+fn rearrangement<'a>(classes: &'a [Value], rules: &'a [Rule<()>]) -> KindData<'a> {
+    KindData::Rearrangement(MachineData {
+        class_count: 6,
+        classes,
+        rules,
+        idle: None,
+    })
 }
 
 /// The order of the span 10 to 15 behind each verb.
@@ -178,287 +72,243 @@ static MOVED: [[u32; 6]; 16] = [
     [15, 14, 12, 13, 11, 10],
 ];
 
-/// What a verb makes of a line longer than its span: its glyphs, and those beside them as they were. The clusters of
-/// what moves become one, the mask stays.
-fn moved_line(alloc: Global, verb: u16, moved: &[u32]) -> Result<Vec<Seen>, AllocError> {
-    let mut line = vec![in alloc; (1, 0, 0), (2, 1, 0)]?;
-    let mut place = 2u32;
-    for id in moved {
-        line.push((*id, if verb == 0 { place } else { 2 }, 0))?;
-        place = place.wrapping_add(1);
+/// Whether a line longer than its span is what a verb makes of it: its glyphs, and those beside them as they were. The
+/// clusters of what moves become one, the mask stays.
+fn is_moved(buffer: &hb_buffer_t, verb: u16, moved: &[u32; 6]) -> bool {
+    for i in 0..6usize {
+        let cluster = if verb == 0 { i + 2 } else { 2 };
+        if !is_seen(buffer, i + 2, Seen::Marked(moved[i], cluster as u32, 0)) {
+            return false;
+        }
     }
-    line.push((3, 8, 0))?;
-    line.push((4, 9, 0))?;
-    Ok(line)
+    let ends = [Seen::Marked(3, 8, 0), Seen::Marked(4, 9, 0)];
+    ends_with(buffer, 10, &ends)
+        && is_seen(buffer, 0, Seen::Marked(1, 0, 0))
+        && is_seen(buffer, 1, Seen::Marked(2, 1, 0))
 }
 
-/// Asserts what a verb makes of a line longer than its span.
-fn assert_moves(rt: &impl Abort, alloc: Global, verb: u16, moved: &[u32]) -> Result<(), Fail> {
-    let mut buffer = line_of(alloc, &[1, 2, 10, 11, 12, 13, 14, 15, 3, 4])?;
-    let table = span_table(alloc, 10, 15, verb)?;
-    let answer = rearrange(&table, &mut buffer);
-    drop(table);
-    wanted(rt, answer == Some(Ok(11)), "the turns");
-    assert!(rt; is_moved(alloc, &buffer, verb, moved)?, "verb {verb}");
-    Ok(())
-}
-
-/// Whether a line is what a verb makes of it.
-fn is_moved(
-    alloc: Global,
-    buffer: &hb_buffer_t,
-    verb: u16,
-    moved: &[u32],
-) -> Result<bool, AllocError> {
-    let line = moved_line(alloc, verb, moved)?;
-    Ok(seen(alloc, buffer)? == line)
+/// Whether a verb makes that of a line longer than its span.
+fn moves(alloc: Global, verb: u16, moved: &[u32; 6]) -> Result<bool, BufferError> {
+    let rules = span_rules(verb);
+    let kind = rearrangement(&[(10, 4), (15, 5)], &rules);
+    let mut buffer = line_of(alloc, 100, 16384, &[1, 2, 10, 11, 12, 13, 14, 15, 3, 4])?;
+    let answer = run(alloc, &kind, Size::Usual, &mut buffer);
+    Ok(answer == Some(Ok(11)) && is_moved(&buffer, verb, moved))
 }
 
 #[test]
 fn verbs_move_their_spans(rt: HostRuntime) -> Result<(), Fail> {
     let mut verb = 0u16;
     for moved in &MOVED {
-        assert_moves(&rt, rt.alloc(), verb, moved)?;
+        let is_moved = moves(rt.alloc(), verb, moved)?;
+        assert!(rt; is_moved, "verb {verb}");
         verb = verb.wrapping_add(1);
     }
     Ok(())
 }
 
-/// A span of so many glyphs, from 10 to 15.
-fn span_of(alloc: Global, len: u32) -> Result<hb_buffer_t, BufferError> {
-    let mut buffer = line_of(alloc, &[10])?;
-    for cluster in 1..len.saturating_sub(1) {
-        buffer.add(hb_glyph_info_t::new(1, cluster))?;
-    }
-    buffer.add(hb_glyph_info_t::new(15, len.saturating_sub(1)))?;
-    Ok(buffer)
+/// The number of glyphs of a span, the size of spans, and the last glyph behind the run.
+const SPANS: [(&str, u32, Size, Seen); 3] = [
+    ("the longest span", 64, Size::Usual, Seen::Marked(10, 0, 0)),
+    ("a longer span", 65, Size::Usual, Seen::Marked(15, 64, 0)),
+    (
+        "a span of 65 glyphs where it may have 65",
+        65,
+        Size::SixtyFive,
+        Seen::Marked(10, 0, 0),
+    ),
+];
+
+/// Whether a span from 10 to 15 of so many glyphs, which the verb 3 moves, ends with this glyph.
+fn span_ends_with(alloc: Global, len: u32, size: Size, last: Seen) -> Result<bool, BufferError> {
+    let rules = span_rules(3);
+    let kind = rearrangement(&[(10, 4), (15, 5)], &rules);
+    let mut buffer = long_line(alloc, len.saturating_sub(1), 10, 100, 1)?;
+    add_last(&mut buffer, 15)?;
+    let answer = run(alloc, &kind, size, &mut buffer);
+    let is_run = answer == Some(Ok(len as u64 + 1));
+    Ok(is_run && ends_with(&buffer, len as usize, &[last]))
 }
 
 #[test]
 fn only_short_spans_move(rt: HostRuntime) -> Result<(), Fail> {
     wanted(&rt, MAX_CONTEXT_LENGTH == 64, "the longest span");
-    let table = span_table(rt.alloc(), 10, 15, 3)?;
-    let answer = assert_spans(&rt, rt.alloc(), &table);
-    drop(table);
-    answer
-}
-
-/// Asserts which spans move.
-fn assert_spans(
-    rt: &impl Abort,
-    alloc: Global,
-    table: &ExtendedStateTable<()>,
-) -> Result<(), Fail> {
-    for (len, last) in [(64, (10, 0, 0)), (65, (15, 64, 0))] {
-        assert_span(rt, alloc, table, len, last)?;
+    for (name, len, size, last) in SPANS {
+        let is_right = span_ends_with(rt.alloc(), len, size, last)?;
+        wanted(&rt, is_right, name);
     }
-    assert_longer_span(rt, alloc, table)
+    Ok(())
 }
 
-/// Asserts the last glyph of a span of so many glyphs.
-fn assert_span(
+/// The classes of the glyphs 7 and 8, and of 5 and 6.
+const SEVEN_EIGHT: &[Value] = &[(7, 4), (8, 5)];
+
+const FIVE_SIX: &[Value] = &[(5, 4), (6, 5)];
+
+/// An entry that names no lookup.
+const NOTHING: GenericStateEntry<ContextualEntryData> = GenericStateEntry {
+    new_state: 0,
+    flags: 0,
+    extra: ContextualEntryData {
+        mark_index: NONE,
+        current_index: NONE,
+    },
+};
+
+/// An entry that marks its glyph, and one that replaces the marked and the current glyph.
+const MARKING: GenericStateEntry<ContextualEntryData> = GenericStateEntry {
+    flags: MARK,
+    ..NOTHING
+};
+
+const REPLACING: GenericStateEntry<ContextualEntryData> = GenericStateEntry {
+    extra: ContextualEntryData {
+        mark_index: 0,
+        current_index: 1,
+    },
+    ..NOTHING
+};
+
+/// In the last state the glyph 7 is marked and turned into 9 at the glyph 8, and this into the last glyph.
+const BY_LAST_STATE: KindData = KindData::Contextual(
+    MachineData {
+        class_count: 6,
+        classes: SEVEN_EIGHT,
+        rules: &[
+            (0, 0, NOTHING),
+            (0, 1, NOTHING),
+            (
+                0,
+                4,
+                GenericStateEntry {
+                    new_state: 65_535,
+                    ..MARKING
+                },
+            ),
+            (65_535, 0, NOTHING),
+            (
+                65_535,
+                5,
+                GenericStateEntry {
+                    new_state: 65_535,
+                    ..REPLACING
+                },
+            ),
+        ],
+        idle: None,
+    },
+    &[&[(7, 9)], &[(8, 65_535)]],
+);
+
+/// The glyph 5 is marked and turned into 9 at the glyph 6, and this into 8.
+const BY_PAIRS: KindData = KindData::Contextual(
+    MachineData {
+        class_count: 6,
+        classes: FIVE_SIX,
+        rules: &[
+            (0, 0, NOTHING),
+            (0, 1, NOTHING),
+            (0, 4, MARKING),
+            (0, 5, REPLACING),
+        ],
+        idle: None,
+    },
+    &[&[(5, 9)], &[(6, 8)]],
+);
+
+/// Asserts how a line of 65,537 glyphs ends, of which 7, at place 65,535, and 8 are the last.
+fn assert_past_16_bits(
     rt: &impl Abort,
     alloc: Global,
-    table: &ExtendedStateTable<()>,
-    len: u32,
-    last: Seen,
-) -> Result<(), Fail> {
-    let mut buffer = span_of(alloc, len)?;
-    let answer = rearrange(table, &mut buffer);
-    wanted(rt, answer == Some(Ok(u64::from(len) + 1)), "the turns");
-    assert_ends_with(rt, alloc, &buffer, &[last])
+    kind: &KindData,
+    last: &[Seen],
+) -> Result<(), BufferError> {
+    let mut buffer = long_line(alloc, 65_535, 1, 1, 1)?;
+    add_last(&mut buffer, 7)?;
+    add_last(&mut buffer, 8)?;
+    let answer = run(alloc, kind, Size::Usual, &mut buffer);
+    wanted(rt, answer == Some(Ok(65_538)), "the turns");
+    wanted(rt, ends_with(&buffer, 65_537, last), "the last glyphs");
+    Ok(())
 }
 
-/// A span of 65 glyphs moves where it may have 65.
-fn assert_longer_span(
-    rt: &impl Abort,
-    alloc: Global,
-    table: &ExtendedStateTable<()>,
-) -> Result<(), Fail> {
-    let mut buffer = span_of(alloc, 65)?;
-    wanted(
-        rt,
-        rearrange_up_to_65(table, &mut buffer) == Some(Ok(66)),
-        "the turns",
-    );
-    assert_ends_with(rt, alloc, &buffer, &[(10, 0, 0)])
-}
-
-/// A line of 65,537 glyphs, of which 7, at place 65,535, and 8 are the last.
-fn line_past_16_bits(alloc: Global) -> Result<hb_buffer_t, BufferError> {
-    let mut buffer = hb_buffer_t::new(alloc, 100_000, 16384);
-    for cluster in 0..65_536u32 {
-        buffer.add(hb_glyph_info_t::new(if cluster == 65_535 { 7 } else { 1 }, cluster))?;
-    }
-    buffer.add(hb_glyph_info_t::new(8, 65_536))?;
-    Ok(buffer)
-}
-
-/// A table whose last state holds a span from the glyph 7 to the glyph 8.
-fn table_with_last_state(alloc: Global) -> Result<ExtendedStateTable<()>, TableError> {
-    let rules = [
-        (0, 0, rearrangement(0, 0)),
-        (0, 1, rearrangement(0, 0)),
-        (0, 4, rearrangement(65_535, START)),
-        (65_535, 0, rearrangement(0, 0)),
-        (65_535, 5, rearrangement(65_535, END | 3)),
-    ];
-    ExtendedStateTable::new(alloc, CLASS_COUNT, &[(7, 4), (8, 5)], &rules)
-}
-
+/// In the last state a span from the glyph 7 to the glyph 8 is moved.
 #[test]
 fn a_span_at_65535(rt: HostRuntime) -> Result<(), Fail> {
-    let mut buffer = line_past_16_bits(rt.alloc())?;
-    let table = table_with_last_state(rt.alloc())?;
-    let answer = rearrange(&table, &mut buffer);
-    drop(table);
-    wanted(&rt, answer == Some(Ok(65_538)), "the turns");
-    let wanted = [(1, 65_534, 0), (8, 65_535, 0), (7, 65_535, 0)];
-    assert_ends_with(&rt, rt.alloc(), &buffer, &wanted)
-}
-
-/// A subtable whose last state marks the glyph 7, turns that into 9 at the glyph 8, and this into the last glyph.
-fn subtable_with_last_state(alloc: Global) -> Result<ContextualSubtable, Fail> {
     let rules = [
-        (0, 0, contextual(0, 0, NONE, NONE)),
-        (0, 1, contextual(0, 0, NONE, NONE)),
-        (0, 4, contextual(65_535, MARK, NONE, NONE)),
-        (65_535, 0, contextual(0, 0, NONE, NONE)),
-        (65_535, 5, contextual(65_535, 0, 0, 1)),
+        rule(0, 0, 0, 0),
+        rule(0, 1, 0, 0),
+        rule(0, 4, 65_535, START),
+        rule(65_535, 0, 0, 0),
+        rule(65_535, 5, 65_535, END | 3),
     ];
-    Ok(ContextualSubtable {
-        state: ExtendedStateTable::new(alloc, CLASS_COUNT, &[(7, 4), (8, 5)], &rules)?,
-        lookups: two_lookups(alloc, (7, 9), (8, 65_535))?,
-    })
+    let kind = rearrangement(SEVEN_EIGHT, &rules);
+    let last = [
+        Seen::Marked(1, 65_534, 0),
+        Seen::Marked(8, 65_535, 0),
+        Seen::Marked(7, 65_535, 0),
+    ];
+    Ok(assert_past_16_bits(&rt, rt.alloc(), &kind, &last)?)
 }
 
-/// Two lookups of one glyph each.
-fn two_lookups(alloc: Global, first: (u16, u16), second: (u16, u16)) -> Result<Vec<Lookup>, Fail> {
-    Ok(vec![in alloc;
-        Lookup::new(alloc, &[first])?,
-        Lookup::new(alloc, &[second])?,
-    ]?)
-}
+/// What is left of the last glyphs.
+static SUBSTITUTED: [Seen; 3] = [
+    Seen::Marked(1, 65_534, 0),
+    Seen::Marked(9, 65_535, 0),
+    Seen::Marked(65_535, 65_536, 3),
+];
 
 #[test]
 fn a_mark_at_65535(rt: HostRuntime) -> Result<(), Fail> {
-    let mut buffer = line_past_16_bits(rt.alloc())?;
-    let subtable = subtable_with_last_state(rt.alloc())?;
-    let answer = substitute(&subtable, &mut buffer);
-    drop(subtable);
-    wanted(&rt, answer == Some(Ok(65_538)), "the turns");
-    let wanted = [(1, 65_534, 0), (9, 65_535, 0), (65_535, 65_536, 3)];
-    assert_ends_with(&rt, rt.alloc(), &buffer, &wanted)
+    Ok(assert_past_16_bits(&rt, rt.alloc(), &BY_LAST_STATE, &SUBSTITUTED)?)
 }
 
-/// Asserts that a line has ten thousand glyphs with rising clusters by twos: the cluster of the first of two, with so
-/// much more, and the cluster of the second.
-fn assert_pairs(rt: &impl Abort, glyphs: &[Seen], first: Seen, second: Seen) {
-    assert!(rt; glyphs.len() == 10_000);
-    let mut place = 0u32;
-    for (id, cluster, mask) in glyphs {
-        let wanted = if place % 2 == 0 { first } else { second };
-        let from = place - place % 2;
-        assert!(rt;
-            (*id, cluster.wrapping_sub(from), *mask) == wanted,
-            "place {place}"
-        );
-        place = place.wrapping_add(1);
+/// A glyph of a pair: its id, how much its cluster is above the place of the first, and its mask.
+type OfPair = (u32, u32, u32);
+
+/// Whether a line has ten thousand glyphs with rising clusters by twos.
+fn are_pairs(buffer: &hb_buffer_t, first: OfPair, second: OfPair) -> bool {
+    for place in 0..10_000u32 {
+        let (id, above, mask) = if place % 2 == 0 { first } else { second };
+        let cluster = (place - place % 2).wrapping_add(above);
+        if !is_seen(buffer, place as usize, Seen::Marked(id, cluster, mask)) {
+            return false;
+        }
     }
+    buffer.len() == 10_000
 }
 
-/// Ten thousand glyphs, 5 and 6 by turns, at a cluster level.
-fn long_line(alloc: Global, level: u8) -> Result<hb_buffer_t, BufferError> {
-    let mut buffer = line_by_turns(alloc, 10_000, 5, 6)?;
+/// Asserts what becomes of the pairs of ten thousand glyphs, 5 and 6 by turns, at a cluster level.
+fn assert_pairs(
+    rt: &impl Abort,
+    alloc: Global,
+    level: u8,
+    kind: &KindData,
+    (first, second): (OfPair, OfPair),
+) -> Result<(), BufferError> {
+    let mut buffer = long_line(alloc, 10_000, 5, 2, 6)?;
     buffer.set_cluster_level(level);
-    Ok(buffer)
+    let answer = run(alloc, kind, Size::Usual, &mut buffer);
+    let is_right = answer == Some(Ok(10_001)) && are_pairs(&buffer, first, second);
+    assert!(rt; is_right, "level {level}");
+    Ok(())
 }
 
+/// At level 2 the clusters stay apart, and the greater one is marked.
 #[test]
 fn long_lines_are_rearranged(rt: HostRuntime) -> Result<(), Fail> {
-    let table = span_table(rt.alloc(), 5, 6, 1)?;
-    let answer = assert_each_rearranged(&rt, rt.alloc(), &table);
-    drop(table);
-    answer
-}
-
-/// Asserts what becomes of long lines at each level. At level 2 the clusters stay apart, and the greater one is marked.
-fn assert_each_rearranged(
-    rt: &impl Abort,
-    alloc: Global,
-    table: &ExtendedStateTable<()>,
-) -> Result<(), Fail> {
+    let rules = span_rules(1);
+    let kind = rearrangement(FIVE_SIX, &rules);
     for (level, first) in [(0, (6, 0, 0)), (1, (6, 0, 0)), (2, (6, 1, 3))] {
-        assert_rearranged(rt, alloc, table, level, first)?;
+        assert_pairs(&rt, rt.alloc(), level, &kind, (first, (5, 0, 0)))?;
     }
     Ok(())
-}
-
-/// Asserts what becomes of the pairs of a long line at a cluster level.
-fn assert_rearranged(
-    rt: &impl Abort,
-    alloc: Global,
-    table: &ExtendedStateTable<()>,
-    level: u8,
-    first: Seen,
-) -> Result<(), Fail> {
-    let mut buffer = long_line(alloc, level)?;
-    wanted(
-        rt,
-        rearrange(table, &mut buffer) == Some(Ok(10_001)),
-        "the turns",
-    );
-    assert_pairs(rt, &seen(alloc, &buffer)?, first, (5, 0, 0));
-    Ok(())
-}
-
-/// A subtable that marks the glyph 5, turns that into 9 at the glyph 6, and this into 8.
-fn subtable_of_pairs(alloc: Global) -> Result<ContextualSubtable, Fail> {
-    let rules = [
-        (0, 0, contextual(0, 0, NONE, NONE)),
-        (0, 1, contextual(0, 0, NONE, NONE)),
-        (0, 4, contextual(0, MARK, NONE, NONE)),
-        (0, 5, contextual(0, 0, 0, 1)),
-    ];
-    Ok(ContextualSubtable {
-        state: ExtendedStateTable::new(alloc, CLASS_COUNT, &[(5, 4), (6, 5)], &rules)?,
-        lookups: two_lookups(alloc, (5, 9), (6, 8))?,
-    })
 }
 
 #[test]
 fn long_lines_are_substituted(rt: HostRuntime) -> Result<(), Fail> {
-    let subtable = subtable_of_pairs(rt.alloc())?;
-    let answer = assert_each_substituted(&rt, rt.alloc(), &subtable);
-    drop(subtable);
-    answer
-}
-
-/// Asserts what becomes of long lines at each level.
-fn assert_each_substituted(
-    rt: &impl Abort,
-    alloc: Global,
-    subtable: &ContextualSubtable,
-) -> Result<(), Fail> {
     for level in 0..3u8 {
-        assert_substituted(rt, alloc, subtable, level)?;
+        assert_pairs(&rt, rt.alloc(), level, &BY_PAIRS, ((9, 0, 0), (8, 1, 3)))?;
     }
-    Ok(())
-}
-
-/// Asserts what becomes of the pairs of a long line at a cluster level.
-fn assert_substituted(
-    rt: &impl Abort,
-    alloc: Global,
-    subtable: &ContextualSubtable,
-    level: u8,
-) -> Result<(), Fail> {
-    let mut buffer = long_line(alloc, level)?;
-    wanted(
-        rt,
-        substitute(subtable, &mut buffer) == Some(Ok(10_001)),
-        "the turns",
-    );
-    assert_pairs(rt, &seen(alloc, &buffer)?, (9, 0, 0), (8, 1, 3));
     Ok(())
 }

@@ -9,3 +9,5 @@ mod driver_tests;
 mod growing_tests;
 #[cfg(test)]
 mod in_place_tests;
+#[cfg(test)]
+mod runs;

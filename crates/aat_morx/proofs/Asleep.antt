@@ -1,7 +1,7 @@
 -- Subtables that no glyph of a line wakes, in either order of the line.
-use Rattle.std.proofs.Common.{◌≡◌, ◌∙◌, ap, sym, refl, ℕ, ◌+◌, ◌-◌, ◌<◌, Bool, true, false, cond, not, ◌||◌, ◌&&◌, List, reverse, length, Option, Some, None, option_map, arith}
+use Rattle.std.proofs.Common.{◌≡◌, ◌∙◌, ap, refl, ◌-◌, ◌<◌, Bool, true, false, cond, List, reverse, length, Option, Some, None, option_map, arith}
 use Rattle.std.proofs.lemmas.List.{reverse-reverse, length-reverse, get_or-reverse}
-use Rattle.aat_buffer.specs.Buffer.{Buffer, with_cursor, without_positions, reversed, glyph_at, no_glyph}
+use Rattle.aat_buffer.specs.Buffer.{Buffer, without_positions, reversed, no_glyph}
 use Rattle.aat_font.specs.Idle.{is_idle}
 use Rattle.aat_font.specs.declared.morx.Subtable.{Subtable}
 use Rattle.aat_font.specs.declared.morx.SubtableKind.{SubtableKind}
@@ -9,7 +9,7 @@ use Rattle.aat_font.specs.declared.morx.SubtableKind.TheVariants.{Rearrangement,
 use Rattle.aat_glyph.specs.declared.glyph.GlyphPosition.{GlyphPosition}
 use Rattle.aat_glyph.specs.declared.glyph.hb_glyph_info_t.{hb_glyph_info_t}
 use Rattle.aat_kinds.specs.Idle.{IsIdleLineOf, at_rest, passed_over}
-use Rattle.aat_kinds.specs.Kinds.{Sizes, kind_run, reversed_run, is_reversed, ordered_run}
+use Rattle.aat_kinds.specs.Kinds.{Sizes, kind_run, reversed_run, is_reversed}
 use Rattle.aat_kinds.specs.facts.IdleKinds.{idle_kind}
 use Rattle.aat_morx.specs.Substitution.{is_skipped, subtable_run}
 use Rattle.aat_morx.specs.inside.LineWords.{IsAsleep}
@@ -40,6 +40,14 @@ turned_rest (Contextual s) b = turned_over b
 turned_rest (Ligature s) b = turned_without b
 turned_rest (NonContextual lookup) b = turned_none b
 turned_rest (Insertion s) b = turned_without b
+
+-- it leaves the line
+pub rest_line : (kind : SubtableKind) (b : Buffer) → (at_rest kind b).buffer.line ≡ b.line
+rest_line (Rearrangement table) b = refl
+rest_line (Contextual s) b = refl
+rest_line (Ligature s) b = refl
+rest_line (NonContextual lookup) b = refl
+rest_line (Insertion s) b = refl
 
 -- it sleeps on the reversed line too
 turned_idle : (kind : SubtableKind) (gs : List hb_glyph_info_t) → IsIdleLineOf kind gs → IsIdleLineOf kind (reverse gs)

@@ -15,7 +15,7 @@ ghost use Rattle.aat_run.specs.Outcome.{IsOutcome, in_order};
 ghost use Rattle.aat_run.specs.Ranges.{IsGapless, is_whole_list, switch_for};
 
 use crate::subtable::run_subtable;
-use crate::waking::LineWord;
+use crate::waking::{LineWord, wakers_at};
 use aat_buffer::hb_buffer_t;
 use aat_font::{Chain, GlyphWords, Morx, Subtable, hb_font_t};
 use aat_kinds::SubtableRun;
@@ -55,6 +55,7 @@ fn run_chain<const SLOTS: usize, const LONGEST: usize, A: Allocator + Copy>(
             face,
             ranges,
             feature_flags: subtable.feature_flags,
+            wakers: wakers_at(words, i),
         };
         turns += run_subtable::<SLOTS, LONGEST, A>(&run, subtable, &mut known, words, i, buffer)?;
     }

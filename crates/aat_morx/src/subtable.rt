@@ -1,6 +1,8 @@
 //! A subtable in its chain: whether it runs, and in which order of the line.
-ghost use Rattle.std.specs.Prelude.{◌≡◌, ◌^◌, ◌<◌, ◌≤◌, IfOk, IfErr, OnOk, OnErr, IsTrue, false, length, true};
+ghost use Rattle.std.specs.Prelude.{◌≡◌, ◌^◌, ◌<◌, ◌≤◌, IfOk, IfErr, OnOk, OnErr, IfSome, IsTrue, false, length, true};
 ghost use Rattle.aat_buffer.specs.Clusters.{IsSmall};
+ghost use Rattle.aat_font.specs.Idle.{is_idle};
+ghost use Rattle.aat_kinds.specs.Idle.{SleepOthers};
 ghost use Rattle.aat_kinds.specs.Kinds.{is_for, is_reversed, kind_run, ordered_run, reversed_run, sizes_of};
 ghost use Rattle.aat_kinds.specs.Runs.{is_on_in};
 ghost use Rattle.aat_morx.specs.Substitution.{is_skipped, subtable_run};
@@ -60,6 +62,7 @@ fn run_reversed<const SLOTS: usize, const LONGEST: usize, A: Allocator + Copy>(
     requires gapless { IsGapless run.now.ranges.now }
     requires whole { IsTrue (is_whole_list run.now.ranges.now) }
     requires on { length run.now.ranges.now ≡ 1 → is_on_in run.now 0 ≡ true }
+    requires wakers { IfSome run.now.wakers (SleepOthers (is_idle subtable.now.kind)) }
     requires ids { IsSmall buffer.old }
     ensures run { IfOk result (IsOutcome (reversed_run
         (kind_run (sizes_of SLOTS LONGEST run.now.face.now) (is_on_in run.now) subtable.now.kind) buffer.old)
@@ -86,6 +89,7 @@ fn run_ordered<const SLOTS: usize, const LONGEST: usize, A: Allocator + Copy>(
     requires gapless { IsGapless run.now.ranges.now }
     requires whole { IsTrue (is_whole_list run.now.ranges.now) }
     requires on { length run.now.ranges.now ≡ 1 → is_on_in run.now 0 ≡ true }
+    requires wakers { IfSome run.now.wakers (SleepOthers (is_idle subtable.now.kind)) }
     requires ids { IsSmall buffer.old }
     ensures run { IfOk result (IsOutcome (ordered_run subtable.now.coverage
         (kind_run (sizes_of SLOTS LONGEST run.now.face.now) (is_on_in run.now) subtable.now.kind) buffer.old)
@@ -118,6 +122,7 @@ pub(crate) fn run_subtable<const SLOTS: usize, const LONGEST: usize, A: Allocato
     requires flags { run.now.feature_flags ≡ subtable.now.feature_flags }
     requires gapless { IsGapless run.now.ranges.now }
     requires whole { IsTrue (is_whole_list run.now.ranges.now) }
+    requires wakers { IfSome run.now.wakers (SleepOthers (is_idle subtable.now.kind)) }
     requires ids { IsSmall buffer.old }
     requires wake { WakeAt subtable.now words.now i }
     requires tells { TellsOf known.old words.now buffer.old.line }
@@ -137,6 +142,6 @@ pub(crate) fn run_subtable<const SLOTS: usize, const LONGEST: usize, A: Allocato
         return Ok(pass_over(&subtable.kind, buffer));
     }
     let turns = run_ordered::<SLOTS, LONGEST, A>(run, subtable, buffer)?;
-    *known = LineWord::unknown();
+    known.forget();
     Ok(turns)
 }

@@ -1,20 +1,23 @@
 //! Which subtables the glyphs of a line wake.
-ghost use Rattle.std.specs.Prelude.{◌≡◌, ◌<◌, ◌≤◌, ℕ, false, true, All, Some, slice_get, length};
+ghost use Rattle.std.specs.Prelude.{◌≡◌, ◌<◌, ◌≤◌, ℕ, false, true, All, IfSome, Some, slice_get, slice_index_or, length};
 ghost use Rattle.std.specs.Int.{bit_at};
 ghost use Rattle.aat_buffer.specs.Buffer.{Is16Bit, glyph_at};
 ghost use Rattle.aat_buffer.specs.Clusters.{IsSmall};
+ghost use Rattle.aat_font.specs.Idle.{is_idle};
 ghost use Rattle.aat_font.specs.Wakers.{word_of};
 ghost use Rattle.aat_font.specs.declared.morx.Subtable.{Subtable};
+ghost use Rattle.aat_kinds.specs.Idle.{SleepOthers};
 ghost use Rattle.aat_morx.specs.inside.LineWords.{HasBitsOf, IsAsleep, TellsOf, WakeAt};
 
 use aat_buffer::{hb_buffer_t, hb_glyph_info_t};
-use aat_font::{GlyphId, GlyphWords};
+use aat_font::{GlyphId, GlyphWords, word_at};
+use aat_run::Wakers;
 use std::alloc::Allocator;
 
 /// The number of subtables that have a bit in a word.
 const WORD: usize = 64;
 
-/// The bits of all glyphs of a line for 64 subtables, as long as they are known.
+/// The bits of all glyphs of a line for 64 subtables, as long as they are known, and those of an earlier line behind that.
 #[derive(Clone, Copy)]
 pub(crate) struct LineWord {
     /// Which 64 subtables these are: their first one has this number times 64.
@@ -37,8 +40,16 @@ impl LineWord {
         }
     }
 
+    /// The bits are no longer known to be those of the line.
+    pub(crate) fn forget(&mut self)
+        ensures { self.new.is_known ≡ false }
+    {
+        self.is_known = false;
+    }
+
     /// Whether a glyph of a line may wake subtable i, by the words of the subtables. It looks at the glyphs of the line
-    /// only where their bits for these 64 subtables are not known.
+    /// only where their bits for these 64 subtables are not known. Where a glyph of an earlier line may wake it, and the
+    /// line's own bits are not known, it answers that one may: to run the subtable costs little more than to look.
     #[tactic(auto, using(crate::proofs::LineBits::asleep_by, crate::proofs::LineBits::tells_of))]
     pub(crate) fn wakes<A: Allocator + Copy>(
         &mut self,
@@ -51,6 +62,9 @@ impl LineWord {
         ensures tells { TellsOf self.new words.now buffer.now.line }
         ensures asleep { (s : Subtable) → WakeAt s words.now i → result ≡ false → IsAsleep s buffer.now.line }
     {
+        if self.was_awake(i) {
+            return true;
+        }
         match words.get(i / WORD) {
             Some(glyph_words) => {
                 self.learn(glyph_words, i / WORD, buffer);
@@ -58,6 +72,15 @@ impl LineWord {
             }
             None => true,
         }
+    }
+
+    /// Whether the bits are those of an earlier line, and that of subtable i is set.
+    fn was_awake(&self, i: usize) -> bool {
+        if self.is_known || self.block != i / WORD {
+            return false;
+        }
+        let bit = i % WORD;
+        self.has(bit)
     }
 
     /// Makes the bits of a line known for 64 subtables, where they are not.
@@ -101,26 +124,39 @@ fn line_bits<A: Allocator + Copy>(words: &GlyphWords, buffer: &hb_buffer_t<A>) -
     if buffer.is_empty() || buffer.backtrack_len() > 0 {
         return u64::MAX;
     }
-    bits_of(words, buffer.from_cursor())
+    words.everywhere() | bits_of(words.listed(), buffer.from_cursor())
 }
 
-/// The bits of a glyph.
-fn bits_of_glyph(words: &GlyphWords, glyph: &hb_glyph_info_t) -> u64
+/// The bits of a glyph in a list.
+fn bits_of_glyph(listed: &[u64], glyph: &hb_glyph_info_t) -> u64
     requires { Is16Bit glyph.now }
-    ensures { result ≡ word_of words.now glyph.now.glyph_id }
+    ensures { result ≡ slice_index_or listed.now glyph.now.glyph_id 0 }
 {
-    words.word(GlyphId(glyph.glyph_id as u16))
+    word_at(listed, GlyphId(glyph.glyph_id as u16))
 }
 
-/// The bits of all of some glyphs.
-fn bits_of(words: &GlyphWords, glyphs: &[hb_glyph_info_t]) -> u64
+/// The bits of all of some glyphs in a list.
+fn bits_of(listed: &[u64], glyphs: &[hb_glyph_info_t]) -> u64
     requires ids { All Is16Bit glyphs.now }
     ensures { (k i : ℕ) → i < length glyphs.now → bit_at result k ≡ 0
-        → bit_at (word_of words.now (glyph_at glyphs.now i).glyph_id) k ≡ 0 }
+        → bit_at (slice_index_or listed.now (glyph_at glyphs.now i).glyph_id 0) k ≡ 0 }
 {
     let mut word = 0;
     for glyph in glyphs {
-        word |= bits_of_glyph(words, glyph);
+        word |= bits_of_glyph(listed, glyph);
     }
     word
+}
+
+/// Which glyphs may wake subtable i, by the words of the subtables, where these tell.
+pub(crate) fn wakers_at(words: &[GlyphWords], i: usize) -> Option<Wakers<'_>>
+    ensures { (s : Subtable) → WakeAt s words.now i → IfSome result (SleepOthers (is_idle s.kind)) }
+{
+    match words.get(i / WORD) {
+        Some(words) => Some(Wakers {
+            words,
+            bit: (i % WORD) as u32,
+        }),
+        None => None,
+    }
 }

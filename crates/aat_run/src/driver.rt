@@ -2,7 +2,7 @@
 //!
 //! Here and in the crates of substitution the driver is the loop that takes the turns, and a context is what is plugged
 //! in. In `aat_kerning_machines` a driver is what is plugged in, as in the crate `rustybuzz`.
-ghost use Rattle.std.specs.Prelude.{◌≡◌, ◌+◌, ◌-◌, ◌<◌, ◌≤◌, ◌^◌, if◌then◌else◌, ℕ, Bool, true, length, IsOk, OnOk, OnErr, IfOk, IfErr};
+ghost use Rattle.std.specs.Prelude.{◌≡◌, ◌+◌, ◌-◌, ◌<◌, ◌≤◌, ◌^◌, if◌then◌else◌, ℕ, Bool, true, length, IsOk, OnOk, OnErr, IfOk, IfErr, IfSome};
 ghost use Rattle.aat_buffer.specs.Buffer.{with_cursor, without_positions};
 ghost use Rattle.aat_buffer.specs.Clusters.{IsSmall};
 ghost use Rattle.aat_font.specs.Idle.{has_entry};
@@ -14,6 +14,7 @@ ghost use Rattle.aat_run.specs.Laws.{IsBounded, SameSettings};
 ghost use Rattle.aat_run.specs.Outcome.{IsOutcome};
 ghost use Rattle.aat_run.specs.Ranges.{IsGapless, is_driven_on, ranges_of};
 ghost use Rattle.aat_run.specs.Machine.{turn};
+ghost use Rattle.aat_run.specs.Waking.{PassesOthers};
 ghost use Rattle.aat_run.specs.inside.Places.{IsRun, config};
 ghost use Rattle.aat_run.specs.inside.Standing.{HasCome};
 
@@ -22,7 +23,8 @@ use crate::driver_context::driver_context_t;
 use crate::error::AatError;
 use crate::ranges::{is_nowhere_on, range_flags_t, ranges_to_ask};
 use crate::run_state::RunState;
-use crate::turns::{pass_glyphs, rests_at_end, turn_once};
+use crate::turns::{rests_at_end, turn_once};
+use crate::wakers::{Wakers, pass_asleep};
 use aat_buffer::{hb_buffer_t, hb_mask_t};
 use aat_font::ExtendedStateTable;
 use aat_font::entry_bits::state::START_OF_TEXT;
@@ -40,15 +42,17 @@ fn may_pass<T: Copy, C: driver_context_t<T>>(
     ranges.len() < 2 && rests_at_end(machine, context)
 }
 
-/// Takes the turns at glyphs that are passed, where the machine is in the state for the start of the text, on everywhere,
-/// and at rest at the end.
+/// Takes the turns at glyphs that do not wake the machine, where that is known, and where it is in the state for the start
+/// of the text, on everywhere, and at rest at the end.
 fn pass_on<T: Copy, C: driver_context_t<T>, A: Allocator + Copy>(
     machine: &ExtendedStateTable<T>,
+    wakers: Option<Wakers>,
     context: &C,
     buffer: &mut hb_buffer_t<A>,
     does_pass: bool,
     run_state: &mut RunState,
 )
+    requires others { IfSome wakers (PassesOthers C.advances C.resting machine.now) }
     requires end { does_pass ≡ true → has_entry C.resting (entry_of machine.now 0 0) ≡ true }
     requires fit { C.fits context.now buffer.old.cursor (length buffer.old.line) }
     requires ids { IsSmall buffer.old }
@@ -61,8 +65,11 @@ fn pass_on<T: Copy, C: driver_context_t<T>, A: Allocator + Copy>(
     ensures length { length buffer.new.line ≡ length buffer.old.line }
     ensures less { potential buffer.new ≤ potential buffer.old }
 {
+    let Some(wakers) = wakers else {
+        return;
+    };
     if does_pass && run_state.state == START_OF_TEXT {
-        pass_glyphs(machine, context, buffer, run_state);
+        pass_asleep(wakers, buffer, run_state);
     }
 }
 
@@ -70,11 +77,13 @@ fn pass_on<T: Copy, C: driver_context_t<T>, A: Allocator + Copy>(
 #[tactic(auto, using(crate::specs::facts::Settings::refused_behind))]
 fn run_turns<T: Copy, C: driver_context_t<T>, A: Allocator + Copy>(
     machine: &ExtendedStateTable<T>,
+    wakers: Option<Wakers>,
     context: &mut C,
     buffer: &mut hb_buffer_t<A>,
     ranges: &[range_flags_t],
     feature_flags: hb_mask_t,
 ) -> Result<u64, AatError>
+    requires others { IfSome wakers (PassesOthers C.advances C.resting machine.now) }
     requires fit { C.fits context.old buffer.old.cursor (length buffer.old.line) }
     requires ids { IsSmall buffer.old }
     requires gapless { IsGapless ranges.now }
@@ -104,7 +113,14 @@ fn run_turns<T: Copy, C: driver_context_t<T>, A: Allocator + Copy>(
         &mut last_range,
         &mut run_state,
     )? {
-        pass_on(machine, &*context, buffer, does_pass, &mut run_state);
+        pass_on(
+            machine,
+            wakers,
+            &*context,
+            buffer,
+            does_pass,
+            &mut run_state,
+        );
     }
     Ok(run_state.turns)
 }
@@ -124,11 +140,13 @@ fn begin<A: Allocator + Copy>(buffer: &mut hb_buffer_t<A>, in_place: bool)
 /// is passed over.
 fn take_turns<T: Copy, C: driver_context_t<T>, A: Allocator + Copy>(
     machine: &ExtendedStateTable<T>,
+    wakers: Option<Wakers>,
     context: &mut C,
     buffer: &mut hb_buffer_t<A>,
     ranges: &[range_flags_t],
     feature_flags: hb_mask_t,
 ) -> Result<u64, AatError>
+    requires others { IfSome wakers (PassesOthers C.advances C.resting machine.now) }
     requires front { buffer.old.cursor ≡ 0 }
     requires fit { C.fits context.old 0 (length buffer.old.line) }
     requires ids { IsSmall buffer.old }
@@ -147,22 +165,25 @@ fn take_turns<T: Copy, C: driver_context_t<T>, A: Allocator + Copy>(
         return Ok(buffer.len() as u64 + 1);
     }
     let asked = ranges_to_ask(ranges, feature_flags);
-    run_turns(machine, context, buffer, asked, feature_flags)
+    run_turns(machine, wakers, context, buffer, asked, feature_flags)
 }
 
 /// Runs a state table over a line in a context, from the front, and answers the number of turns. `drive` has the
 /// rules.
 ///
 /// The ranges have to follow one another from 0 without a gap. With fewer than two of them the machine is on at each
-/// cluster.
+/// cluster. Where it is said which glyphs may wake the machine, it has to pass each other one in state 0, and is not
+/// asked at them.
 #[tactic(auto, unfolding(crate::specs::Driven::machine_run, crate::specs::Driven::registers_behind))]
 pub fn run_machine<T: Copy, C: driver_context_t<T>, A: Allocator + Copy>(
     machine: &ExtendedStateTable<T>,
+    wakers: Option<Wakers>,
     context: &mut C,
     buffer: &mut hb_buffer_t<A>,
     ranges: &[range_flags_t],
     feature_flags: hb_mask_t,
 ) -> Result<u64, AatError>
+    requires others { IfSome wakers (PassesOthers C.advances C.resting machine.now) }
     requires fit { C.fits context.old 0 (length buffer.old.line) }
     requires ids { IsSmall buffer.old }
     requires gapless { IsGapless ranges.now }
@@ -189,7 +210,7 @@ pub fn run_machine<T: Copy, C: driver_context_t<T>, A: Allocator + Copy>(
     let _most = buffer.max_len();
     let _budget = buffer.max_ops();
     begin(buffer, context.in_place());
-    let turns = take_turns(machine, context, buffer, ranges, feature_flags)?;
+    let turns = take_turns(machine, wakers, context, buffer, ranges, feature_flags)?;
     buffer.sync();
     Ok(turns)
 }
@@ -273,7 +294,7 @@ pub fn drive<T: Copy, C: driver_context_t<T>, A: Allocator + Copy>(
         None => &[],
     };
     let buffer = &mut *c.buffer;
-    let turns = run_machine(machine, context, buffer, ranges, feature_flags)?;
+    let turns = run_machine(machine, None, context, buffer, ranges, feature_flags)?;
     c.turns += turns;
     Ok(())
 }

@@ -11,6 +11,7 @@ pub mod laws;
 mod ranges;
 mod run_state;
 mod turns;
+mod wakers;
 #[doc(hidden)]
 pub mod worked;
 
@@ -23,3 +24,4 @@ pub use ranges::{
     range_of, ranges_to_ask,
 };
 pub use turns::class_at_cursor;
+pub use wakers::Wakers;

@@ -2,10 +2,8 @@
 //! mark, the act, and what follows it.
 ghost use Rattle.std.specs.Prelude.{◌≡◌, ◌+◌, ◌<◌, ◌≤◌, ◌^◌, ◌==◌, ◌&&◌, if◌then◌else◌, ℕ, Bool, true, Option, Some, length, not, OnOk, OnErr, IfOk, IfErr};
 ghost use Rattle.aat_buffer.specs.Clusters.{IsSmall};
-ghost use Rattle.aat_buffer.specs.Buffer.{with_cursor};
 ghost use Rattle.aat_font.specs.Idle.{has_entry};
 ghost use Rattle.aat_font.specs.Table.{TableValue, class_of, entry_of};
-ghost use Rattle.aat_run.specs.Budget.{potential, rest};
 ghost use Rattle.aat_font.specs.declared.state_table.GenericStateEntry.{GenericStateEntry};
 ghost use Rattle.aat_run.specs.Context.{Machine, machine_with, is_at_end, class_at, cluster_seen, entry_at};
 ghost use Rattle.aat_run.specs.Driven.{IsRefusal, IsRefused};
@@ -14,9 +12,7 @@ ghost use Rattle.aat_run.specs.Machine.{left_by, stepped, marked, acted, by_entr
 ghost use Rattle.aat_run.specs.Ranges.{IsGapless, is_driven_on};
 ghost use Rattle.aat_run.specs.Safe.{is_safe};
 ghost use Rattle.aat_run.specs.inside.Branches.{does_alike, restarts_alike};
-ghost use Rattle.aat_run.specs.inside.Passing.{passes_by};
 ghost use Rattle.aat_run.specs.inside.Places.{config, turn_of};
-ghost use Rattle.aat_run.specs.inside.Standing.{HasCome};
 
 use crate::driver_context::driver_context_t;
 use crate::error::AatError;
@@ -266,28 +262,6 @@ fn act_by_entry<T: Copy, C: driver_context_t<T>, A: Allocator + Copy>(
     }
 }
 
-/// Whether an entry leads over its glyph to the state for the start of the text, and rests.
-fn does_pass<T: Copy, C: driver_context_t<T>>(context: &C, entry: &GenericStateEntry<T>) -> bool
-    ensures { result ≡ passes_by C.advances C.resting entry.now }
-{
-    entry.new_state == START_OF_TEXT && context.can_advance(entry) && context.rests(entry)
-}
-
-/// Whether that state has such an entry for the glyph at the cursor.
-fn is_passed<T: Copy, C: driver_context_t<T>, A: Allocator + Copy>(
-    machine: &ExtendedStateTable<T>,
-    context: &C,
-    buffer: &hb_buffer_t<A>,
-) -> bool
-    requires { IsSmall buffer.now }
-    ensures { result ≡ has_entry (passes_by C.advances C.resting) (entry_at machine.now 0 buffer.now) }
-{
-    match machine.entry(START_OF_TEXT, class_at_cursor(machine, buffer)) {
-        Some(entry) => does_pass(context, &entry),
-        None => false,
-    }
-}
-
 /// Whether the state for the start of the text has an entry for the end, and that rests.
 pub(crate) fn rests_at_end<T: Copy, C: driver_context_t<T>>(
     machine: &ExtendedStateTable<T>,
@@ -298,34 +272,6 @@ pub(crate) fn rests_at_end<T: Copy, C: driver_context_t<T>>(
     match machine.entry(START_OF_TEXT, END_OF_TEXT) {
         Some(entry) => context.rests(&entry),
         None => false,
-    }
-}
-
-/// Takes the turns at the glyphs from the cursor on that the state for the start of the text passes, as long as one
-/// after the other is such a glyph. The machine has to be in that state, and on everywhere.
-pub(crate) fn pass_glyphs<T: Copy, C: driver_context_t<T>, A: Allocator + Copy>(
-    machine: &ExtendedStateTable<T>,
-    context: &C,
-    buffer: &mut hb_buffer_t<A>,
-    run_state: &mut RunState,
-)
-    requires start { run_state.old.state ≡ 0 }
-    requires end { has_entry C.resting (entry_of machine.now 0 0) ≡ true }
-    requires fit { C.fits context.now buffer.old.cursor (length buffer.old.line) }
-    requires ids { IsSmall buffer.old }
-    requires turns { run_state.old.turns + rest buffer.old < 2 ^ 64 }
-    ensures come { (on : ℕ → Bool) → ((x : ℕ) → on x ≡ true)
-        → HasCome (turn (machine_with on machine.now C.advances C.actionable C.act)) C.fits
-        (config buffer.old context.now run_state.old) (config buffer.new context.now run_state.new) }
-    ensures line { with_cursor buffer.new 0 ≡ with_cursor buffer.old 0 }
-    ensures less { potential buffer.new ≤ potential buffer.old }
-{
-    for _ in buffer.backtrack_len()..buffer.len() {
-        if !is_passed(machine, context, buffer) {
-            return;
-        }
-        count(buffer, run_state);
-        buffer.next_glyph();
     }
 }
 

@@ -69,10 +69,10 @@ fn trace_subtable<const SLOTS: usize, const LONGEST: usize, A: Allocator + Copy>
 
 /// Runs the subtables of the chain with this number in their order, tells what each did, and answers the turns.
 #[tactic(auto, using(aat_run::specs::facts::Settings::refused_behind))]
-fn trace_chain<const SLOTS: usize, const LONGEST: usize, A: Allocator + Copy>(
+fn trace_chain<'a, const SLOTS: usize, const LONGEST: usize, A: Allocator + Copy>(
     alloc: Global,
-    face: &hb_font_t,
-    ranges: &[range_flags_t],
+    face: &'a hb_font_t,
+    ranges: &'a [range_flags_t],
     i: usize,
     subtables: &[Subtable],
     buffer: &mut hb_buffer_t<A>,
@@ -101,6 +101,7 @@ fn trace_chain<const SLOTS: usize, const LONGEST: usize, A: Allocator + Copy>(
             face,
             ranges,
             feature_flags: subtable.feature_flags,
+            wakers: None,
         };
         turns += trace_subtable::<SLOTS, LONGEST, A>(alloc, &run, subtable, (i, k), buffer, trace)?;
     }

@@ -36,7 +36,14 @@ fn run_rearrangement<const LONGEST: usize, A: Allocator + Copy>(
 {
     let inner: RearrangementCtx<LONGEST> = RearrangementCtx::with_longest();
     let mut context = Traced::new(inner, log, buffer);
-    run_machine(table, &mut context, buffer, run.ranges, run.feature_flags)
+    run_machine(
+        table,
+        None,
+        &mut context,
+        buffer,
+        run.ranges,
+        run.feature_flags,
+    )
 }
 
 /// Runs a contextual subtable, and answers the turns.
@@ -57,6 +64,7 @@ fn run_contextual<A: Allocator + Copy>(
     let mut context = Traced::new(inner, log, buffer);
     run_machine(
         &subtable.state,
+        None,
         &mut context,
         buffer,
         run.ranges,
@@ -84,6 +92,7 @@ fn run_ligature<const SLOTS: usize, A: Allocator + Copy>(
     let mut context = Traced::new(inner, log, buffer);
     run_machine(
         &subtable.state,
+        None,
         &mut context,
         buffer,
         run.ranges,
@@ -111,6 +120,7 @@ fn run_insertion<A: Allocator + Copy>(
     let mut context = Traced::new(inner, log, buffer);
     run_machine(
         &subtable.state,
+        None,
         &mut context,
         buffer,
         run.ranges,
@@ -139,7 +149,11 @@ fn run_noncontextual<const SLOTS: usize, const LONGEST: usize, A: Allocator + Co
     ensures refused { OnErr result (IsRefused buffer.old buffer.new) }
 {
     log.begin(buffer);
-    let turns = run_kind::<SLOTS, LONGEST, A>(run, kind, buffer)?;
+    let asleep_nowhere = SubtableRun {
+        wakers: None,
+        ..*run
+    };
+    let turns = run_kind::<SLOTS, LONGEST, A>(&asleep_nowhere, kind, buffer)?;
     log.note_each(buffer);
     Ok(turns)
 }

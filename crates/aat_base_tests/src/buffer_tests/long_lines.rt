@@ -1,82 +1,92 @@
 //! Long lines, whose calls end in time.
-use super::lines::{copy, go_to, is_at, number_positions, pass, record, skip, take_out_deleted};
+
 use crate::asserting::wanted;
+use crate::buffer_tests::lines::record;
+use crate::buffer_tests::steps::{Call, Fact, Glyph, Step, make, make_all, walk};
 use aat_buffer::{BufferError, hb_buffer_t};
 use std::alloc::Global;
 use std::process::Abort;
-use std::test::Fail;
+
+/// How the glyphs of a long line follow one another.
+#[derive(Clone, Copy)]
+enum Sort {
+    /// The ids 0 and 1 by turns, of rising clusters.
+    Turns,
+    /// The id 1, of rising clusters.
+    Ones,
+    /// Rising ids and masks, of one cluster.
+    Kept,
+    /// Glyphs that go, of falling clusters.
+    Falling,
+    /// By turns a glyph of one cluster and two that go, of falling clusters.
+    Twos,
+}
+
+/// The glyph at a place of a long line, and its cluster and mask.
+fn glyph_at(sort: Sort, place: u32) -> Glyph {
+    let third = place / 3;
+    match sort {
+        Sort::Turns => (place % 2, place, 0),
+        Sort::Ones => (1, place, 0),
+        Sort::Kept => (place, 30_000, place),
+        Sort::Falling => (0xFFFF, 29_999u32.saturating_sub(place), 5),
+        Sort::Twos => match place % 3 {
+            0 => (third, 40_000, 2),
+            1 => (0xFFFF, 27_000u32.saturating_sub(third), 1),
+            _ => (0xFFFF, 26_999u32.saturating_sub(third), 10),
+        },
+    }
+}
+
+/// Adds so many glyphs.
+fn fill(buffer: &mut hb_buffer_t, sort: Sort, count: u32) -> Result<(), BufferError> {
+    for place in 0..count {
+        buffer.add(record(glyph_at(sort, place)))?;
+    }
+    Ok(())
+}
+
+/// Makes calls so many times.
+fn repeat(buffer: &mut hb_buffer_t, times: u32, calls: &[Call]) -> Result<(), BufferError> {
+    for _ in 0..times {
+        make_all(buffer, calls)?;
+    }
+    Ok(())
+}
+
+/// Adds glyphs by turns with positions, and passes each with a mark.
+fn turn_and_mark(buffer: &mut hb_buffer_t) -> Result<(), BufferError> {
+    fill(buffer, Sort::Turns, 10_000)?;
+    make(buffer, Call::Number)?;
+    for i in 0..10_000usize {
+        buffer.unsafe_to_break(Some(i), Some(i + 2));
+        make(buffer, Call::Pass)?;
+    }
+    Ok(())
+}
+
+/// The last glyph that is kept.
+static LAST: [Step; 3] = [
+    Step::Has(Fact::Long(5_000)),
+    Step::Has(Fact::AdvanceAt(4_999, 9_998)),
+    Step::Has(Fact::MaskAt(4_999, 3)),
+];
 
 /// Ten thousand glyphs are added, passed with a mark at each step, and every second one goes, with positions.
 /// With a call that is quadratic this does not end in time.
 #[test]
-fn long_line(rt: HostRuntime) -> Result<(), Fail> {
+fn long_line(rt: HostRuntime) {
     let mut buffer = hb_buffer_t::new(rt.alloc(), 1_000_000, 0);
-    add_by_turns(&mut buffer)?;
-    number_positions(&rt, &mut buffer)?;
-    mark_each(&rt, &mut buffer);
+    wanted(&rt, turn_and_mark(&mut buffer).is_ok(), "marks");
     buffer.delete_glyphs_inplace(|glyph| glyph.glyph_id == 1);
-    wanted(
-        &rt,
-        is_last(&buffer, 9_998, 3),
-        "the last glyph that is kept",
-    );
-    Ok(())
+    walk(&rt, &mut buffer, "the last glyph that is kept", &LAST);
 }
 
-/// Adds ten thousand glyphs with the ids 0 and 1 by turns.
-fn add_by_turns(buffer: &mut hb_buffer_t) -> Result<(), BufferError> {
-    for i in 0..10_000u32 {
-        buffer.add(record((i % 2, i, 0)))?;
-    }
-    Ok(())
-}
-
-/// Passes each glyph with a mark.
-fn mark_each(rt: &impl Abort, buffer: &mut hb_buffer_t) {
-    for i in 0..10_000usize {
-        buffer.unsafe_to_break(Some(i), Some(i + 2));
-        pass(rt, buffer);
-    }
-}
-
-/// Whether the last of five thousand glyphs has this advance and this mask.
-fn is_last(buffer: &hb_buffer_t, advance: i32, mask: u32) -> bool {
-    buffer.len() == 5_000
-        && buffer.has_positions()
-        && buffer.pos(4_999).x_advance == advance
-        && buffer.info(4_999).mask == mask
-}
-
-/// Kept glyphs that share a cluster, while glyphs that go behind them have ever lower ones: first one after
-/// another, then by twos with a kept glyph before them, which each time joins those before it.
-#[test]
-fn long_run(rt: HostRuntime) -> Result<(), Fail> {
-    let mut buffer = hb_buffer_t::new(rt.alloc(), 1_000_000, 0);
-    join_runs(&rt, &mut buffer)?;
-    wanted(&rt, are_joined(&buffer), "glyphs that are joined");
-    wanted(
-        &rt,
-        is_mask_and_advance(&buffer, 3_994, 7_000),
-        "a mask and an advance",
-    );
-    Ok(())
-}
-
-/// Adds the glyphs of both sorts, and takes those out that go.
-fn join_runs(rt: &impl Abort, buffer: &mut hb_buffer_t) -> Result<(), BufferError> {
-    add_one_after_another(buffer)?;
-    add_by_twos(buffer)?;
-    number_positions(rt, buffer)?;
-    take_out_deleted(buffer);
-    Ok(())
-}
-
-/// Whether five thousand glyphs have this mask where the first part ends, and this advance where the second begins.
-fn is_mask_and_advance(buffer: &hb_buffer_t, mask: u32, advance: i32) -> bool {
-    buffer.len() == 5_000
-        && buffer.has_positions()
-        && buffer.info(3_999).mask == mask
-        && buffer.pos(4_000).x_advance == advance
+/// Adds glyphs that are kept and glyphs that go.
+fn fill_with_runs(buffer: &mut hb_buffer_t) -> Result<(), BufferError> {
+    fill(buffer, Sort::Kept, 4_000)?;
+    fill(buffer, Sort::Falling, 3_000)?;
+    fill(buffer, Sort::Twos, 3_000)
 }
 
 /// Whether the kept glyphs have one cluster, and are marked unsafe to concatenate alone.
@@ -86,142 +96,89 @@ fn are_joined(buffer: &hb_buffer_t) -> bool {
             return false;
         }
     }
-    true
+    buffer.len() == 5_000
 }
 
-/// Adds glyphs of one cluster, and behind them glyphs that go, of ever lower ones.
-fn add_one_after_another(buffer: &mut hb_buffer_t) -> Result<(), BufferError> {
-    for i in 0..4_000u32 {
-        buffer.add(record((i, 30_000, i)))?;
-    }
-    for i in 0..3_000u32 {
-        buffer.add(record((0xFFFF, 29_999 - i, 5)))?;
+/// A mask where the first part ends, and an advance where the second begins.
+static JOINED: [Step; 4] = [
+    Step::Do(Call::Number),
+    Step::Do(Call::Remove),
+    Step::Has(Fact::MaskAt(3_999, 3_994)),
+    Step::Has(Fact::AdvanceAt(4_000, 7_000)),
+];
+
+/// Kept glyphs that share a cluster, while glyphs that go behind them have ever lower ones: first one after
+/// another, then by twos with a kept glyph before them, which each time joins those before it.
+#[test]
+fn long_run(rt: HostRuntime) {
+    let mut buffer = hb_buffer_t::new(rt.alloc(), 1_000_000, 0);
+    wanted(&rt, fill_with_runs(&mut buffer).is_ok(), "runs");
+    walk(&rt, &mut buffer, "glyphs that are taken out", &JOINED);
+    wanted(&rt, are_joined(&buffer), "glyphs that are joined");
+}
+
+/// Adds ten thousand glyphs at the end, while the cursor goes on from the front.
+fn add_at_end(buffer: &mut hb_buffer_t) -> Result<(), BufferError> {
+    buffer.sync();
+    for i in 0..10_000u32 {
+        buffer.add(record((2, i, 0)))?;
+        make(buffer, Call::Pass)?;
     }
     Ok(())
 }
 
-/// Adds glyphs of one cluster, and behind each two glyphs that go, of ever lower ones.
-fn add_by_twos(buffer: &mut hb_buffer_t) -> Result<(), BufferError> {
-    for i in 0..1_000u32 {
-        buffer.add(record((i, 40_000, 2)))?;
-        buffer.add(record((0xFFFF, 27_000 - i, 1)))?;
-        buffer.add(record((0xFFFF, 26_999 - i, 10)))?;
-    }
-    Ok(())
+/// Thirty thousand glyphs: the last copy, and the first glyph at the end. Positions go.
+static GROWN: [Step; 7] = [
+    Step::Has(Fact::Long(30_000)),
+    Step::Has(Fact::At(10_000)),
+    Step::Has(Fact::ClusterAt(19_999, 9_999)),
+    Step::Has(Fact::ClusterAt(20_000, 0)),
+    Step::Do(Call::ClearPositions),
+    Step::Do(Call::DropPositions),
+    Step::Do(Call::Sync),
+];
+
+/// The last glyph.
+static SHORT: [Step; 2] = [
+    Step::Has(Fact::Long(1)),
+    Step::Has(Fact::ClusterAt(0, 9_999)),
+];
+
+/// Adds ten thousand glyphs, puts a copy in before each, and adds as many at the end.
+fn grow(buffer: &mut hb_buffer_t) -> Result<(), BufferError> {
+    fill(buffer, Sort::Ones, 10_000)?;
+    repeat(buffer, 10_000, &[Call::Copy, Call::Pass])?;
+    add_at_end(buffer)
+}
+
+/// Takes all glyphs but one out, and turns what is left round again and again.
+fn shorten(buffer: &mut hb_buffer_t) -> Result<(), BufferError> {
+    repeat(buffer, 29_999, &[Call::Skip])?;
+    repeat(buffer, 10_000, &[Call::Reverse])
 }
 
 /// A line of ten thousand glyphs gets a copy of each, and as many glyphs at its end while the cursor goes on,
 /// and is turned round again and again once it is short and its positions are gone.
 #[test]
-fn long_line_grows(rt: HostRuntime) -> Result<(), Fail> {
+fn long_line_grows(rt: HostRuntime) {
     let mut buffer = hb_buffer_t::new(rt.alloc(), 1_000_000, 0);
-    Ok(assert_grows(&rt, &mut buffer)?)
-}
-
-fn assert_grows(rt: &impl Abort, buffer: &mut hb_buffer_t) -> Result<(), BufferError> {
-    copy_each(rt, buffer)?;
-    add_at_end(rt, buffer)?;
-    wanted(rt, is_at(buffer, 30_000, 10_000), "thirty thousand glyphs");
-    wanted(rt, has_cluster(buffer, 19_999, 9_999), "the last copy");
-    wanted(
-        rt,
-        has_cluster(buffer, 20_000, 0),
-        "the first glyph at the end",
-    );
-    buffer.clear_positions()?;
-    shorten(rt, buffer);
-    wanted(
-        rt,
-        buffer.len() == 1 && has_cluster(buffer, 0, 9_999),
-        "the last glyph",
-    );
-    Ok(())
-}
-
-/// Whether a glyph has this cluster.
-fn has_cluster(buffer: &hb_buffer_t, place: usize, cluster: u32) -> bool {
-    place < buffer.len() && buffer.info(place).cluster == cluster
-}
-
-/// Adds ten thousand glyphs and puts a copy in before each.
-fn copy_each(rt: &impl Abort, buffer: &mut hb_buffer_t) -> Result<(), BufferError> {
-    for i in 0..10_000u32 {
-        buffer.add(record((1, i, 0)))?;
-    }
-    for _ in 0..10_000u32 {
-        copy(rt, buffer)?;
-        pass(rt, buffer);
-    }
-    Ok(())
-}
-
-/// Adds ten thousand glyphs at the end, while the cursor goes on from the front.
-fn add_at_end(rt: &impl Abort, buffer: &mut hb_buffer_t) -> Result<(), BufferError> {
-    buffer.sync();
-    for i in 0..10_000u32 {
-        buffer.add(record((2, i, 0)))?;
-        pass(rt, buffer);
-    }
-    Ok(())
-}
-
-/// Drops the positions and all glyphs but one, and turns what is left round again and again.
-fn shorten(rt: &impl Abort, buffer: &mut hb_buffer_t) {
-    buffer.drop_positions();
-    buffer.sync();
-    for _ in 1..30_000u32 {
-        skip(rt, buffer);
-    }
-    turn_again(buffer);
-}
-
-/// Turns a line round again and again.
-fn turn_again(buffer: &mut hb_buffer_t) {
-    for _ in 0..10_000u32 {
-        buffer.reverse();
-    }
+    wanted(&rt, grow(&mut buffer).is_ok(), "a line that grows");
+    walk(&rt, &mut buffer, "thirty thousand glyphs", &GROWN);
+    wanted(&rt, shorten(&mut buffer).is_ok(), "a line that is turned");
+    walk(&rt, &mut buffer, "the last glyph", &SHORT);
 }
 
 /// Puts a run of three glyphs in at every tenth place of a line of a hundred thousand. Where `back` is set, the
 /// cursor goes to the front between.
-fn insert_runs(rt: &impl Abort, buffer: &mut hb_buffer_t, back: bool) -> Result<(), BufferError> {
-    add_ones(buffer)?;
+fn insert_runs(buffer: &mut hb_buffer_t, back: bool) -> Result<(), BufferError> {
+    fill(buffer, Sort::Ones, 100_000)?;
     for i in 0..10_000usize {
         if back {
             buffer.sync();
         }
-        go_to(rt, buffer, 13 * i);
-        put_three_out(buffer)?;
+        make(buffer, Call::MoveTo(13 * i))?;
+        repeat(buffer, 3, &[Call::Output(2)])?;
     }
-    Ok(())
-}
-
-/// Adds a hundred thousand glyphs.
-fn add_ones(buffer: &mut hb_buffer_t) -> Result<(), BufferError> {
-    for i in 0..100_000u32 {
-        buffer.add(record((1, i, 0)))?;
-    }
-    Ok(())
-}
-
-/// Puts three glyphs in before the cursor.
-fn put_three_out(buffer: &mut hb_buffer_t) -> Result<(), BufferError> {
-    for _ in 0..3u32 {
-        buffer.output_glyph(2)?;
-    }
-    Ok(())
-}
-
-/// Asserts what `insert_runs` leaves.
-fn assert_runs(rt: &impl Abort, alloc: Global, back: bool) -> Result<(), BufferError> {
-    let mut buffer = hb_buffer_t::new(alloc, 1_000_000, 0);
-    insert_runs(rt, &mut buffer, back)?;
-    wanted(rt, has_runs(&buffer), "the line with its runs");
-    wanted(
-        rt,
-        buffer.backtrack_len() == 129_990,
-        "the place behind the last run",
-    );
     Ok(())
 }
 
@@ -237,14 +194,27 @@ fn has_runs(buffer: &hb_buffer_t) -> bool {
     buffer.len() == 130_000
 }
 
+/// Asserts what `insert_runs` leaves, with the cursor behind the last run.
+fn assert_runs(rt: &impl Abort, alloc: Global, back: bool) {
+    let mut buffer = hb_buffer_t::new(alloc, 1_000_000, 0);
+    wanted(rt, insert_runs(&mut buffer, back).is_ok(), "runs");
+    wanted(rt, has_runs(&buffer), "the line with its runs");
+    walk(
+        rt,
+        &mut buffer,
+        "the cursor",
+        &[Step::Has(Fact::At(129_990))],
+    );
+}
+
 /// From the front on this takes as many steps as the line is long.
 #[test]
-fn runs_from_front(rt: HostRuntime) -> Result<(), Fail> {
-    Ok(assert_runs(&rt, rt.alloc(), false)?)
+fn runs_from_front(rt: HostRuntime) {
+    assert_runs(&rt, rt.alloc(), false);
 }
 
 /// With the cursor sent to the front between, each move costs its distance.
 #[test]
-fn runs_from_front_each(rt: HostRuntime) -> Result<(), Fail> {
-    Ok(assert_runs(&rt, rt.alloc(), true)?)
+fn runs_from_front_each(rt: HostRuntime) {
+    assert_runs(&rt, rt.alloc(), true);
 }

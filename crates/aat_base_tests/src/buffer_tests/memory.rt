@@ -1,196 +1,167 @@
 //! Growth that is refused, and what needs none.
-use super::lines::{
-    advances_are, clusters_are, copy, go_to, insert, is_at, masks_are, number_positions, pass,
-    record, replace, skip, take_out_deleted,
-};
+
 use crate::asserting::wanted;
-use aat_buffer::{BufferError, BufferFlags, hb_buffer_t};
+use crate::buffer_tests::lines::{BARE, record};
+use crate::buffer_tests::steps::{Call, Fact, Step, make_all, walk};
+use aat_buffer::{BufferError, hb_buffer_t, hb_glyph_info_t};
 use linked_list_allocator::LocalHeap;
-use std::alloc::{Allocator, Global};
+use std::alloc::{AllocError, Allocator, Global};
 use std::mem::forget;
 use std::process::Abort;
 use std::test::Fail;
 
+/// Runs of two glyphs.
+const RUN: [hb_glyph_info_t; 2] = [
+    hb_glyph_info_t {
+        glyph_id: 6,
+        ..BARE
+    },
+    hb_glyph_info_t {
+        glyph_id: 7,
+        ..BARE
+    },
+];
+
+const LATER_RUN: [hb_glyph_info_t; 2] = [
+    hb_glyph_info_t {
+        glyph_id: 7,
+        ..BARE
+    },
+    hb_glyph_info_t {
+        glyph_id: 8,
+        ..BARE
+    },
+];
+
 /// Takes what is left of a heap, for good.
 fn exhaust(rt: &impl Abort, heap: &LocalHeap) {
     for _ in 0..1000u32 {
-        if !is_taken(heap) {
-            return;
+        match Vec::<u8, &LocalHeap>::with_capacity(heap, 16) {
+            Ok(block) => forget(block),
+            Err(_) => return,
         }
     }
     wanted(rt, false, "a heap that can be used up");
 }
 
-/// Takes a least block of a heap for good, where there is one.
-fn is_taken(heap: &LocalHeap) -> bool {
-    match Vec::<u8, &LocalHeap>::with_capacity(heap, 16) {
-        Ok(block) => {
-            forget(block);
-            true
-        }
-        Err(_) => false,
-    }
-}
-
-/// A line that has no room for one glyph more, so that the next growth asks for memory.
-fn full_line<'a>(
-    rt: &impl Abort,
-    alloc: Global,
-    heap: &'a LocalHeap,
-) -> Result<hb_buffer_t<&'a LocalHeap>, Fail> {
-    let room = room_of_one(rt, alloc)?;
-    let mut buffer = hb_buffer_t::new(heap, 100, 0);
-    add_fives(rt, &mut buffer, room)?;
-    Ok(buffer)
-}
-
-/// Adds so many glyphs.
-fn add_fives<A: Allocator + Copy>(
-    rt: &impl Abort,
-    buffer: &mut hb_buffer_t<A>,
-    count: usize,
-) -> Result<(), BufferError> {
-    assert!(rt; count <= 100);
-    for cluster in 0..count as u32 {
-        buffer.add(record((5, cluster, 0)))?;
-    }
-    Ok(())
-}
-
-/// How many glyphs go into the room that a line has with its first one.
-fn room_of_one(rt: &impl Abort, alloc: Global) -> Result<usize, Fail> {
-    let heap = LocalHeap::new(alloc, 4096)?;
-    let mut probe = hb_buffer_t::new(&heap, 100, 0);
-    Ok(room_in(rt, &heap, &mut probe)?)
-}
-
-/// How many glyphs go into the room that an empty line over a heap has with its first one.
-fn room_in<A: Allocator + Copy>(
-    rt: &impl Abort,
-    heap: &LocalHeap,
-    probe: &mut hb_buffer_t<A>,
-) -> Result<usize, BufferError> {
-    probe.add(record((5, 0, 0)))?;
-    exhaust(rt, heap);
-    add_until_refused(probe);
-    wanted(rt, !probe.is_successful(), "a growth that is refused");
-    Ok(probe.len())
-}
-
-/// Adds glyphs, at most a hundred, until one is refused.
-fn add_until_refused<A: Allocator + Copy>(buffer: &mut hb_buffer_t<A>) {
-    for _ in 0..100u32 {
-        if buffer.add(record((5, 0, 0))).is_err() {
+/// Adds glyphs of rising clusters, at most a hundred, until one is refused or so many are there.
+fn add_up_to<A: Allocator + Copy>(buffer: &mut hb_buffer_t<A>, count: usize) {
+    for cluster in 0..100u32 {
+        if buffer.len() >= count || buffer.add(record((5, cluster, 0))).is_err() {
             return;
         }
     }
 }
 
-/// A call that takes memory.
-#[derive(Clone, Copy, PartialEq, Eq)]
-enum Growth {
-    Add,
-    Output,
-    Copy,
-    Insert,
-    /// Positions, where none stand.
-    Positions,
+/// How many glyphs go into the room that a line has with its first one.
+fn room_of_one(rt: &impl Abort, alloc: Global) -> Result<usize, AllocError> {
+    let heap = LocalHeap::new(alloc, 4096)?;
+    let mut probe = hb_buffer_t::new(&heap, 100, 0);
+    add_up_to(&mut probe, 1);
+    exhaust(rt, &heap);
+    add_up_to(&mut probe, 100);
+    wanted(rt, !probe.is_successful(), "a growth that is refused");
+    Ok(probe.len())
 }
 
-/// The calls that take memory.
-static GROWTHS: [Growth; 5] = [
-    Growth::Add,
-    Growth::Output,
-    Growth::Copy,
-    Growth::Insert,
-    Growth::Positions,
+/// The calls that take memory, where positions stand. Those that ask for positions come last.
+static GROWTHS: [(&str, Call); 4] = [
+    ("add", Call::Add((6, 0, 0))),
+    ("output_glyph", Call::Output(6)),
+    ("copy_glyph", Call::Copy),
+    ("insert_glyphs", Call::Insert(&RUN)),
 ];
 
-/// Grows a line.
-fn grow_by<A: Allocator + Copy>(
-    rt: &impl Abort,
-    buffer: &mut hb_buffer_t<A>,
-    growth: Growth,
-) -> Result<(), BufferError> {
-    match growth {
-        Growth::Add => buffer.add(record((6, 0, 0))),
-        Growth::Output => buffer.output_glyph(6),
-        Growth::Copy => copy(rt, buffer),
-        Growth::Insert => insert(buffer, &[record((6, 0, 0)), record((7, 0, 0))]),
-        Growth::Positions => buffer.clear_positions(),
-    }
-}
+/// A full line is placed, with the cursor at the second glyph, or it is not placed.
+static PLACED: [Step; 3] = [
+    Step::Do(Call::Number),
+    Step::Do(Call::MoveTo(1)),
+    Step::Has(Fact::Successful(true)),
+];
 
-/// Asserts that each glyph of a full line is as it was added, with its position where positions stand.
-fn assert_full<A: Allocator + Copy>(rt: &impl Abort, buffer: &hb_buffer_t<A>) {
+static NOT_PLACED: [Step; 2] = [Step::Do(Call::MoveTo(1)), Step::Has(Fact::Successful(true))];
+
+/// What a refusal leaves of both.
+static STILL_PLACED: [Step; 3] = [
+    Step::Has(Fact::Successful(false)),
+    Step::Has(Fact::At(1)),
+    Step::Has(Fact::Positions(true)),
+];
+
+static STILL_NOT_PLACED: [Step; 3] = [
+    Step::Has(Fact::Successful(false)),
+    Step::Has(Fact::At(1)),
+    Step::Has(Fact::Positions(false)),
+];
+
+/// Whether each glyph of a line is as it was added, with its position where positions stand.
+fn is_as_added<A: Allocator + Copy>(buffer: &hb_buffer_t<A>) -> bool {
     for i in 0..buffer.len() {
-        assert!(rt; *buffer.info(i) == record((5, i as u32, 0)));
-        assert!(rt; !buffer.has_positions() || buffer.pos(i).x_advance == i as i32);
+        let is_placed = !buffer.has_positions() || buffer.pos(i).x_advance as i64 == i as i64;
+        if !is_placed || *buffer.info(i) != record((5, (i % 100) as u32, 0)) {
+            return false;
+        }
     }
+    true
 }
 
-/// Asserts that growing a line is refused, and that nothing else of it has changed.
-fn assert_growth_refused<A: Allocator + Copy>(
-    rt: &impl Abort,
-    buffer: &mut hb_buffer_t<A>,
-    growth: Growth,
-) {
-    let (len, place) = (buffer.len(), buffer.backtrack_len());
-    wanted(rt, buffer.is_successful(), "a line that has not failed");
-    let answer = grow_by(rt, buffer, growth);
-    wanted(rt, answer == Err(BufferError::OutOfMemory), "a refusal");
-    wanted(rt, !buffer.is_successful(), "a line that has failed");
-    wanted(rt, is_at(buffer, len, place), "the length and the cursor");
-    let had_positions = growth != Growth::Positions;
-    wanted(rt, buffer.has_positions() == had_positions, "the positions");
-    assert_full(rt, buffer);
-}
-
-/// A full line with its cursor at the second glyph, and with positions but where they are what is asked for.
-fn line_to_grow<'a>(
+/// Makes a call over a line of so many glyphs that has no room for one more, while its heap has nothing left, with
+/// steps before and behind.
+fn assert_refused(
     rt: &impl Abort,
     alloc: Global,
-    heap: &'a LocalHeap,
-    growth: Growth,
-) -> Result<hb_buffer_t<&'a LocalHeap>, Fail> {
-    let mut buffer = full_line(rt, alloc, heap)?;
-    number_for(rt, &mut buffer, growth)?;
-    go_to(rt, &mut buffer, 1);
-    Ok(buffer)
-}
-
-/// Numbers the positions, but where they are what is asked for.
-fn number_for<A: Allocator + Copy>(
-    rt: &impl Abort,
-    buffer: &mut hb_buffer_t<A>,
-    growth: Growth,
-) -> Result<(), BufferError> {
-    if growth == Growth::Positions {
-        return Ok(());
-    }
-    number_positions(rt, buffer)
-}
-
-/// Asserts that growing a line is refused where its heap has nothing left.
-fn assert_refused_without_memory(
-    rt: &impl Abort,
-    alloc: Global,
-    growth: Growth,
-) -> Result<(), Fail> {
+    count: usize,
+    (name, call): (&str, Call),
+    (before, after): (&[Step], &[Step]),
+) -> Result<(), AllocError> {
     let heap = LocalHeap::new(alloc, 4096)?;
-    let mut buffer = line_to_grow(rt, alloc, &heap, growth)?;
+    let mut buffer = hb_buffer_t::new(&heap, 100, 0);
+    add_up_to(&mut buffer, count);
+    walk(rt, &mut buffer, name, before);
     exhaust(rt, &heap);
-    assert_growth_refused(rt, &mut buffer, growth);
+    let refusal = [Step::Fails(call, BufferError::OutOfMemory)];
+    walk(rt, &mut buffer, name, &refusal);
+    walk(rt, &mut buffer, name, after);
+    wanted(rt, buffer.len() == count && is_as_added(&buffer), name);
     Ok(())
 }
 
 /// What takes memory is refused without it, and leaves the line, the cursor and the positions as they were.
 #[test]
 fn out_of_memory(rt: HostRuntime) -> Result<(), Fail> {
-    for growth in &GROWTHS {
-        assert_refused_without_memory(&rt, rt.alloc(), *growth)?;
+    let count = room_of_one(&rt, rt.alloc())?;
+    for (name, call) in &GROWTHS {
+        let steps = (&PLACED[..], &STILL_PLACED[..]);
+        assert_refused(&rt, rt.alloc(), count, (name, *call), steps)?;
     }
-    Ok(())
+    let positions = ("clear_positions", Call::ClearPositions);
+    let steps = (&NOT_PLACED[..], &STILL_NOT_PLACED[..]);
+    Ok(assert_refused(&rt, rt.alloc(), count, positions, steps)?)
+}
+
+/// Asks for memory in each way: ten glyphs, one at the front and a copy of the next, a run, and positions.
+static GROWING: [Call; 6] = [
+    Call::AddClusters(&[0, 1, 2, 3, 4, 5, 6, 7, 8, 9]),
+    Call::Output(6),
+    Call::Copy,
+    Call::Insert(&LATER_RUN),
+    Call::ClearOutput,
+    Call::ClearPositions,
+];
+
+/// Makes these calls over a heap of so many bytes, until one is refused. Without enough memory the line has failed.
+fn grown(
+    rt: &impl Abort,
+    alloc: Global,
+    size: usize,
+) -> Result<Result<(), BufferError>, AllocError> {
+    let heap = LocalHeap::new(alloc, size)?;
+    let mut buffer = hb_buffer_t::new(&heap, 100, 0);
+    let answer = make_all(&mut buffer, &GROWING);
+    let is_told = buffer.is_successful() == answer.is_ok();
+    wanted(rt, is_told, "whether the line has failed");
+    wanted(rt, answer.is_err() || buffer.len() == 14, "fourteen glyphs");
+    Ok(answer)
 }
 
 /// Each growth is refused in turn, by a heap that is too small for it; with enough of it none is.
@@ -198,175 +169,104 @@ fn out_of_memory(rt: HostRuntime) -> Result<(), Fail> {
 fn each_growth_refused(rt: HostRuntime) -> Result<(), Fail> {
     let mut refused = false;
     for step in 0..80usize {
-        if grows_over(&rt, rt.alloc(), step * 32)? {
+        let answer = grown(&rt, rt.alloc(), step * 32)?;
+        if answer == Ok(()) {
             wanted(&rt, refused, "a growth that was refused before");
             return Ok(());
         }
+        assert!(&rt; answer == Err(BufferError::OutOfMemory), "step {step}");
         refused = true;
     }
     Err(Fail::new("each heap was too small"))
 }
 
-/// Whether a heap of so many bytes is enough. Without enough memory the line fails for that reason.
-fn grows_over(rt: &impl Abort, alloc: Global, size: usize) -> Result<bool, Fail> {
-    let heap = LocalHeap::new(alloc, size)?;
-    let mut buffer = hb_buffer_t::new(&heap, 100, 0);
-    let answer = grow(&mut buffer);
-    wanted(
-        rt,
-        buffer.is_successful() == answer.is_ok(),
-        "whether the line has failed",
-    );
-    wanted(
-        rt,
-        answer.is_err() || buffer.len() == 14,
-        "the glyphs of the grown line",
-    );
-    wanted(
-        rt,
-        answer.is_ok() || answer == Err(BufferError::OutOfMemory),
-        "want of memory",
-    );
-    Ok(answer.is_ok())
-}
+/// Six glyphs with their places as ids and clusters, and with positions.
+static SIX: [Step; 3] = [
+    Step::Do(Call::AddAll(&[
+        (0, 0, 0),
+        (1, 1, 0),
+        (2, 2, 0),
+        (3, 3, 0),
+        (4, 4, 0),
+        (5, 5, 0),
+    ])),
+    Step::Do(Call::Number),
+    Step::Do(Call::MoveTo(6)),
+];
 
-/// Asks for memory in each way.
-fn grow<A: Allocator + Copy>(buffer: &mut hb_buffer_t<A>) -> Result<(), BufferError> {
-    grow_by_glyphs(buffer)?;
-    insert(buffer, &[record((7, 0, 0)), record((8, 0, 0))])?;
-    buffer.clear_output()?;
-    buffer.clear_positions()
-}
+/// The line is turned round, one glyph is passed and the next is deleted; parts are marked and merged, and the deleted
+/// glyph is taken out.
+static TURNED_AND_MARKED: [Step; 14] = [
+    Step::Do(Call::Reverse),
+    Step::Do(Call::Sync),
+    Step::Do(Call::Pass),
+    Step::Do(Call::Replace(0xFFFF)),
+    Step::Do(Call::AskForConcat),
+    Step::Do(Call::Concat(Some(5), None)),
+    Step::Do(Call::Break(Some(3), None)),
+    Step::Do(Call::BreakOut(Some(3), Some(5))),
+    Step::Do(Call::Merge(3, 5)),
+    Step::Has(Fact::Clusters(&[5, 4, 3, 1, 1, 0])),
+    Step::Has(Fact::Masks(&[0, 0, 0, 0, 3, 2])),
+    Step::Do(Call::Remove),
+    Step::Has(Fact::Clusters(&[4, 3, 1, 1, 0])),
+    Step::Has(Fact::Advances(&[5, 3, 2, 1, 0])),
+];
 
-/// Adds ten glyphs, puts one in at the front and a copy of the next.
-fn grow_by_glyphs<A: Allocator + Copy>(buffer: &mut hb_buffer_t<A>) -> Result<(), BufferError> {
-    for cluster in 0..10u32 {
-        buffer.add(record((5, cluster, 0)))?;
-    }
-    buffer.output_glyph(6)?;
-    copy_if_any(buffer)
-}
-
-/// Puts a copy of the glyph at the cursor in before it, if there is one.
-fn copy_if_any<A: Allocator + Copy>(buffer: &mut hb_buffer_t<A>) -> Result<(), BufferError> {
-    if buffer.backtrack_len() < buffer.len() {
-        return buffer.copy_glyph();
-    }
-    Ok(())
-}
-
-/// Adds six glyphs with their places as ids and clusters, and with positions.
-fn add_six<A: Allocator + Copy>(
-    rt: &impl Abort,
-    buffer: &mut hb_buffer_t<A>,
-) -> Result<(), BufferError> {
-    for cluster in 0..6u32 {
-        buffer.add(record((cluster, cluster, 0)))?;
-    }
-    number_positions(rt, buffer)
-}
-
-/// Turns a line of six glyphs round, passes one and replaces the next.
-fn turn_and_replace<A: Allocator + Copy>(rt: &impl Abort, buffer: &mut hb_buffer_t<A>) {
-    wanted(rt, buffer.len() == 6, "six glyphs");
-    go_to(rt, buffer, 6);
-    buffer.reverse();
-    buffer.sync();
-    pass(rt, buffer);
-    replace(rt, buffer, 0xFFFF);
-}
-
-/// Marks and merges parts of that line, and takes the replaced glyph out.
-fn mark_and_remove<A: Allocator + Copy>(rt: &impl Abort, buffer: &mut hb_buffer_t<A>) {
-    buffer.set_flags(BufferFlags::PRODUCE_UNSAFE_TO_CONCAT);
-    buffer.unsafe_to_concat(Some(5), None);
-    buffer.unsafe_to_break(Some(3), None);
-    buffer.unsafe_to_break_from_outbuffer(Some(3), Some(5));
-    buffer.merge_clusters(3, 5);
-    wanted(
-        rt,
-        clusters_are(buffer, &[5, 4, 3, 1, 1, 0]),
-        "clusters that are merged",
-    );
-    wanted(rt, masks_are(buffer, &[0, 0, 0, 0, 3, 2]), "masks");
-    take_out_deleted(buffer);
-    wanted(
-        rt,
-        clusters_are(buffer, &[4, 3, 1, 1, 0]),
-        "clusters that are left",
-    );
-    wanted(
-        rt,
-        advances_are(buffer, &[5, 3, 2, 1, 0]),
-        "advances that are left",
-    );
-}
-
-/// Merges what is left, and changes glyphs and positions.
-fn merge_and_change<A: Allocator + Copy>(rt: &impl Abort, buffer: &mut hb_buffer_t<A>) {
-    buffer.merge_out_clusters(0, 9);
-    wanted(rt, clusters_are(buffer, &[0, 0, 0, 0, 0]), "one cluster");
-    change_at_cursor(rt, buffer);
-    change_first(rt, buffer);
-    wanted(rt, advances_are(buffer, &[6, 3, 2, 1, 0]), "advances");
-}
-
-/// Changes the glyph at the cursor.
-fn change_at_cursor<A: Allocator + Copy>(rt: &impl Abort, buffer: &mut hb_buffer_t<A>) {
-    assert!(rt; buffer.backtrack_len() < buffer.len());
-    buffer.cur_mut().cluster = 7;
-    assert!(rt; buffer.backtrack_len() < buffer.len() && buffer.cur().cluster == 7);
-}
-
-/// Changes the first glyph and its position.
-fn change_first<A: Allocator + Copy>(rt: &impl Abort, buffer: &mut hb_buffer_t<A>) {
-    assert!(rt; 0 < buffer.len());
-    buffer.info_mut(0).mask = 9;
-    assert!(rt; buffer.has_positions() && 0 < buffer.len() && buffer.pos(0).x_advance == 5);
-    buffer.pos_mut(0).x_advance = 6;
-}
-
-/// Drops the positions and a glyph, goes to the end and back, and puts nothing in.
-fn drop_and_skip<A: Allocator + Copy>(rt: &impl Abort, buffer: &mut hb_buffer_t<A>) {
-    buffer.drop_positions();
-    skip(rt, buffer);
-    buffer.move_to(buffer.len());
-    wanted(
-        rt,
-        buffer.clear_output() == Ok(()),
-        "output that is cleared",
-    );
-    wanted(rt, insert(buffer, &[]) == Ok(()), "an empty run");
-    wanted(rt, clusters_are(buffer, &[0, 0, 0, 0]), "four glyphs");
-    wanted(rt, buffer.backtrack_len() == 0, "the front");
-    wanted(
-        rt,
-        buffer.all_glyphs_16() && buffer.is_successful(),
-        "no failure",
-    );
-}
+/// What is left is merged, glyphs and a position are changed, the positions and a glyph go, and nothing is put in.
+static MERGED_AND_DROPPED: [Step; 17] = [
+    Step::Do(Call::MergeOut(0, 9)),
+    Step::Has(Fact::Clusters(&[0, 0, 0, 0, 0])),
+    Step::Do(Call::Cluster(7)),
+    Step::Has(Fact::Clusters(&[7, 0, 0, 0, 0])),
+    Step::Do(Call::MaskFirst(9)),
+    Step::Do(Call::PlaceFirst(6)),
+    Step::Has(Fact::Advances(&[6, 3, 2, 1, 0])),
+    Step::Do(Call::DropPositions),
+    Step::Do(Call::Skip),
+    Step::Do(Call::MoveTo(4)),
+    Step::Do(Call::ClearOutput),
+    Step::Do(Call::Insert(&[])),
+    Step::Has(Fact::Clusters(&[0, 0, 0, 0])),
+    Step::Has(Fact::At(0)),
+    Step::Has(Fact::Small(true)),
+    Step::Has(Fact::Successful(true)),
+    Step::Has(Fact::Positions(false)),
+];
 
 /// What takes no memory does without it.
 #[test]
 fn without_memory(rt: HostRuntime) -> Result<(), Fail> {
     let heap = LocalHeap::new(rt.alloc(), 4096)?;
     let mut buffer = hb_buffer_t::new(&heap, 100, 0);
-    Ok(assert_without_memory(&rt, &heap, &mut buffer)?)
-}
-
-fn assert_without_memory<A: Allocator + Copy>(
-    rt: &impl Abort,
-    heap: &LocalHeap,
-    buffer: &mut hb_buffer_t<A>,
-) -> Result<(), BufferError> {
-    add_six(rt, buffer)?;
-    exhaust(rt, heap);
-    turn_and_replace(rt, buffer);
-    mark_and_remove(rt, buffer);
-    merge_and_change(rt, buffer);
-    drop_and_skip(rt, buffer);
+    walk(&rt, &mut buffer, "six glyphs", &SIX);
+    exhaust(&rt, &heap);
+    walk(&rt, &mut buffer, "turned and marked", &TURNED_AND_MARKED);
+    walk(&rt, &mut buffer, "merged and dropped", &MERGED_AND_DROPPED);
     Ok(())
 }
+
+/// Four glyphs, with a copy before each that the cursor has passed.
+static COPIED: [Step; 12] = [
+    Step::Do(Call::Add((0, 0, 0))),
+    Step::Do(Call::Copy),
+    Step::Do(Call::Pass),
+    Step::Do(Call::Add((1, 1, 0))),
+    Step::Do(Call::Copy),
+    Step::Do(Call::Pass),
+    Step::Do(Call::Add((2, 2, 0))),
+    Step::Do(Call::Copy),
+    Step::Do(Call::Pass),
+    Step::Do(Call::Add((3, 3, 0))),
+    Step::Do(Call::Copy),
+    Step::Do(Call::Pass),
+];
+
+static KEPT: [Step; 3] = [
+    Step::Do(Call::ClearOutput),
+    Step::Has(Fact::Clusters(&[0, 0, 1, 1, 2, 2, 3, 3])),
+    Step::Has(Fact::At(0)),
+];
 
 /// After the cursor has moved on over copies that went in, `clear_output` takes no memory and is not refused,
 /// and keeps them.
@@ -374,35 +274,8 @@ fn assert_without_memory<A: Allocator + Copy>(
 fn output_kept_without_memory(rt: HostRuntime) -> Result<(), Fail> {
     let heap = LocalHeap::new(rt.alloc(), 4096)?;
     let mut buffer = hb_buffer_t::new(&heap, 100, 0);
-    Ok(assert_output_kept(&rt, &heap, &mut buffer)?)
-}
-
-fn assert_output_kept<A: Allocator + Copy>(
-    rt: &impl Abort,
-    heap: &LocalHeap,
-    buffer: &mut hb_buffer_t<A>,
-) -> Result<(), BufferError> {
-    add_twice(rt, buffer)?;
-    exhaust(rt, heap);
-    wanted(rt, buffer.clear_output().is_ok(), "output that is cleared");
-    wanted(
-        rt,
-        clusters_are(buffer, &[0, 0, 1, 1, 2, 2, 3, 3]),
-        "the copies",
-    );
-    wanted(rt, buffer.backtrack_len() == 0, "the front");
-    Ok(())
-}
-
-/// Adds four glyphs, puts a copy in before each, and goes on behind it.
-fn add_twice<A: Allocator + Copy>(
-    rt: &impl Abort,
-    buffer: &mut hb_buffer_t<A>,
-) -> Result<(), BufferError> {
-    for cluster in 0..4u32 {
-        buffer.add(record((cluster, cluster, 0)))?;
-        copy(rt, buffer)?;
-        pass(rt, buffer);
-    }
+    walk(&rt, &mut buffer, "copies", &COPIED);
+    exhaust(&rt, &heap);
+    walk(&rt, &mut buffer, "output that is cleared", &KEPT);
     Ok(())
 }

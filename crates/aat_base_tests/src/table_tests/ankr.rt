@@ -1,140 +1,148 @@
 //! The anchor point table: each call once, at the ends of its range, and each refusal.
-use crate::asserting::wanted;
-use aat_font::{Ankr, FaceTables, GlyphId, Point, TableError, hb_font_t};
-use std::alloc::Global;
+
+use aat_described_fonts::{FontData, NO_TABLES, drop_font, font_of};
+use aat_font::{GlyphId, Point, TableError, hb_font_t};
+use std::alloc::{AllocError, Global};
+use std::process::Abort;
 use std::test::Fail;
 
-/// Rows of these glyphs, each with one point whose place tells them apart.
-fn rows(alloc: Global, glyphs: &[u16]) -> Result<Vec<(u16, Vec<Point>)>, Fail> {
-    let mut rows = Vec::new(alloc);
-    for glyph in glyphs {
-        let point = Point {
-            x: (*glyph % 1000) as i16,
-            y: -1,
-        };
-        rows.push((*glyph, vec![in alloc; point]?))?;
+/// Glyphs with their points.
+type Rows<'a> = &'a [(u16, &'a [Point])];
+
+/// Rows, a glyph, an index, and the point there or why the rows are refused.
+type Question<'a> = (Rows<'a>, u16, u16, Result<Option<Point>, TableError>);
+
+/// The point of a glyph in a font, if it has one.
+fn point_in(font: &hb_font_t, glyph: u16, index: u16) -> Option<Point> {
+    font.tables().ankr.as_ref()?.point(GlyphId(glyph), index)
+}
+
+/// The point of a glyph in a font of these rows.
+fn point_of(
+    alloc: Global,
+    rows: Rows,
+    glyph: u16,
+    index: u16,
+) -> Result<Option<Point>, TableError> {
+    let points = Some(rows);
+    let font = font_of(
+        alloc,
+        &FontData {
+            points,
+            ..NO_TABLES
+        },
+    )?;
+    let point = point_in(&font, glyph, index);
+    drop_font(font);
+    Ok(point)
+}
+
+/// Ends the test at a question with another answer, and tells its number.
+fn assert_points(rt: &impl Abort, alloc: Global, questions: &[Question]) {
+    for (number, (rows, glyph, index, point)) in questions.iter().enumerate() {
+        assert!(rt;
+            point_of(alloc, rows, *glyph, *index) == *point,
+            "question {number}"
+        );
     }
-    Ok(rows)
 }
 
-/// The point of a row.
-fn at(x: i16) -> Option<Point> {
-    Some(Point { x, y: -1 })
-}
+/// Points of rows, which their places tell apart.
+const AT_0: Point = Point { x: 0, y: -1 };
 
-/// The point of a row, where there is one.
-fn point_at(x: Option<i16>) -> Option<Point> {
-    at(x?)
-}
+const AT_7: Point = Point { x: 7, y: -1 };
 
-#[test]
-fn points_of_glyphs(rt: HostRuntime) -> Result<(), Fail> {
-    let ankr = Ankr::new(rows(rt.alloc(), &[0, 7, 65535])?)?;
-    for (glyph, index, x) in &POINTS {
-        let found = ankr.point(GlyphId(*glyph), *index);
-        assert!(rt; found == point_at(*x), "at {glyph} {index}");
-    }
-    drop(ankr);
-    Ok(())
-}
+const AT_9: Point = Point { x: 9, y: -1 };
 
-/// Glyphs, indexes and the points of rows for 0, 7 and 65535.
-static POINTS: [(u16, u16, Option<i16>); 10] = [
-    (0, 0, Some(0)),
-    (0, 1, None),
-    (0, 65535, None),
-    (1, 0, None),
-    (6, 0, None),
-    (7, 0, Some(7)),
-    (8, 0, None),
-    (65534, 0, None),
-    (65535, 0, Some(535)),
-    (65535, 65535, None),
+const AT_535: Point = Point { x: 535, y: -1 };
+
+/// Rows of one point for the glyphs 0, 7 and 65535.
+const THREE: Rows = &[(0, &[AT_0]), (7, &[AT_7]), (65535, &[AT_535])];
+
+static POINTS: [Question; 11] = [
+    (THREE, 0, 0, Ok(Some(AT_0))),
+    (THREE, 0, 1, Ok(None)),
+    (THREE, 0, 65535, Ok(None)),
+    (THREE, 1, 0, Ok(None)),
+    (THREE, 6, 0, Ok(None)),
+    (THREE, 7, 0, Ok(Some(AT_7))),
+    (THREE, 8, 0, Ok(None)),
+    (THREE, 65534, 0, Ok(None)),
+    (THREE, 65535, 0, Ok(Some(AT_535))),
+    (THREE, 65535, 65535, Ok(None)),
+    (&[(9, &[AT_9])], 9, 0, Ok(Some(AT_9))),
 ];
 
 #[test]
-fn points_to_the_last_index(rt: HostRuntime) -> Result<(), Fail> {
-    let points = many_points(rt.alloc())?;
-    let ankr = Ankr::new(vec![in rt.alloc(); (3, points)]?)?;
-    for (index, x, y) in [(0, -32768, 0), (65534, -32768, 0), (65535, 32767, -1)] {
-        let found = ankr.point(GlyphId(3), index);
-        assert!(rt; found == Some(Point { x, y }), "at {index}");
-    }
-    drop(ankr);
-    Ok(())
+fn points_of_glyphs(rt: HostRuntime) {
+    assert_points(&rt, rt.alloc(), &POINTS);
 }
 
 /// As many points as there are indexes, of which the last is another.
-fn many_points(alloc: Global) -> Result<Vec<Point>, Fail> {
-    let mut points = Vec::new(alloc);
-    for _ in 0..65535 {
-        points.push(Point { x: -32768, y: 0 })?;
-    }
+fn many_points(alloc: Global) -> Result<Vec<Point>, AllocError> {
+    let mut points = vec![in alloc; Point { x: -32768, y: 0 }; 65535]?;
     points.push(Point { x: 32767, y: -1 })?;
     Ok(points)
 }
 
 #[test]
-fn tables_without_points(rt: HostRuntime) -> Result<(), Fail> {
-    let alloc = rt.alloc();
-    wanted(&rt, has_no_points(Vec::new(alloc))?, "no row");
-    let rows = vec![in alloc; (0, Vec::new(alloc)), (65535, Vec::new(alloc))]?;
-    wanted(&rt, has_no_points(rows)?, "rows without points");
+fn points_to_the_last_index(rt: HostRuntime) -> Result<(), Fail> {
+    let points = many_points(rt.alloc())?;
+    let rows: [(u16, &[Point]); 1] = [(3, &points)];
+    let first = Some(Point { x: -32768, y: 0 });
+    let last = Some(Point { x: 32767, y: -1 });
+    let questions = [
+        (&rows[..], 3, 0, Ok(first)),
+        (&rows[..], 3, 65534, Ok(first)),
+        (&rows[..], 3, 65535, Ok(last)),
+    ];
+    assert_points(&rt, rt.alloc(), &questions);
     Ok(())
 }
 
-/// Whether a table of some rows has no point at the ends.
-fn has_no_points(rows: Vec<(u16, Vec<Point>)>) -> Result<bool, TableError> {
-    let table = Ankr::new(rows)?;
-    let answer = table.point(GlyphId(0), 0).is_none()
-        && table.point(GlyphId(0), 65535).is_none()
-        && table.point(GlyphId(65535), 0).is_none()
-        && table.point(GlyphId(65535), 65535).is_none();
-    drop(table);
-    Ok(answer)
-}
+/// Rows without points at the ends.
+const NO_POINTS: Rows = &[(0, &[]), (65535, &[])];
 
-/// Why rows of these glyphs are refused, if they are.
-fn fault(alloc: Global, glyphs: &[u16]) -> Result<Option<TableError>, Fail> {
-    Ok(Ankr::new(rows(alloc, glyphs)?).err())
-}
+static WITHOUT_POINTS: [Question; 8] = [
+    (&[], 0, 0, Ok(None)),
+    (&[], 0, 65535, Ok(None)),
+    (&[], 65535, 0, Ok(None)),
+    (&[], 65535, 65535, Ok(None)),
+    (NO_POINTS, 0, 0, Ok(None)),
+    (NO_POINTS, 0, 65535, Ok(None)),
+    (NO_POINTS, 65535, 0, Ok(None)),
+    (NO_POINTS, 65535, 65535, Ok(None)),
+];
 
 #[test]
-fn refused_rows(rt: HostRuntime) -> Result<(), Fail> {
-    for (glyphs, place) in &REFUSED {
-        let fault = fault(rt.alloc(), glyphs)?;
-        assert!(rt; fault == Some(TableError::NotRising(*place)), "{glyphs:?}");
-    }
-    assert!(rt; fault(rt.alloc(), &[65535])?.is_none());
-    Ok(())
+fn tables_without_points(rt: HostRuntime) {
+    assert_points(&rt, rt.alloc(), &WITHOUT_POINTS);
 }
 
-/// Glyphs of rows, and the first place where they do not rise.
-static REFUSED: [(&[u16], usize); 3] = [(&[5, 5], 1), (&[0, 65535, 65534], 2), (&[1, 2, 1, 0], 2)];
-
-/// The first point of the glyph 9.
-fn first_point(font: &hb_font_t) -> Option<Point> {
-    font.tables().ankr.as_ref()?.point(GlyphId(9), 0)
-}
-
-/// A font with one row.
-fn font_of(alloc: Global) -> Result<hb_font_t, Fail> {
-    let ankr = Ankr::new(rows(alloc, &[9])?)?;
-    Ok(hb_font_t::from_tables(FaceTables::default().with_ankr(ankr)))
-}
+/// Rows of one point that do not rise from a place on, and one row.
+static REFUSED: [Question; 4] = [
+    (
+        &[(5, &[AT_7]), (5, &[AT_7])],
+        5,
+        0,
+        Err(TableError::NotRising(1)),
+    ),
+    (
+        &[(0, &[AT_7]), (65535, &[AT_7]), (65534, &[AT_7])],
+        0,
+        0,
+        Err(TableError::NotRising(2)),
+    ),
+    (
+        &[(1, &[AT_7]), (2, &[AT_7]), (1, &[AT_7]), (0, &[AT_7])],
+        1,
+        0,
+        Err(TableError::NotRising(2)),
+    ),
+    (&[(65535, &[AT_7])], 65535, 0, Ok(Some(AT_7))),
+];
 
 #[test]
-fn fonts_with_points(rt: HostRuntime) -> Result<(), Fail> {
-    let font = font_of(rt.alloc())?;
-    let point = first_point(&font);
-    assert!(rt; point == at(9));
-    drop(font);
-    Ok(())
-}
-
-#[test]
-fn fonts_without_points(rt: HostRuntime) {
-    let tables = FaceTables::default();
-    assert!(rt; tables.ankr.is_none());
-    drop(tables);
+fn refused_rows(rt: HostRuntime) {
+    assert_points(&rt, rt.alloc(), &REFUSED);
 }

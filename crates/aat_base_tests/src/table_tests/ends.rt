@@ -1,127 +1,152 @@
-//! Questions at glyph, state and class 0 and 65535: tables without rows, classes at the largest number of classes, and
-//! fonts without classes and advances.
-use super::entry;
-use crate::asserting::wanted;
-use aat_font::{
-    ExtendedStateTable, FaceTables, Feat, GenericStateEntry, GlyphId, Pairs, TableError, hb_font_t,
-};
+//! Questions at class 0 and 65535: machines without rows, and classes at the largest number of classes.
+
+use crate::table_tests::ENTRY;
+use crate::table_tests::questions::{Answer, Question, Table, assert_answers};
+use aat_described_fonts::MachineData;
+use aat_font::GenericStateEntry;
 use std::alloc::Global;
-use std::test::Fail;
+use std::process::Abort;
 
-/// The ends of 16 bits.
-const ENDS: [u16; 2] = [0, 65535];
+/// A machine without classes and rules.
+const EMPTY: &MachineData<u16> = &MachineData {
+    class_count: 4,
+    classes: &[],
+    rules: &[],
+    idle: None,
+};
 
-#[test]
-fn lists_without_rows(rt: HostRuntime) -> Result<(), Fail> {
-    wanted(&rt, has_no_names(rt.alloc())?, "no names");
-    wanted(&rt, has_no_pairs(rt.alloc())?, "no pairs");
-    Ok(())
-}
-
-/// Whether names without rows answer nothing.
-fn has_no_names(alloc: Global) -> Result<bool, TableError> {
-    let feat = Feat::new(alloc, &[])?;
-    let answer = feat.find(0).is_none() && feat.find(65535).is_none();
-    drop(feat);
-    Ok(answer)
-}
-
-/// Whether pairs without rows answer nothing.
-fn has_no_pairs(alloc: Global) -> Result<bool, TableError> {
-    let pairs = Pairs::new(alloc, &[])?;
-    let answer = has_none(&pairs, 0, 0)
-        && has_none(&pairs, 0, 65535)
-        && has_none(&pairs, 65535, 0)
-        && has_none(&pairs, 65535, 65535);
-    drop(pairs);
-    Ok(answer)
-}
-
-/// Whether two glyphs have no value.
-fn has_none(pairs: &Pairs, left: u16, right: u16) -> bool {
-    pairs
-        .glyphs_kerning(GlyphId(left), GlyphId(right))
-        .is_none()
-}
+/// No class but that of the deleted glyph, and no entry.
+static WITHOUT_ROWS: [Question; 10] = [
+    (Table::Classes(EMPTY), 0, 0, Ok(None)),
+    (Table::Classes(EMPTY), 65535, 0, Ok(Some(2))),
+    (Table::Entries(EMPTY), 0, 0, Ok(None)),
+    (Table::Entries(EMPTY), 0, 1, Ok(None)),
+    (Table::Entries(EMPTY), 0, 4, Ok(None)),
+    (Table::Entries(EMPTY), 0, 65535, Ok(None)),
+    (Table::Entries(EMPTY), 65535, 0, Ok(None)),
+    (Table::Entries(EMPTY), 65535, 1, Ok(None)),
+    (Table::Entries(EMPTY), 65535, 4, Ok(None)),
+    (Table::Entries(EMPTY), 65535, 65535, Ok(None)),
+];
 
 #[test]
-fn state_tables_without_rows(rt: HostRuntime) -> Result<(), Fail> {
-    let table: ExtendedStateTable<u8> = ExtendedStateTable::new(rt.alloc(), 4, &[], &[])?;
-    wanted(&rt, table.class(GlyphId(0)).is_none(), "no class");
-    wanted(
-        &rt,
-        table.class(GlyphId(65535)) == Some(2),
-        "the class of a deleted glyph",
-    );
-    for state in ENDS {
-        for class in [0, 1, 4, 65535] {
-            assert!(rt; table.entry(state, class).is_none(), "at {state} {class}");
-        }
-    }
-    drop(table);
-    Ok(())
+fn state_tables_without_rows(rt: HostRuntime) {
+    assert_answers(&rt, rt.alloc(), &WITHOUT_ROWS);
 }
 
-/// A table whose states 0 and 65535 have an entry at class 1, and at the class below the number of classes.
-fn table_of(alloc: Global, class_count: u16) -> Result<ExtendedStateTable<u8>, TableError> {
+/// The answer of such an entry.
+fn found(extra: i64) -> Answer {
+    Ok(Some(0x1_8000_0000 + extra % 0x1_0000))
+}
+
+const ENTRY_10: GenericStateEntry<u16> = GenericStateEntry { extra: 10, ..ENTRY };
+
+const ENTRY_11: GenericStateEntry<u16> = GenericStateEntry { extra: 11, ..ENTRY };
+
+const ENTRY_12: GenericStateEntry<u16> = GenericStateEntry { extra: 12, ..ENTRY };
+
+const ENTRY_13: GenericStateEntry<u16> = GenericStateEntry { extra: 13, ..ENTRY };
+
+/// Machines of 4, of 6 and of the largest number of classes, whose states 0 and 65535 have an entry at class 1, and at
+/// the class below that number.
+const FOUR: MachineData<u16> = MachineData {
+    class_count: 4,
+    classes: &[(0, 3), (1, 65535)],
+    rules: &[
+        (0, 1, ENTRY_10),
+        (0, 3, ENTRY_11),
+        (65535, 1, ENTRY_12),
+        (65535, 3, ENTRY_13),
+    ],
+    idle: None,
+};
+
+const SIX: MachineData<u16> = MachineData {
+    class_count: 6,
+    classes: &[(0, 5), (1, 65535)],
+    rules: &[
+        (0, 1, ENTRY_10),
+        (0, 5, ENTRY_11),
+        (65535, 1, ENTRY_12),
+        (65535, 5, ENTRY_13),
+    ],
+    idle: None,
+};
+
+const MOST: MachineData<u16> = MachineData {
+    class_count: 65535,
+    classes: &[(0, 65534), (1, 65535)],
+    rules: &[
+        (0, 1, ENTRY_10),
+        (0, 65534, ENTRY_11),
+        (65535, 1, ENTRY_12),
+        (65535, 65534, ENTRY_13),
+    ],
+    idle: None,
+};
+
+/// Asks such a machine for classes and entries.
+fn assert_past_the_count(rt: &impl Abort, alloc: Global, machine: &MachineData<u16>) {
+    let class_count = machine.class_count;
     let last = class_count.saturating_sub(1);
-    let rules = [
-        (0, 1, entry(10)),
-        (0, last, entry(11)),
-        (65535, 1, entry(12)),
-        (65535, last, entry(13)),
+    let questions = [
+        (Table::Classes(machine), 0, 0, Ok(Some(last as i64))),
+        (Table::Classes(machine), 1, 0, Ok(Some(65535))),
+        (Table::Classes(machine), 65535, 0, Ok(Some(2))),
+        (Table::Entries(machine), 0, 0, Ok(None)),
+        (Table::Entries(machine), 0, 1, found(10)),
+        (Table::Entries(machine), 0, last, found(11)),
+        (Table::Entries(machine), 0, class_count, found(10)),
+        (Table::Entries(machine), 0, 65535, found(10)),
+        (Table::Entries(machine), 65535, 0, Ok(None)),
+        (Table::Entries(machine), 65535, 1, found(12)),
+        (Table::Entries(machine), 65535, last, found(13)),
+        (Table::Entries(machine), 65535, class_count, found(12)),
+        (Table::Entries(machine), 65535, 65535, found(12)),
     ];
-    ExtendedStateTable::new(alloc, class_count, &[(0, last), (1, 65535)], &rules)
-}
-
-/// What an entry holds beside its state and flags.
-fn extra_of(entry: Option<GenericStateEntry<u8>>) -> Option<u8> {
-    Some(entry?.extra)
+    assert_answers(rt, alloc, &questions);
 }
 
 /// A class from the number of classes on is taken as class 1, in the first state and in the last one, and for the
 /// largest number of classes too.
 #[test]
-fn classes_past_the_count(rt: HostRuntime) -> Result<(), Fail> {
-    for class_count in [4, 6, 65535] {
-        let table = table_of(rt.alloc(), class_count)?;
-        assert!(rt; has_classes(&table, class_count - 1), "of {class_count}");
-        assert!(rt; has_entries(&table, class_count), "of {class_count}");
-        drop(table);
+fn classes_past_the_count(rt: HostRuntime) {
+    assert_past_the_count(&rt, rt.alloc(), &FOUR);
+    assert_past_the_count(&rt, rt.alloc(), &SIX);
+    assert_past_the_count(&rt, rt.alloc(), &MOST);
+}
+
+/// An entry of the machines below.
+fn entry(extra: u16) -> GenericStateEntry<u16> {
+    GenericStateEntry { extra, ..ENTRY }
+}
+
+/// Asks a machine of four classes with a last state. A class that is not below their number is taken as 1.
+fn assert_unknown_classes(rt: &impl Abort, alloc: Global, last: u16) {
+    let machine = MachineData {
+        class_count: 4,
+        classes: &[],
+        rules: &[
+            (0, 0, entry(1)),
+            (0, 1, entry(2)),
+            (1, 0, entry(3)),
+            (last, 1, entry(4)),
+        ],
+        idle: None,
+    };
+    for class in [4, 5, 65535] {
+        let questions = [
+            (Table::Entries(&machine), 0, class, found(2)),
+            (Table::Entries(&machine), 1, class, Ok(None)),
+            (Table::Entries(&machine), last, class, found(4)),
+        ];
+        assert_answers(rt, alloc, &questions);
     }
-    Ok(())
 }
 
-/// Whether the glyphs have their classes in such a table.
-fn has_classes(table: &ExtendedStateTable<u8>, last: u16) -> bool {
-    table.class(GlyphId(0)) == Some(last)
-        && table.class(GlyphId(1)) == Some(65535)
-        && table.class(GlyphId(65535)) == Some(2)
-}
-
-/// Whether the first and the last state have these entries at a class.
-fn has_at(table: &ExtendedStateTable<u8>, class: u16, first: Option<u8>, last: Option<u8>) -> bool {
-    extra_of(table.entry(0, class)) == first && extra_of(table.entry(65535, class)) == last
-}
-
-/// Whether the classes have their entries in such a table.
-fn has_entries(table: &ExtendedStateTable<u8>, class_count: u16) -> bool {
-    has_at(table, 0, None, None)
-        && has_at(table, 1, Some(10), Some(12))
-        && has_at(table, class_count.saturating_sub(1), Some(11), Some(13))
-        && has_at(table, class_count, Some(10), Some(12))
-        && has_at(table, 65535, Some(10), Some(12))
-}
-
+/// In a grid and without one.
 #[test]
-fn bare_fonts(rt: HostRuntime) {
-    let font = hb_font_t::from_tables(FaceTables::default());
-    for end in ENDS {
-        let given = (
-            font.glyph_props(GlyphId(end)),
-            font.glyph_advance(GlyphId(end)),
-        );
-        assert!(rt; given == (0, 0), "at {end}");
-    }
-    drop(font);
+fn unknown_classes(rt: HostRuntime) {
+    assert_unknown_classes(&rt, rt.alloc(), 2);
+    assert_unknown_classes(&rt, rt.alloc(), 65535);
 }

@@ -1,105 +1,136 @@
 //! The tables of kerning: each call once, at the ends of its range, and each refusal.
-use super::rule;
 use crate::asserting::wanted;
+use crate::table_tests::questions::{ClassData, Question, Table, assert_answers};
+use aat_described_fonts::drop_font;
 use aat_font::{
-    Ankr, ClassPairs, EntryData, ExtendedStateTable, FaceTables, GlyphId, Kern, KernEntryData,
-    KernKind, KernMachine, KernSubtable, Kerx, KerxFormat, KerxSubtable, Lookup, LookupSegment,
-    Pairs, Subtable1, Subtable4, TableError, hb_font_t,
+    Ankr, ClassPairs, EntryData, ExtendedStateTable, FaceTables, GenericStateEntry, GlyphId, Kern,
+    KernEntryData, KernKind, KernMachine, KernSubtable, Kerx, KerxFormat, KerxSubtable, Lookup,
+    LookupSegment, Pairs, Subtable1, Subtable4, TableError, hb_font_t,
 };
 use std::alloc::Global;
 use std::test::Fail;
 
-/// Two glyphs and the value of their pair, in a table of pairs at the ends.
-static VALUES_OF_PAIRS: [(u16, u16, Option<i16>); 6] = [
-    (0, 0, None),
-    (0, 65535, Some(-32768)),
-    (1, 0, Some(7)),
-    (0, 1, None),
-    (65535, 0, None),
-    (65535, 65535, Some(32767)),
+/// Pairs at the ends.
+const ENDS: &[(u16, u16, i16)] = &[(0, 65535, -32768), (1, 0, 7), (65535, 65535, 32767)];
+
+/// Two glyphs and the value of their pair, no pairs, and pairs that rise or do not.
+static PAIRS: [Question; 14] = [
+    (Table::Pairs(ENDS), 0, 0, Ok(None)),
+    (Table::Pairs(ENDS), 0, 65535, Ok(Some(-32768))),
+    (Table::Pairs(ENDS), 1, 0, Ok(Some(7))),
+    (Table::Pairs(ENDS), 0, 1, Ok(None)),
+    (Table::Pairs(ENDS), 65535, 0, Ok(None)),
+    (Table::Pairs(ENDS), 65535, 65535, Ok(Some(32767))),
+    (Table::Pairs(&[]), 0, 0, Ok(None)),
+    (Table::Pairs(&[]), 0, 65535, Ok(None)),
+    (Table::Pairs(&[]), 65535, 0, Ok(None)),
+    (Table::Pairs(&[]), 65535, 65535, Ok(None)),
+    (
+        Table::Pairs(&[(1, 2, -1), (1, 2, 0), (0, 0, 1)]),
+        1,
+        2,
+        Err(TableError::NotRising(1)),
+    ),
+    (
+        Table::Pairs(&[(1, 2, -1), (1, 3, 0), (1, 1, 1)]),
+        1,
+        2,
+        Err(TableError::NotRising(2)),
+    ),
+    (
+        Table::Pairs(&[(0, 0, -1), (2, 0, 0), (1, 9, 1)]),
+        0,
+        0,
+        Err(TableError::NotRising(2)),
+    ),
+    (
+        Table::Pairs(&[(0, 9, -1), (1, 0, 0), (1, 1, 1)]),
+        1,
+        1,
+        Ok(Some(1)),
+    ),
 ];
 
 #[test]
-fn values_of_pairs(rt: HostRuntime) -> Result<(), Fail> {
-    let values = [(0, 65535, -32768), (1, 0, 7), (65535, 65535, 32767)];
-    let pairs = Pairs::new(rt.alloc(), &values)?;
-    for (left, right, value) in &VALUES_OF_PAIRS {
-        let found = pairs.glyphs_kerning(GlyphId(*left), GlyphId(*right));
-        assert!(rt; found == *value, "at {left} {right}");
-    }
-    drop(pairs);
-    Ok(())
-}
-
-#[test]
-fn no_pairs(rt: HostRuntime) -> Result<(), Fail> {
-    let empty = Pairs::new(rt.alloc(), &[])?;
-    assert!(rt; empty.glyphs_kerning(GlyphId(0), GlyphId(0)).is_none());
-    drop(empty);
-    Ok(())
-}
-
-/// Why three pairs of these glyphs are refused, if they are.
-fn fault(alloc: Global, glyphs: [(u16, u16); 3]) -> Option<TableError> {
-    let pairs = [
-        (glyphs[0].0, glyphs[0].1, -1),
-        (glyphs[1].0, glyphs[1].1, 0),
-        (glyphs[2].0, glyphs[2].1, 1),
-    ];
-    Pairs::new(alloc, &pairs).err()
-}
-
-#[test]
-fn refused_pairs(rt: HostRuntime) {
-    let alloc = rt.alloc();
-    let equal = fault(alloc, [(1, 2), (1, 2), (0, 0)]);
-    wanted(&rt, equal == Some(TableError::NotRising(1)), "equal pairs");
-    let right_falls = fault(alloc, [(1, 2), (1, 3), (1, 1)]);
-    wanted(
-        &rt,
-        right_falls == Some(TableError::NotRising(2)),
-        "right glyphs that fall",
-    );
-    let left_falls = fault(alloc, [(0, 0), (2, 0), (1, 9)]);
-    wanted(
-        &rt,
-        left_falls == Some(TableError::NotRising(2)),
-        "left glyphs that fall",
-    );
-    wanted(
-        &rt,
-        fault(alloc, [(0, 9), (1, 0), (1, 1)]).is_none(),
-        "rising pairs",
-    );
+fn values_of_pairs(rt: HostRuntime) {
+    assert_answers(&rt, rt.alloc(), &PAIRS);
 }
 
 /// Classes of the glyphs 1, 3 and 65535 on the left and of 2 and 4 on the right, and a value for two left classes and
 /// three right ones, of which the last value is missing.
-fn classes(alloc: Global) -> Result<ClassPairs, TableError> {
-    let left = &[(1, 1), (3, 0), (65535, 2)];
-    let right = &[(2, 2), (4, 3)];
-    ClassPairs::new(alloc, left, right, 3, &[0, -32768, 0, 32767, 5])
-}
+const CLASSES: &ClassData = &ClassData {
+    left: &[(1, 1), (3, 0), (65535, 2)],
+    right: &[(2, 2), (4, 3)],
+    right_count: 3,
+    values: &[0, -32768, 0, 32767, 5],
+};
 
-/// Two glyphs and the value of their classes.
-static VALUES_OF_CLASSES: [(u16, u16, i16); 6] = [
-    (1, 0, 32767),
-    (1, 2, 0),
-    (1, 4, 0),
-    (3, 1, 0),
-    (65535, 0, 0),
-    (0, 65535, 0),
+/// Left glyphs and right glyphs that fall, and glyphs that rise, with no value.
+const LEFT_FALL: &ClassData = &ClassData {
+    left: &[(1, 1), (5, 1), (2, 1)],
+    right: &[(3, 0), (3, 0)],
+    right_count: 1,
+    values: &[],
+};
+
+const RIGHT_FALL: &ClassData = &ClassData {
+    left: &[(1, 1), (2, 1)],
+    right: &[(3, 0), (3, 0)],
+    right_count: 1,
+    values: &[],
+};
+
+const RISING: &ClassData = &ClassData {
+    left: &[(1, 1), (2, 1)],
+    right: &[(1, 1), (2, 1)],
+    right_count: 0,
+    values: &[],
+};
+
+/// Two glyphs and the value of their classes, and classes that rise or do not.
+static VALUES_OF_CLASSES: [Question; 9] = [
+    (Table::ClassPairs(CLASSES), 1, 0, Ok(Some(32767))),
+    (Table::ClassPairs(CLASSES), 1, 2, Ok(Some(0))),
+    (Table::ClassPairs(CLASSES), 1, 4, Ok(Some(0))),
+    (Table::ClassPairs(CLASSES), 3, 1, Ok(Some(0))),
+    (Table::ClassPairs(CLASSES), 65535, 0, Ok(Some(0))),
+    (Table::ClassPairs(CLASSES), 0, 65535, Ok(Some(0))),
+    (
+        Table::ClassPairs(LEFT_FALL),
+        1,
+        3,
+        Err(TableError::NotRising(2)),
+    ),
+    (
+        Table::ClassPairs(RIGHT_FALL),
+        1,
+        3,
+        Err(TableError::NotRising(1)),
+    ),
+    (Table::ClassPairs(RISING), 1, 1, Ok(Some(0))),
 ];
 
 #[test]
-fn values_of_classes(rt: HostRuntime) -> Result<(), Fail> {
-    let pairs = classes(rt.alloc())?;
-    for (left, right, value) in &VALUES_OF_CLASSES {
-        let found = pairs.glyphs_kerning(GlyphId(*left), GlyphId(*right));
-        assert!(rt; found == *value, "at {left} {right}");
-    }
-    drop(pairs);
-    Ok(())
+fn values_of_classes(rt: HostRuntime) {
+    assert_answers(&rt, rt.alloc(), &VALUES_OF_CLASSES);
+}
+
+/// Those classes, made.
+fn classes(alloc: Global) -> Result<ClassPairs, TableError> {
+    ClassPairs::new(
+        alloc,
+        CLASSES.left,
+        CLASSES.right,
+        CLASSES.right_count,
+        CLASSES.values,
+    )
+}
+
+/// Whether the parts of these classes are as they were given.
+fn has_parts(pairs: &ClassPairs) -> bool {
+    pairs.left().value(GlyphId(65535)) == Some(2)
+        && pairs.right().value(GlyphId(4)) == Some(3)
+        && (pairs.right_count(), pairs.values().len()) == (3, 5)
 }
 
 #[test]
@@ -107,73 +138,51 @@ fn parts_of_classes(rt: HostRuntime) -> Result<(), Fail> {
     let pairs = classes(rt.alloc())?;
     wanted(
         &rt,
-        pairs.left().value(GlyphId(65535)) == Some(2),
-        "a left class",
+        has_parts(&pairs),
+        "a left and a right class, and the values",
     );
-    wanted(
-        &rt,
-        pairs.right().value(GlyphId(4)) == Some(3),
-        "a right class",
-    );
-    wanted(
-        &rt,
-        (pairs.right_count(), pairs.values().len()) == (3, 5),
-        "the values",
-    );
-    drop(pairs);
     Ok(())
+}
+
+/// The segment of some glyphs with class 1.
+const fn segment(first_glyph: u16, last_glyph: u16) -> LookupSegment {
+    LookupSegment {
+        first_glyph,
+        last_glyph,
+        value: 1,
+    }
 }
 
 /// Two classes on each side, by segments.
 fn classes_by_segments(alloc: Global) -> Result<ClassPairs, Fail> {
-    let left = Lookup::from_segments(alloc, &[segment(10, 19, 1)])?;
-    let right = Lookup::from_segments(alloc, &[segment(20, 65535, 1)])?;
+    let left = Lookup::from_segments(alloc, &[segment(10, 19)])?;
+    let right = Lookup::from_segments(alloc, &[segment(20, 65535)])?;
     let values = vec![in alloc; 0i16, 0, 3, -4]?;
     Ok(ClassPairs::from_lookups(alloc, left, right, 2, values)?)
+}
+
+/// Whether glyphs have their values by these classes.
+fn has_values(pairs: &ClassPairs) -> bool {
+    pairs.glyphs_kerning(GlyphId(19), GlyphId(20)) == -4
+        && pairs.glyphs_kerning(GlyphId(10), GlyphId(19)) == 3
+        && pairs.glyphs_kerning(GlyphId(20), GlyphId(20)) == 0
 }
 
 #[test]
 fn classes_of_segments(rt: HostRuntime) -> Result<(), Fail> {
     let pairs = classes_by_segments(rt.alloc())?;
-    for (left, right, value) in [(19, 20, -4), (10, 19, 3), (20, 20, 0)] {
-        let found = pairs.glyphs_kerning(GlyphId(left), GlyphId(right));
-        assert!(rt; found == value, "at {left} {right}");
-    }
-    drop(pairs);
+    wanted(&rt, has_values(&pairs), "values of classes by segments");
     Ok(())
 }
 
-/// The segment of some glyphs with a class.
-fn segment(first_glyph: u16, last_glyph: u16, value: u16) -> LookupSegment {
-    LookupSegment {
-        first_glyph,
-        last_glyph,
-        value,
-    }
-}
-
-#[test]
-fn refused_classes(rt: HostRuntime) {
-    let alloc = rt.alloc();
-    let rising: &[(u16, u16)] = &[(1, 1), (2, 1)];
-    let falling: &[(u16, u16)] = &[(1, 1), (5, 1), (2, 1)];
-    let left = ClassPairs::new(alloc, falling, &[(3, 0), (3, 0)], 1, &[]).err();
-    wanted(
-        &rt,
-        left == Some(TableError::NotRising(2)),
-        "left glyphs that fall",
-    );
-    let right = ClassPairs::new(alloc, rising, &[(3, 0), (3, 0)], 1, &[]).err();
-    wanted(
-        &rt,
-        right == Some(TableError::NotRising(1)),
-        "right glyphs that fall",
-    );
-    wanted(
-        &rt,
-        ClassPairs::new(alloc, rising, rising, 0, &[]).is_ok(),
-        "rising glyphs",
-    );
+/// The only rule of a machine, of state 0 and class 4.
+fn rule<T: Copy>(extra: T) -> (u16, u16, GenericStateEntry<T>) {
+    let entry = GenericStateEntry {
+        new_state: 1,
+        flags: 0x8000,
+        extra,
+    };
+    (0, 4, entry)
 }
 
 /// A machine of `kerx` with one rule, of state 0 and class 4, which names the place 1.
@@ -260,15 +269,14 @@ static NAMED: [(Format, Option<i32>); 7] = [
 /// What a subtable of a format names.
 fn named_by(alloc: Global, format: Format) -> Result<Option<i32>, Fail> {
     let format = format_of(alloc, format)?;
-    let named = named_by_kerx(&format);
-    drop(format);
-    Ok(named)
+    Ok(named_by_kerx(&format))
 }
 
 #[test]
 fn formats_of_kerx(rt: HostRuntime) -> Result<(), Fail> {
     for (place, (format, value)) in NAMED.iter().enumerate() {
-        assert!(rt; named_by(rt.alloc(), *format)? == *value, "at {place}");
+        let named = named_by(rt.alloc(), *format)?;
+        assert!(rt; named == *value, "at {place}");
     }
     Ok(())
 }
@@ -296,27 +304,37 @@ fn kern_machine(alloc: Global) -> Result<KernKind, Fail> {
     }))
 }
 
-#[test]
-fn pairs_of_kern(rt: HostRuntime) -> Result<(), Fail> {
-    let kind = KernKind::Pairs(Pairs::new(rt.alloc(), &[(1, 2, -25)])?);
-    assert!(rt; named_by_kern(&kind) == Some(-25));
-    drop(kind);
-    Ok(())
+/// The kinds of a subtable of `kern`.
+#[derive(Clone, Copy)]
+enum Kind {
+    Pairs,
+    Classes,
+    Machine,
 }
 
-#[test]
-fn classes_of_kern(rt: HostRuntime) -> Result<(), Fail> {
-    let kind = KernKind::Classes(classes(rt.alloc())?);
-    assert!(rt; named_by_kern(&kind) == Some(0));
-    drop(kind);
-    Ok(())
+/// What a subtable of a kind names.
+fn named_by_kind(alloc: Global, kind: Kind) -> Result<Option<i16>, Fail> {
+    let kind = match kind {
+        Kind::Pairs => KernKind::Pairs(Pairs::new(alloc, &[(1, 2, -25)])?),
+        Kind::Classes => KernKind::Classes(classes(alloc)?),
+        Kind::Machine => kern_machine(alloc)?,
+    };
+    Ok(named_by_kern(&kind))
 }
 
+/// What the subtable of each kind names.
+static NAMED_BY_KERN: [(&str, Kind, i16); 3] = [
+    ("pairs", Kind::Pairs, -25),
+    ("classes", Kind::Classes, 0),
+    ("a machine", Kind::Machine, 11),
+];
+
 #[test]
-fn machines_of_kern(rt: HostRuntime) -> Result<(), Fail> {
-    let kind = kern_machine(rt.alloc())?;
-    assert!(rt; named_by_kern(&kind) == Some(11));
-    drop(kind);
+fn kinds_of_kern(rt: HostRuntime) -> Result<(), Fail> {
+    for (name, kind, value) in &NAMED_BY_KERN {
+        let named = named_by_kind(rt.alloc(), *kind)?;
+        assert!(rt; named == Some(*value), "{name}");
+    }
     Ok(())
 }
 
@@ -368,41 +386,12 @@ fn many_subtables(rt: HostRuntime) -> Result<(), Fail> {
     Ok(())
 }
 
-#[test]
-fn fonts_with_kerning(rt: HostRuntime) -> Result<(), Fail> {
-    let font = font_of(rt.alloc())?;
-    let counts = counts(&font);
-    assert!(rt; counts == (Some(1), Some(2)));
-    drop(font);
-    Ok(())
-}
-
-#[test]
-fn fonts_without_kerning(rt: HostRuntime) {
-    let font = hb_font_t::from_tables(FaceTables::default());
-    let counts = counts(&font);
-    assert!(rt; counts == (None, None));
-    drop(font);
-}
-
 /// A font with both tables of kerning.
 fn font_of(alloc: Global) -> Result<hb_font_t, Fail> {
     let kern = Kern::new(kern_subtables(alloc, 2)?)?;
     let kerx = Kerx::new(kerx_subtables(alloc, 1)?)?;
-    Ok(hb_font_t::from_tables(FaceTables::default().with_kerx(kerx).with_kern(kern)))
-}
-
-#[test]
-fn kerning_beside_a_font(rt: HostRuntime) -> Result<(), Fail> {
-    let font = font_beside(rt.alloc())?;
-    wanted(
-        &rt,
-        counts(&font) == (Some(1), Some(2)),
-        "the tables of kerning",
-    );
-    wanted(&rt, font.tables().ankr.is_some(), "the anchor points");
-    drop(font);
-    Ok(())
+    let tables = FaceTables::default().with_kerx(kerx).with_kern(kern);
+    Ok(hb_font_t::from_tables(tables))
 }
 
 /// A font to which both tables of kerning, and anchor points, are added.
@@ -412,6 +401,24 @@ fn font_beside(alloc: Global) -> Result<hb_font_t, Fail> {
     let ankr = Ankr::new(Vec::new(alloc))?;
     let font = hb_font_t::from_tables(FaceTables::default());
     Ok(font.with_kern(kern).with_kerx(kerx).with_ankr(ankr))
+}
+
+/// Whether a font has one subtable of `kerx` and two of `kern`, and anchor points or none.
+fn has_kerning(font: &hb_font_t, has_points: bool) -> bool {
+    counts(font) == (Some(1), Some(2)) && font.tables().ankr.is_some() == has_points
+}
+
+#[test]
+fn fonts_with_kerning(rt: HostRuntime) -> Result<(), Fail> {
+    let font = font_of(rt.alloc())?;
+    let has_both = has_kerning(&font, false);
+    drop_font(font);
+    wanted(&rt, has_both, "a font of both tables");
+    let font = font_beside(rt.alloc())?;
+    let has_all = has_kerning(&font, true);
+    drop_font(font);
+    wanted(&rt, has_all, "tables that are added to a font");
+    Ok(())
 }
 
 /// How many subtables of `kerx` and of `kern` a font has, where it has the table.
@@ -440,56 +447,36 @@ fn told(subtable: &KerxSubtable) -> (bool, bool, bool, bool, u32) {
     )
 }
 
-/// What a plain subtable of `kerx` tells.
-fn told_of_plain(alloc: Global) -> Result<(bool, bool, bool, bool, u32), Fail> {
-    let plain = KerxSubtable::new(stack(alloc)?, true);
-    let told = told(&plain);
-    drop(plain);
-    Ok(told)
-}
-
-/// What a subtable of `kerx` across the line, from last to first, with variation tuples, tells.
-fn told_of_crossing(alloc: Global) -> Result<(bool, bool, bool, bool, u32), Fail> {
-    let mut crossing = KerxSubtable::new(stack(alloc)?, false);
-    crossing.has_cross_stream = true;
-    crossing.is_last_to_first = true;
-    crossing.tuple_count = 2;
-    let told = told(&crossing);
-    drop(crossing);
-    Ok(told)
+/// What a plain subtable of `kerx` tells, or one across the line, from last to first, with variation tuples.
+fn kerx_tells(alloc: Global, is_crossing: bool) -> Result<(bool, bool, bool, bool, u32), Fail> {
+    let mut subtable = KerxSubtable::new(stack(alloc)?, !is_crossing);
+    if is_crossing {
+        subtable.has_cross_stream = true;
+        subtable.is_last_to_first = true;
+        subtable.tuple_count = 2;
+    }
+    Ok(told(&subtable))
 }
 
 /// Whether a variable subtable of `kern` is for horizontal text, variable and across the line.
-fn told_of_variable(alloc: Global) -> Result<(bool, bool, bool), Fail> {
+fn kern_tells(alloc: Global) -> Result<(bool, bool, bool), Fail> {
     let kind = KernKind::Pairs(Pairs::new(alloc, &[])?);
     let mut subtable = KernSubtable::new(kind, true);
     subtable.variable = true;
-    let told = (
+    Ok((
         subtable.horizontal,
         subtable.variable,
         subtable.has_cross_stream,
-    );
-    drop(subtable);
-    Ok(told)
+    ))
 }
 
 #[test]
 fn fields_of_subtables(rt: HostRuntime) -> Result<(), Fail> {
-    let alloc = rt.alloc();
-    wanted(
-        &rt,
-        told_of_plain(alloc)? == (true, false, false, false, 0),
-        "a plain subtable",
-    );
-    wanted(
-        &rt,
-        told_of_crossing(alloc)? == (false, true, false, true, 2),
-        "a crossing subtable",
-    );
-    wanted(
-        &rt,
-        told_of_variable(alloc)? == (true, true, false),
-        "a variable subtable",
-    );
+    let plain = kerx_tells(rt.alloc(), false)?;
+    assert!(&rt; plain == (true, false, false, false, 0), "a plain subtable");
+    let crossing = kerx_tells(rt.alloc(), true)?;
+    assert!(&rt; crossing == (false, true, false, true, 2), "a crossing one");
+    let variable = kern_tells(rt.alloc())?;
+    assert!(&rt; variable == (true, true, false), "a variable one");
     Ok(())
 }

@@ -1,29 +1,22 @@
 -- What a subtable does over a line on which no glyph wakes it: nothing, in its turns.
-use Rattle.std.proofs.Common.{◌≡◌, ◌∙◌, ap, sym, refl, ℕ, suc, ◌+◌, ◌<◌, ◌≤◌, ◌&&◌, ◌||◌, ◌==◌, Bool, true, false, not, cond, Option, Some, None, is_none, unwrap_or, option_map, List, [], ◌∷◌, map, reverse, length, bit_and, arith}
-use Rattle.std.proofs.lemmas.Bool.Decides.{nat_tests}
-use Rattle.aat_buffer.specs.Buffer.{Buffer, with_cursor, with_line, without_positions, glyph_at, reversed}
-use Rattle.aat_font.specs.Entries.{has_flag, is_present, goes_on}
+use Rattle.std.proofs.Common.{◌≡◌, ◌∙◌, ap, refl, ℕ, suc, ◌<◌, Bool, true, false, cond, Option, Some, None, is_none, unwrap_or, List, [], ◌∷◌, map, length, arith}
+use Rattle.aat_buffer.specs.Buffer.{Buffer, with_line, glyph_at}
 use Rattle.aat_font.specs.Idle.{is_idle, is_idle_at_end, is_idle_class, is_idle_glyph, rearrangement_rests, contextual_rests, ligature_rests, insertion_rests}
 use Rattle.aat_font.specs.Keys.{value_in}
 use Rattle.aat_font.specs.Table.{TableValue, class_of}
-use Rattle.aat_font.specs.declared.entries.ContextualEntryData.{ContextualEntryData}
-use Rattle.aat_font.specs.declared.entries.InsertionEntryData.{InsertionEntryData}
 use Rattle.aat_font.specs.declared.morx.SubtableKind.{SubtableKind}
 use Rattle.aat_font.specs.declared.morx.SubtableKind.TheVariants.{Rearrangement, Contextual, Ligature, NonContextual, Insertion}
-use Rattle.aat_font.specs.declared.plan.GlyphId.{GlyphId}
 use Rattle.aat_font.specs.declared.state_table.GenericStateEntry.{GenericStateEntry}
 use Rattle.aat_glyph.specs.declared.glyph.hb_glyph_info_t.{hb_glyph_info_t}
 use Rattle.aat_kinds.specs.Contextual as c
 use Rattle.aat_kinds.specs.Idle.{IsIdleLineOf, at_rest}
 use Rattle.aat_kinds.specs.Insertion as i
-use Rattle.aat_kinds.specs.Kinds.{Sizes, kind_run, rearrangement_run, contextual_run, ligature_run, insertion_run, noncontextual_run, reversed_run}
+use Rattle.aat_kinds.specs.Kinds.{Sizes, kind_run, rearrangement_run, contextual_run, ligature_run, insertion_run, noncontextual_run}
 use Rattle.aat_kinds.specs.Ligature as l
 use Rattle.aat_kinds.specs.Rearrangement as r
 use Rattle.aat_kinds.specs.facts.Resting.{rearrangement_rest, contextual_rest, ligature_rest, insertion_rest}
 use Rattle.aat_kinds.specs.Values.{with_answer, with_looked_up_value, noncontextual}
-use Rattle.aat_run.specs.Context.{Moved}
-use Rattle.aat_run.specs.Outcome.{Outcome}
-use Rattle.aat_run.specs.facts.IdleRuns.{both, Rests, IsIdleLine, idle_run}
+use Rattle.aat_run.specs.facts.IdleRuns.{both, idle_run}
 
 -- the end's entry rests where a glyph is idle
 end_of : {T : Type 0} (rests : GenericStateEntry T → Bool) (table : TableValue (GenericStateEntry T)) (g : ℕ) → is_idle_glyph rests table g ≡ true → is_idle_at_end rests table ≡ true

@@ -3,14 +3,15 @@
 use crate::hostile_tests::fonts::counts;
 use crate::hostile_tests::lines::LONGEST;
 use crate::hostile_tests::plans::first_too_large;
+use crate::kerning::{Call, kern_by};
 use aat_layout::buffer::{
     BufferFlags, Direction, HB_BUFFER_CLUSTER_LEVEL_CHARACTERS, ScratchFlags, hb_buffer_t,
     hb_glyph_info_t,
 };
 use aat_layout::font::{hb_font_t, hb_ot_shape_plan_t};
 use aat_layout::{
-    AatError, DELETED_GLYPH, Turns, hb_aat_layout_position, hb_aat_layout_remove_deleted_glyphs,
-    hb_aat_layout_substitute, hb_aat_layout_zero_width_deleted_glyphs, hb_ot_layout_kern,
+    AatError, DELETED_GLYPH, Turns, hb_aat_layout_remove_deleted_glyphs, hb_aat_layout_substitute,
+    hb_aat_layout_zero_width_deleted_glyphs,
 };
 use std::alloc::Global;
 
@@ -123,8 +124,12 @@ fn falls(buffer: &hb_buffer_t) -> bool {
 
 /// Whether a cluster stood on the line before.
 fn stood(before: &Before, cluster: u32) -> bool {
-    let mut glyphs = before.glyphs.iter().take(before.len);
-    glyphs.any(|glyph| glyph.cluster == cluster)
+    for place in 0..before.len {
+        if place < LONGEST && before.glyphs[place].cluster == cluster {
+            return true;
+        }
+    }
+    false
 }
 
 /// Whether each cluster of a line stood on the line before.
@@ -139,8 +144,11 @@ fn come_from(before: &Before, buffer: &hb_buffer_t) -> bool {
 
 /// Whether a line has the glyphs that it had, with their masks and properties.
 fn is_unchanged(before: &Before, buffer: &hb_buffer_t) -> bool {
-    for (place, glyph) in before.glyphs.iter().take(before.len).enumerate() {
-        if place >= buffer.len() || *buffer.info(place) != *glyph {
+    for place in 0..before.len {
+        if place >= LONGEST || place >= buffer.len() {
+            return false;
+        }
+        if *buffer.info(place) != before.glyphs[place] {
             return false;
         }
     }
@@ -149,8 +157,11 @@ fn is_unchanged(before: &Before, buffer: &hb_buffer_t) -> bool {
 
 /// Whether a line has the glyphs that it had, but perhaps with marks.
 fn is_marked(before: &Before, buffer: &hb_buffer_t) -> bool {
-    for (place, glyph) in before.glyphs.iter().take(before.len).enumerate() {
-        if place >= buffer.len() || !has_only_marks(glyph, buffer.info(place)) {
+    for place in 0..before.len {
+        if place >= LONGEST || place >= buffer.len() {
+            return false;
+        }
+        if !has_only_marks(&before.glyphs[place], buffer.info(place)) {
             return false;
         }
     }
@@ -166,7 +177,21 @@ fn has_only_marks(before: &hb_glyph_info_t, after: &hb_glyph_info_t) -> bool {
     *after == marked
 }
 
-/// Substitutes a line by a plan, with ample memory.
+/// Substitutes a line of 16-bit glyphs, with ample memory.
+pub(crate) fn substituted(
+    alloc: Global,
+    plan: &hb_ot_shape_plan_t,
+    font: &hb_font_t,
+    buffer: &mut hb_buffer_t,
+) -> Option<Result<Turns, AatError>> {
+    if buffer.all_glyphs_16() {
+        Some(hb_aat_layout_substitute(alloc, plan, font, buffer))
+    } else {
+        None
+    }
+}
+
+/// Substitutes a line by a plan. Answers what comes of it, or the bound that is broken.
 pub(crate) fn substitution(
     alloc: Global,
     plan: &hb_ot_shape_plan_t,
@@ -174,15 +199,26 @@ pub(crate) fn substitution(
     buffer: &mut hb_buffer_t,
 ) -> Result<Outcome, Fault> {
     let before = line_before(buffer);
-    if !buffer.all_glyphs_16() {
-        return Err("16 bits at first");
+    match substituted(alloc, plan, font, buffer) {
+        Some(Ok(turns)) => answer(plan, font, &before, buffer, turns),
+        Some(Err(error)) => refusal(plan, font, &before, buffer, error),
+        None => Err("16 bits at first"),
     }
-    match hb_aat_layout_substitute(alloc, plan, font, buffer) {
-        Ok(turns) => answer(plan, font, &before, buffer, turns),
-        Err(AatError::TooLong) => too_long(font, &before, buffer),
-        Err(AatError::AaltValue(value)) => too_large(plan, &before, buffer, value),
-        Err(AatError::OutOfMemory) => Err("memory"),
-        Err(AatError::BufferFailed) => Err("a buffer that had not failed"),
+}
+
+/// A refusal of substitution.
+fn refusal(
+    plan: &hb_ot_shape_plan_t,
+    font: &hb_font_t,
+    before: &Before,
+    buffer: &hb_buffer_t,
+    error: AatError,
+) -> Result<Outcome, Fault> {
+    match error {
+        AatError::TooLong => too_long(font, before, buffer),
+        AatError::AaltValue(value) => too_large(plan, before, buffer, value),
+        AatError::OutOfMemory => Err("memory"),
+        AatError::BufferFailed => Err("a buffer that had not failed"),
     }
 }
 
@@ -196,10 +232,28 @@ fn answer(
 ) -> Result<Outcome, Fault> {
     let (subtables, inserting) = counts(font);
     let most = subtables.saturating_mul(before.extent.saturating_add(1));
-    let merges = buffer.cluster_level() != HB_BUFFER_CLUSTER_LEVEL_CHARACTERS;
     let is_kept = buffer.len() == before.len;
     let fault = first_fault(&[
         (turns <= most, "turns"),
+        (inserting > 0 || is_kept, "glyphs without insertion"),
+        (
+            first_too_large(&plan.user_features).is_none(),
+            "a request that is too large",
+        ),
+    ]);
+    match fault
+        .or(line_fault(before, buffer))
+        .or(cluster_fault(before, buffer))
+    {
+        Some(fault) => Err(fault),
+        None if is_kept => Ok(Outcome::Kept),
+        None => Ok(Outcome::Grown),
+    }
+}
+
+/// The bound that the line behind an answer of substitution breaks.
+fn line_fault(before: &Before, buffer: &hb_buffer_t) -> Option<Fault> {
+    first_fault(&[
         (extent(buffer) <= before.extent, "glyphs and budget"),
         (buffer.len() <= buffer.max_len(), "greatest length"),
         (buffer.all_glyphs_16(), "16 bits"),
@@ -207,23 +261,20 @@ fn answer(
         (buffer.scratch_flags() == before.scratch, "scratch flags"),
         (buffer.is_successful(), "success"),
         (!buffer.has_positions(), "positions"),
+    ])
+}
+
+/// The bound that the clusters behind an answer of substitution break.
+fn cluster_fault(before: &Before, buffer: &hb_buffer_t) -> Option<Fault> {
+    let merges = buffer.cluster_level() != HB_BUFFER_CLUSTER_LEVEL_CHARACTERS;
+    first_fault(&[
         (!merges || !before.rises || rises(buffer), "rising clusters"),
         (
             !merges || !before.falls || falls(buffer),
             "falling clusters",
         ),
         (come_from(before, buffer), "new clusters"),
-        (inserting > 0 || is_kept, "glyphs without insertion"),
-        (
-            first_too_large(&plan.user_features).is_none(),
-            "a request that is too large",
-        ),
-    ]);
-    match fault {
-        Some(fault) => Err(fault),
-        None if is_kept => Ok(Outcome::Kept),
-        None => Ok(Outcome::Grown),
-    }
+    ])
 }
 
 /// A refusal of a line that would become too long, in the midst of a run.
@@ -297,12 +348,10 @@ pub(crate) fn second_fault(
     buffer: &mut hb_buffer_t,
 ) -> Option<Fault> {
     let before = line_before(buffer);
-    if !buffer.all_glyphs_16() {
-        return Some("16 bits of a failed buffer");
-    }
-    let answer = hb_aat_layout_substitute(alloc, plan, font, buffer);
+    let answer = substituted(alloc, plan, font, buffer);
+    let is_refused = answer == Some(Err(AatError::BufferFailed));
     first_fault(&[
-        (answer == Err(AatError::BufferFailed), "a failed buffer"),
+        (is_refused, "a failed buffer"),
         (is_unchanged(&before, buffer), "the line of a failed buffer"),
         (
             settings_of(buffer) == before.settings,
@@ -313,25 +362,13 @@ pub(crate) fn second_fault(
     ])
 }
 
-/// The calls of kerning.
-#[derive(Clone, Copy, PartialEq)]
-pub(crate) enum Call {
-    Position,
-    Kern,
-}
-
 /// How many subtables the table of a call has.
 fn kerning_count(call: Call, font: &hb_font_t) -> u64 {
-    match call {
-        Call::Position => match &font.tables().kerx {
-            Some(kerx) => kerx.subtables().len() as u64,
-            None => 0,
-        },
-        Call::Kern => match &font.tables().kern {
-            Some(kern) => kern.subtables().len() as u64,
-            None => 0,
-        },
-    }
+    let count = match call {
+        Call::Position => font.kerx_subtables().len(),
+        Call::Kern => font.kern_subtables().len(),
+    };
+    count as u64
 }
 
 /// The bound that kerning breaks: it answers, in so many turns, and changes marks, positions and budget alone.
@@ -342,14 +379,7 @@ pub(crate) fn kerning_fault(
     buffer: &mut hb_buffer_t,
 ) -> Option<Fault> {
     let before = line_before(buffer);
-    if !buffer.all_glyphs_16() || !buffer.has_positions() {
-        return Some("conditions of kerning");
-    }
-    let answer = match call {
-        Call::Position => hb_aat_layout_position(plan, font, buffer),
-        Call::Kern => hb_ot_layout_kern(plan, font, buffer),
-    };
-    match answer {
+    match kern_by(call, plan, font, buffer) {
         Ok(turns) => kerned_fault(&before, buffer, kerning_count(call, font), turns),
         Err(_) => Some("refused kerning"),
     }

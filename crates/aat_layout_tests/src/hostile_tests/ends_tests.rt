@@ -1,13 +1,14 @@
 //! Indexes of lookups at their ends, and the largest number of subtables, through substitution.
 
 use crate::checks::{wanted, wanted_at};
+use crate::hostile_tests::bounds::substituted;
+use aat_described_fonts::drop_font;
 use aat_layout::buffer::{BufferError, hb_buffer_t, hb_glyph_info_t};
 use aat_layout::font::{
     Chain, ContextualEntryData, ContextualSubtable, Coverage, ExtendedStateTable, FaceTables,
     GenericStateEntry, Lookup, Morx, Subtable, SubtableKind, TableError, hb_font_t,
     hb_ot_shape_plan_t,
 };
-use aat_layout::hb_aat_layout_substitute;
 use std::alloc::Global;
 use std::test::Fail;
 
@@ -98,23 +99,16 @@ fn ids_of(buffer: &hb_buffer_t) -> Option<(u32, u32)> {
 }
 
 /// Whether substitution leaves these two glyphs of two glyphs 5, in so many turns.
-fn leaves_of(
+fn leaves(
     alloc: Global,
     font: &hb_font_t,
-    buffer: &mut hb_buffer_t,
     left: (u32, u32),
     turns: u64,
-) -> bool {
+) -> Result<bool, BufferError> {
     let plan = hb_ot_shape_plan_t::new(Vec::new(alloc));
-    buffer.all_glyphs_16()
-        && hb_aat_layout_substitute(alloc, &plan, font, buffer) == Ok(turns)
-        && ids_of(buffer) == Some(left)
-}
-
-/// Whether substitution leaves these two glyphs of two glyphs 5, in so many turns.
-fn leaves(alloc: Global, font: &hb_font_t, left: (u32, u32), turns: u64) -> Result<bool, Fail> {
     let mut buffer = line_of(alloc)?;
-    Ok(leaves_of(alloc, font, &mut buffer, left, turns))
+    let answer = substituted(alloc, &plan, font, &mut buffer);
+    Ok(answer == Some(Ok(turns)) && ids_of(&buffer) == Some(left))
 }
 
 /// Whether a contextual subtable leaves these two glyphs of two glyphs 5.
@@ -125,7 +119,9 @@ fn contextual_leaves(
     left: (u32, u32),
 ) -> Result<bool, Fail> {
     let font = font_of(alloc, contextual(alloc, marked, current, count)?, 1)?;
-    leaves(alloc, &font, left, 3)
+    let is_left = leaves(alloc, &font, left, 3);
+    drop_font(font);
+    Ok(is_left?)
 }
 
 /// An index of a lookup, how many lookups there are, and whether it names the last one.
@@ -156,7 +152,8 @@ fn lookups_at_their_ends(rt: HostRuntime) -> Result<(), Fail> {
 fn as_many_subtables_as_there_can_be(rt: HostRuntime) -> Result<(), Fail> {
     let last = SubtableKind::NonContextual(Lookup::new(rt.alloc(), &[(5, 9)])?);
     let font = font_of(rt.alloc(), last, 65535)?;
-    let is_left = leaves(rt.alloc(), &font, (9, 9), 131_070)?;
-    wanted(&rt, is_left, "two glyphs 9");
+    let is_left = leaves(rt.alloc(), &font, (9, 9), 131_070);
+    drop_font(font);
+    wanted(&rt, is_left?, "two glyphs 9");
     Ok(())
 }

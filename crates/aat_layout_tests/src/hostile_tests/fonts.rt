@@ -53,7 +53,10 @@ fn morx(alloc: Global, numbers: &mut Numbers) -> Result<Morx, Fail> {
 
 /// The names of the features.
 fn feat(alloc: Global, numbers: &mut Numbers) -> Result<Feat, TableError> {
-    let names = KINDS.map(|kind| FeatureName::new(kind, 2, numbers.coin()));
+    let mut names = [FeatureName::new(0, 2, false); 4];
+    for place in 0..4usize {
+        names[place] = FeatureName::new(KINDS[place], 2, numbers.coin());
+    }
     Feat::new(alloc, &names)
 }
 
@@ -66,13 +69,24 @@ fn classes(alloc: Global, numbers: &mut Numbers) -> Result<Option<Lookup>, Table
     Ok(Some(Lookup::new(alloc, &values)?))
 }
 
+/// These tables with those of kerning and with anchor points.
+fn with_kerning(
+    alloc: Global,
+    numbers: &mut Numbers,
+    tables: FaceTables,
+) -> Result<FaceTables, Fail> {
+    let kerx = kerx(alloc, numbers)?;
+    let kern = kern(alloc, numbers)?;
+    let ankr = ankr(alloc, numbers)?;
+    Ok(tables.with_kerx(kerx).with_kern(kern).with_ankr(ankr))
+}
+
 /// The tables of a font.
 fn tables(alloc: Global, numbers: &mut Numbers) -> Result<FaceTables, Fail> {
-    let tables = FaceTables::default().with_morx(morx(alloc, numbers)?);
-    let tables = tables.with_feat(feat(alloc, numbers)?);
-    let tables = tables.with_kerx(kerx(alloc, numbers)?);
-    let tables = tables.with_kern(kern(alloc, numbers)?);
-    Ok(tables.with_ankr(ankr(alloc, numbers)?))
+    let morx = morx(alloc, numbers)?;
+    let feat = feat(alloc, numbers)?;
+    let tables = FaceTables::default().with_morx(morx).with_feat(feat);
+    with_kerning(alloc, numbers, tables)
 }
 
 /// A font with every table.
@@ -86,12 +100,10 @@ pub(crate) fn font(alloc: Global, numbers: &mut Numbers) -> Result<hb_font_t, Fa
 /// How many subtables a font has that substitute, and how many of them insert.
 pub(crate) fn counts(font: &hb_font_t) -> (u64, u64) {
     let mut counts = (0u64, 0u64);
-    if let Some(morx) = &font.tables().morx {
-        for chain in morx.chains() {
-            let (all, inserting) = counts_of(chain);
-            counts.0 = counts.0.saturating_add(all);
-            counts.1 = counts.1.saturating_add(inserting);
-        }
+    for chain in font.chains() {
+        let (all, inserting) = counts_of(chain);
+        counts.0 = counts.0.saturating_add(all);
+        counts.1 = counts.1.saturating_add(inserting);
     }
     counts
 }

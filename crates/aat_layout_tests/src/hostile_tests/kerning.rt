@@ -18,15 +18,19 @@ const POINTS: [u16; 4] = [0, 1, 2, 65535];
 /// How many values a subtable names at each place.
 const TUPLES: [u32; 6] = [0, 1, 2, 3, 65535, u32::MAX];
 
-/// The value of each glyph beside the one at a place of the glyphs.
-fn pair(numbers: &mut Numbers, left: u16, right: u16) -> (u16, u16, i16) {
-    (left, right, numbers.pick(&VALUES))
+/// The pairs of a glyph and each glyph.
+fn pairs_of(numbers: &mut Numbers, left: u16) -> [(u16, u16, i16); 5] {
+    let mut pairs = [(0, 0, 0); 5];
+    for place in 0..5usize {
+        pairs[place] = (left, GLYPHS[place], numbers.pick(&VALUES));
+    }
+    pairs
 }
 
 /// The first few of the pairs of a glyph at either end and any glyph.
 fn pairs(alloc: Global, numbers: &mut Numbers) -> Result<Pairs, TableError> {
-    let low = GLYPHS.map(|glyph| pair(numbers, 1, glyph));
-    let high = GLYPHS.map(|glyph| pair(numbers, 65535, glyph));
+    let low = pairs_of(numbers, 1);
+    let high = pairs_of(numbers, 65535);
     let listed = numbers.up_to(5);
     let list = if numbers.coin() { low } else { high };
     Pairs::new(alloc, &list[..listed])
@@ -50,13 +54,21 @@ fn anchors(alloc: Global, numbers: &mut Numbers) -> Result<Vec<(u16, u16)>, Allo
     Ok(list)
 }
 
+/// A format of pairs.
+fn pairs_format(alloc: Global, numbers: &mut Numbers, number: usize) -> Result<KerxFormat, Fail> {
+    let pairs = pairs(alloc, numbers)?;
+    Ok(match number {
+        0 => KerxFormat::Format0(pairs),
+        1 => KerxFormat::Format2(pairs),
+        _ => KerxFormat::Format6(pairs),
+    })
+}
+
 /// One of the formats of `kerx`.
 fn format(alloc: Global, numbers: &mut Numbers) -> Result<KerxFormat, Fail> {
     match numbers.up_to(5) {
-        0 => Ok(KerxFormat::Format0(pairs(alloc, numbers)?)),
-        1 => Ok(KerxFormat::Format2(pairs(alloc, numbers)?)),
-        2 => Ok(KerxFormat::Format6(pairs(alloc, numbers)?)),
         3 => anchor_machine(alloc, numbers),
+        number if number < 3 => pairs_format(alloc, numbers, number),
         _ => stack_machine(alloc, numbers),
     }
 }
@@ -145,8 +157,8 @@ fn points(alloc: Global, numbers: &mut Numbers) -> Result<Vec<Point>, AllocError
 /// The anchor points of all glyphs, or of all but the first few.
 pub(crate) fn ankr(alloc: Global, numbers: &mut Numbers) -> Result<Ankr, Fail> {
     let mut rows = Vec::new(alloc);
-    for glyph in GLYPHS.iter().skip(numbers.up_to(3)) {
-        rows.push((*glyph, points(alloc, numbers)?))?;
+    for place in numbers.up_to(3)..5usize {
+        rows.push((GLYPHS[place], points(alloc, numbers)?))?;
     }
     Ok(Ankr::new(rows)?)
 }

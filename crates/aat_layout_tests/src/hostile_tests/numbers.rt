@@ -68,6 +68,10 @@ impl Numbers {
 
     /// Each glyph with one of some values.
     pub(crate) fn pairs(&mut self, values: &[u16]) -> [(u16, u16); 5] {
-        GLYPHS.map(|glyph| (glyph, self.pick(values)))
+        let mut pairs = [(0, 0); 5];
+        for place in 0..5usize {
+            pairs[place] = (GLYPHS[place], self.pick(values));
+        }
+        pairs
     }
 }

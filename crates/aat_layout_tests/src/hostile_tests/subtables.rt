@@ -85,14 +85,27 @@ fn contextual(alloc: Global, numbers: &mut Numbers) -> Result<SubtableKind, Fail
     Ok(SubtableKind::Contextual(ContextualSubtable { state, lookups }))
 }
 
+/// The lists of a subtable that joins glyphs: actions, components, and ligatures.
+type Lists = (Vec<u32>, Vec<u16>, Vec<GlyphId>);
+
+/// Lists with so many ligatures.
+fn lists(alloc: Global, numbers: &mut Numbers, count: usize) -> Result<Lists, AllocError> {
+    let actions = actions(alloc, numbers)?;
+    let components = components(alloc, numbers)?;
+    let ligatures = glyphs(alloc, numbers, count)?;
+    Ok((actions, components, ligatures))
+}
+
 /// A subtable that joins glyphs.
 fn ligature(alloc: Global, numbers: &mut Numbers) -> Result<SubtableKind, Fail> {
     let count = numbers.up_to(4);
+    let state = state_table(alloc, numbers)?;
+    let (ligature_actions, components, ligatures) = lists(alloc, numbers, count)?;
     Ok(SubtableKind::Ligature(LigatureSubtable {
-        state: state_table(alloc, numbers)?,
-        ligature_actions: actions(alloc, numbers)?,
-        components: components(alloc, numbers)?,
-        ligatures: glyphs(alloc, numbers, count)?,
+        state,
+        ligature_actions,
+        components,
+        ligatures,
     }))
 }
 

@@ -1,6 +1,6 @@
 -- What a machine does over a line of glyphs that it passes in state 0: whether it is on or off at each of them, it takes
 -- a turn for each and one more, and the line and the registers stay.
-use Rattle.std.proofs.Common.{◌≡◌, ◌∙◌, ap, sym, refl, subst, ℕ, zero, suc, ◌+◌, ◌<◌, ◌&&◌, ◌||◌, Bool, true, false, not, cond, ◌==◌, Option, Some, None, unwrap_or, List, length, arith}
+use Rattle.std.proofs.Common.{◌≡◌, ◌∙◌, ap, refl, ℕ, zero, suc, ◌+◌, ◌<◌, ◌&&◌, Bool, true, false, cond, ◌==◌, Option, Some, None, unwrap_or, List, length, arith}
 use Rattle.std.proofs.lemmas.Bool.Decides.{nat_tests}
 use Rattle.aat_buffer.specs.Buffer.{Buffer, with_cursor, without_positions, glyph_at}
 use Rattle.aat_font.specs.Entries.{goes_on}
@@ -9,11 +9,10 @@ use Rattle.aat_font.specs.Table.{TableValue, class_of, entry_of}
 use Rattle.aat_font.specs.declared.state_table.GenericStateEntry.{GenericStateEntry}
 use Rattle.aat_glyph.specs.declared.glyph.hb_glyph_info_t.{hb_glyph_info_t}
 use Rattle.aat_run.specs.Budget.{potential}
-use Rattle.aat_run.specs.Context.{Context, Machine, Config, Moved, machine_of, machine_with, start, first_config, is_at_end, is_inside, class_at, cluster_seen}
-use Rattle.aat_run.specs.Driven.{machine_run, outcome_of}
+use Rattle.aat_run.specs.Context.{Context, Machine, Config, Moved, machine_of, machine_with, start, is_at_end, class_at, cluster_seen}
+use Rattle.aat_run.specs.Driven.{machine_run}
 use Rattle.aat_run.specs.Laws.{RestsBy}
-use Rattle.aat_run.specs.Machine.{Turn, Ends, Goes, counted, passed, stepped, behind_act, settled_by, marked, acted, by_entry, off, run, turn, run_to_end}
-use Rattle.aat_run.specs.Outcome.{Outcome}
+use Rattle.aat_run.specs.Machine.{Ends, Goes, counted, passed, marked, acted, by_entry, off, run, turn, run_to_end}
 use Rattle.aat_run.specs.Safe.{is_safe}
 use Rattle.aat_run.specs.facts.MachineRuns.{turn_when_on, turn_when_off}
 use Rattle.aat_run.specs.facts.OffRuns.{IsPassedOver}

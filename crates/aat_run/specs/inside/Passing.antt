@@ -1,7 +1,8 @@
 -- Glyphs that a machine passes in state 0. No contract but those of turns and runs cites this.
-use Rattle.std.specs.Prelude.{◌==◌, ◌&&◌, Bool}
-use Rattle.aat_font.specs.declared.state_table.GenericStateEntry.{GenericStateEntry}
+use Rattle.std.specs.Prelude.{ℕ, zero, suc, ◌+◌}
+use Rattle.aat_buffer.specs.Buffer.{Buffer, glyph_at}
 
--- an entry leads over its glyph to state 0, and rests
-abbrev pub passes_by : {T : Type 0} → (GenericStateEntry T → Bool) → (GenericStateEntry T → Bool) → GenericStateEntry T → Bool
-passes_by advances rests e = (e.new_state == 0) && (advances e && rests e)
+-- the last cluster that was looked at, behind so many glyphs from the cursor on
+abbrev pub last_seen : Buffer → ℕ → ℕ → ℕ
+last_seen b last zero = last
+last_seen b last (suc k) = (glyph_at b.line (b.cursor + k)).cluster

@@ -7,8 +7,8 @@ use Rattle.aat_kerning_machines.specs.Positions.{IsPlaced}
 use Rattle.aat_kerning_machines.specs.inside.RunStates.{config}
 use Rattle.aat_kerning_machines.proofs.kerning_run.run_turns.Given as goal
 
-abbrev pub invariant-loop : goal.invariant-loop
-invariant-loop g l =
+abbrev pub invariant-loop-run_state : goal.invariant-loop-run_state
+invariant-loop-run_state g l =
     let d = g.D.StateTableDriver in
     let act = d.act l.fn.run.table.now l.fn.run.has_cross_stream l.fn.run.plan.now.kern_mask l.fn.run.tuple_count in
     let m = kerning_machine_with l.fn.pays_first l.fn.run.state_table.now d.actionable act in
@@ -18,5 +18,5 @@ invariant-loop g l =
       placed : IsPlaced l.buffer;
     }
 
-abbrev pub decreases-loop : goal.decreases-loop
-decreases-loop g l = potential l.buffer
+abbrev pub decreases-loop-run_state : goal.decreases-loop-run_state
+decreases-loop-run_state g l = potential l.buffer

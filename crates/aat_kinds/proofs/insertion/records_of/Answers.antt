@@ -13,14 +13,14 @@ loop-i-preserved c =
     let run = c.args.run.now in
     let i = c.loop-i.i in
     let f = λ (g : GlyphId). record m { glyph_id = g.0 } in
-    let x = record m { glyph_id = c.from.result } in
+    let x = c.copy_of.result in
     let low = c.loop-i-test.true in
     let inside : i < length c.loop-i.records = omega (arith, low, c.loop-i.invariant.long, c.requires.few) in
     let written : take (i + 1) (set c.loop-i.records i x) ≡ take i c.loop-i.records ++ x ∷ [] = take_more_set c.loop-i.records i x inside in
-    let same : x ≡ f (get_or run i (record { 0 = 0 })) = ap (λ g. record m { glyph_id = g }) c.from.ensures in
+    let same : x ≡ f (get_or run i (record { 0 = 0 })) = c.copy_of.ensures.copy in
     record {
       copies = written ∙ (ap (λ (gs : List hb_glyph_info_t). gs ++ x ∷ []) c.loop-i.invariant.copies
           ∙ (ap (λ (y : hb_glyph_info_t). copies m (take i run) ++ y ∷ []) same ∙ sym (map_more f run i (record { 0 = 0 }) low)));
-      small = rw written (All-append Is16Bit (take i c.loop-i.records) (x ∷ []) c.loop-i.invariant.small (All-cons Is16Bit x [] (rw c.from.ensures (omega (arith, c.loop-i-test.element_fits))) (λ k d none. absurd (omega (arith, none)))));
+      small = rw written (All-append Is16Bit (take i c.loop-i.records) (x ∷ []) c.loop-i.invariant.small (All-cons Is16Bit x [] c.copy_of.ensures.id (λ k d none. absurd (omega (arith, none)))));
       long = rw length-set c.loop-i.invariant.long;
     }

@@ -9,8 +9,8 @@ use Rattle.aat_run.specs.inside.Places.{config}
 use Rattle.aat_run.specs.inside.Standing.{HasCome}
 use Rattle.aat_run.proofs.driver.run_turns.Given as goal
 
-abbrev pub invariant-loop-context : goal.invariant-loop-context
-invariant-loop-context g l =
+abbrev pub invariant-loop-wakers : goal.invariant-loop-wakers
+invariant-loop-wakers g l =
     let context = g.C.driver_context_t in
     let m = machine_with (is_driven_on l.fn.ranges l.fn.feature_flags) l.fn.machine context.advances context.actionable context.act in
     record {
@@ -20,5 +20,5 @@ invariant-loop-context g l =
       longer : length l.fn.buffer.line ≤ length l.buffer.line;
     }
 
-abbrev pub decreases-loop-context : goal.decreases-loop-context
-decreases-loop-context g l = potential l.buffer
+abbrev pub decreases-loop-wakers : goal.decreases-loop-wakers
+decreases-loop-wakers g l = potential l.buffer
