@@ -136,8 +136,12 @@ pub fn hb_aat_layout_substitute_with<const SLOTS: usize, const LONGEST: usize>(
 }
 
 /// The map that a plan makes of a font: empty where the plan does not apply the flags, none where it applies them and
-/// makes no request, so that each chain has its default ones, and else compiled. It takes no memory but for requests.
-fn compiled_map<H: Allocator + Copy>(
+/// makes no request, so that each chain has its default ones, and else compiled. It takes no memory but for requests. A
+/// trace needs it too.
+///
+/// Refused as 1, `AaltValue`, for a value of alternates that is no setting, and as 3, `OutOfMemory`, where a request or
+/// compiling requests gets no memory.
+pub fn compiled_map<H: Allocator + Copy>(
     alloc: H,
     plan: &hb_ot_shape_plan_t,
     face: &hb_font_t,

@@ -20,6 +20,8 @@ pub use aat_kerning_machines::{
 pub use aat_kinds::{
     ContextualCtx, InsertionCtx, LIGATURE_SLOTS, LigatureCtx, MAX_CONTEXT_LENGTH, RearrangementCtx,
 };
+#[doc(hidden)]
+pub use aat_layout::compiled_map;
 pub use aat_layout::{Turns, hb_aat_layout_substitute, hb_aat_layout_substitute_with};
 pub use aat_map::{
     compile_flags, feature_info_t, feature_mappings, feature_order, feature_range_t,

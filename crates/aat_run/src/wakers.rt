@@ -1,5 +1,5 @@
 //! The glyphs that may wake a machine, where they are known before it runs.
-ghost use Rattle.std.specs.Prelude.{◌≡◌, ◌+◌, ◌<◌, ◌≤◌, ◌^◌, ℕ, All, false, length, slice_index_or};
+ghost use Rattle.std.specs.Prelude.{◌≡◌, ◌+◌, ◌<◌, ◌≤◌, ◌^◌, ℕ, All, false, true, length, slice_index_or};
 ghost use Rattle.std.specs.Int.{bit_at};
 ghost use Rattle.aat_buffer.specs.Buffer.{Is16Bit, glyph_at, with_cursor};
 ghost use Rattle.aat_buffer.specs.Clusters.{IsSmall};
@@ -27,7 +27,8 @@ impl Wakers<'_> {
     pub fn wakes(self, glyph: &hb_glyph_info_t) -> bool
         requires bit { self.bit < 64 }
         requires id { Is16Bit glyph.now }
-        ensures { result ≡ false → bit_at (word_of self.entry.words.now glyph.now.glyph_id) self.entry.bit ≡ 0 }
+        ensures asleep { result ≡ false → bit_at (word_of self.entry.words.now glyph.now.glyph_id) self.entry.bit ≡ 0 }
+        ensures awake { result ≡ true → bit_at (word_of self.entry.words.now glyph.now.glyph_id) self.entry.bit ≡ 1 }
     {
         self.words.word(GlyphId(glyph.glyph_id as u16)) >> self.bit & 1 != 0
     }
@@ -38,7 +39,8 @@ impl Wakers<'_> {
 fn has_bit(listed: &[u64], bit: u32, glyph: &hb_glyph_info_t) -> bool
     requires bit { bit < 64 }
     requires id { Is16Bit glyph.now }
-    ensures { result ≡ false → bit_at (slice_index_or listed.now glyph.now.glyph_id 0) bit ≡ 0 }
+    ensures clear { result ≡ false → bit_at (slice_index_or listed.now glyph.now.glyph_id 0) bit ≡ 0 }
+    ensures set { result ≡ true → bit_at (slice_index_or listed.now glyph.now.glyph_id 0) bit ≡ 1 }
 {
     word_at(listed, GlyphId(glyph.glyph_id as u16)) >> bit & 1 != 0
 }
@@ -50,6 +52,8 @@ fn clear_before(listed: &[u64], bit: u32, glyphs: &[hb_glyph_info_t]) -> usize
     ensures few { result ≤ length glyphs.now }
     ensures clear { (i : ℕ) → i < result
         → bit_at (slice_index_or listed.now (glyph_at glyphs.now i).glyph_id 0) bit ≡ 0 }
+    ensures all { result < length glyphs.now
+        → bit_at (slice_index_or listed.now (glyph_at glyphs.now result).glyph_id 0) bit ≡ 1 }
 {
     for (i, glyph) in glyphs.iter().enumerate() {
         if has_bit(listed, bit, glyph) {
@@ -67,6 +71,8 @@ fn asleep_before(wakers: Wakers, glyphs: &[hb_glyph_info_t]) -> usize
     ensures few { result ≤ length glyphs.now }
     ensures asleep { (i : ℕ) → i < result
         → bit_at (word_of wakers.entry.words.now (glyph_at glyphs.now i).glyph_id) wakers.entry.bit ≡ 0 }
+    ensures all { result < length glyphs.now
+        → bit_at (word_of wakers.entry.words.now (glyph_at glyphs.now result).glyph_id) wakers.entry.bit ≡ 1 }
 {
     if wakers.words.everywhere() >> wakers.bit & 1 != 0 {
         return 0;

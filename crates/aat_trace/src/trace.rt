@@ -6,9 +6,9 @@ ghost use Rattle.aat_buffer.specs.Clusters.{IsSmall};
 ghost use Rattle.aat_font.specs.Face.{chains_in, tables_of};
 ghost use Rattle.aat_kinds.specs.Kinds.{sizes_of};
 ghost use Rattle.aat_layout.specs.Planned.{substitution};
-ghost use Rattle.aat_layout.specs.Refusals.{LeavesBehind, RefusesPlan, RefusesSubstitution, first_too_large};
+ghost use Rattle.aat_layout.specs.Refusals.{LeavesBehind, RefusesSubstitution, first_too_large};
 ghost use Rattle.aat_map.specs.Map.{lists_for};
-ghost use Rattle.aat_map.specs.SwitchedChains.{plan_requests, switched, switched_by};
+ghost use Rattle.aat_map.specs.SwitchedChains.{switched, switched_by};
 ghost use Rattle.aat_morx.specs.Applying.{applied_by};
 ghost use Rattle.aat_morx.specs.Substitution.{prepared};
 ghost use Rattle.aat_run.specs.Driven.{IsRefusal, IsRefused};
@@ -21,7 +21,8 @@ use crate::traced::Trace;
 use aat_buffer::hb_buffer_t;
 use aat_font::{hb_font_t, hb_ot_shape_plan_t};
 use aat_kinds::{LIGATURE_SLOTS, MAX_CONTEXT_LENGTH};
-use aat_map::{hb_aat_map_builder_t, hb_aat_map_t};
+use aat_layout::compiled_map;
+use aat_map::hb_aat_map_t;
 use aat_run::AatError;
 use std::alloc::{Allocator, Global};
 
@@ -111,30 +112,4 @@ fn trace_table<const SLOTS: usize, const LONGEST: usize, A: Allocator + Copy>(
     let chains = face.chains();
     trace.turns = trace_chains::<SLOTS, LONGEST, A>(alloc, face, chains, map, buffer, &mut trace)?;
     Ok(trace)
-}
-
-/// The map that a plan makes of a font: empty where the plan does not apply the flags, none where it applies them and
-/// makes no request, so that each chain has its default ones, and else compiled. It takes no memory but for requests.
-fn compiled_map(
-    alloc: Global,
-    plan: &hb_ot_shape_plan_t,
-    face: &hb_font_t,
-) -> Result<Option<hb_aat_map_t>, AatError>
-    ensures ok { IfOk result (λ map. switched_by (chains_in (tables_of face.now).morx)
-        (lists_for map (chains_in (tables_of face.now).morx))
-        ≡ switched plan.now.apply_morx (plan_requests plan.now face.now) (chains_in (tables_of face.now).morx)) }
-    ensures whole { IfOk result (λ map. IfSome map (λ m. IsTrue (list_all is_whole_list m))) }
-    ensures reason { IfErr result (RefusesPlan plan.now face.now) }
-    ensures fits { OnOk result (first_too_large plan.now face.now ≡ None) }
-{
-    let mut builder = hb_aat_map_builder_t::with_features(alloc, face, &plan.user_features)?;
-    if !plan.apply_morx {
-        return Ok(Some(hb_aat_map_t::default(alloc)));
-    }
-    if builder.features().is_empty() {
-        return Ok(None);
-    }
-    let mut map = hb_aat_map_t::default(alloc);
-    builder.compile(face, &mut map)?;
-    Ok(Some(map))
 }
