@@ -16,6 +16,7 @@ use aat_layout::{
     AatError, apply, hb_aat_apply_context_t, hb_aat_layout_position, hb_aat_layout_substitute,
     hb_aat_map_builder_t, hb_aat_map_t, hb_ot_layout_kern,
 };
+use aat_shaping::shape;
 use std::alloc::Global;
 use std::time::{Clock, Duration, Instant};
 
@@ -32,8 +33,32 @@ pub(crate) struct Outcome {
     pub(crate) time: Duration,
 }
 
-/// Runs a workload in so many rounds, and at least once, each with tables and a line of its own, and answers what came
-/// out of the first round, with the least time that a call took.
+/// What a workload keeps from one round to the next.
+#[derive(Drop)]
+struct Kept {
+    face: hb_font_t,
+    plan: hb_ot_shape_plan_t,
+}
+
+/// The font of a workload, and a plan: of its features, or one that kerns.
+fn kept_for(alloc: Global, work: &Work) -> Result<Kept, Stop> {
+    let face = match work {
+        Work::Substitution(subtables, _) => face_of(alloc, subtables),
+        Work::Call(subtables, _) | Work::Shaping(subtables, _) => face_of(alloc, subtables),
+        Work::Kerning(subtable) => kerned_face_of(alloc, subtable),
+        Work::Compilation => face_of(alloc, &Substituted::NonContextual),
+    }?;
+    let plan = match work {
+        Work::Call(_, features) | Work::Shaping(_, features) => {
+            hb_ot_shape_plan_t::new(features_of(alloc, *features)?)
+        }
+        Work::Substitution(..) | Work::Kerning(_) | Work::Compilation => plan_of(alloc),
+    };
+    Ok(Kept { face, plan })
+}
+
+/// Runs a workload in so many rounds, and at least once, each with a line of its own, and answers what came out of the
+/// first round, with the least time that a call took. Font and plan are kept from round to round.
 pub(crate) fn least<R: Clock>(
     rt: &R,
     alloc: Global,
@@ -41,9 +66,10 @@ pub(crate) fn least<R: Clock>(
     size: &Size,
     rounds: u32,
 ) -> Result<Outcome, Stop> {
-    let mut first = round_of(rt, alloc, work, size, 0)?;
+    let kept = kept_for(alloc, work)?;
+    let mut first = round_of(rt, alloc, work, &kept, size, 0)?;
     for round in 1..rounds {
-        let next = round_of(rt, alloc, work, size, round)?;
+        let next = round_of(rt, alloc, work, &kept, size, round)?;
         first.time = first.time.min(next.time);
     }
     Ok(first)
@@ -54,16 +80,18 @@ fn round_of<R: Clock>(
     rt: &R,
     alloc: Global,
     work: &Work,
+    kept: &Kept,
     size: &Size,
     round: u32,
 ) -> Result<Outcome, Stop> {
     match work {
-        Work::Substitution(subtables, requests) => {
-            substitution(rt, alloc, subtables, *requests, size, round)
+        Work::Substitution(_, requests) => {
+            substitution(rt, alloc, &kept.face, *requests, size, round)
         }
-        Work::Call(subtables, features) => call(rt, alloc, subtables, *features, size, round),
-        Work::Kerning(subtable) => kerning(rt, alloc, subtable, size, round),
-        Work::Compilation => compilation(rt, alloc, size),
+        Work::Call(..) => call(rt, alloc, kept, size, round),
+        Work::Shaping(..) => shaping(rt, alloc, kept, size, round),
+        Work::Kerning(subtable) => kerning(rt, alloc, subtable, kept, size, round),
+        Work::Compilation => compilation(rt, alloc, &kept.face, size),
     }
 }
 
@@ -81,15 +109,14 @@ fn outcome_of(buffer: &hb_buffer_t, turns: u64, time: Duration) -> Outcome {
 fn substitution<R: Clock>(
     rt: &R,
     alloc: Global,
-    subtables: &Substituted,
+    face: &hb_font_t,
     requests: u32,
     size: &Size,
     round: u32,
 ) -> Result<Outcome, Stop> {
-    let face = face_of(alloc, subtables)?;
-    let map = map_of(alloc, &face, requests, size)?;
+    let map = map_of(alloc, face, requests, size)?;
     let mut buffer = line_of(alloc, size, round)?;
-    let (turns, time) = timed_substitution(rt, &face, &map, &mut buffer)?;
+    let (turns, time) = timed_substitution(rt, face, &map, &mut buffer)?;
     Ok(outcome_of(&buffer, turns, time))
 }
 
@@ -123,19 +150,16 @@ fn substitute(
     Ok(context.turns)
 }
 
-/// A line that is substituted by a plan of so many features.
+/// A line that is substituted by a plan.
 fn call<R: Clock>(
     rt: &R,
     alloc: Global,
-    subtables: &Substituted,
-    features: u32,
+    kept: &Kept,
     size: &Size,
     round: u32,
 ) -> Result<Outcome, Stop> {
-    let face = face_of(alloc, subtables)?;
-    let plan = hb_ot_shape_plan_t::new(features_of(alloc, features)?);
     let mut buffer = line_of(alloc, size, round)?;
-    let (turns, time) = timed_call(rt, alloc, &plan, &face, &mut buffer)?;
+    let (turns, time) = timed_call(rt, alloc, &kept.plan, &kept.face, &mut buffer)?;
     Ok(outcome_of(&buffer, turns, time))
 }
 
@@ -155,18 +179,46 @@ fn timed_call<R: Clock>(
     Ok((turns, time))
 }
 
+/// A line that is shaped, whole, by a plan.
+fn shaping<R: Clock>(
+    rt: &R,
+    alloc: Global,
+    kept: &Kept,
+    size: &Size,
+    round: u32,
+) -> Result<Outcome, Stop> {
+    let mut buffer = line_of(alloc, size, round)?;
+    let (turns, time) = timed_shaping(rt, alloc, &kept.plan, &kept.face, &mut buffer)?;
+    Ok(outcome_of(&buffer, turns, time))
+}
+
+/// Shapes a line by a plan, and answers the turns and the time.
+fn timed_shaping<R: Clock>(
+    rt: &R,
+    alloc: Global,
+    plan: &hb_ot_shape_plan_t,
+    face: &hb_font_t,
+    buffer: &mut hb_buffer_t,
+) -> Result<(u64, Duration), Stop>
+    requires { IsSmall buffer.old }
+{
+    let start = Instant::now(rt)?;
+    let turns = shape(alloc, plan, face, buffer)?;
+    let time = start.elapsed(rt)?;
+    Ok((turns, time))
+}
+
 /// A line that is kerned.
 fn kerning<R: Clock>(
     rt: &R,
     alloc: Global,
     subtable: &Kerned,
+    kept: &Kept,
     size: &Size,
     round: u32,
 ) -> Result<Outcome, Stop> {
-    let face = kerned_face_of(alloc, subtable)?;
-    let plan = plan_of(alloc);
     let mut buffer = placed_line_of(alloc, size, round)?;
-    let (turns, time) = timed_kerning(rt, subtable, &plan, &face, &mut buffer)?;
+    let (turns, time) = timed_kerning(rt, subtable, &kept.plan, &kept.face, &mut buffer)?;
     Ok(outcome_of(&buffer, turns, time))
 }
 
@@ -208,11 +260,15 @@ fn kern(
 }
 
 /// Requests that are compiled.
-fn compilation<R: Clock>(rt: &R, alloc: Global, size: &Size) -> Result<Outcome, Stop> {
-    let face = face_of(alloc, &Substituted::NonContextual)?;
-    let mut builder = builder_of(alloc, &face, size.count, size)?;
+fn compilation<R: Clock>(
+    rt: &R,
+    alloc: Global,
+    face: &hb_font_t,
+    size: &Size,
+) -> Result<Outcome, Stop> {
+    let mut builder = builder_of(alloc, face, size.count, size)?;
     let mut map = hb_aat_map_t::default(alloc);
-    let time = timed_compilation(rt, &face, &mut builder, &mut map)?;
+    let time = timed_compilation(rt, face, &mut builder, &mut map)?;
     Ok(Outcome {
         turns: 0,
         budget: 0,

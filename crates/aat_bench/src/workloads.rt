@@ -15,6 +15,8 @@ pub(crate) enum Work {
     Kerning(Kerned),
     /// Lines are substituted by a plan of this many features, which the call compiles.
     Call(Substituted, u32),
+    /// Lines are shaped, whole, by a plan of this many features.
+    Shaping(Substituted, u32),
     /// Requests are compiled.
     Compilation,
 }
@@ -85,12 +87,20 @@ const OF_370_RANGES: u32 = 185;
 /// The lines, each with a budget of 64 operations for a glyph, and at least 16384.
 const LINES: &[Size] = &[
     Size {
+        count: 8,
+        max_ops: 16384,
+        places: OF_370_RANGES,
+        stride: 2,
+        span: 1,
+        rounds: 5_000,
+    },
+    Size {
         count: 20,
         max_ops: 16384,
         places: OF_370_RANGES,
         stride: 2,
         span: 1,
-        rounds: 200,
+        rounds: 2_000,
     },
     Size {
         count: 2_000,
@@ -98,7 +108,7 @@ const LINES: &[Size] = &[
         places: OF_370_RANGES,
         stride: 10,
         span: 5,
-        rounds: 50,
+        rounds: 100,
     },
     Size {
         count: 200_000,
@@ -169,7 +179,7 @@ const WORD: &[Size] = &[Size {
     places: 1,
     stride: 0,
     span: 8,
-    rounds: 200,
+    rounds: 5_000,
 }];
 
 /// A workload of words that wake none of twenty subtables, with so many features.
@@ -178,6 +188,17 @@ macro_rules! word {
         Workload {
             name: $name,
             work: Work::Call(Substituted::Mixed(Woken::None), $features),
+            sizes: WORD,
+        }
+    };
+}
+
+/// A workload of words that wake none of twenty subtables and are shaped, whole, with so many features.
+macro_rules! shaped_word {
+    ($name:literal, $features:literal) => {
+        Workload {
+            name: $name,
+            work: Work::Shaping(Substituted::Mixed(Woken::None), $features),
             sizes: WORD,
         }
     };
@@ -195,7 +216,7 @@ macro_rules! kerning {
 }
 
 /// The workloads, in the order in which they are printed.
-pub(crate) static WORKLOADS: [Workload; 20] = [
+pub(crate) static WORKLOADS: [Workload; 22] = [
     substitution!("noncontextual", NonContextual, 0),
     substitution!("ligatures", Ligature, 0),
     substitution!("contextual", Contextual, 0),
@@ -208,6 +229,8 @@ pub(crate) static WORKLOADS: [Workload; 20] = [
     mixed!("mixed-each-awake", Each),
     word!("word", 0),
     word!("word-features", 3),
+    shaped_word!("shape-word", 0),
+    shaped_word!("shape-word-features", 3),
     kerning!("kern-pairs", KernPairs),
     kerning!("kern-classes", KernClasses),
     kerning!("kerx-pairs", KerxPairs),

@@ -98,3 +98,7 @@ rest_written xs ws i j n e le within = same_lists _ _ (search (rules, places)) (
 -- the cells behind the gap are the line from its place on
 pub rest_read : {X : Type 0} (xs : List X) (i j n : ℕ) → n ≡ length xs → i ≤ j → j ≤ length xs → slice_range xs j n ≡ drop i (around_gap xs i j)
 rest_read xs i j n e le within = same_lists _ _ (search (rules, places)) (λ k d h. grind (arith, places))
+
+-- a glyph that is copied alone
+pub one_copied : {X : Type 0} (xs : List X) (i n j : ℕ) (x : X) → n ≡ 1 → i + n ≤ length xs → j + n ≤ length xs → set xs j (get_or xs i x) ≡ copy_within xs i (i + n) j
+one_copied xs i n j x one read written = same_lists _ _ (search (rules, places)) (λ k d h. grind (arith, places, get_or-set_same, cases_eq k j))

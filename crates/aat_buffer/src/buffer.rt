@@ -1,5 +1,5 @@
 //! The buffer: a line of glyphs with a cursor.
-ghost use Rattle.std.specs.Prelude.{◌≡◌, ◌+◌, ◌-◌, ◌<◌, ◌≤◌, ◌↔◌, ◌++◌, drop, length, map, slice_get, slice_range, is_some, IsTrue, IsOk, OnOk, OnErr, IfErr, IfSome, IsSome, IsErrOf, All, vec_len};
+ghost use Rattle.std.specs.Prelude.{◌≡◌, ◌+◌, ◌-◌, ◌<◌, ◌≤◌, ◌↔◌, ◌++◌, drop, length, map, nat_lt, slice_get, slice_range, is_some, IsTrue, IsOk, OnOk, OnErr, IfErr, IfSome, IsSome, IsErrOf, All, vec_len};
 ghost use Rattle.std.specs.Bool.{OnTrue};
 ghost use Rattle.std.specs.Borrow.{sem};
 ghost use Rattle.aat_buffer.specs.Buffer.{Buffer, empty_buffer, added, failed, with_cursor, with_line, without_positions, skipped, replaced, reversed, with_zero_positions, position_list, position_at, output, model_at, glyph_at, with_info, Is16Bit, with_direction, with_cluster_level, with_flags, with_scratch_flags, with_max_ops, with_positions, with_glyphs_in};
@@ -92,6 +92,21 @@ impl<A: Allocator + Copy> hb_buffer_t<A> {
         ensures within { result ≤ length self.now.line }
     {
         self.line.cursor()
+    }
+
+    /// Whether the cursor is before the end. The line has at most 0x3FFFFFFF glyphs.
+    pub fn has_current(&self) -> bool
+        ensures current { result ≡ nat_lt self.now.cursor (length self.now.line) }
+        ensures small { length self.now.line ≤ 0x3FFFFFFF }
+    {
+        self.line.has_current()
+    }
+
+    /// Whether a glyph stands behind the one at the cursor.
+    pub fn has_next(&self) -> bool
+        ensures { result ≡ nat_lt (self.now.cursor + 1) (length self.now.line) }
+    {
+        self.line.has_next()
     }
 
     /// Whether positions stand. They may do so on an empty line too.

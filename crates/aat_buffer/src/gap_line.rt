@@ -1,6 +1,7 @@
 //! How a line of glyphs is kept: in one vector, whose unused cells stand at the cursor.
-ghost use Rattle.std.specs.Prelude.{◌≡◌, ◌+◌, ◌-◌, ◌<◌, ◌≤◌, ◌^◌, ◌↔◌, ◌++◌, All, Some, IfOk, IsTrue, OnOk, OnErr, drop, length, map, reverse, slice_get, slice_range, take, vec_len};
+ghost use Rattle.std.specs.Prelude.{◌≡◌, ◌+◌, ◌-◌, ◌<◌, ◌≤◌, ◌^◌, ◌↔◌, ◌++◌, All, Some, IfOk, IsTrue, OnOk, OnErr, drop, length, map, nat_lt, reverse, slice_get, slice_range, take, vec_len};
 ghost use Rattle.std.specs.Borrow.{sem};
+ghost use Rattle.std.specs.List.{copy_within};
 ghost use Rattle.aat_buffer.specs.Buffer.{Is16Bit};
 ghost use Rattle.aat_buffer.specs.inside.Gap.{around_gap};
 ghost use Rattle.aat_buffer.specs.inside.Line.{Line, empty_line, moved_to, turned_line, with_all_inserted, with_changed, with_inserted, with_last, without_current};
@@ -60,6 +61,20 @@ impl<A: Allocator + Copy> GapLine<A> {
         ensures within { result ≤ length self.now.glyphs }
     {
         self.gap_start
+    }
+
+    /// Whether the cursor is before the end.
+    pub(crate) fn has_current(&self) -> bool
+        ensures { result ≡ nat_lt self.now.cursor (length self.now.glyphs) }
+    {
+        self.gap_end < self.cells.len()
+    }
+
+    /// Whether a glyph stands behind the one at the cursor.
+    pub(crate) fn has_next(&self) -> bool
+        ensures { result ≡ nat_lt (self.now.cursor + 1) (length self.now.glyphs) }
+    {
+        self.gap_end + 1 < self.cells.len()
     }
 
     /// The glyph at place `i`.
@@ -153,12 +168,16 @@ impl<A: Allocator + Copy> GapLine<A> {
     }
 
     /// Moves the cursor to place `i`, in as many steps as it is away, and in one where the gap has no cells.
-    #[tactic(auto, using(crate::proofs::Gap::carried_right, crate::proofs::Gap::carried_left))]
+    #[tactic(auto, using(crate::proofs::Gap::moved_empty))]
     pub(crate) fn move_to(&mut self, i: usize)
         requires { i ≤ length self.old.glyphs }
         ensures { self.new ≡ moved_to self.old i }
     {
-        self.gap_end = carry_gap(self.cells.as_mut_slice(), self.gap_start, self.gap_end, i);
+        if self.gap_start == self.gap_end {
+            self.gap_end = i;
+        } else {
+            self.gap_end = carry_gap(self.cells.as_mut_slice(), self.gap_start, self.gap_end, i);
+        }
         self.gap_start = i;
     }
 
@@ -291,8 +310,9 @@ fn change_all<F: Fn(&hb_glyph_info_t) -> hb_glyph_info_t>(
     }
 }
 
-/// Moves the gap to `place` of the line, and gives its new end. A gap without cells carries no glyph.
-#[tactic(auto, using(crate::proofs::Gap::carried_right, crate::proofs::Gap::carried_left, crate::proofs::Gap::moved_empty))]
+/// Moves the gap to `place` of the line, and gives its new end. It stands apart, since most gaps have no cells.
+#[inline(never)]
+#[tactic(auto, using(crate::proofs::Gap::carried_right, crate::proofs::Gap::carried_left))]
 fn carry_gap(cells: &mut [hb_glyph_info_t], start: usize, end: usize, place: usize) -> usize
     requires ordered { start ≤ end }
     requires in_cells { end ≤ length cells.old }
@@ -302,21 +322,33 @@ fn carry_gap(cells: &mut [hb_glyph_info_t], start: usize, end: usize, place: usi
     ensures line { around_gap cells.new place result ≡ around_gap cells.old start end }
     ensures len { length cells.new ≡ length cells.old }
 {
-    if start == end {
-        return place;
-    }
     if start < place {
         let count = place - start;
-        cells.copy_within(end..end + count, start);
+        carry(cells, end, count, start);
         end + count
     } else {
         let count = start - place;
-        cells.copy_within(place..start, end - count);
+        carry(cells, place, count, end - count);
         end - count
     }
 }
 
-/// Makes a gap larger, by as many cells as there are and at least as many as are wanted, and gives its new end.
+/// Copies so many glyphs from one place to another, a single one without a loop.
+fn carry(cells: &mut [hb_glyph_info_t], from: usize, count: usize, to: usize)
+    requires read { from + count ≤ length cells.old }
+    requires written { to + count ≤ length cells.old }
+    ensures after { cells.new ≡ copy_within cells.old from (from + count) to }
+    ensures len { length cells.new ≡ length cells.old }
+{
+    if count == 1 {
+        cells[to] = cells[from];
+    } else {
+        cells.copy_within(from..from + count, to);
+    }
+}
+
+/// Makes a gap larger, by half as many cells as there are and by as many more as are wanted, at least 16, and gives its
+/// new end.
 fn grow_gap<A: Allocator>(
     cells: &mut Vec<hb_glyph_info_t, A>,
     start: usize,
@@ -332,7 +364,7 @@ fn grow_gap<A: Allocator>(
     ensures err { OnErr result ((cells.new.items ≡ cells.old.items) × (vec_len cells.new ≡ vec_len cells.old)) }
 {
     let len = cells.len();
-    let more = len + count.max(16);
+    let more = len / 2 + count.max(16);
     cells.resize(len + more, hb_glyph_info_t::default())?;
     cells.copy_within(end..len, end + more);
     Ok(end + more)

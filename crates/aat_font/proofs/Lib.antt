@@ -1,4 +1,5 @@
 pub mod AnchorRows
+pub mod ClassAnswers
 pub mod ClassRows
 pub mod ClearBits
 pub mod DenseAnswers

@@ -3,9 +3,13 @@ use Rattle.std.specs.Prelude.{◌≡◌, ◌+◌, ◌-◌, ◌%◌, ◌<◌, ◌
 use Rattle.aat_font.specs.Keys.{value_in}
 use Rattle.aat_font.specs.declared.moves.GlyphMoves.{GlyphMoves}
 
+-- the place of a glyph in an array over the glyphs from the lowest on
+abbrev pub place_over : ℕ → ℕ → ℕ
+place_over lowest glyph = (glyph + (65536 - lowest)) % 65536
+
 -- what a glyph becomes by an array over the glyphs from the lowest on: itself outside the array
 abbrev pub moved_over : ℕ → List ℕ → ℕ → ℕ
-moved_over lowest cells glyph = slice_index_or cells ((glyph + (65536 - lowest)) % 65536) glyph
+moved_over lowest cells glyph = slice_index_or cells (place_over lowest glyph) glyph
 
 -- the value of a glyph that becomes another one, none where it stays
 abbrev pub changed_to : ℕ → ℕ → Option ℕ

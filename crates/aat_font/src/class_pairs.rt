@@ -1,17 +1,21 @@
 //! Kerning values of pairs of glyphs by classes.
 ghost use Rattle.std.specs.Prelude.{◌≡◌, ◌≤◌, IfOk, IfErr, OnOk, None, false, length, slice_index_or};
 ghost use Rattle.std.specs.Option.{option_or};
-ghost use Rattle.aat_font.specs.Classes.{class_in, kerning_by_classes, value_of_classes};
+ghost use Rattle.aat_font.specs.Classes.{kerning_by_classes, value_of_classes};
 ghost use Rattle.aat_font.specs.Keys.{first, first_fall};
 ghost use Rattle.aat_font.specs.TableErrors.{RefusesRising};
 ghost use Rattle.aat_font.specs.inside.Rows.{HoldsRows, IsQuiet, TellRows};
 
+use crate::class_array::ClassArray;
 use crate::error::TableError;
 use crate::keys::first_fall;
 use crate::lookup::Lookup;
 use crate::plan::GlyphId;
 use std::alloc::{AllocError, Allocator, Global};
 use std::marker::Model;
+
+/// The class of a glyph for which none is listed.
+const MISSING: u16 = 0;
 
 /// The kerning values of pairs of glyphs by a class of the left glyph and one of the right glyph, in units of the font.
 /// A glyph for which no class is listed has class 0. A contract sees the table as the record `ClassValues`.
@@ -25,10 +29,15 @@ pub struct ClassPairs<A: Allocator = Global> {
     values: Vec<i16, A>,
     /// Whether a left class has a value that is not 0.
     kerns: Vec<bool, A>,
+    /// The classes of left glyphs in an array, if they have one.
+    left_classes: ClassArray<A>,
+    /// The same of right glyphs.
+    right_classes: ClassArray<A>,
 }
 
 impl<A: Allocator> Model for ClassPairs<A> {
     ghost use Rattle.aat_font.specs.Classes.{ClassValues};
+    ghost use Rattle.aat_font.specs.inside.Dense.{AnswersAsClasses};
     ghost use Rattle.aat_font.specs.inside.Rows.{TellRows};
 
     ghost Value = { ClassValues };
@@ -40,7 +49,9 @@ impl<A: Allocator> Model for ClassPairs<A> {
       values = m.values.items;
     } };
 
-    ghost invariant = { λ m. TellRows m.kerns.items m.values.items m.right_count };
+    ghost invariant = { λ m. TellRows m.kerns.items m.values.items m.right_count
+        × AnswersAsClasses 0 m.left_classes.lowest m.left_classes.cells.items m.left
+        × AnswersAsClasses 0 m.right_classes.lowest m.right_classes.cells.items m.right };
 }
 
 impl<A: Allocator + Copy> ClassPairs<A> {
@@ -79,8 +90,9 @@ impl<A: Allocator + Copy> ClassPairs<A> {
         Ok(ClassPairs::from_lookups(alloc, left, right, right_count, values)?)
     }
 
-    /// Makes the table of the classes of left glyphs and those of right glyphs, as lookups, which may be of segments, the
-    /// number of right classes, and the values, as `new` does. Fails where a flag for each left class gets no memory.
+    /// Makes the table of the classes of left glyphs and those of right glyphs, as lookups, which may be of segments,
+    /// the number of right classes, and the values, as `new` does. Fails where a flag for each left class, or an array
+    /// of the classes, gets no memory. The lookups are kept without arrays of their own.
     pub fn from_lookups(
         alloc: A,
         left: Lookup<A>,
@@ -96,12 +108,16 @@ impl<A: Allocator + Copy> ClassPairs<A> {
         }) }
     {
         let kerns = kerning_rows(alloc, &values, right_count)?;
+        let left_classes = ClassArray::over(alloc, &left, MISSING)?;
+        let right_classes = ClassArray::over(alloc, &right, MISSING)?;
         Ok(ClassPairs {
-            left,
-            right,
+            left: left.without_array(),
+            right: right.without_array(),
             right_count,
             values,
             kerns,
+            left_classes,
+            right_classes,
         })
     }
 }
@@ -140,24 +156,13 @@ impl<A: Allocator> ClassPairs<A> {
     pub fn glyphs_kerning(&self, left: GlyphId, right: GlyphId) -> i16
         ensures { result ≡ kerning_by_classes self.now left.0 right.0 }
     {
-        let row = class_in(&self.left, left);
+        let row = self.left_classes.class(&self.left, MISSING, left);
         if !kerns_at(&self.kerns, row) {
             return 0;
         }
-        value_at(
-            &self.values,
-            self.right_count,
-            row,
-            class_in(&self.right, right),
-        )
+        let column = self.right_classes.class(&self.right, MISSING, right);
+        value_at(&self.values, self.right_count, row, column)
     }
-}
-
-/// The class of a glyph, 0 where none is listed for it.
-fn class_in<A: Allocator>(classes: &Lookup<A>, glyph: GlyphId) -> u16
-    ensures { result ≡ class_in classes.now glyph.0 }
-{
-    classes.value(glyph).unwrap_or(0)
 }
 
 /// Whether a left class is told to have a value that is not 0.

@@ -26,7 +26,7 @@ pub(crate) enum Dense<A: Allocator> {
     Moves(MoveArray<A>),
     /// They lie close on pages of 256 glyphs: on those that hold one.
     Pages(GlyphPages<A>),
-    /// They lie apart: by bisection.
+    /// They lie apart, or stand in another array: by bisection.
     Search,
 }
 
@@ -94,7 +94,7 @@ impl<A: Allocator> Dense<A> {
             Dense::Array(array) => array.value(glyph),
             Dense::Moves(array) => array.value(glyph),
             Dense::Pages(pages) => pages.value(glyph),
-            Dense::Search => row_at(pairs, glyph as u32).map(|pair| pair.1),
+            Dense::Search => searched(pairs, glyph),
         }
     }
 
@@ -109,6 +109,28 @@ impl<A: Allocator> Dense<A> {
             Dense::Array(_) | Dense::Pages(_) | Dense::Search => None,
         }
     }
+
+    /// The value of each glyph of a span, and its lowest glyph, where they stand in an array with none for a glyph
+    /// without a value. It has the values of pairs of which this tells how they are found.
+    pub(crate) fn span_values(&self, pairs: &[(u16, u16)]) -> Option<(u16, &[Option<u16>])>
+        requires answers { AnswersAsPairs self.now pairs.now }
+        ensures { IfSome result (λ span. AnswersOver span.0 span.1.now pairs.now) }
+    {
+        match self {
+            Dense::Array(array) => Some((array.lowest, &array.cells)),
+            Dense::Moves(_) | Dense::Pages(_) | Dense::Search => None,
+        }
+    }
+}
+
+/// The value of a glyph among rising pairs, if it has one, found by bisection. It stands apart, so that what is found
+/// without a search stays short.
+#[inline(never)]
+fn searched(pairs: &[(u16, u16)], glyph: u16) -> Option<u16>
+    requires { IsRising first pairs.now }
+    ensures { result ≡ value_in pairs.now glyph }
+{
+    row_at(pairs, glyph as u32).map(|pair| pair.1)
 }
 
 impl<A: Allocator> GlyphArray<A> {

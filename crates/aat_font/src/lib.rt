@@ -5,6 +5,7 @@
 
 mod ankr;
 mod cells;
+mod class_array;
 mod class_pairs;
 pub mod constants;
 mod dense;

@@ -4,6 +4,7 @@ ghost use Rattle.aat_font.specs.Keys.{first, first_fall, value_in, IsRising};
 ghost use Rattle.aat_font.specs.Moves.{AreMovesOf};
 ghost use Rattle.aat_font.specs.Segments.{first_segment_fall, pairs_of_segments};
 ghost use Rattle.aat_font.specs.TableErrors.{RefusesRising};
+ghost use Rattle.aat_font.specs.inside.Dense.{AnswersOver};
 
 use crate::dense::Dense;
 use crate::error::TableError;
@@ -108,7 +109,7 @@ impl<A: Allocator> Lookup<A> {
 
     /// The value of a glyph, if it has one. Among pairs it is found in an array over the span of the glyphs where these
     /// lie close, else on pages of 256 glyphs where these hold enough of them, and else by bisection; among segments by
-    /// bisection.
+    /// bisection. The lookup of a state table, or of pairs by classes, has no array, since that table has one.
     pub fn value(&self, glyph: GlyphId) -> Option<u16>
         ensures { result ≡ value_in self.now glyph.0 }
     {
@@ -117,6 +118,31 @@ impl<A: Allocator> Lookup<A> {
             Values::Segments(segments) => value_in_segments(segments, glyph.0),
         }
     }
+
+    /// The same values. An array of them is dropped, for who has another one, and they are then searched; pages and
+    /// segments stay.
+    pub(crate) fn without_array(self) -> Lookup<A>
+        ensures { result ≡ self }
+    {
+        match self.values {
+            Values::Listed(pairs, Dense::Array(_) | Dense::Moves(_)) => Lookup {
+                values: Values::Listed(pairs, Dense::Search),
+            },
+            values => Lookup { values },
+        }
+    }
+
+    /// The value of each glyph of a span, and its lowest glyph, where they stand in an array with none for a glyph
+    /// without a value.
+    pub(crate) fn span_values(&self) -> Option<(u16, &[Option<u16>])>
+        ensures { IfSome result (λ span. AnswersOver span.0 span.1.now self.now) }
+    {
+        match &self.values {
+            Values::Listed(pairs, dense) => dense.span_values(pairs),
+            Values::Segments(_) => None,
+        }
+    }
+
     /// What each glyph becomes that gets its value here, for who asks for many glyphs: where the values stand in an array
     /// and none is that of its own glyph.
     pub fn moves(&self) -> Option<GlyphMoves<'_>>

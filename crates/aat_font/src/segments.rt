@@ -58,7 +58,9 @@ pub(crate) fn first_segment_fall(segments: &[LookupSegment]) -> Option<usize>
     None
 }
 
-/// The value that segments have for a glyph, found by bisection.
+/// The value that segments have for a glyph, found by bisection. It stands apart, so that what is found without a
+/// search stays short.
+#[inline(never)]
 pub(crate) fn value_in_segments(segments: &[LookupSegment], glyph: u16) -> Option<u16>
     requires { AreInOrder segments.now }
     ensures { result ≡ value_in (pairs_of_segments segments.now) glyph }

@@ -1,5 +1,5 @@
 //! State tables: the class of each glyph, and what a machine does at a state and a class.
-ghost use Rattle.std.specs.Prelude.{◌≡◌, ◌+◌, ◌*◌, ◌/◌, ◌%◌, ◌<◌, ◌≤◌, ℕ, IfOk, IfErr, OnOk, None, option_map, length, slice_index_or};
+ghost use Rattle.std.specs.Prelude.{◌≡◌, ◌+◌, ◌*◌, ◌/◌, ◌%◌, ◌<◌, ◌≤◌, ℕ, IfOk, IfErr, OnOk, None, option_map, length, slice_index_or, unwrap_or};
 ghost use Rattle.aat_font.specs.Entries.{has_flag, goes_on};
 ghost use Rattle.aat_font.specs.Keys.{IsRising};
 ghost use Rattle.aat_font.specs.Table.{class_of, entry_of, known_class, rule_key, table_value};
@@ -8,7 +8,7 @@ ghost use Rattle.aat_font.specs.TableErrors.{RefusesFault};
 ghost use Rattle.aat_font.specs.inside.Dense.{ruled_entry, state_count, AnswersAsRules, RulesBelow};
 ghost use Rattle.aat_font.specs.inside.Walks.{AreBelow, AreNotBelow};
 
-use crate::cells::cell_at;
+use crate::class_array::ClassArray;
 use crate::entry_bits::{DONT_ADVANCE, anchor, class, stack};
 use crate::error::TableError;
 use crate::keys::{Keyed, first_fall, row_at};
@@ -82,13 +82,14 @@ pub struct ExtendedStateTable<T: Copy, A: Allocator = Global> {
     classes: Lookup<A>,
     rules: Vec<(u16, u16, GenericStateEntry<T>), A>,
     grid: Vec<Option<GenericStateEntry<T>>, A>,
+    class_array: ClassArray<A>,
 }
 
 impl<T: Copy, A: Allocator> Model for ExtendedStateTable<T, A> {
     ghost use Rattle.std.specs.Prelude.{◌<◌};
     ghost use Rattle.aat_font.specs.Keys.{IsRising};
     ghost use Rattle.aat_font.specs.Table.{TableValue, rule_key};
-    ghost use Rattle.aat_font.specs.inside.Dense.{AnswersAsRules};
+    ghost use Rattle.aat_font.specs.inside.Dense.{AnswersAsClasses, AnswersAsRules};
     ghost use Rattle.aat_font.specs.declared.state_table.GenericStateEntry.{GenericStateEntry};
 
     ghost Value = { TableValue (GenericStateEntry T) };
@@ -96,7 +97,8 @@ impl<T: Copy, A: Allocator> Model for ExtendedStateTable<T, A> {
     ghost view = { λ m. record { class_count = m.class_count; classes = m.classes; rules = m.rules.items } };
 
     ghost invariant = { λ m. (1 < m.class_count) × IsRising rule_key m.rules.items
-        × AnswersAsRules m.class_count m.grid.items m.rules.items };
+        × AnswersAsRules m.class_count m.grid.items m.rules.items
+        × AnswersAsClasses 1 m.class_array.lowest m.class_array.cells.items m.classes };
 }
 
 impl<T: Copy, A: Allocator + Copy> ExtendedStateTable<T, A> {
@@ -128,21 +130,27 @@ impl<T: Copy, A: Allocator + Copy> ExtendedStateTable<T, A> {
         if let Some(fault) = faulty_rule(class_count, rules) {
             return Err(fault);
         }
+        let classes = Lookup::of_rising(alloc, classes)?;
+        let class_array = ClassArray::over(alloc, &classes, class::OUT_OF_BOUNDS)?;
+        let copy = Vec::from_slice(alloc, rules)?;
+        let grid = grid_over(alloc, class_count, rules)?;
         Ok(ExtendedStateTable {
             class_count,
-            classes: Lookup::of_rising(alloc, classes)?,
-            rules: Vec::from_slice(alloc, rules)?,
-            grid: grid_over(alloc, class_count, rules)?,
+            classes: classes.without_array(),
+            rules: copy,
+            grid,
+            class_array,
         })
     }
 
     /// Makes a table of the number of its classes, a lookup of the classes of glyphs, and rules as for
-    /// [`ExtendedStateTable::new`]. The lookup and the rules are kept as they are handed in.
+    /// [`ExtendedStateTable::new`]. The rules are kept as they are handed in, and the lookup too, but for an array of
+    /// its own: its classes stand then in one with two bytes for each glyph of their span.
     ///
     /// Refused as 2, `FewClasses`, where the number is below 4; else at the first rule that is not above the one before
     /// it, as 1, `NotRising`, or whose class is not below the number, as 3, `ClassOutOfRange`, with its place, 1 before
-    /// 3 at one place; and else as 5, `OutOfMemory`, where a grid beside the rules gets no memory. The lookup and the
-    /// rules are then dropped.
+    /// 3 at one place; and else as 5, `OutOfMemory`, where a grid beside the rules or an array beside the classes gets no
+    /// memory. The lookup and the rules are then dropped.
     pub fn with_classes(
         alloc: A,
         class_count: u16,
@@ -160,11 +168,13 @@ impl<T: Copy, A: Allocator + Copy> ExtendedStateTable<T, A> {
             return Err(fault);
         }
         let grid = grid_over(alloc, class_count, &rules)?;
+        let class_array = ClassArray::over(alloc, &classes, class::OUT_OF_BOUNDS)?;
         Ok(ExtendedStateTable {
             class_count,
-            classes,
+            classes: classes.without_array(),
             rules,
             grid,
+            class_array,
         })
     }
 }
@@ -177,7 +187,8 @@ impl<T: Copy, A: Allocator> ExtendedStateTable<T, A> {
         self.class_count
     }
 
-    /// The classes of glyphs, as they were handed in.
+    /// The classes of glyphs. Where they stand in an array, it is that of [`Self::class_or_out_of_bounds`], and here they
+    /// are searched.
     pub fn classes(&self) -> &Lookup<A>
         ensures { result.now ≡ self.now.classes }
     {
@@ -191,7 +202,7 @@ impl<T: Copy, A: Allocator> ExtendedStateTable<T, A> {
         &self.rules
     }
 
-    /// The class of a glyph, if it has one, found as the value of a lookup. The class of the deleted glyph,
+    /// The class of a glyph, if it has one, found as in [`ExtendedStateTable::classes`]. The class of the deleted glyph,
     /// 0xFFFF, is always 2.
     pub fn class(&self, glyph: GlyphId) -> Option<u16>
         ensures { result ≡ class_of self.now glyph.0 }
@@ -202,18 +213,30 @@ impl<T: Copy, A: Allocator> ExtendedStateTable<T, A> {
         self.classes.value(glyph)
     }
 
-    /// The entry of a state and a class, if there is a rule for them, found in a grid of states by classes where that
-    /// has at most 65,536 cells up to the highest state with a rule, and else by bisection. A class that is not below
-    /// the number of classes is taken as 1.
+    /// The class of a glyph as a machine takes it: 1, out of bounds, where it has none. Where the classes stand in an
+    /// array, which no clause tells, it is found without a search.
+    pub fn class_or_out_of_bounds(&self, glyph: GlyphId) -> u16
+        ensures { result ≡ unwrap_or (class_of self.now glyph.0) 1 }
+    {
+        if glyph.0 == DELETED_GLYPH {
+            return class::DELETED_GLYPH;
+        }
+        self.class_array
+            .class(&self.classes, class::OUT_OF_BOUNDS, glyph)
+    }
+
+    /// The entry of a state and a class, if there is a rule for them, found in a grid of states by classes up to the
+    /// highest state with a rule, where that has at most 65,536 cells; by bisection where it has more, and for a state
+    /// above it. A class that is not below the number of classes is taken as 1.
     pub fn entry(&self, state: u16, class: u16) -> Option<GenericStateEntry<T>>
         ensures { result ≡ entry_of self.now state class }
     {
         let class = known_class(self.class_count, class);
-        if self.grid.as_slice().is_empty() {
-            return ruled_entry(&self.rules, state, class);
-        }
         let row = state as usize * self.class_count as usize;
-        cell_at(&self.grid, row + class as usize)
+        match self.grid.get(row + class as usize) {
+            Some(cell) => *cell,
+            None => ruled_entry(&self.rules, state, class),
+        }
     }
 }
 

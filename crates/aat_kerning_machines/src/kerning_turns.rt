@@ -68,7 +68,7 @@ fn settle<A: Allocator + Copy>(
     ensures line { buffer.new.line ≡ buffer.old.line }
     ensures positions { buffer.new.positions ≡ buffer.old.positions }
 {
-    if buffer.backtrack_len() >= buffer.len() {
+    if !buffer.has_current() {
         return false;
     }
     step(buffer, does_advance, pays_first);
@@ -133,7 +133,7 @@ fn mark_behind<A: Allocator + Copy>(buffer: &mut hb_buffer_t<A>)
 }
 
 /// Whether the state tells that what stood before the cursor matters to an entry. The registers, which outlive state 0,
-/// are not asked.
+/// are not asked. All parts of the test are, since no processor foresees each of them.
 fn depends_on_before<Table, E: Copy, D: StateTableDriver<Table, E>>(
     driver: &D,
     entry: &GenericStateEntry<E>,
@@ -143,9 +143,8 @@ fn depends_on_before<Table, E: Copy, D: StateTableDriver<Table, E>>(
         && (D.actionable entry.now || (not (entry.now.new_state == 0) || goes_on entry.now))) }
 {
     let has_effect = driver.is_actionable(entry)
-        || entry.new_state != START_OF_TEXT
-        || entry.has_advance();
-    state != START_OF_TEXT && has_effect
+        | ((entry.new_state != START_OF_TEXT) | entry.has_advance());
+    (state != START_OF_TEXT) & has_effect
 }
 
 /// Marks the glyphs before and at the cursor where the state tells that what stood before matters.
@@ -167,7 +166,7 @@ fn mark_before<Table, E: Copy, D: StateTableDriver<Table, E>, A: Allocator + Cop
     ensures ids { IsSmall buffer.new }
 {
     let p = buffer.backtrack_len();
-    if 0 < p && p < buffer.len() {
+    if 0 < p && buffer.has_current() {
         if depends_on_before(driver, entry, run_state.state) {
             mark(buffer, p - 1, p + 1);
         }
@@ -193,8 +192,7 @@ fn look_ahead<Table, E: Copy, D: StateTableDriver<Table, E>, A: Allocator + Copy
     ensures positions { buffer.new.positions ≡ buffer.old.positions }
     ensures ids { IsSmall buffer.new }
 {
-    let len = buffer.len();
-    if buffer.backtrack_len() + 1 >= len {
+    if !buffer.has_next() {
         return true;
     }
     let Some(at_end) = run.state_table.entry(run_state.state, END_OF_TEXT) else {

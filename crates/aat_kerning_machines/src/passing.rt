@@ -15,7 +15,7 @@ use crate::run::KerningRun;
 use crate::run_state::RunState;
 use crate::state_table_driver::StateTableDriver;
 use aat_buffer::{hb_buffer_t, hb_glyph_info_t};
-use aat_font::entry_bits::class::{END_OF_TEXT, OUT_OF_BOUNDS};
+use aat_font::entry_bits::class::END_OF_TEXT;
 use aat_font::entry_bits::state::START_OF_TEXT;
 use aat_font::{ExtendedStateTable, GenericStateEntry, GlyphId};
 use aat_run::class_at_cursor;
@@ -59,9 +59,7 @@ fn first_entry<E: Copy>(
     requires { Is16Bit glyph.now }
     ensures { result ≡ first_entry state_table.now glyph.now.glyph_id }
 {
-    let class = state_table
-        .class(GlyphId(glyph.glyph_id as u16))
-        .unwrap_or(OUT_OF_BOUNDS);
+    let class = state_table.class_or_out_of_bounds(GlyphId(glyph.glyph_id as u16));
     state_table.entry(START_OF_TEXT, class)
 }
 

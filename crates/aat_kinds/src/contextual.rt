@@ -136,7 +136,7 @@ impl<'a> ContextualCtx<'a> {
         ensures act { record { registers = self.new; buffer = buffer.new } ≡ held_act entry.now self.old buffer.old }
         ensures ids { IsSmall buffer.new }
     {
-        if buffer.backtrack_len() >= buffer.len() && !self.is_set {
+        if !buffer.has_current() && !self.is_set {
             return;
         }
         if !self.replace_marked(entry, buffer) || !self.replace_current(entry, buffer) {
@@ -190,8 +190,9 @@ impl<'a> driver_context_t<ContextualEntryData> for ContextualCtx<'a> {
         entry: &GenericStateEntry<ContextualEntryData>,
         buffer: &hb_buffer_t<A>,
     ) -> bool {
-        (buffer.backtrack_len() < buffer.len() || self.is_set)
-            && (entry.extra.mark_index != NO_LOOKUP || entry.extra.current_index != NO_LOOKUP)
+        // all parts are asked, since no processor foresees each of them
+        let can_act = buffer.has_current() | self.is_set;
+        can_act & ((entry.extra.mark_index != NO_LOOKUP) | (entry.extra.current_index != NO_LOOKUP))
     }
 
     /// Does what the entry says. The number of glyphs stays. Never refused. The registers have to fit, and each glyph
@@ -242,6 +243,7 @@ impl<'a> driver_context_t<ContextualEntryData> for ContextualCtx<'a> {
 
 /// What the lookup of an index has for a glyph: no value where the index is that of no lookup, and `None` where the
 /// lookup is missing.
+#[inline(always)]
 #[tactic(auto, unfolding(crate::specs::Contextual::answer_of))]
 fn answer(lookups: &[Lookup], index: u16, glyph: GlyphId) -> Option<Option<u16>>
     ensures { (classes : Option (List (ℕ × ℕ))) → result ≡ answer_of classes lookups.now index glyph.0 }

@@ -175,9 +175,10 @@ impl<'a> driver_context_t<InsertionEntryData> for InsertionCtx<'a> {
         entry: &GenericStateEntry<InsertionEntryData>,
         _buffer: &hb_buffer_t<A>,
     ) -> bool {
-        entry.flags & (CURRENT_INSERT_COUNT | MARKED_INSERT_COUNT) != 0
-            && (entry.extra.current_insert_index != NO_GLYPHS
-                || entry.extra.marked_insert_index != NO_GLYPHS)
+        // all parts are asked, since no processor foresees each of them
+        let has_glyphs = (entry.extra.current_insert_index != NO_GLYPHS)
+            | (entry.extra.marked_insert_index != NO_GLYPHS);
+        (entry.flags & (CURRENT_INSERT_COUNT | MARKED_INSERT_COUNT) != 0) & has_glyphs
     }
 
     /// Does what the entry says. A run of r glyphs is O(r and the distance that the cursor moves), amortised.
@@ -211,14 +212,13 @@ impl<'a> driver_context_t<InsertionEntryData> for InsertionCtx<'a> {
     {
         let _length = buffer.len();
         let place = buffer.backtrack_len();
-        if entry.extra.marked_insert_index == NO_GLYPHS {
-            return self.mark_and_insert(entry, place, buffer);
+        if entry.extra.marked_insert_index != NO_GLYPHS {
+            pay(buffer, entry.flags & MARKED_INSERT_COUNT);
+            if buffer.max_ops() <= 0 {
+                return Ok(());
+            }
+            self.insert_marked(entry, buffer)?;
         }
-        pay(buffer, entry.flags & MARKED_INSERT_COUNT);
-        if buffer.max_ops() <= 0 {
-            return Ok(());
-        }
-        self.insert_marked(entry, buffer)?;
         self.mark_and_insert(entry, place, buffer)
     }
 
@@ -273,10 +273,8 @@ fn insert_current<A: Allocator + Copy>(
     let run = run_for(glyphs, buffer, entry.extra.current_insert_index, count);
     let place = buffer.backtrack_len();
     let behind = entry.flags & CURRENT_INSERT_BEFORE == 0;
-    if entry.has_advance() {
-        return put_in(buffer, run, place, behind, place + run.len());
-    }
-    put_in(buffer, run, place, behind, place)
+    let moved = if entry.has_advance() { run.len() } else { 0 };
+    put_in(buffer, run, place, behind, place + moved)
 }
 
 /// Pays operations out of the budget, which stays at the least i32 where it would fall below it.

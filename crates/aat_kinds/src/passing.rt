@@ -17,10 +17,11 @@ pub fn pass_over<A: Allocator + Copy>(kind: &SubtableKind, buffer: &mut hb_buffe
 {
     let _budget = buffer.max_ops();
     let glyphs = buffer.len() as u64;
-    match kind {
-        SubtableKind::NonContextual(_) => return glyphs,
-        SubtableKind::Ligature(_) | SubtableKind::Insertion(_) => buffer.drop_positions(),
-        SubtableKind::Rearrangement(_) | SubtableKind::Contextual(_) => {}
+    if let SubtableKind::NonContextual(_) = kind {
+        return glyphs;
+    }
+    if let SubtableKind::Ligature(_) | SubtableKind::Insertion(_) = kind {
+        buffer.drop_positions();
     }
     buffer.sync();
     glyphs + 1

@@ -175,7 +175,8 @@ impl<const LONGEST: usize> driver_context_t<()> for RearrangementCtx<LONGEST> {
         entry: &GenericStateEntry<()>,
         _buffer: &hb_buffer_t<A>,
     ) -> bool {
-        entry.flags & VERB != 0 && self.start < self.end
+        // all parts are asked, since no processor foresees each of them
+        (entry.flags & VERB != 0) & (self.start < self.end)
     }
 
     /// Does what the entry says. The glyph ids are permuted. Never refused. The registers have to fit, and each glyph

@@ -1,5 +1,6 @@
 -- Requests over the whole text give each chain one range.
-use Rattle.std.proofs.Common.{◌≡◌, ◌∙◌, ap, sym, refl, ℕ, ◌-◌, Bool, true, false, ◌||◌, ◌==◌, cond, List, [], ◌∷◌, filter, fold, length, arith, All, Some, IsPermutation}
+use Rattle.std.proofs.Common.{◌≡◌, ◌∙◌, ap, sym, refl, ℕ, true, false, ◌||◌, ◌==◌, cond, nat_le, List, [], ◌∷◌, ◌++◌, filter, fold, length, arith, zero, suc, All, Some, IsPermutation}
+use Rattle.std.proofs.lemmas.List.{append-nil, append_assoc}
 use Rattle.std.proofs.Math.Bool.{or-false}
 use Rattle.std.specs.List.{list_any}
 use Rattle.std.proofs.lemmas.Bool.Decides.{nat_tests}
@@ -10,9 +11,9 @@ use Rattle.aat_map.specs.declared.feature.feature_info_t.{feature_info_t}
 use Rattle.aat_map.specs.declared.feature.feature_range_t.{feature_range_t}
 use Rattle.aat_map.specs.Builder.{Builder}
 use Rattle.aat_map.specs.Compiled.{compiled_ranges, flags_for}
-use Rattle.aat_map.specs.Live.{admitted, by_start, cuts_at, has_begun, has_ended, infos, is_cut, kept, live_among, without_earliest, IsRisingByGroup}
+use Rattle.aat_map.specs.Live.{admitted, by_start, cuts_at, has_begun, has_ended, infos, is_admitted, is_cut, kept, live_among, placed_by_start, without_earliest, IsRisingByGroup}
 use Rattle.aat_map.specs.Map.{AreStarts, resized, with_ranges}
-use Rattle.aat_map.specs.inside.CompiledSpans.{all_flags_for, compiled_lists, ranges_with, EndsWithinText, IsCompiled}
+use Rattle.aat_map.specs.inside.CompiledSpans.{all_flags_for, ranges_with, EndsWithinText, IsCompiled}
 use Rattle.aat_map.specs.inside.OverAll.{is_over_all, are_over_all}
 use Rattle.aat_map.proofs.GatherLemmas.{both}
 use Rattle.aat_map.proofs.SpanLemmas.{compiled_more, ranges_of_settings, ranges_over, resized_empty}
@@ -28,6 +29,53 @@ all_begun (r ∷ rs) h =
     let b = both (is_over_all r) (are_over_all rs) h in
     ap (λ c. cond c (r ∷ filter (has_begun 0) rs) (filter (has_begun 0) rs)) (begun_step r b.0)
     ∙ ap (λ l. r ∷ l) (all_begun rs b.1)
+
+-- such requests stand in the order of their starts
+admitted_step : (r : feature_range_t) → is_over_all r ≡ true → is_admitted r ≡ true
+admitted_step r h = grind (arith, nat_tests, h)
+
+all_admitted : (rs : List feature_range_t) → are_over_all rs ≡ true → admitted rs ≡ rs
+all_admitted [] h = refl
+all_admitted (r ∷ rs) h =
+    let b = both (is_over_all r) (are_over_all rs) h in
+    ap (λ c. cond c (r ∷ admitted rs) (admitted rs)) (admitted_step r b.0)
+    ∙ ap (λ l. r ∷ l) (all_admitted rs b.1)
+
+no_later : (q r : feature_range_t) → is_over_all q ≡ true → nat_le q.start r.start ≡ true
+no_later q r h = grind (arith, nat_tests, h)
+
+placed_last : (qs : List feature_range_t) (r : feature_range_t) → are_over_all qs ≡ true → placed_by_start qs r ≡ qs ++ r ∷ []
+placed_last [] r h = refl
+placed_last (q ∷ qs) r h =
+    let b = both (is_over_all q) (are_over_all qs) h in
+    ap (λ c. cond c (q ∷ placed_by_start qs r) (r ∷ (q ∷ qs))) (no_later q r b.0)
+    ∙ ap (λ l. q ∷ l) (placed_last qs r b.1)
+
+more_over_all : (qs : List feature_range_t) (r : feature_range_t) → are_over_all qs ≡ true → is_over_all r ≡ true → are_over_all (qs ++ r ∷ []) ≡ true
+more_over_all [] r h is = rw is refl
+more_over_all (q ∷ qs) r h is =
+    let b = both (is_over_all q) (are_over_all qs) h in
+    rw (b.0, more_over_all qs r b.1 is) refl
+
+all_placed : (qs rs : List feature_range_t) → are_over_all qs ≡ true → are_over_all rs ≡ true → fold placed_by_start qs rs ≡ qs ++ rs
+all_placed qs [] h over = sym (append-nil qs)
+all_placed qs (r ∷ rs) h over =
+    let b = both (is_over_all r) (are_over_all rs) over in
+    ap (λ l. fold placed_by_start l rs) (placed_last qs r h)
+    ∙ all_placed (qs ++ r ∷ []) rs (more_over_all qs r h b.0) b.1
+    ∙ append_assoc qs (r ∷ []) rs
+
+pub over_all_ordered : (rs : List feature_range_t) → are_over_all rs ≡ true → rs ≡ by_start rs
+over_all_ordered rs h = sym (ap (fold placed_by_start []) (all_admitted rs h) ∙ all_placed [] rs refl h)
+
+-- and end within the text
+end_step : (r : feature_range_t) → is_over_all r ≡ true → EndsWithinText r
+end_step r h = grind (arith, nat_tests, h)
+
+pub over_all_bounded : (rs : List feature_range_t) → are_over_all rs ≡ true → All EndsWithinText rs
+over_all_bounded [] h k d lt = absurd (omega arith)
+over_all_bounded (r ∷ rs) h zero d lt = end_step r (both (is_over_all r) (are_over_all rs) h).0
+over_all_bounded (r ∷ rs) h (suc k) d lt = over_all_bounded rs (both (is_over_all r) (are_over_all rs) h).1 k d (omega arith)
 
 -- none has ended there
 ended_step : (r : feature_range_t) → is_over_all r ≡ true → has_ended 0 r ≡ false

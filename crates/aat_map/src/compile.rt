@@ -37,10 +37,10 @@ impl<A: Allocator + Copy> hb_aat_map_builder_t<A> {
     /// joined. Requests whose start is not below their end are dropped. Afterwards the builder tells of
     /// the last range.
     ///
-    /// Refused as 3, `OutOfMemory`, and never else. No clause says when memory suffices: the places where ranges begin
-    /// take some also without a request and for a font without a chain. The map is then empty, the requests are as
-    /// they were, and of the builder's range and settings nothing more is known than of those of every builder: the
-    /// settings rise by [`feature_order`](crate::feature_order), and the first cluster is at most the last.
+    /// Refused as 3, `OutOfMemory`, and never else. No clause says when memory suffices: requests take some also for a
+    /// font without a chain. The map is then empty, the requests are as they were, and of the builder's range and
+    /// settings nothing more is known than of those of every builder: the settings rise by
+    /// [`feature_order`](crate::feature_order), and the first cluster is at most the last.
     ///
     /// Apple's TrueType Reference Manual, "The 'morx' table", feature subtables.
     pub fn compile(&mut self, face: &hb_font_t, map: &mut hb_aat_map_t<A>) -> Result<(), AatError>
@@ -74,12 +74,11 @@ fn compile_ranges<A: Allocator + Copy>(
     ensures requests { builder.new.features ≡ builder.old.features }
     ensures err { IfErr result (λ e. e ≡ AatError.OutOfMemory) }
 {
-    let ordered = by_start(builder.allocator(), builder.features())?;
-    if are_over_all(&ordered) {
-        compile_over_all(builder, chains, map, &ordered)
-    } else {
-        compile_parts(builder, chains, map, &ordered)
+    if are_over_all(builder.features()) {
+        return compile_over_all(builder, chains, map);
     }
+    let ordered = by_start(builder.allocator(), builder.features())?;
+    compile_parts(builder, chains, map, &ordered)
 }
 
 /// Whether each request starts at 0 and never ends.
@@ -95,17 +94,14 @@ fn compile_over_all<A: Allocator + Copy>(
     builder: &mut hb_aat_map_builder_t<A>,
     chains: &[Chain],
     map: &mut hb_aat_map_t<A>,
-    ordered: &[feature_range_t],
 ) -> Result<(), AatError>
     requires empty { map.old ≡ [] }
-    requires ordered { ordered.now ≡ by_start builder.old.features }
-    requires over_all { are_over_all ordered.now ≡ true }
-    requires bounded { All EndsWithinText builder.old.features }
+    requires over_all { are_over_all builder.old.features ≡ true }
     ensures ok { OnOk result (IsCompiled builder.old.features chains.now map.new builder.new) }
     ensures requests { builder.new.features ≡ builder.old.features }
     ensures err { IfErr result (λ e. e ≡ AatError.OutOfMemory) }
 {
-    let kept = groups_of(builder.allocator(), ordered)?;
+    let kept = groups_of(builder.allocator(), builder.features())?;
     builder.set_range((0, u32::MAX), kept);
     map.resize(chains.len())?;
     push_ranges(chains, builder, map)

@@ -141,7 +141,9 @@ pub(crate) fn run_subtable<const SLOTS: usize, const LONGEST: usize, A: Allocato
     if !known.wakes(words, i, buffer) {
         return Ok(pass_over(&subtable.kind, buffer));
     }
-    let turns = run_ordered::<SLOTS, LONGEST, A>(run, subtable, buffer)?;
+    // a copy, so that the caller's record need not be in memory where no subtable runs
+    let run = *run;
+    let turns = run_ordered::<SLOTS, LONGEST, A>(&run, subtable, buffer)?;
     known.forget();
     Ok(turns)
 }

@@ -245,11 +245,11 @@ pub fn run_machine<T: Copy, C: driver_context_t<T>, A: Allocator + Copy>(
 /// are any, and no turns are added. A buffer that had failed before is run as any other.
 ///
 /// What follows of its steps is not proved. A turn takes a bounded number of them but for its act, the look-ups in the
-/// table, which search by bisection where it has no array, pages or grid, and the search for the range of a cluster
-/// that lies neither in the range that was found last nor in one beside it, which bisects ranges that end at the last
-/// cluster there can be and walks through others. Where there are two ranges or more and none switches the machine on
-/// the line is passed over at once, and where each does and they end at the last cluster there can be no turn asks for
-/// a range. No memory is taken but by the act.
+/// table, which search by bisection where it has no array, pages or grid, or the state is above the grid, and the
+/// search for the range of a cluster that lies neither in the range that was found last nor in one beside it, which
+/// bisects ranges that end at the last cluster there can be and walks through others. Where there are two ranges or
+/// more and none switches the machine on the line is passed over at once, and where each does and they end at the last
+/// cluster there can be no turn asks for a range. No memory is taken but by the act.
 ///
 /// Apple's TrueType Reference Manual, "The 'morx' table", and the section on state tables in "Font Tables".
 pub fn drive<T: Copy, C: driver_context_t<T>, A: Allocator + Copy>(

@@ -19,7 +19,7 @@ use crate::error::AatError;
 use crate::ranges::{is_driven_on, range_flags_t};
 use crate::run_state::RunState;
 use aat_buffer::{hb_buffer_t, hb_mask_t};
-use aat_font::entry_bits::class::{END_OF_TEXT, OUT_OF_BOUNDS};
+use aat_font::entry_bits::class::END_OF_TEXT;
 use aat_font::entry_bits::state::START_OF_TEXT;
 use aat_font::{ExtendedStateTable, GenericStateEntry, GlyphId};
 use std::alloc::Allocator;
@@ -33,10 +33,8 @@ pub fn class_at_cursor<T: Copy, A: Allocator + Copy>(
     requires { IsSmall buffer.now }
     ensures { result ≡ class_at (class_of machine.now) buffer.now }
 {
-    if buffer.backtrack_len() < buffer.len() {
-        machine
-            .class(GlyphId(buffer.cur().glyph_id as u16))
-            .unwrap_or(OUT_OF_BOUNDS)
+    if buffer.has_current() {
+        machine.class_or_out_of_bounds(GlyphId(buffer.cur().glyph_id as u16))
     } else {
         END_OF_TEXT
     }
@@ -52,7 +50,7 @@ fn count<A: Allocator + Copy>(buffer: &hb_buffer_t<A>, run_state: &mut RunState)
     } }
 {
     run_state.turns += 1;
-    if buffer.backtrack_len() < buffer.len() {
+    if buffer.has_current() {
         run_state.last_cluster = buffer.cur().cluster;
     }
 }
@@ -176,7 +174,7 @@ fn mark_unsafe<T: Copy, C: driver_context_t<T>, A: Allocator + Copy>(
     ensures settings { SameSettings buffer.old buffer.new }
 {
     let p = buffer.backtrack_len();
-    if 0 < p && p < buffer.len() {
+    if 0 < p && buffer.has_current() {
         if !is_safe(machine, context, buffer, entry, class, run_state) {
             buffer.unsafe_to_break(Some(p - 1), Some(p + 1));
         }
@@ -189,7 +187,7 @@ fn settle<A: Allocator + Copy>(buffer: &mut hb_buffer_t<A>, does_advance: bool) 
     ensures settled { buffer.new ≡ (if is_at_end buffer.old then buffer.old else stepped does_advance buffer.old) }
     ensures line { buffer.new.line ≡ buffer.old.line }
 {
-    if buffer.backtrack_len() >= buffer.len() {
+    if !buffer.has_current() {
         return false;
     }
     if does_advance {
@@ -303,7 +301,7 @@ pub(crate) fn turn_once<T: Copy, C: driver_context_t<T>, A: Allocator + Copy>(
     count(buffer, run_state);
     if is_driven_on(ranges, feature_flags, last_range, run_state.last_cluster) {
         act_by_entry(machine, context, buffer, run_state)
-    } else if buffer.backtrack_len() < buffer.len() {
+    } else if buffer.has_current() {
         run_state.state = START_OF_TEXT;
         buffer.next_glyph();
         Ok(true)

@@ -81,7 +81,8 @@ fn asleep_before(wakers: Wakers, glyphs: &[hb_glyph_info_t]) -> usize
 }
 
 /// Passes the glyphs from the cursor on up to the first one that may wake the machine, counts a turn for each, and answers
-/// how many they are.
+/// how many they are. It stands apart from the turns, so that both stay short.
+#[inline(never)]
 pub(crate) fn pass_asleep<A: Allocator + Copy>(
     wakers: Wakers,
     buffer: &mut hb_buffer_t<A>,

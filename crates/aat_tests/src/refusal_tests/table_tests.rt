@@ -85,7 +85,7 @@ const REQUESTS: [(Made, usize); 6] = [
     (Made::FarLookup, 1),
     (Made::Names, 1),
     (Made::Kerning, 3),
-    (Made::Grid, 4),
+    (Made::Grid, 5),
     (Made::Rules, 2),
 ];
 
