@@ -163,8 +163,8 @@ const FIRST_TWO: [hb_glyph_info_t; 2] = [
     },
 ];
 
-/// A copy, glyphs at the end and before another, and a run.
-static PUT_OUT: [Step; 16] = [
+/// A copy, glyphs at the end and before another, a run, and one before the cursor.
+static PUT_OUT: [Step; 19] = [
     Step::Do(Call::AddAll(&[(2, 1, 0), (3, 2, 8)])),
     Step::Do(Call::MoveTo(1)),
     Step::Do(Call::Copy),
@@ -188,6 +188,17 @@ static PUT_OUT: [Step; 16] = [
         (9, 2, 8),
     ])),
     Step::Has(Fact::At(4)),
+    Step::Do(Call::InsertAt(1, &LAST)),
+    Step::Has(Fact::Line(&[
+        (2, 1, 0),
+        (3, 2, 0),
+        (7, 2, 8),
+        (4, 5, 1),
+        (6, 0, 0),
+        (3, 2, 8),
+        (9, 2, 8),
+    ])),
+    Step::Has(Fact::At(5)),
 ];
 
 /// Nothing goes into an empty line, and positions of no glyph stay until they are dropped.
@@ -245,13 +256,14 @@ fn assert_between(rt: &impl Abort, alloc: Global, name: &str, call: Call, facts:
 }
 
 /// Calls that drop positions.
-static DROPPING: [(&str, Call); 7] = [
+static DROPPING: [(&str, Call); 8] = [
     ("add", Call::Add((1, 2, 0))),
     ("skip_glyph", Call::Skip),
     ("output_glyph", Call::Output(4)),
     ("copy_glyph", Call::Copy),
     ("clear_output", Call::ClearOutput),
     ("insert_glyphs", Call::Insert(&[])),
+    ("insert_glyphs_at", Call::InsertAt(0, &[])),
     ("drop_positions", Call::DropPositions),
 ];
 
@@ -326,6 +338,19 @@ static MARKED_ABOVE_LEAST: [Step; 7] = [
     Step::Has(Fact::At(2)),
 ];
 
+/// Of the glyphs before the cursor and there, that of the greater cluster is marked.
+static MARKED_AT_CURSOR: [Step; 9] = [
+    Step::Do(Call::AddClusters(&[1, 0, 0, 2])),
+    Step::Do(Call::MoveTo(1)),
+    Step::Do(Call::BreakAtCursor),
+    Step::Has(Fact::Masks(&[3, 0, 0, 0])),
+    Step::Do(Call::MoveTo(2)),
+    Step::Do(Call::BreakAtCursor),
+    Step::Do(Call::MoveTo(3)),
+    Step::Do(Call::BreakAtCursor),
+    Step::Has(Fact::Masks(&[3, 0, 0, 3])),
+];
+
 /// A span of one glyph is not marked, and one that goes to the end is.
 static MARKED_WITHIN_SPAN: [Step; 6] = [
     Step::Do(Call::AddClusters(&[3, 3, 2, 2])),
@@ -350,6 +375,7 @@ static MARKED_WHERE_ASKED: [Step; 6] = [
 fn marks(rt: HostRuntime) {
     let alloc = rt.alloc();
     walk_over(&rt, alloc, 100, "above the least", &MARKED_ABOVE_LEAST);
+    walk_over(&rt, alloc, 100, "at the cursor", &MARKED_AT_CURSOR);
     walk_over(&rt, alloc, 100, "within a span", &MARKED_WITHIN_SPAN);
     walk_over(&rt, alloc, 100, "where asked", &MARKED_WHERE_ASKED);
 }
@@ -363,11 +389,12 @@ static FULL: [Step; 4] = [
 ];
 
 /// Calls that make a line longer.
-static LENGTHENING: [(&str, Call); 4] = [
+static LENGTHENING: [(&str, Call); 5] = [
     ("add", Call::Add((3, 2, 0))),
     ("output_glyph", Call::Output(3)),
     ("copy_glyph", Call::Copy),
     ("insert_glyphs", Call::Insert(&LAST)),
+    ("insert_glyphs_at", Call::InsertAt(0, &LAST)),
 ];
 
 /// A run of one glyph.

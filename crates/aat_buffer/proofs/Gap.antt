@@ -28,6 +28,30 @@ put_in_gap xs i j x lt within = same_lists _ _ (search (rules, places)) (λ k d 
 pub all_put_in_gap : {X : Type 0} (xs gs : List X) (i j : ℕ) → i + length gs ≤ j → j ≤ length xs → around_gap (take i xs ++ (gs ++ drop (length gs) (drop i xs))) (i + length gs) j ≡ take i (around_gap xs i j) ++ (gs ++ drop i (around_gap xs i j))
 all_put_in_gap xs gs i j room within = same_lists _ _ (search (rules, places)) (λ k d h. grind (arith, places))
 
+-- glyphs go in before the gap, into which those between are carried
+abbrev carried_before : {X : Type 0} → List X → List X → ℕ → ℕ → List X
+carried_before xs gs p i = let ys = copy_within xs p i (p + length gs) in take p ys ++ (gs ++ drop (length gs) (drop p ys))
+
+front_before : {X : Type 0} (xs gs : List X) (p i : ℕ) → p ≤ i → i + length gs ≤ length xs
+    → take (i + length gs) (carried_before xs gs p i) ≡ take p xs ++ (gs ++ take (i - p) (drop p xs))
+front_before xs gs p i before room = same_lists _ _ (search (rules, places)) (λ k d h. grind (arith, places))
+
+back_before : {X : Type 0} (xs gs : List X) (p i j : ℕ) → p ≤ i → i + length gs ≤ j → j ≤ length xs
+    → drop j (carried_before xs gs p i) ≡ drop j xs
+back_before xs gs p i j before room within = same_lists _ _ (search (rules, places)) (λ k d h. grind (arith, places))
+
+parts_before : {X : Type 0} (xs gs : List X) (p i j : ℕ) → p ≤ i → i ≤ j → j ≤ length xs
+    → (take p xs ++ (gs ++ take (i - p) (drop p xs))) ++ drop j xs ≡ take p (around_gap xs i j) ++ (gs ++ drop p (around_gap xs i j))
+parts_before xs gs p i j before le within = same_lists _ _ (search (rules, places)) (λ k d h. grind (arith, places))
+
+pub all_put_before_gap : {X : Type 0} (xs gs : List X) (p i j : ℕ) → p ≤ i → i + length gs ≤ j → j ≤ length xs
+    → around_gap (take p (copy_within xs p i (p + length gs)) ++ (gs ++ drop (length gs) (drop p (copy_within xs p i (p + length gs))))) (i + length gs) j
+    ≡ take p (around_gap xs i j) ++ (gs ++ drop p (around_gap xs i j))
+all_put_before_gap xs gs p i j before room within =
+    ap (λ t. t ++ drop j (carried_before xs gs p i)) (front_before xs gs p i before (omega (arith, room, within)))
+    ∙ ap (λ t. (take p xs ++ (gs ++ take (i - p) (drop p xs))) ++ t) (back_before xs gs p i j before room within)
+    ∙ parts_before xs gs p i j before (omega (arith, room)) within
+
 -- the gap takes the glyph behind it
 pub taken_by_gap : {X : Type 0} (xs : List X) (i j : ℕ) → i ≤ j → j < length xs → around_gap xs i (j + 1) ≡ remove (around_gap xs i j) i
 taken_by_gap xs i j le within =

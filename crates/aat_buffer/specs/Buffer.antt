@@ -126,6 +126,11 @@ output b g =
     })
     else record b { positions = None }
 
+-- the glyphs gs go in at place i, and the cursor moves on by their number; the positions are dropped
+abbrev pub with_glyphs_at : Buffer → ℕ → List hb_glyph_info_t → Buffer
+with_glyphs_at b i gs =
+    record b { line = take i b.line ++ (gs ++ drop i b.line); cursor = b.cursor + length gs; positions = None }
+
 -- the glyphs gs go in at the cursor, which moves past them; the positions are dropped
 abbrev pub with_glyphs_in : Buffer → List hb_glyph_info_t → Buffer
 with_glyphs_in b gs = record b {

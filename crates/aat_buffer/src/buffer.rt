@@ -2,7 +2,7 @@
 ghost use Rattle.std.specs.Prelude.{◌≡◌, ◌+◌, ◌-◌, ◌<◌, ◌≤◌, ◌↔◌, ◌++◌, drop, length, map, nat_lt, slice_get, slice_range, is_some, IsTrue, IsOk, OnOk, OnErr, IfErr, IfSome, IsSome, IsErrOf, All, vec_len};
 ghost use Rattle.std.specs.Bool.{OnTrue};
 ghost use Rattle.std.specs.Borrow.{sem};
-ghost use Rattle.aat_buffer.specs.Buffer.{Buffer, empty_buffer, added, failed, with_cursor, with_line, without_positions, skipped, replaced, reversed, with_zero_positions, position_list, position_at, output, model_at, glyph_at, with_info, Is16Bit, with_direction, with_cluster_level, with_flags, with_scratch_flags, with_max_ops, with_positions, with_glyphs_in};
+ghost use Rattle.aat_buffer.specs.Buffer.{Buffer, empty_buffer, added, failed, with_cursor, with_line, without_positions, skipped, replaced, reversed, with_zero_positions, position_list, position_at, output, model_at, glyph_at, with_info, Is16Bit, with_direction, with_cluster_level, with_flags, with_scratch_flags, with_max_ops, with_positions, with_glyphs_at, with_glyphs_in};
 ghost use Rattle.aat_buffer.specs.Marks.{on_line_span};
 ghost use Rattle.aat_buffer.specs.inside.Changes.{ChangesBy};
 ghost use Rattle.aat_buffer.specs.inside.Carried.{items_of};
@@ -435,10 +435,30 @@ impl<A: Allocator + Copy> hb_buffer_t<A> {
         ensures none { length glyphs.now ≡ 0 → IsOk result }
         ensures err { OnErr result (self.new ≡ failed self.old) }
     {
+        let place = self.backtrack_len();
+        self.insert_glyphs_at(place, glyphs)
+    }
+
+    /// Puts glyphs in at place `i`, which has to be at most the cursor, moves the cursor on by their number, so that it
+    /// stays at its glyph, and drops the positions. O(their number and how far the cursor is behind `i`), amortised.
+    ///
+    /// Refused as `insert_glyphs` is.
+    pub fn insert_glyphs_at(
+        &mut self,
+        i: usize,
+        glyphs: &[hb_glyph_info_t],
+    ) -> Result<(), BufferError>
+        requires { i ≤ self.old.cursor }
+        ensures ok { OnOk result (self.new ≡ with_glyphs_at self.old i glyphs.now) }
+        ensures too_long { IsErrOf result BufferError.TooLong
+            ↔ (self.old.max_len < length self.old.line + length glyphs.now) }
+        ensures none { length glyphs.now ≡ 0 → IsOk result }
+        ensures err { OnErr result (self.new ≡ failed self.old) }
+    {
         if glyphs.len() > self.max_len - self.len() {
             return Err(self.refuse(BufferError::TooLong));
         }
-        if !glyphs.is_empty() && self.line.insert_all(glyphs).is_err() {
+        if !glyphs.is_empty() && self.line.insert_all(i, glyphs).is_err() {
             return Err(self.refuse(BufferError::OutOfMemory));
         }
         self.have_positions = false;

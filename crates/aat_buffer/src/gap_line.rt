@@ -1,8 +1,8 @@
 //! How a line of glyphs is kept: in one vector, whose unused cells stand at the cursor.
-ghost use Rattle.std.specs.Prelude.{◌≡◌, ◌+◌, ◌-◌, ◌<◌, ◌≤◌, ◌^◌, ◌↔◌, ◌++◌, All, Some, IfOk, IsTrue, OnOk, OnErr, drop, length, map, nat_lt, reverse, slice_get, slice_range, take, vec_len};
+ghost use Rattle.std.specs.Prelude.{◌≡◌, ◌+◌, ◌-◌, ◌<◌, ◌≤◌, ◌^◌, ◌↔◌, ◌++◌, All, Some, IfOk, IsTrue, OnOk, OnErr, drop, length, map, nat_lt, reverse, set, slice_get, slice_range, take, vec_len};
 ghost use Rattle.std.specs.Borrow.{sem};
 ghost use Rattle.std.specs.List.{copy_within};
-ghost use Rattle.aat_buffer.specs.Buffer.{Is16Bit};
+ghost use Rattle.aat_buffer.specs.Buffer.{Is16Bit, glyph_at};
 ghost use Rattle.aat_buffer.specs.inside.Gap.{around_gap};
 ghost use Rattle.aat_buffer.specs.inside.Line.{Line, empty_line, moved_to, turned_line, with_all_inserted, with_changed, with_inserted, with_last, without_current};
 ghost use Rattle.aat_buffer.specs.Marks.{on_span};
@@ -161,7 +161,7 @@ impl<A: Allocator + Copy> GapLine<A> {
         ensures { self.new ≡ moved_to self.old (self.old.cursor + 1) }
     {
         if self.gap_start != self.gap_end {
-            self.cells[self.gap_start] = self.cells[self.gap_end];
+            copy_fields(self.cells.as_mut_slice(), self.gap_end, self.gap_start);
         }
         self.gap_start += 1;
         self.gap_end += 1;
@@ -206,21 +206,28 @@ impl<A: Allocator + Copy> GapLine<A> {
         Ok(())
     }
 
-    /// Puts glyphs in at the cursor, which moves past them. O(their number), amortised.
-    pub(crate) fn insert_all(&mut self, glyphs: &[hb_glyph_info_t]) -> Result<(), AllocError>
+    /// Puts glyphs in at place `i`, which is not behind the cursor, and moves the cursor on by their number. O(their
+    /// number and how far the cursor is behind `i`), amortised.
+    pub(crate) fn insert_all(
+        &mut self,
+        i: usize,
+        glyphs: &[hb_glyph_info_t],
+    ) -> Result<(), AllocError>
         requires line { length self.old.glyphs < 2 ^ 32 }
         requires glyphs { length glyphs.now < 2 ^ 32 }
-        ensures ok { OnOk result (self.new ≡ with_all_inserted self.old glyphs.now) }
+        requires place { i ≤ self.old.cursor }
+        ensures ok { OnOk result (self.new ≡ with_all_inserted self.old i glyphs.now) }
         ensures err { OnErr result (self.new ≡ self.old) }
     {
         let count = glyphs.len();
         if self.gap_end - self.gap_start < count {
             self.gap_end = grow_gap(&mut self.cells, self.gap_start, self.gap_end, count)?;
         }
-        fill_gap(
+        put_before_gap(
             self.cells.as_mut_slice(),
             self.gap_start,
             self.gap_end,
+            i,
             glyphs,
         );
         self.gap_start += count;
@@ -347,6 +354,22 @@ fn carry(cells: &mut [hb_glyph_info_t], from: usize, count: usize, to: usize)
     }
 }
 
+/// Copies a glyph to another place, field by field: a processor that reads the whole record at once waits until a mark
+/// that was just written to one of its fields has left for the memory. The mask is the third field of a record, since LLVM
+/// reads the first two as one.
+fn copy_fields(cells: &mut [hb_glyph_info_t], from: usize, to: usize)
+    requires read { from < length cells.old }
+    requires written { to < length cells.old }
+    ensures after { cells.new ≡ set cells.old to (glyph_at cells.old from) }
+    ensures len { length cells.new ≡ length cells.old }
+{
+    cells[to].glyph_id = cells[from].glyph_id;
+    cells[to].cluster = cells[from].cluster;
+    cells[to].mask = cells[from].mask;
+    cells[to].glyph_props = cells[from].glyph_props;
+    cells[to].unicode_props = cells[from].unicode_props;
+}
+
 /// Makes a gap larger, by half as many cells as there are and by as many more as are wanted, at least 16, and gives its
 /// new end.
 fn grow_gap<A: Allocator>(
@@ -370,16 +393,28 @@ fn grow_gap<A: Allocator>(
     Ok(end + more)
 }
 
-/// Writes glyphs to the first cells of a gap, which begins behind them afterwards.
-fn fill_gap(cells: &mut [hb_glyph_info_t], start: usize, end: usize, glyphs: &[hb_glyph_info_t])
+/// Puts glyphs in at a place before a gap, or where it begins: those between are carried into it. It begins behind them
+/// afterwards.
+fn put_before_gap(
+    cells: &mut [hb_glyph_info_t],
+    start: usize,
+    end: usize,
+    place: usize,
+    glyphs: &[hb_glyph_info_t],
+)
+    requires place { place ≤ start }
     requires room { start + length glyphs.now ≤ end }
     requires in_cells { end ≤ length cells.old }
     ensures line { around_gap cells.new (start + length glyphs.now) end
-        ≡ take start (around_gap cells.old start end)
-        ++ (glyphs.now ++ drop start (around_gap cells.old start end)) }
+        ≡ take place (around_gap cells.old start end)
+        ++ (glyphs.now ++ drop place (around_gap cells.old start end)) }
     ensures len { length cells.new ≡ length cells.old }
 {
-    cells[start..start + glyphs.len()].copy_from_slice(glyphs);
+    let count = glyphs.len();
+    if place < start {
+        carry(cells, place, start - place, place + count);
+    }
+    cells[place..place + count].copy_from_slice(glyphs);
 }
 
 /// Puts the glyphs of a line that stands before the gap as a whole in the opposite order.

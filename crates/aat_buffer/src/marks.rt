@@ -1,5 +1,5 @@
 //! Marks and merges, written over the calls that read and write a glyph at a place or the glyphs of a span.
-ghost use Rattle.std.specs.Prelude.{◌≡◌, ◌+◌, ◌-◌, ◌<◌, ◌≤◌, fold, map, min, length, slice_range};
+ghost use Rattle.std.specs.Prelude.{◌≡◌, ◌+◌, ◌-◌, ◌<◌, ◌≤◌, Some, fold, map, min, length, slice_range};
 ghost use Rattle.aat_buffer.specs.Buffer.{with_line};
 ghost use Rattle.aat_buffer.specs.Marks.{on_line_span, least_of, marked_above, break_marked, concat_marked, unsafe_to_break, unsafe_to_concat, with_cluster, run_after, run_before, merged, merged_out, merge_clusters, merge_out_clusters};
 
@@ -35,6 +35,19 @@ impl<A: Allocator + Copy> hb_buffer_t<A> {
         ensures count { length self.new.line ≡ length self.old.line }
     {
         self.unsafe_to_break(start, end);
+    }
+
+    /// The marks of `unsafe_to_break` on the glyph before the cursor and the one there: the line may not be cut at the
+    /// cursor, which has to be before the end and not at the start. In a bounded number of steps.
+    pub fn unsafe_to_break_at_cursor(&mut self)
+        requires before { 0 < self.old.cursor }
+        requires current { self.old.cursor < length self.old.line }
+        ensures after { self.new ≡ unsafe_to_break self.old (Some (self.old.cursor - 1)) (Some (self.old.cursor + 1)) }
+        ensures count { length self.new.line ≡ length self.old.line }
+    {
+        let _length = self.len();
+        let p = self.backtrack_len();
+        self.mark_break_pair(p - 1, p + 1);
     }
 
     /// Notes that parts shaped apart may not be put together within a span: where the flag

@@ -32,7 +32,7 @@ module _ (missing lowest : ℕ) (moved cells : List ℕ) (pairs : List (ℕ × �
 
   -- an array with the class of each glyph of one of what glyphs become
   pub classes_answer : AnswersAsClasses missing lowest cells pairs
-  classes_answer some glyph id = moved_to_class glyph id (cases_lt (place_over lowest glyph) (length moved))
+  classes_answer glyph id = moved_to_class glyph id (cases_lt (place_over lowest glyph) (length moved))
 
 module _ (missing lowest : ℕ) (values : List (Option ℕ)) (cells : List ℕ) (pairs : List (ℕ × ℕ)) (small : lowest + length values ≤ 65536)
     (long : length cells ≡ length values) (answers : AnswersOver lowest values pairs)
@@ -62,4 +62,4 @@ module _ (missing lowest : ℕ) (values : List (Option ℕ)) (cells : List ℕ) 
 
   -- an array with the class of each value of one over the same glyphs
   pub values_answer : AnswersAsClasses missing lowest cells pairs
-  values_answer some glyph id = value_to_class glyph id (cases_lt glyph lowest) (cases_lt (glyph - lowest) (length values))
+  values_answer glyph id = value_to_class glyph id (cases_lt glyph lowest) (cases_lt (glyph - lowest) (length values))

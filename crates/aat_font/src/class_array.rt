@@ -1,75 +1,64 @@
 //! The classes of glyphs in arrays, for who asks for those of many glyphs.
-ghost use Rattle.std.specs.Prelude.{◌≡◌, ◌+◌, ◌%◌, ◌<◌, ℕ, IfOk, None, length, slice_index_or, unwrap_or};
-ghost use Rattle.aat_font.specs.Keys.{value_in};
-ghost use Rattle.aat_font.specs.Moves.{changed_to};
+ghost use Rattle.std.specs.Prelude.{◌≡◌, ◌+◌, ◌%◌, ◌<◌, ℕ, IfOk, IfSome, None, length, slice_index_or, unwrap_or};
+ghost use Rattle.aat_font.specs.Moves.{changed_to, place_over};
 ghost use Rattle.aat_font.specs.inside.Dense.{AnswersAsClasses};
 
 use crate::lookup::Lookup;
-use crate::plan::GlyphId;
 use std::alloc::{AllocError, Allocator};
 
-/// The classes that a lookup has, where it has its values in an array, and else none. A glyph without a class has one
-/// that says so.
+/// The classes that pairs have for the glyphs of their span. A glyph without a class has one that says so.
 #[derive(Drop)]
 pub(crate) struct ClassArray<A: Allocator> {
     /// The glyph of the first cell.
-    pub(crate) lowest: u16,
+    lowest: u16,
+    /// The class of a glyph without one.
+    pub(crate) missing: u16,
     /// The class of each glyph from the lowest on.
-    pub(crate) cells: Vec<u16, A>,
+    cells: Vec<u16, A>,
 }
 
 impl<A: Allocator> ClassArray<A> {
-    /// The classes of a lookup, with one that stands for a missing one. Fails where the cells get no memory.
+    /// The classes of a lookup that has its values in an array, with `missing` for a glyph without one, and `None` of
+    /// another lookup. Fails where the cells get no memory.
     #[tactic(auto, using(crate::proofs::ClassAnswers::classes_answer, crate::proofs::ClassAnswers::values_answer))]
     pub(crate) fn over<B: Allocator>(
         alloc: A,
         classes: &Lookup<B>,
         missing: u16,
-    ) -> Result<ClassArray<A>, AllocError>
-        ensures { IfOk result (λ c. AnswersAsClasses missing c.lowest c.cells.items classes.now) }
+    ) -> Result<Option<ClassArray<A>>, AllocError>
+        ensures { IfOk result (λ found. IfSome found (λ c.
+            AnswersAsClasses c.missing c.lowest c.cells.items classes.now)) }
     {
         if let Some(moves) = classes.moves() {
-            return Ok(ClassArray {
+            return Ok(Some(ClassArray {
                 lowest: moves.lowest,
+                missing,
                 cells: cells_of_moves(alloc, moves.lowest, moves.cells, missing)?,
-            });
+            }));
         }
         if let Some((lowest, values)) = classes.span_values() {
             // no array reaches past the last glyph, but none tells that it does not
             if lowest as usize + values.len() <= 65536 {
-                return Ok(ClassArray {
+                return Ok(Some(ClassArray {
                     lowest,
+                    missing,
                     cells: cells_of_values(alloc, values, missing)?,
-                });
+                }));
             }
         }
-        Ok(ClassArray {
-            lowest: 0,
-            cells: Vec::new(alloc),
-        })
+        Ok(None)
     }
 
-    /// The class that the lookup has for a glyph, or the one that stands for a missing one.
-    pub(crate) fn class(&self, classes: &Lookup<A>, missing: u16, glyph: GlyphId) -> u16
-        requires { AnswersAsClasses missing self.now.lowest self.now.cells.items classes.now }
-        ensures { result ≡ unwrap_or (value_in classes.now glyph.0) missing }
+    /// The class of a glyph, and the one that is given outside the array.
+    pub(crate) fn class(&self, glyph: u16, missing: u16) -> u16
+        ensures { result ≡ slice_index_or self.now.cells.items (place_over self.now.lowest glyph) missing }
     {
-        let place = glyph.0.wrapping_sub(self.lowest) as usize;
+        let place = glyph.wrapping_sub(self.lowest) as usize;
         match self.cells.get(place) {
             Some(class) => *class,
-            None if self.cells.is_empty() => looked_up(classes, missing, glyph),
             None => missing,
         }
     }
-}
-
-/// The class that a lookup has for a glyph, or the one that stands for a missing one. It stands apart, so that what is
-/// found in an array stays short.
-#[inline(never)]
-fn looked_up<A: Allocator>(classes: &Lookup<A>, missing: u16, glyph: GlyphId) -> u16
-    ensures { result ≡ unwrap_or (value_in classes.now glyph.0) missing }
-{
-    classes.value(glyph).unwrap_or(missing)
 }
 
 /// The class of a glyph that becomes its class, and the one for a missing one where it stays.

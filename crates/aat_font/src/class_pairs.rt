@@ -6,7 +6,6 @@ ghost use Rattle.aat_font.specs.Keys.{first, first_fall};
 ghost use Rattle.aat_font.specs.TableErrors.{RefusesRising};
 ghost use Rattle.aat_font.specs.inside.Rows.{HoldsRows, IsQuiet, TellRows};
 
-use crate::class_array::ClassArray;
 use crate::error::TableError;
 use crate::keys::first_fall;
 use crate::lookup::Lookup;
@@ -29,15 +28,10 @@ pub struct ClassPairs<A: Allocator = Global> {
     values: Vec<i16, A>,
     /// Whether a left class has a value that is not 0.
     kerns: Vec<bool, A>,
-    /// The classes of left glyphs in an array, if they have one.
-    left_classes: ClassArray<A>,
-    /// The same of right glyphs.
-    right_classes: ClassArray<A>,
 }
 
 impl<A: Allocator> Model for ClassPairs<A> {
     ghost use Rattle.aat_font.specs.Classes.{ClassValues};
-    ghost use Rattle.aat_font.specs.inside.Dense.{AnswersAsClasses};
     ghost use Rattle.aat_font.specs.inside.Rows.{TellRows};
 
     ghost Value = { ClassValues };
@@ -49,9 +43,7 @@ impl<A: Allocator> Model for ClassPairs<A> {
       values = m.values.items;
     } };
 
-    ghost invariant = { λ m. TellRows m.kerns.items m.values.items m.right_count
-        × AnswersAsClasses 0 m.left_classes.lowest m.left_classes.cells.items m.left
-        × AnswersAsClasses 0 m.right_classes.lowest m.right_classes.cells.items m.right };
+    ghost invariant = { λ m. TellRows m.kerns.items m.values.items m.right_count };
 }
 
 impl<A: Allocator + Copy> ClassPairs<A> {
@@ -92,7 +84,7 @@ impl<A: Allocator + Copy> ClassPairs<A> {
 
     /// Makes the table of the classes of left glyphs and those of right glyphs, as lookups, which may be of segments,
     /// the number of right classes, and the values, as `new` does. Fails where a flag for each left class, or an array
-    /// of the classes, gets no memory. The lookups are kept without arrays of their own.
+    /// of the classes, gets no memory. An array of a lookup's own is replaced by that one.
     pub fn from_lookups(
         alloc: A,
         left: Lookup<A>,
@@ -108,16 +100,12 @@ impl<A: Allocator + Copy> ClassPairs<A> {
         }) }
     {
         let kerns = kerning_rows(alloc, &values, right_count)?;
-        let left_classes = ClassArray::over(alloc, &left, MISSING)?;
-        let right_classes = ClassArray::over(alloc, &right, MISSING)?;
         Ok(ClassPairs {
-            left: left.without_array(),
-            right: right.without_array(),
+            left: left.with_class_array(alloc, MISSING)?,
+            right: right.with_class_array(alloc, MISSING)?,
             right_count,
             values,
             kerns,
-            left_classes,
-            right_classes,
         })
     }
 }
@@ -156,11 +144,11 @@ impl<A: Allocator> ClassPairs<A> {
     pub fn glyphs_kerning(&self, left: GlyphId, right: GlyphId) -> i16
         ensures { result ≡ kerning_by_classes self.now left.0 right.0 }
     {
-        let row = self.left_classes.class(&self.left, MISSING, left);
+        let row = self.left.class(left, MISSING);
         if !kerns_at(&self.kerns, row) {
             return 0;
         }
-        let column = self.right_classes.class(&self.right, MISSING, right);
+        let column = self.right.class(right, MISSING);
         value_at(&self.values, self.right_count, row, column)
     }
 }

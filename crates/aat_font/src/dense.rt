@@ -5,6 +5,7 @@ ghost use Rattle.aat_font.specs.Moves.{AreMovesOf};
 ghost use Rattle.aat_font.specs.inside.Dense.{span_count, value_over, AnswersAsPairs, AnswersOver, PairsWithin};
 
 use crate::cells::{append_values, cell_at};
+use crate::class_array::ClassArray;
 use crate::keys::row_at;
 use crate::moves::{GlyphMoves, MoveArray, keeps_one};
 use crate::pages::{GlyphPages, page_count};
@@ -24,9 +25,11 @@ pub(crate) enum Dense<A: Allocator> {
     Array(GlyphArray<A>),
     /// They lie close, and none has itself as its value: in an array of what each glyph of their span becomes.
     Moves(MoveArray<A>),
+    /// They lie close, and have classes: these in an array over their span, for `Lookup::class`. `value` searches.
+    Classes(ClassArray<A>),
     /// They lie close on pages of 256 glyphs: on those that hold one.
     Pages(GlyphPages<A>),
-    /// They lie apart, or stand in another array: by bisection.
+    /// They lie apart: by bisection.
     Search,
 }
 
@@ -94,7 +97,7 @@ impl<A: Allocator> Dense<A> {
             Dense::Array(array) => array.value(glyph),
             Dense::Moves(array) => array.value(glyph),
             Dense::Pages(pages) => pages.value(glyph),
-            Dense::Search => searched(pairs, glyph),
+            Dense::Classes(_) | Dense::Search => searched(pairs, glyph),
         }
     }
 
@@ -106,7 +109,7 @@ impl<A: Allocator> Dense<A> {
     {
         match self {
             Dense::Moves(array) => Some(array.moves()),
-            Dense::Array(_) | Dense::Pages(_) | Dense::Search => None,
+            Dense::Array(_) | Dense::Classes(_) | Dense::Pages(_) | Dense::Search => None,
         }
     }
 
@@ -118,7 +121,7 @@ impl<A: Allocator> Dense<A> {
     {
         match self {
             Dense::Array(array) => Some((array.lowest, &array.cells)),
-            Dense::Moves(_) | Dense::Pages(_) | Dense::Search => None,
+            Dense::Moves(_) | Dense::Classes(_) | Dense::Pages(_) | Dense::Search => None,
         }
     }
 }

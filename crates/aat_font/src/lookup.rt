@@ -1,11 +1,12 @@
 //! Lookups: values of glyphs.
-ghost use Rattle.std.specs.Prelude.{◌≡◌, IfOk, IfErr, IfSome, OnOk, None};
+ghost use Rattle.std.specs.Prelude.{◌≡◌, IfOk, IfErr, IfSome, OnOk, None, unwrap_or};
 ghost use Rattle.aat_font.specs.Keys.{first, first_fall, value_in, IsRising};
 ghost use Rattle.aat_font.specs.Moves.{AreMovesOf};
 ghost use Rattle.aat_font.specs.Segments.{first_segment_fall, pairs_of_segments};
 ghost use Rattle.aat_font.specs.TableErrors.{RefusesRising};
-ghost use Rattle.aat_font.specs.inside.Dense.{AnswersOver};
+ghost use Rattle.aat_font.specs.inside.Dense.{AnswersAsClasses, AnswersOver};
 
+use crate::class_array::ClassArray;
 use crate::dense::Dense;
 use crate::error::TableError;
 use crate::keys::first_fall;
@@ -91,6 +92,19 @@ impl<A: Allocator + Copy> Lookup<A> {
     }
 }
 
+impl<A: Allocator + Copy> Lookup<A> {
+    /// The same values as classes: an array of them gives way to one of classes, with `missing` for glyphs without one.
+    /// Pages and segments stay. Fails where the cells get no memory.
+    pub(crate) fn with_class_array(self, alloc: A, missing: u16) -> Result<Lookup<A>, AllocError>
+        ensures { IfOk result (λ lookup. lookup ≡ self) }
+    {
+        match ClassArray::over(alloc, &self, missing)? {
+            Some(array) => Ok(self.found_in(array)),
+            None => Ok(self),
+        }
+    }
+}
+
 impl<A: Allocator> Lookup<A> {
     /// The pairs of a glyph and its value, strictly rising by glyph, as a list of its own. Fails where it gets no
     /// memory.
@@ -109,7 +123,7 @@ impl<A: Allocator> Lookup<A> {
 
     /// The value of a glyph, if it has one. Among pairs it is found in an array over the span of the glyphs where these
     /// lie close, else on pages of 256 glyphs where these hold enough of them, and else by bisection; among segments by
-    /// bisection. The lookup of a state table, or of pairs by classes, has no array, since that table has one.
+    /// bisection. In a state table, or in pairs by classes, an array has classes alone, and here pairs are searched.
     pub fn value(&self, glyph: GlyphId) -> Option<u16>
         ensures { result ≡ value_in self.now glyph.0 }
     {
@@ -119,14 +133,28 @@ impl<A: Allocator> Lookup<A> {
         }
     }
 
-    /// The same values. An array of them is dropped, for who has another one, and they are then searched; pages and
-    /// segments stay.
-    pub(crate) fn without_array(self) -> Lookup<A>
+    /// The value of a glyph, or the one that is given where it has none. It is found without a search where the values
+    /// are in an array of classes that was made with that one.
+    pub(crate) fn class(&self, glyph: GlyphId, missing: u16) -> u16
+        ensures { result ≡ unwrap_or (value_in self.now glyph.0) missing }
+    {
+        match &self.values {
+            // the number that the caller gives and not the array's own, which would have to be read
+            Values::Listed(_, Dense::Classes(array)) if array.missing == missing => {
+                array.class(glyph.0, missing)
+            }
+            _ => looked_up(self, missing, glyph),
+        }
+    }
+
+    /// The same values. Pairs get an array of classes.
+    fn found_in(self, array: ClassArray<A>) -> Lookup<A>
+        requires { AnswersAsClasses array.missing array.lowest array.cells.items self }
         ensures { result ≡ self }
     {
         match self.values {
-            Values::Listed(pairs, Dense::Array(_) | Dense::Moves(_)) => Lookup {
-                values: Values::Listed(pairs, Dense::Search),
+            Values::Listed(pairs, _) => Lookup {
+                values: Values::Listed(pairs, Dense::Classes(array)),
             },
             values => Lookup { values },
         }
@@ -143,8 +171,8 @@ impl<A: Allocator> Lookup<A> {
         }
     }
 
-    /// What each glyph becomes that gets its value here, for who asks for many glyphs: where the values stand in an array
-    /// and none is that of its own glyph.
+    /// What each glyph becomes that gets its value here, for who asks for many glyphs: where the values stand in an array,
+    /// but not in one of classes, and none is that of its own glyph.
     pub fn moves(&self) -> Option<GlyphMoves<'_>>
         ensures { IfSome result (λ moves. AreMovesOf moves self.now) }
     {
@@ -153,4 +181,13 @@ impl<A: Allocator> Lookup<A> {
             Values::Segments(_) => None,
         }
     }
+}
+
+/// The class that a lookup has for a glyph, or the one that stands for a missing one. It stands apart, so that what is
+/// found in an array stays short.
+#[inline(never)]
+fn looked_up<A: Allocator>(classes: &Lookup<A>, missing: u16, glyph: GlyphId) -> u16
+    ensures { result ≡ unwrap_or (value_in classes.now glyph.0) missing }
+{
+    classes.value(glyph).unwrap_or(missing)
 }

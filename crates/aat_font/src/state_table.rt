@@ -8,7 +8,6 @@ ghost use Rattle.aat_font.specs.TableErrors.{RefusesFault};
 ghost use Rattle.aat_font.specs.inside.Dense.{ruled_entry, state_count, AnswersAsRules, RulesBelow};
 ghost use Rattle.aat_font.specs.inside.Walks.{AreBelow, AreNotBelow};
 
-use crate::class_array::ClassArray;
 use crate::entry_bits::{DONT_ADVANCE, anchor, class, stack};
 use crate::error::TableError;
 use crate::keys::{Keyed, first_fall, row_at};
@@ -82,14 +81,13 @@ pub struct ExtendedStateTable<T: Copy, A: Allocator = Global> {
     classes: Lookup<A>,
     rules: Vec<(u16, u16, GenericStateEntry<T>), A>,
     grid: Vec<Option<GenericStateEntry<T>>, A>,
-    class_array: ClassArray<A>,
 }
 
 impl<T: Copy, A: Allocator> Model for ExtendedStateTable<T, A> {
     ghost use Rattle.std.specs.Prelude.{◌<◌};
     ghost use Rattle.aat_font.specs.Keys.{IsRising};
     ghost use Rattle.aat_font.specs.Table.{TableValue, rule_key};
-    ghost use Rattle.aat_font.specs.inside.Dense.{AnswersAsClasses, AnswersAsRules};
+    ghost use Rattle.aat_font.specs.inside.Dense.{AnswersAsRules};
     ghost use Rattle.aat_font.specs.declared.state_table.GenericStateEntry.{GenericStateEntry};
 
     ghost Value = { TableValue (GenericStateEntry T) };
@@ -97,8 +95,7 @@ impl<T: Copy, A: Allocator> Model for ExtendedStateTable<T, A> {
     ghost view = { λ m. record { class_count = m.class_count; classes = m.classes; rules = m.rules.items } };
 
     ghost invariant = { λ m. (1 < m.class_count) × IsRising rule_key m.rules.items
-        × AnswersAsRules m.class_count m.grid.items m.rules.items
-        × AnswersAsClasses 1 m.class_array.lowest m.class_array.cells.items m.classes };
+        × AnswersAsRules m.class_count m.grid.items m.rules.items };
 }
 
 impl<T: Copy, A: Allocator + Copy> ExtendedStateTable<T, A> {
@@ -131,15 +128,11 @@ impl<T: Copy, A: Allocator + Copy> ExtendedStateTable<T, A> {
             return Err(fault);
         }
         let classes = Lookup::of_rising(alloc, classes)?;
-        let class_array = ClassArray::over(alloc, &classes, class::OUT_OF_BOUNDS)?;
-        let copy = Vec::from_slice(alloc, rules)?;
-        let grid = grid_over(alloc, class_count, rules)?;
         Ok(ExtendedStateTable {
             class_count,
-            classes: classes.without_array(),
-            rules: copy,
-            grid,
-            class_array,
+            classes: classes.with_class_array(alloc, class::OUT_OF_BOUNDS)?,
+            rules: Vec::from_slice(alloc, rules)?,
+            grid: grid_over(alloc, class_count, rules)?,
         })
     }
 
@@ -168,13 +161,11 @@ impl<T: Copy, A: Allocator + Copy> ExtendedStateTable<T, A> {
             return Err(fault);
         }
         let grid = grid_over(alloc, class_count, &rules)?;
-        let class_array = ClassArray::over(alloc, &classes, class::OUT_OF_BOUNDS)?;
         Ok(ExtendedStateTable {
             class_count,
-            classes: classes.without_array(),
+            classes: classes.with_class_array(alloc, class::OUT_OF_BOUNDS)?,
             rules,
             grid,
-            class_array,
         })
     }
 }
@@ -221,8 +212,7 @@ impl<T: Copy, A: Allocator> ExtendedStateTable<T, A> {
         if glyph.0 == DELETED_GLYPH {
             return class::DELETED_GLYPH;
         }
-        self.class_array
-            .class(&self.classes, class::OUT_OF_BOUNDS, glyph)
+        self.classes.class(glyph, class::OUT_OF_BOUNDS)
     }
 
     /// The entry of a state and a class, if there is a rule for them, found in a grid of states by classes up to the

@@ -85,11 +85,11 @@ pub struct hb_glyph_info_t {
     /// The glyph's place in its font.
     pub glyph_id: u32,
 
-    /// The glyph's bits: those of `glyph_flag`, and above them what features are on there.
-    pub mask: hb_mask_t,
-
     /// The character that the glyph came from, or the first of several.
     pub cluster: u32,
+
+    /// The glyph's bits: those of `glyph_flag`, and above them what features are on there.
+    pub mask: hb_mask_t,
 
     /// What the font says of the glyph.
     pub glyph_props: u16,

@@ -1,6 +1,6 @@
 //! Insertion subtables: runs of glyphs go in at the marked place and at the cursor.
 ghost use Rattle.std.specs.Prelude.{◌≡◌, ℕ, ◌+◌, ◌-◌, ◌<◌, ◌≤◌, ◌↔◌, ◌&&◌, if◌then◌else◌, nat_lt, length, map, not, All, Bool, take, false, true, IfErr, IsErrOf, IsTrue, OnErr, OnOk};
-ghost use Rattle.aat_buffer.specs.Buffer.{Buffer, Is16Bit, failed, model_at, with_glyphs_in};
+ghost use Rattle.aat_buffer.specs.Buffer.{Buffer, Is16Bit, failed, model_at, with_glyphs_at};
 ghost use Rattle.aat_glyph.specs.declared.error.BufferError.{BufferError};
 ghost use Rattle.aat_glyph.specs.declared.error.BufferError.TheVariants as BufferError;
 ghost use Rattle.aat_buffer.specs.Clusters.{IsSmall};
@@ -181,7 +181,7 @@ impl<'a> driver_context_t<InsertionEntryData> for InsertionCtx<'a> {
         (entry.flags & (CURRENT_INSERT_COUNT | MARKED_INSERT_COUNT) != 0) & has_glyphs
     }
 
-    /// Does what the entry says. A run of r glyphs is O(r and the distance that the cursor moves), amortised.
+    /// Does what the entry says. A run of r glyphs is O(r and how far the cursor is from its place), amortised.
     ///
     /// Refused as 2, `TooLong`, only where the act would leave a line longer than the buffer's `max_len`, and as 3,
     /// `OutOfMemory`, only where it would leave a longer line than it found. A run goes in whole or not at all, and the
@@ -338,24 +338,27 @@ fn records_of(model: hb_glyph_info_t, run: &[GlyphId]) -> [hb_glyph_info_t; LONG
     records
 }
 
-/// Puts a run in at the cursor as copies of a record. A run of one glyph, the most frequent, needs no room for others.
+/// Puts a run in at a place that is not behind the cursor, which moves on by its length, as copies of a record. A run of
+/// one glyph, the most frequent, needs no room for others.
 fn insert_copies<A: Allocator + Copy>(
     buffer: &mut hb_buffer_t<A>,
+    place: usize,
     model: hb_glyph_info_t,
     run: &[GlyphId],
 ) -> Result<(), BufferError>
+    requires place { place ≤ buffer.old.cursor }
     requires few { length run.now ≤ 31 }
-    ensures ok { OnOk result (buffer.new ≡ with_glyphs_in buffer.old (copies model run.now)) }
+    ensures ok { OnOk result (buffer.new ≡ with_glyphs_at buffer.old place (copies model run.now)) }
     ensures small { All Is16Bit (copies model run.now) }
     ensures too_long { IsErrOf result BufferError.TooLong
         ↔ (buffer.old.max_len < length buffer.old.line + length run.now) }
     ensures err { OnErr result (buffer.new ≡ failed buffer.old) }
 {
     if run.len() == 1 {
-        return buffer.insert_glyphs(&[copy_of(model, run[0])]);
+        return buffer.insert_glyphs_at(place, &[copy_of(model, run[0])]);
     }
     let records = records_of(model, run);
-    buffer.insert_glyphs(&records[..run.len()])
+    buffer.insert_glyphs_at(place, &records[..run.len()])
 }
 
 /// Where a run goes in: before the place, or behind the glyph there, if there is one.
@@ -372,7 +375,7 @@ fn start_of(place: usize, behind: bool, len: usize) -> usize
 }
 
 /// Puts a run in at a place, or behind the glyph there, each a copy of that glyph, or of the last one, with its own id,
-/// and the cursor at another place. In as many steps as the run is long, and the cursor moves, amortised.
+/// and the cursor at another place. In as many steps as the run is long, and the cursor is from both places, amortised.
 ///
 /// Refused as 2, `TooLong`, where the line would be too long, and else as 3, `OutOfMemory`, where it gets no memory for
 /// the run, which has glyphs then. The buffer has failed, and the line is as before.
@@ -404,8 +407,11 @@ fn put_in<A: Allocator + Copy>(
         return Ok(());
     }
     let model = model_of(buffer, place);
-    buffer.move_to(start_of(place, behind, len));
-    insert_copies(buffer, model, run)?;
+    let start = start_of(place, behind, len);
+    if buffer.backtrack_len() < start {
+        buffer.move_to(start);
+    }
+    insert_copies(buffer, start, model, run)?;
     buffer.move_to(cursor);
     Ok(())
 }

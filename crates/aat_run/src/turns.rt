@@ -173,10 +173,9 @@ fn mark_unsafe<T: Copy, C: driver_context_t<T>, A: Allocator + Copy>(
     ensures length { length buffer.new.line ≡ length buffer.old.line }
     ensures settings { SameSettings buffer.old buffer.new }
 {
-    let p = buffer.backtrack_len();
-    if 0 < p && buffer.has_current() {
+    if 0 < buffer.backtrack_len() && buffer.has_current() {
         if !is_safe(machine, context, buffer, entry, class, run_state) {
-            buffer.unsafe_to_break(Some(p - 1), Some(p + 1));
+            buffer.unsafe_to_break_at_cursor();
         }
     }
 }

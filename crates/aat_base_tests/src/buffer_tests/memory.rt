@@ -64,12 +64,13 @@ fn room_of_one(rt: &impl Abort, alloc: Global) -> Result<usize, AllocError> {
     Ok(probe.len())
 }
 
-/// The calls that take memory, where positions stand. Those that ask for positions come last.
-static GROWTHS: [(&str, Call); 4] = [
+/// The calls that take memory, where positions stand.
+static GROWTHS: [(&str, Call); 5] = [
     ("add", Call::Add((6, 0, 0))),
     ("output_glyph", Call::Output(6)),
     ("copy_glyph", Call::Copy),
     ("insert_glyphs", Call::Insert(&RUN)),
+    ("insert_glyphs_at", Call::InsertAt(0, &RUN)),
 ];
 
 /// A full line is placed, with the cursor at the second glyph, or it is not placed.

@@ -22,6 +22,8 @@ pub(super) enum Call {
     Output(u32),
     Copy,
     Insert(&'static [hb_glyph_info_t]),
+    /// Puts glyphs in at a place that is not behind the cursor.
+    InsertAt(usize, &'static [hb_glyph_info_t]),
     ClearOutput,
     ClearPositions,
     /// Gives each glyph a position whose advance is its place.
@@ -51,6 +53,7 @@ pub(super) enum Call {
     MergeOut(usize, usize),
     Break(Option<usize>, Option<usize>),
     BreakOut(Option<usize>, Option<usize>),
+    BreakAtCursor,
     Concat(Option<usize>, Option<usize>),
 }
 
@@ -84,7 +87,7 @@ pub(super) enum Step {
     Has(Fact),
 }
 
-/// Makes a call. One for which the cursor or a place is not within the line is refused as too long, as which no other
+/// Makes a call. One for which the cursor or a place is not where it has to be is refused as too long, as which no other
 /// call is refused that tests take for one that is done.
 pub(super) fn make<A: Allocator + Copy>(
     buffer: &mut hb_buffer_t<A>,
@@ -98,6 +101,9 @@ pub(super) fn make<A: Allocator + Copy>(
         Call::Output(glyph_id) => buffer.output_glyph(glyph_id),
         Call::Copy if is_inside => buffer.copy_glyph(),
         Call::Insert(glyphs) => buffer.insert_glyphs(glyphs),
+        Call::InsertAt(place, glyphs) if place <= buffer.backtrack_len() => {
+            buffer.insert_glyphs_at(place, glyphs)
+        }
         Call::ClearOutput => buffer.clear_output(),
         Call::ClearPositions => buffer.clear_positions(),
         Call::Number => number_positions(buffer),
@@ -172,6 +178,7 @@ fn works_at_cursor<A: Allocator + Copy>(buffer: &mut hb_buffer_t<A>, call: Call)
         Call::Skip => buffer.skip_glyph(),
         Call::Mask(mask) => buffer.cur_mut().mask = mask,
         Call::Cluster(cluster) => buffer.cur_mut().cluster = cluster,
+        Call::BreakAtCursor if 0 < buffer.backtrack_len() => buffer.unsafe_to_break_at_cursor(),
         _ => return false,
     }
     true

@@ -38,10 +38,10 @@ with_last l r = record l { glyphs = l.glyphs ++ r ∷ [] }
 abbrev pub with_inserted : Line → hb_glyph_info_t → Line
 with_inserted l r = record { glyphs = insert l.glyphs l.cursor r; cursor = l.cursor + 1 }
 
--- the glyphs gs go in at the cursor, which moves past them
-abbrev pub with_all_inserted : Line → List hb_glyph_info_t → Line
-with_all_inserted l gs = record {
-  glyphs = take l.cursor l.glyphs ++ (gs ++ drop l.cursor l.glyphs);
+-- the glyphs gs go in at place i, and the cursor moves on by their number
+abbrev pub with_all_inserted : Line → ℕ → List hb_glyph_info_t → Line
+with_all_inserted l i gs = record {
+  glyphs = take i l.glyphs ++ (gs ++ drop i l.glyphs);
   cursor = l.cursor + length gs;
 }
 

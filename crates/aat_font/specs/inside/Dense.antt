@@ -2,7 +2,7 @@
 use Rattle.std.specs.Prelude.{◌≡◌, ◌+◌, ◌*◌, ◌-◌, ◌/◌, ◌%◌, ◌<◌, ◌≤◌, ℕ, Bool, List, ◌&&◌, ◌==◌, Option, None, Some, if◌then◌else◌, nat_lt, nat_le, length, slice_get, slice_index_or, option_map, unwrap_or}
 use Rattle.std.specs.List.{list_any}
 use Rattle.aat_font.specs.declared.dense.Dense.{Dense}
-use Rattle.aat_font.specs.declared.dense.Dense.TheVariants.{Array, Moves, Pages, Search}
+use Rattle.aat_font.specs.declared.dense.Dense.TheVariants.{Array, Moves, Classes, Pages, Search}
 use Rattle.aat_font.specs.Keys.{first, value_in, at_key}
 use Rattle.aat_font.specs.Moves.{place_over, AreMoved}
 use Rattle.aat_font.specs.Table.{Rule, rule_key}
@@ -47,18 +47,19 @@ AnswersOnPages starts cells pairs =
 abbrev pub keeps_one : List (ℕ × ℕ) → Bool
 keeps_one pairs = list_any (λ p. p.1 == p.0) pairs
 
+-- an array has the class that pairs have for each glyph, and a given one where they have none
+abbrev pub AnswersAsClasses : ℕ → ℕ → List ℕ → List (ℕ × ℕ) → Type 0
+AnswersAsClasses missing lowest cells pairs =
+    (glyph : ℕ) → glyph < 65536
+    → slice_index_or cells (place_over lowest glyph) missing ≡ unwrap_or (value_in pairs glyph) missing
+
 -- an array or pages answer as pairs do; a search needs nothing
 abbrev pub AnswersAsPairs : {A : Type 0} → Dense A → List (ℕ × ℕ) → Type 0
 AnswersAsPairs (Array array) pairs = AnswersOver array.lowest array.cells.items pairs
 AnswersAsPairs (Moves array) pairs = AreMoved array.lowest array.cells.items pairs
+AnswersAsPairs (Classes array) pairs = AnswersAsClasses array.missing array.lowest array.cells.items pairs
 AnswersAsPairs (Pages pages) pairs = AnswersOnPages pages.starts.items pages.cells.items pairs
 AnswersAsPairs Search pairs = Unit
-
--- an array has the class that pairs have for each glyph, and a given one where they have none, unless it is empty
-abbrev pub AnswersAsClasses : ℕ → ℕ → List ℕ → List (ℕ × ℕ) → Type 0
-AnswersAsClasses missing lowest cells pairs =
-    0 < length cells → (glyph : ℕ) → glyph < 65536
-    → slice_index_or cells (place_over lowest glyph) missing ≡ unwrap_or (value_in pairs glyph) missing
 
 -- the number of cells of an array over the glyphs of pairs, at most about 32 for each pair
 abbrev pub span_count : List (ℕ × ℕ) → ℕ

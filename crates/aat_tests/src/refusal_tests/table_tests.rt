@@ -152,8 +152,8 @@ fn blocks_for(alloc: Global, made: Made) -> Result<Option<usize>, AllocError> {
     Ok(None)
 }
 
-/// A heap has a block at least. Since what was asked for before stays, each request is refused where the heap has as
-/// many blocks as those before it take, and one.
+/// A heap has a block at least. Where what was asked for before stays, each request is refused where the heap has as
+/// many blocks as those before it take, and one. Rules beside a grid may take the place of an array that was dropped.
 #[test]
 fn each_request_of_a_table_refused(rt: HostRuntime) -> Result<(), Fail> {
     wanted(

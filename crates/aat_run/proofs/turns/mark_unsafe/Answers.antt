@@ -5,5 +5,5 @@ use Rattle.aat_run.proofs.turns.mark_unsafe.Goals as goal
 
 pub returns-then-not-is_safe-clause-ids : goal.returns-then-not-is_safe-clause-ids
 returns-then-not-is_safe-clause-ids g c =
-    let p = c.backtrack_len-p.result in
-    rw c.unsafe_to_break.ensures.after (small_of_unsafe c.args.buffer.now (Some (p - 1)) (Some (p + 1)) c.requires.ids)
+    let p = c.args.buffer.now.cursor in
+    rw c.unsafe_to_break_at_cursor.ensures.after (small_of_unsafe c.args.buffer.now (Some (p - 1)) (Some (p + 1)) c.requires.ids)

@@ -21,6 +21,4 @@ grid_over-requires-clause-rising g c =
 pub invariant_of-result : goal.invariant_of-result
 invariant_of-result g c =
     let no_fault = sym c.faulty_rule.ensures ∙ c.in_default-faulty_rule.is in
-    let answers = c.in_ok-grid.ensures.answers in
-    let classes = c.in_ok-class_array.ensures in
-    rw (c.in_ok-copy.ensures.items, c.without_array.ensures) (omega arith, rules_rise c.args.class_count c.args.rules.now no_fault, answers, classes)
+    rw c.in_ok-from_slice.ensures.items (omega arith, rules_rise c.args.class_count c.args.rules.now no_fault, c.in_ok-grid_over.ensures.answers)

@@ -11,4 +11,4 @@ pub invariant_of-result : goal.invariant_of-result
 invariant_of-result g c =
     let no_fault = rw c.deref.ensures.value at (sym c.faulty_rule.ensures ∙ c.in_default.is) in
     let answers = rw c.deref-2.ensures.value at c.in_ok-grid.ensures.answers in
-    rw c.without_array.ensures (omega arith, rules_rise c.args.class_count c.args.rules.items no_fault, answers, c.in_ok-class_array.ensures)
+    (omega arith, rules_rise c.args.class_count c.args.rules.items no_fault, answers)
