@@ -101,18 +101,25 @@ fn anchors(alloc: Global) -> Result<Subtable4, ExampleError> {
     })
 }
 
+/// Puts a subtable for horizontal text last.
+fn put(subtables: &mut Vec<KerxSubtable>, format: KerxFormat) -> Result<(), ExampleError> {
+    subtables.push(KerxSubtable::new(format, true))?;
+    Ok(())
+}
+
+/// The subtables of pairs: listed ones, and those by classes.
+fn pair_subtables(alloc: Global) -> Result<Vec<KerxSubtable>, ExampleError> {
+    let mut subtables = Vec::new(alloc);
+    put(&mut subtables, KerxFormat::Format0(pairs(alloc)?))?;
+    put(&mut subtables, KerxFormat::Format2Classes(classes(alloc)?))?;
+    Ok(subtables)
+}
+
 /// The table `kerx`: listed pairs, pairs by classes, a stack, and anchors.
 pub(crate) fn kerx(alloc: Global) -> Result<Kerx, ExampleError> {
-    let formats = vec![in alloc;
-        KerxFormat::Format0(pairs(alloc)?),
-        KerxFormat::Format2Classes(classes(alloc)?),
-        KerxFormat::Format1(extended_stack(alloc)?),
-        KerxFormat::Format4(anchors(alloc)?),
-    ]?;
-    let mut subtables = Vec::new(alloc);
-    for format in formats {
-        subtables.push(KerxSubtable::new(format, true))?;
-    }
+    let mut subtables = pair_subtables(alloc)?;
+    put(&mut subtables, KerxFormat::Format1(extended_stack(alloc)?))?;
+    put(&mut subtables, KerxFormat::Format4(anchors(alloc)?))?;
     Ok(Kerx::new(subtables)?)
 }
 
