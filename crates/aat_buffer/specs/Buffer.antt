@@ -133,11 +133,7 @@ with_glyphs_at b i gs =
 
 -- the glyphs gs go in at the cursor, which moves past them; the positions are dropped
 abbrev pub with_glyphs_in : Buffer → List hb_glyph_info_t → Buffer
-with_glyphs_in b gs = record b {
-  line = take b.cursor b.line ++ (gs ++ drop b.cursor b.line);
-  cursor = b.cursor + length gs;
-  positions = None;
-}
+with_glyphs_in b gs = with_glyphs_at b b.cursor gs
 
 -- the glyph at the cursor gets the glyph id g, and the cursor moves on
 abbrev pub replaced : Buffer → ℕ → Buffer
