@@ -117,11 +117,11 @@ span_holds pairs a b rising some low_read high_read =
     )
 
 module _ {E : Type 0} where
-  -- each rule is of a state up to that of the last one
+  -- each rule is of a state below a number that is above the state of the last one
   pub rules_below :
-      (rules : List (Rule E)) (x : Rule E) (key : ℕ) → IsRising rule_key rules → 0 < length rules
-      → x ≡ get_or rules (length rules - 1) x → key ≡ rule_key x → RulesBelow (key / 65536 + 1) rules
-  rules_below rules x key rising some read is i d lt =
+      (rules : List (Rule E)) (x : Rule E) (key states : ℕ) → IsRising rule_key rules → 0 < length rules
+      → x ≡ get_or rules (length rules - 1) x → key ≡ rule_key x → key < states * 65536 → RulesBelow states rules
+  rules_below rules x key states rising some read is above i d lt =
       let high = keys_rise rule_key rules rising i (length rules - 1) d (omega arith) (omega arith) in
       let last : key ≡ rule_key (get_or rules (length rules - 1) d) = is ∙ ap rule_key (get_or_read rules (length rules - 1) x (omega arith) read d) in
-      omega (arith, high, last)
+      omega (arith, high, last, above)

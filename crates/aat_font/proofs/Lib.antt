@@ -7,6 +7,7 @@ pub mod Falls
 pub mod Filling
 pub mod LeftParts
 pub mod MoreBits
+pub mod MoreWakers
 pub mod MoveAnswers
 pub mod PageAnswers
 pub mod RightBits

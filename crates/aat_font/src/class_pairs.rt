@@ -2,7 +2,7 @@
 ghost use Rattle.std.specs.Prelude.{◌≡◌, ◌≤◌, IfOk, IfErr, OnOk, None, false, length, slice_index_or};
 ghost use Rattle.std.specs.Option.{option_or};
 ghost use Rattle.aat_font.specs.Classes.{kerning_by_classes, value_of_classes};
-ghost use Rattle.aat_font.specs.Keys.{first, first_fall};
+ghost use Rattle.aat_font.specs.Keys.{first, first_fall, IsRising};
 ghost use Rattle.aat_font.specs.TableErrors.{RefusesRising};
 ghost use Rattle.aat_font.specs.inside.Rows.{HoldsRows, IsQuiet, TellRows};
 
@@ -76,10 +76,30 @@ impl<A: Allocator + Copy> ClassPairs<A> {
         if let Some(place) = first_fall(right) {
             return Err(TableError::NotRising(place));
         }
+        Ok(ClassPairs::of_rising(alloc, left, right, right_count, values)?)
+    }
+
+    /// The table of pairs that rise strictly by glyph. Fails where the copies or what stands beside them get no memory.
+    fn of_rising(
+        alloc: A,
+        left: &[(u16, u16)],
+        right: &[(u16, u16)],
+        right_count: u16,
+        values: &[i16],
+    ) -> Result<ClassPairs<A>, AllocError>
+        requires left { IsRising first left.now }
+        requires right { IsRising first right.now }
+        ensures { IfOk result (λ table. table ≡ record {
+          left = left.now;
+          right = right.now;
+          right_count = right_count;
+          values = values.now;
+        }) }
+    {
+        let values = Vec::from_slice(alloc, values)?;
         let left = Lookup::of_rising(alloc, left)?;
         let right = Lookup::of_rising(alloc, right)?;
-        let values = Vec::from_slice(alloc, values)?;
-        Ok(ClassPairs::from_lookups(alloc, left, right, right_count, values)?)
+        ClassPairs::from_lookups(alloc, left, right, right_count, values)
     }
 
     /// Makes the table of the classes of left glyphs and those of right glyphs, as lookups, which may be of segments,
@@ -99,10 +119,11 @@ impl<A: Allocator + Copy> ClassPairs<A> {
           values = values.items;
         }) }
     {
+        let (left, right) = with_class_arrays(alloc, left, right)?;
         let kerns = kerning_rows(alloc, &values, right_count)?;
         Ok(ClassPairs {
-            left: left.with_class_array(alloc, MISSING)?,
-            right: right.with_class_array(alloc, MISSING)?,
+            left,
+            right,
             right_count,
             values,
             kerns,
@@ -151,6 +172,20 @@ impl<A: Allocator> ClassPairs<A> {
         let column = self.right.class(right, MISSING);
         value_at(&self.values, self.right_count, row, column)
     }
+}
+
+/// The classes of left and those of right glyphs, each with an array. Fails where one gets no memory.
+fn with_class_arrays<A: Allocator + Copy>(
+    alloc: A,
+    left: Lookup<A>,
+    right: Lookup<A>,
+) -> Result<(Lookup<A>, Lookup<A>), AllocError>
+    ensures left { IfOk result (λ classes. classes.0 ≡ left) }
+    ensures right { IfOk result (λ classes. classes.1 ≡ right) }
+{
+    let left = left.with_class_array(alloc, MISSING)?;
+    let right = right.with_class_array(alloc, MISSING)?;
+    Ok((left, right))
 }
 
 /// Whether a left class is told to have a value that is not 0.

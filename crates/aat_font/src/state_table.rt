@@ -1,5 +1,5 @@
 //! State tables: the class of each glyph, and what a machine does at a state and a class.
-ghost use Rattle.std.specs.Prelude.{◌≡◌, ◌+◌, ◌*◌, ◌/◌, ◌%◌, ◌<◌, ◌≤◌, ℕ, IfOk, IfErr, OnOk, None, option_map, length, slice_index_or, unwrap_or};
+ghost use Rattle.std.specs.Prelude.{◌≡◌, ◌+◌, ◌*◌, ◌/◌, ◌%◌, ◌<◌, ◌≤◌, if◌then◌else◌, ℕ, nat_lt, IfOk, IfErr, OnOk, None, option_map, length, slice_index_or, unwrap_or};
 ghost use Rattle.aat_font.specs.Entries.{has_flag, goes_on};
 ghost use Rattle.aat_font.specs.Keys.{IsRising};
 ghost use Rattle.aat_font.specs.Table.{class_of, entry_of, known_class, rule_key, table_value};
@@ -127,13 +127,9 @@ impl<T: Copy, A: Allocator + Copy> ExtendedStateTable<T, A> {
         if let Some(fault) = faulty_rule(class_count, rules) {
             return Err(fault);
         }
+        let rules = Vec::from_slice(alloc, rules)?;
         let classes = Lookup::of_rising(alloc, classes)?;
-        Ok(ExtendedStateTable {
-            class_count,
-            classes: classes.with_class_array(alloc, class::OUT_OF_BOUNDS)?,
-            rules: Vec::from_slice(alloc, rules)?,
-            grid: grid_over(alloc, class_count, rules)?,
-        })
+        Ok(ExtendedStateTable::over(alloc, class_count, classes, rules)?)
     }
 
     /// Makes a table of the number of its classes, a lookup of the classes of glyphs, and rules as for
@@ -160,10 +156,26 @@ impl<T: Copy, A: Allocator + Copy> ExtendedStateTable<T, A> {
         if let Some(fault) = faulty_rule(class_count, &rules) {
             return Err(fault);
         }
+        Ok(ExtendedStateTable::over(alloc, class_count, classes, rules)?)
+    }
+
+    /// The table of so many classes, those of glyphs, and rules that rise, with a grid and an array of classes beside
+    /// them. Fails where one of these gets no memory.
+    fn over(
+        alloc: A,
+        class_count: u16,
+        classes: Lookup<A>,
+        rules: Vec<(u16, u16, GenericStateEntry<T>), A>,
+    ) -> Result<ExtendedStateTable<T, A>, AllocError>
+        requires classes { 1 < class_count }
+        requires rising { IsRising rule_key rules.items }
+        ensures { IfOk result (λ table. table ≡ table_value class_count classes rules.items) }
+    {
         let grid = grid_over(alloc, class_count, &rules)?;
+        let classes = classes.with_class_array(alloc, class::OUT_OF_BOUNDS)?;
         Ok(ExtendedStateTable {
             class_count,
-            classes: classes.with_class_array(alloc, class::OUT_OF_BOUNDS)?,
+            classes,
             rules,
             grid,
         })
@@ -282,8 +294,16 @@ fn state_count<T: Copy>(class_count: u16, rules: &[(u16, u16, GenericStateEntry<
     if rules.is_empty() {
         return 0;
     }
-    let highest = rules[rules.len() - 1].key() / 65536;
-    let states = highest as usize + 1;
+    states_to(class_count, rules[rules.len() - 1].key())
+}
+
+/// The number of states up to that of a rule's number, or 0 where they have more than `MAX_CELLS` cells.
+fn states_to(class_count: u16, key: u32) -> usize
+    ensures count { result ≡ (if nat_lt 65536 ((key / 65536 + 1) * class_count) then 0 else key / 65536 + 1) }
+    ensures small { result * class_count ≤ 65536 }
+    ensures above { 0 < result → key < result * 65536 }
+{
+    let states = key as usize / 65536 + 1;
     if states * class_count as usize > MAX_CELLS {
         return 0;
     }

@@ -6,4 +6,5 @@ use Rattle.aat_font.proofs.state_table.state_count.Goals as goal
 pub returns-clause-below : goal.returns-clause-below
 returns-clause-below g c some_state =
     let some : 0 < length c.args.rules.now = grind (arith, nat_tests) in
-    rules_below c.args.rules.now c.index-rules-rules.result c.key-highest.result c.requires some c.index-rules-rules.is c.key-highest.ensures
+    let above = c.states_to.ensures.above some_state in
+    rules_below c.args.rules.now c.index-rules-rules.result c.key.result c.states_to.result c.requires some c.index-rules-rules.is c.key.ensures above

@@ -14,11 +14,7 @@ returns-in-Some-faulty_rule-clause-refused g c =
 pub of_rising-requires : goal.of_rising-requires
 of_rising-requires g c = rising first c.args.classes.now (sym c.first_fall.ensures ∙ c.in_default.is)
 
-pub grid_over-requires-clause-rising : goal.grid_over-requires-clause-rising
-grid_over-requires-clause-rising g c =
-    rules_rise c.args.class_count c.args.rules.now (sym c.faulty_rule.ensures ∙ c.in_default-faulty_rule.is)
-
-pub invariant_of-result : goal.invariant_of-result
-invariant_of-result g c =
+pub over-requires-clause-rising : goal.over-requires-clause-rising
+over-requires-clause-rising g c =
     let no_fault = sym c.faulty_rule.ensures ∙ c.in_default-faulty_rule.is in
-    rw c.in_ok-from_slice.ensures.items (omega arith, rules_rise c.args.class_count c.args.rules.now no_fault, c.in_ok-grid_over.ensures.answers)
+    rw c.in_ok-rules.ensures.items (rules_rise c.args.class_count c.args.rules.now no_fault)
