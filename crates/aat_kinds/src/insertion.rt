@@ -4,11 +4,11 @@ ghost use Rattle.aat_buffer.specs.Buffer.{Buffer, Is16Bit, failed, model_at, wit
 ghost use Rattle.aat_glyph.specs.declared.error.BufferError.{BufferError};
 ghost use Rattle.aat_glyph.specs.declared.error.BufferError.TheVariants as BufferError;
 ghost use Rattle.aat_buffer.specs.Clusters.{IsSmall};
-ghost use Rattle.aat_font.specs.Entries.{is_present};
+ghost use Rattle.aat_font.specs.Entries.{goes_on, has_flag, is_present};
 ghost use Rattle.aat_run.specs.Budget.{paid};
 ghost use Rattle.aat_run.specs.Driven.{IsRefusal, IsRefused};
 ghost use Rattle.aat_run.specs.Laws.{FitsFresh, SameSettings};
-ghost use Rattle.aat_kinds.specs.Insertion.{IsLineOfWholeRuns, at_cursor, at_mark, copies, current_part, fresh, held_act, held_fit, inserted, line_of_first_run, put_in, run_for, with_mark};
+ghost use Rattle.aat_kinds.specs.Insertion.{IsLineOfWholeRuns, at_cursor, at_mark, copies, current_count, current_part, fresh, held_act, held_fit, inserted, line_of_first_run, marked_count, put_in, run_for, with_mark};
 ghost use Rattle.aat_kinds.specs.inside.Run.{IsRefusedRun};
 
 use aat_buffer::{BufferError, hb_buffer_t, hb_glyph_info_t};
@@ -213,7 +213,7 @@ impl<'a> driver_context_t<InsertionEntryData> for InsertionCtx<'a> {
         let _length = buffer.len();
         let place = buffer.backtrack_len();
         if entry.extra.marked_insert_index != NO_GLYPHS {
-            pay(buffer, entry.flags & MARKED_INSERT_COUNT);
+            pay_for_marked(entry, buffer);
             if buffer.max_ops() <= 0 {
                 return Ok(());
             }
@@ -265,16 +265,55 @@ fn insert_current<A: Allocator + Copy>(
     ensures refused { OnErr result (IsRefusedRun buffer.old buffer.new) }
 {
     let _length = buffer.len();
-    let count = (entry.flags & CURRENT_INSERT_COUNT) / 32;
-    pay(buffer, count);
+    let run = paid_run(glyphs, entry, buffer);
     if buffer.max_ops() < 0 {
         return Ok(());
     }
-    let run = run_for(glyphs, buffer, entry.extra.current_insert_index, count);
     let place = buffer.backtrack_len();
-    let behind = entry.flags & CURRENT_INSERT_BEFORE == 0;
-    let moved = if entry.has_advance() { run.len() } else { 0 };
-    put_in(buffer, run, place, behind, place + moved)
+    let moved = steps_over(entry, run.len());
+    put_in(buffer, run, place, goes_behind(entry), place + moved)
+}
+
+/// Pays for the run of an entry for the cursor, and answers it.
+fn paid_run<'a, A: Allocator + Copy>(
+    glyphs: &'a [GlyphId],
+    entry: &GenericStateEntry<InsertionEntryData>,
+    buffer: &mut hb_buffer_t<A>,
+) -> &'a [GlyphId]
+    ensures paid { buffer.new ≡ paid (current_count entry.now) buffer.old }
+    ensures run { result.now ≡
+        run_for glyphs.now buffer.old entry.now.extra.current_insert_index (current_count entry.now) }
+    ensures room { 0 < length result.now → 0 < length buffer.old.line }
+    ensures few { length result.now ≤ 31 }
+{
+    let count = (entry.flags & CURRENT_INSERT_COUNT) / 32;
+    pay(buffer, count);
+    run_for(glyphs, buffer, entry.extra.current_insert_index, count)
+}
+
+/// Whether the run of an entry for the cursor goes in behind the glyph there.
+fn goes_behind(entry: &GenericStateEntry<InsertionEntryData>) -> bool
+    ensures { result ≡ not (has_flag entry.now 0x0800) }
+{
+    entry.flags & CURRENT_INSERT_BEFORE == 0
+}
+
+/// Over how many glyphs of its run for the cursor an entry moves that: over all where it advances.
+fn steps_over(entry: &GenericStateEntry<InsertionEntryData>, count: usize) -> usize
+    ensures steps { result ≡ (if goes_on entry.now then count else 0) }
+    ensures few { result ≤ count }
+{
+    if entry.has_advance() { count } else { 0 }
+}
+
+/// Pays for the run of an entry for the mark.
+fn pay_for_marked<A: Allocator + Copy>(
+    entry: &GenericStateEntry<InsertionEntryData>,
+    buffer: &mut hb_buffer_t<A>,
+)
+    ensures { buffer.new ≡ paid (marked_count entry.now) buffer.old }
+{
+    pay(buffer, entry.flags & MARKED_INSERT_COUNT);
 }
 
 /// Pays operations out of the budget, which stays at the least i32 where it would fall below it.

@@ -1,0 +1,5 @@
+use Rattle.std.proofs.Common.{rules}
+use Rattle.aat_buffer.proofs.buffer.hb_buffer_t.skip_glyph.Goals as goal
+
+pub returns : goal.returns
+returns g c = search rules

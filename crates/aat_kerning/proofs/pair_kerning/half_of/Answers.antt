@@ -1,0 +1,6 @@
+use Rattle.std.proofs.Common.{rules}
+use Rattle.aat_kerning.proofs.pair_kerning.half_of.Goals as goal
+
+-- answered here, so that a wrong body is refused sooner
+pub returns : goal.returns
+returns c = search rules

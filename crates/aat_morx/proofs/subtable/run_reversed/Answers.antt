@@ -1,0 +1,9 @@
+use Rattle.std.proofs.Common.{rules, arith}
+use Rattle.std.proofs.lemmas.Grind.{common_steps}
+use Rattle.aat_morx.proofs.Refused.{refusal_turned}
+use Rattle.aat_run.specs.facts.Settings.{refused_behind}
+use Rattle.aat_morx.proofs.subtable.run_reversed.Goals as goal
+
+-- answered here, so that a wrong body is refused sooner
+pub returns-clause-run : goal.returns-clause-run
+returns-clause-run g c = search (rules, refusal_turned, refused_behind)
