@@ -1,7 +1,6 @@
 -- The laws of the context that counts.
 use Rattle.std.proofs.Common.{◌≡◌, ℕ, ◌+◌, ◌≤◌, true, length, refl, ◌∙◌, arith, length-set, min}
-use Rattle.std.specs.Prelude.{bit_or}
-use Rattle.aat_buffer.specs.Buffer.{Buffer, glyph_at}
+use Rattle.aat_buffer.specs.Buffer.{Buffer}
 use Rattle.aat_buffer.specs.facts.Cases.{chosen}
 use Rattle.aat_buffer.specs.facts.Order.{Kept, kept_refl, kept_set}
 use Rattle.aat_run.specs.Context.{Moved}

@@ -1,6 +1,6 @@
 -- The laws of the context that puts glyphs in.
 use Rattle.std.proofs.Common.{◌≡◌, ◌⊎◌, inl, inr, ℕ, ◌+◌, ◌-◌, ◌<◌, ◌≤◌, ◌&&◌, Bool, true, false, cond, ℤ, pos, negsuc, ◌-ℤ◌, List, ◌∷◌, take, drop, All, length, refl, sym, ap, ◌∙◌, arith, nat_lt, None}
-use Rattle.std.specs.Prelude.{min, insert, int_lt, if◌then◌else◌}
+use Rattle.std.specs.Prelude.{min, insert, int_lt}
 use Rattle.std.specs.Int.{int_max}
 use Rattle.std.proofs.lemmas.Bool.{cases_lt}
 use Rattle.std.proofs.lemmas.Bool.Decides.{nat_tests}

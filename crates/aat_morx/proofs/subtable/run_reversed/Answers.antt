@@ -1,5 +1,4 @@
-use Rattle.std.proofs.Common.{rules, arith}
-use Rattle.std.proofs.lemmas.Grind.{common_steps}
+use Rattle.std.proofs.Common.{rules}
 use Rattle.aat_morx.proofs.Refused.{refusal_turned}
 use Rattle.aat_run.specs.facts.Settings.{refused_behind}
 use Rattle.aat_morx.proofs.subtable.run_reversed.Goals as goal

@@ -13,4 +13,4 @@ returns g c =
     let front : b.cursor ≡ 0 = omega (arith, c.backtrack_len.ensures.place, c.if-backtrack_len-gt0.false) in
     let some : 0 < length b.line = grind (arith, nat_tests, c.is_empty.ensures, c.if-is_empty.false) in
     told_of_all c.args.words.now b.line c.from_cursor.result.now c.everywhere.result c.bits_of.result c.listed.result.now
-    c.everywhere.ensures c.listed.ensures (c.from_cursor.ensures ∙ ap (λ (p : ℕ). drop p b.line) front) some c.bits_of.ensures
+    c.everywhere.ensures c.listed.ensures (◌∙◌ {b = drop b.cursor b.line} c.from_cursor.ensures (ap (λ (p : ℕ). drop p b.line) front)) some c.bits_of.ensures

@@ -1,4 +1,4 @@
-use Rattle.std.proofs.Common.{◌≡◌, ◌∙◌, ap, rules, SFits, w64, to_z, of_z}
+use Rattle.std.proofs.Common.{◌∙◌, ap, rules, SFits, w64, to_z, of_z}
 use Rattle.std.specs.Prelude.{◌+ℤ◌}
 use Rattle.std.specs.Int.{int_div_euclid}
 use Rattle.std.proofs.lemmas.Int.{to_z-of_z}

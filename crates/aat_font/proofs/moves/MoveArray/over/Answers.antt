@@ -20,7 +20,7 @@ loop-place-preserved g c =
     let moved = λ (k : ℕ). unwrap_or (value_in c.args.pairs.now (c.args.lowest + k)) (c.args.lowest + k) in
     record {
       long = grind (arith, common_steps);
-      values = filled_front 0 c.loop-place.cells.items c.push.new.self.items c.unwrap_or.result c.in_ok-push.ensures.items n c.loop-place.invariant.long moved (c.unwrap_or.ensures ∙ ap (λ v. unwrap_or v glyph) c.value_here.ensures) c.loop-place.invariant.values;
+      values = filled_front 0 c.loop-place.cells.items c.push.new.self.items c.unwrap_or.result c.in_ok-push.ensures.items n c.loop-place.invariant.long moved (◌∙◌ {b = unwrap_or c.value_here.result glyph} c.unwrap_or.ensures (ap (λ v. unwrap_or v glyph) c.value_here.ensures)) c.loop-place.invariant.values;
       passed = below_higher first c.args.pairs.now c.walk_to-at.result glyph (c.args.lowest + (n + 1)) c.walk_to-at.ensures.below (omega arith);
     }
 

@@ -1,4 +1,3 @@
-use Rattle.std.proofs.Common.{arith}
 use Rattle.aat_font.proofs.state_table.ExtendedStateTable.over.Goals as goal
 
 pub grid_over-requires-clause-rising : goal.grid_over-requires-clause-rising
