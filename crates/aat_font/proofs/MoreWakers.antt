@@ -12,7 +12,7 @@ use Rattle.aat_font.specs.declared.wakers.GlyphWords.{GlyphWords}
 use Rattle.aat_font.specs.inside.MarkedWords.{KeepsBits}
 
 module _ (subtables : List Subtable) (old new : GlyphWords) (bit : ℕ) (last : Subtable)
-    (kept : KeepsBits old new) (more : bit < length subtables) (there : last ≡ get_or subtables bit last) (awake : IsAwakeIn last new bit)
+    (kept : KeepsBits old new) (there : last ≡ get_or subtables bit last) (awake : IsAwakeIn last new bit)
     (before : (i : ℕ) (s : Subtable) → i < bit → slice_get subtables i ≡ Some s → IsAwakeIn s old i) where
   by_place : (i : ℕ) (s : Subtable) → (i < bit) ⊎ (bit ≤ i) → i < bit + 1 → slice_get subtables i ≡ Some s → IsAwakeIn s new i
   by_place i s (inl low) within found = λ g clear. before i s low found g (omega (arith, kept g i, clear))

@@ -79,7 +79,8 @@ impl<A: Allocator + Copy> ClassPairs<A> {
         Ok(ClassPairs::of_rising(alloc, left, right, right_count, values)?)
     }
 
-    /// The table of pairs that rise strictly by glyph. Fails where the copies or what stands beside them get no memory.
+    /// The table of classes of left and of right glyphs, which both rise strictly by glyph, of the number of right classes,
+    /// and of the values. Fails where the copies or what stands beside them get no memory.
     fn of_rising(
         alloc: A,
         left: &[(u16, u16)],
@@ -174,7 +175,8 @@ impl<A: Allocator> ClassPairs<A> {
     }
 }
 
-/// The classes of left and those of right glyphs, each with an array. Fails where one gets no memory.
+/// The classes of left and those of right glyphs, where an array of their own gives way to one of classes. Fails where
+/// that gets no memory.
 fn with_class_arrays<A: Allocator + Copy>(
     alloc: A,
     left: Lookup<A>,

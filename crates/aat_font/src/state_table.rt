@@ -159,8 +159,8 @@ impl<T: Copy, A: Allocator + Copy> ExtendedStateTable<T, A> {
         Ok(ExtendedStateTable::over(alloc, class_count, classes, rules)?)
     }
 
-    /// The table of so many classes, those of glyphs, and rules that rise, with a grid and an array of classes beside
-    /// them. Fails where one of these gets no memory.
+    /// The table of a number of classes, which is above 1, the classes of glyphs, and rules that rise. Fails where a grid
+    /// beside the rules or an array of the classes gets no memory.
     fn over(
         alloc: A,
         class_count: u16,

@@ -274,7 +274,7 @@ fn insert_current<A: Allocator + Copy>(
     put_in(buffer, run, place, goes_behind(entry), place + moved)
 }
 
-/// Pays for the run of an entry for the cursor, and answers it.
+/// Pays for the run of an entry for the cursor, and answers the run.
 fn paid_run<'a, A: Allocator + Copy>(
     glyphs: &'a [GlyphId],
     entry: &GenericStateEntry<InsertionEntryData>,
@@ -298,7 +298,8 @@ fn goes_behind(entry: &GenericStateEntry<InsertionEntryData>) -> bool
     entry.flags & CURRENT_INSERT_BEFORE == 0
 }
 
-/// Over how many glyphs of its run for the cursor an entry moves that: over all where it advances.
+/// Over how many glyphs of its run for the cursor, which has `count`, an entry moves the cursor: over all where it
+/// advances, and else over none.
 fn steps_over(entry: &GenericStateEntry<InsertionEntryData>, count: usize) -> usize
     ensures steps { result ≡ (if goes_on entry.now then count else 0) }
     ensures few { result ≤ count }

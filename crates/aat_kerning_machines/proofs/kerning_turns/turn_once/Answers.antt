@@ -1,6 +1,5 @@
 use Rattle.std.proofs.Common.{rules}
-use Rattle.aat_kerning_machines.specs.KerningMachine.{kerning_turn}
-use Rattle.aat_kerning_machines.specs.KerningMachine.{kerning_by_entry}
+use Rattle.aat_kerning_machines.specs.KerningMachine.{kerning_turn, kerning_by_entry}
 use Rattle.aat_kerning_machines.proofs.kerning_turns.turn_once.Goals as goal
 
 -- answered here, so that a wrong body is refused sooner

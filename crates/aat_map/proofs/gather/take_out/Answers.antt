@@ -1,6 +1,5 @@
 use Rattle.std.proofs.Common.{rules}
-use Rattle.aat_map.proofs.GatherLemmas.{taken_out}
-use Rattle.aat_map.proofs.GatherLemmas.{none_taken_out}
+use Rattle.aat_map.proofs.GatherLemmas.{taken_out, none_taken_out}
 use Rattle.aat_map.proofs.gather.take_out.Goals as goal
 
 -- answered here, so that a wrong body is refused sooner
