@@ -1,11 +1,11 @@
 //! State tables: the class of each glyph, and what a machine does at a state and a class.
-ghost use Rattle.std.specs.Prelude.{◌≡◌, ◌+◌, ◌*◌, ◌/◌, ◌%◌, ◌<◌, ◌≤◌, if◌then◌else◌, ℕ, nat_lt, IfOk, IfErr, OnOk, None, option_map, length, slice_index_or, unwrap_or};
+ghost use Rattle.std.specs.Prelude.{◌≡◌, ◌+◌, ◌*◌, ◌/◌, ◌%◌, ◌<◌, ◌≤◌, ℕ, IfOk, IfErr, OnOk, None, option_map, length, slice_index_or, unwrap_or};
 ghost use Rattle.aat_font.specs.Entries.{has_flag, goes_on};
 ghost use Rattle.aat_font.specs.Keys.{IsRising};
 ghost use Rattle.aat_font.specs.Table.{class_of, entry_of, known_class, rule_key, table_value};
 ghost use Rattle.aat_font.specs.Table.{first_out_of_range, count_and_rules_fault, earlier_fault, rules_fault, table_fault};
 ghost use Rattle.aat_font.specs.TableErrors.{RefusesFault};
-ghost use Rattle.aat_font.specs.inside.Dense.{ruled_entry, state_count, AnswersAsRules, RulesBelow};
+ghost use Rattle.aat_font.specs.inside.Dense.{ruled_entry, state_count, states_to, AnswersAsRules, RulesBelow};
 ghost use Rattle.aat_font.specs.inside.Walks.{AreBelow, AreNotBelow};
 
 use crate::entry_bits::{DONT_ADVANCE, anchor, class, stack};
@@ -299,7 +299,7 @@ fn state_count<T: Copy>(class_count: u16, rules: &[(u16, u16, GenericStateEntry<
 
 /// The number of states up to that of a rule's number, or 0 where they have more than `MAX_CELLS` cells.
 fn states_to(class_count: u16, key: u32) -> usize
-    ensures count { result ≡ (if nat_lt 65536 ((key / 65536 + 1) * class_count) then 0 else key / 65536 + 1) }
+    ensures count { result ≡ states_to class_count key }
     ensures small { result * class_count ≤ 65536 }
     ensures above { 0 < result → key < result * 65536 }
 {

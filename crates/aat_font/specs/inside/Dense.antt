@@ -75,15 +75,15 @@ PairsWithin lowest count pairs =
 abbrev pub ruled_entry : {E : Type 0} → List (Rule E) → ℕ → ℕ → Option E
 ruled_entry rules state class = option_map (λ r. r.2) (at_key rule_key rules (state * 65536 + class))
 
--- the number of states of a grid up to that of a rule, none where they have more than 65,536 cells
-abbrev pub states_to : {E : Type 0} → ℕ → Option (Rule E) → ℕ
-states_to class_count None = 0
-states_to class_count (Some rule) =
-    if nat_lt 65536 ((rule_key rule / 65536 + 1) * class_count) then 0 else rule_key rule / 65536 + 1
+-- the number of states of a grid up to that of a rule's number, none where they have more than 65,536 cells
+abbrev pub states_to : ℕ → ℕ → ℕ
+states_to class_count key =
+    if nat_lt 65536 ((key / 65536 + 1) * class_count) then 0 else key / 65536 + 1
 
 -- the number of states of a grid: up to that of the last rule, none without rules
 abbrev pub state_count : {E : Type 0} → ℕ → List (Rule E) → ℕ
-state_count class_count rules = states_to class_count (slice_get rules (length rules - 1))
+state_count class_count rules =
+    unwrap_or (option_map (λ rule. states_to class_count (rule_key rule)) (slice_get rules (length rules - 1))) 0
 
 -- the state of each rule is below a number
 abbrev pub RulesBelow : {E : Type 0} → ℕ → List (Rule E) → Type 0
