@@ -2,8 +2,8 @@
 ghost use Rattle.std.specs.Prelude.{◌≡◌, ◌+◌, ◌-◌, ◌<◌, ◌≤◌, ◌↔◌, ◌++◌, drop, length, map, nat_lt, slice_get, slice_range, is_some, IsTrue, IsOk, OnOk, OnErr, IfErr, IfSome, IsSome, IsErrOf, All, vec_len};
 ghost use Rattle.std.specs.Bool.{OnTrue};
 ghost use Rattle.std.specs.Borrow.{sem};
-ghost use Rattle.aat_buffer.specs.Buffer.{Buffer, empty_buffer, added, failed, with_cursor, with_line, without_positions, skipped, replaced, reversed, with_zero_positions, position_list, position_at, output, model_at, glyph_at, with_info, Is16Bit, with_direction, with_cluster_level, with_flags, with_scratch_flags, with_max_ops, with_positions, with_glyphs_at, with_glyphs_in};
-ghost use Rattle.aat_buffer.specs.Marks.{on_line_span};
+ghost use Rattle.aat_buffer.specs.Buffer.{Buffer, empty_buffer, added, failed, with_cursor, without_positions, skipped, replaced, reversed, with_zero_positions, position_list, position_at, output, glyph_at, with_info, Is16Bit, with_direction, with_cluster_level, with_flags, with_scratch_flags, with_max_ops, with_positions, with_glyphs_at, with_glyphs_in};
+ghost use Rattle.aat_buffer.specs.Marks.{marked_above, on_line_span};
 ghost use Rattle.aat_buffer.specs.inside.Changes.{ChangesBy};
 ghost use Rattle.aat_buffer.specs.inside.Carried.{items_of};
 ghost use Rattle.aat_buffer.specs.inside.Lending.{LendsInfo, LendsCur, LendsFromCursor, LendsPosition, LendsPositions};
@@ -295,6 +295,17 @@ impl<A: Allocator + Copy> hb_buffer_t<A> {
         ensures count { length self.new.line ≡ length self.old.line }
     {
         self.line.change(start, end, &change);
+    }
+
+    /// Sets UNSAFE_TO_BREAK and UNSAFE_TO_CONCAT on each glyph from place `start` up to place `end` whose cluster is
+    /// not this one. In as many steps as the span is long.
+    pub(crate) fn mark_other_than(&mut self, start: usize, end: usize, cluster: u32)
+        requires ordered { start ≤ end }
+        requires in_line { end ≤ length self.old.line }
+        ensures after { self.new ≡ on_line_span (map (marked_above cluster 3)) start end self.old }
+        ensures count { length self.new.line ≡ length self.old.line }
+    {
+        self.line.mark_other_than(start, end, cluster);
     }
 
     /// The glyph at place `i`, by value.

@@ -1,22 +1,23 @@
 //! How a line of glyphs is kept: in one vector, whose unused cells stand at the cursor.
-ghost use Rattle.std.specs.Prelude.{◌≡◌, ◌+◌, ◌-◌, ◌<◌, ◌≤◌, ◌^◌, ◌↔◌, ◌++◌, All, Some, IfOk, IsTrue, OnOk, OnErr, drop, length, map, nat_lt, reverse, set, slice_get, slice_range, take, vec_len};
+ghost use Rattle.std.specs.Prelude.{◌≡◌, ◌+◌, ◌-◌, ◌<◌, ◌≤◌, ◌^◌, ◌++◌, Some, IfOk, OnOk, OnErr, drop, length, map, nat_lt, reverse, set, slice_get, slice_range, take, vec_len};
 ghost use Rattle.std.specs.Borrow.{sem};
 ghost use Rattle.std.specs.List.{copy_within};
-ghost use Rattle.aat_buffer.specs.Buffer.{Is16Bit, glyph_at};
+ghost use Rattle.aat_buffer.specs.Buffer.{glyph_at};
 ghost use Rattle.aat_buffer.specs.inside.Gap.{around_gap};
 ghost use Rattle.aat_buffer.specs.inside.Line.{Line, empty_line, moved_to, turned_line, with_all_inserted, with_changed, with_inserted, with_last, without_current};
-ghost use Rattle.aat_buffer.specs.Marks.{on_span};
+ghost use Rattle.aat_buffer.specs.Marks.{marked_above, on_span};
 ghost use Rattle.aat_buffer.specs.inside.Changes.{ChangesBy};
 ghost use Rattle.aat_buffer.specs.inside.LineLending.{LendsGlyph, LendsRest};
 
-use aat_glyph::hb_glyph_info_t;
+use aat_glyph::{glyph_flag, hb_glyph_info_t};
 use std::alloc::{AllocError, Allocator};
 use std::marker::Model;
 
 /// A line of glyphs with a cursor, seen by contracts as the record `Line` of specs/inside.
 ///
 /// The cells from `gap_start` up to `gap_end` are the gap and are not part of the line. The gap begins at the
-/// cursor: where that moves, the glyphs on its way are carried over the gap.
+/// cursor: where that moves, the glyphs on its way are carried over the gap, if that has cells. Where the cursor goes
+/// from the end to the front the cells of the gap are dropped instead.
 #[derive(Drop)]
 pub(crate) struct GapLine<A: Allocator + Copy> {
     cells: Vec<hb_glyph_info_t, A>,
@@ -155,6 +156,25 @@ impl<A: Allocator + Copy> GapLine<A> {
         );
     }
 
+    /// Sets UNSAFE_TO_BREAK and UNSAFE_TO_CONCAT on each glyph from place `start` up to place `end` whose cluster is
+    /// not this one, in as many steps as the span is long.
+    #[tactic(auto, using(crate::proofs::Gap::line_length))]
+    pub(crate) fn mark_other_than(&mut self, start: usize, end: usize, cluster: u32)
+        requires ordered { start ≤ end }
+        requires in_line { end ≤ length self.old.glyphs }
+        ensures after { self.new ≡ with_changed self.old (marked_above cluster 3) start end }
+        ensures len { length self.new.glyphs ≡ length self.old.glyphs }
+    {
+        mark_cells(
+            self.cells.as_mut_slice(),
+            self.gap_start,
+            self.gap_end,
+            start,
+            end,
+            cluster,
+        );
+    }
+
     /// Moves the cursor over one glyph.
     pub(crate) fn next(&mut self)
         requires { self.old.cursor < length self.old.glyphs }
@@ -167,14 +187,19 @@ impl<A: Allocator + Copy> GapLine<A> {
         self.gap_end += 1;
     }
 
-    /// Moves the cursor to place `i`, in as many steps as it is away, and in one where the gap has no cells.
-    #[tactic(auto, using(crate::proofs::Gap::moved_empty))]
+    /// Moves the cursor to place `i`, in at most as many steps as it is away, and in one where the gap has no cells.
+    /// From the end to the front, as behind a run over the line, the cells of the gap are dropped, since else each glyph
+    /// would be carried over them.
+    #[tactic(auto, using(crate::proofs::Gap::moved_empty, crate::proofs::Gap::whole_line))]
     pub(crate) fn move_to(&mut self, i: usize)
         requires { i ≤ length self.old.glyphs }
         ensures { self.new ≡ moved_to self.old i }
     {
         if self.gap_start == self.gap_end {
             self.gap_end = i;
+        } else if i == 0 && self.gap_end == self.cells.len() {
+            self.cells.truncate(self.gap_start);
+            self.gap_end = 0;
         } else {
             self.gap_end = carry_gap(self.cells.as_mut_slice(), self.gap_start, self.gap_end, i);
         }
@@ -317,6 +342,55 @@ fn change_all<F: Fn(&hb_glyph_info_t) -> hb_glyph_info_t>(
     }
 }
 
+/// Marks the glyphs of a span of the line whose cluster is not this one: those before the gap, and those behind it.
+fn mark_cells(
+    cells: &mut [hb_glyph_info_t],
+    gap_start: usize,
+    gap_end: usize,
+    start: usize,
+    end: usize,
+    cluster: u32,
+)
+    requires gap { gap_start ≤ gap_end }
+    requires in_cells { gap_end ≤ length cells.old }
+    requires ordered { start ≤ end }
+    requires in_line { end ≤ gap_start + (length cells.old - gap_end) }
+    ensures after { around_gap cells.new gap_start gap_end
+        ≡ on_span (map (marked_above cluster 3)) start end (around_gap cells.old gap_start gap_end) }
+    ensures len { length cells.new ≡ length cells.old }
+{
+    let gap = gap_end - gap_start;
+    mark_all_other_than(
+        &mut cells[start.min(gap_start)..end.min(gap_start)],
+        cluster,
+    );
+    mark_all_other_than(
+        &mut cells[start.max(gap_start) + gap..end.max(gap_start) + gap],
+        cluster,
+    );
+}
+
+/// Marks each glyph whose cluster is not this one.
+fn mark_all_other_than(glyphs: &mut [hb_glyph_info_t], cluster: u32)
+    ensures after { glyphs.new ≡ map (marked_above cluster 3) glyphs.old }
+    ensures len { length glyphs.new ≡ length glyphs.old }
+{
+    for glyph in glyphs.iter_mut() {
+        mark_glyph_other_than(glyph, cluster);
+    }
+}
+
+/// Sets UNSAFE_TO_BREAK and UNSAFE_TO_CONCAT on a glyph, unless its cluster is this one. Then nothing is written, and
+/// else the mask alone: LLVM makes a loop that writes whole records one over several at once, which is slow on short
+/// spans.
+fn mark_glyph_other_than(glyph: &mut hb_glyph_info_t, cluster: u32)
+    ensures { glyph.new ≡ marked_above cluster 3 glyph.old }
+{
+    if glyph.cluster != cluster {
+        glyph.mask |= glyph_flag::UNSAFE_TO_BREAK | glyph_flag::UNSAFE_TO_CONCAT;
+    }
+}
+
 /// Moves the gap to `place` of the line, and gives its new end. It stands apart, since most gaps have no cells.
 #[inline(never)]
 #[tactic(auto, using(crate::proofs::Gap::carried_right, crate::proofs::Gap::carried_left))]
@@ -370,8 +444,8 @@ fn copy_fields(cells: &mut [hb_glyph_info_t], from: usize, to: usize)
     cells[to].unicode_props = cells[from].unicode_props;
 }
 
-/// Makes a gap larger, by half as many cells as there are and by as many more as are wanted, at least 16, and gives its
-/// new end.
+/// Makes a gap larger, by a quarter of the cells and by as many more as are wanted, or by 16 where those are fewer, and
+/// gives its new end.
 fn grow_gap<A: Allocator>(
     cells: &mut Vec<hb_glyph_info_t, A>,
     start: usize,
@@ -387,7 +461,7 @@ fn grow_gap<A: Allocator>(
     ensures err { OnErr result ((cells.new.items ≡ cells.old.items) × (vec_len cells.new ≡ vec_len cells.old)) }
 {
     let len = cells.len();
-    let more = len / 2 + count.max(16);
+    let more = len / 4 + count.max(16);
     cells.resize(len + more, hb_glyph_info_t::default())?;
     cells.copy_within(end..len, end + more);
     Ok(end + more)

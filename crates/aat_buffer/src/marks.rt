@@ -1,7 +1,8 @@
 //! Marks and merges, written over the calls that read and write a glyph at a place or the glyphs of a span.
-ghost use Rattle.std.specs.Prelude.{◌≡◌, ◌+◌, ◌-◌, ◌<◌, ◌≤◌, Some, fold, map, min, length, slice_range};
+ghost use Rattle.std.specs.Prelude.{◌≡◌, ◌+◌, ◌-◌, ◌<◌, ◌≤◌, Some, fold, map, min, nat_lt, length, slice_range};
+ghost use Rattle.std.specs.List.{list_any};
 ghost use Rattle.aat_buffer.specs.Buffer.{with_line};
-ghost use Rattle.aat_buffer.specs.Marks.{on_line_span, least_of, marked_above, break_marked, concat_marked, unsafe_to_break, unsafe_to_concat, with_cluster, run_after, run_before, merged, merged_out, merge_clusters, merge_out_clusters};
+ghost use Rattle.aat_buffer.specs.Marks.{on_line_span, least_of, break_marked, unsafe_to_break, unsafe_to_concat, with_cluster, run_after, run_before, merged, merged_out, merge_clusters, merge_out_clusters};
 
 use crate::buffer::hb_buffer_t;
 use aat_glyph::{BufferFlags, HB_BUFFER_CLUSTER_LEVEL_CHARACTERS, glyph_flag, hb_glyph_info_t};
@@ -109,7 +110,8 @@ impl<A: Allocator + Copy> hb_buffer_t<A> {
         }
     }
 
-    /// The least cluster of a span.
+    /// The least cluster of a span: that of its first glyph, unless another one is below it. Along most lines clusters
+    /// rise, so that the second walk is seldom taken.
     fn least_cluster(&self, start: usize, end: usize) -> u32
         requires some { start < end }
         requires in_line { end ≤ length self.now.line }
@@ -117,7 +119,10 @@ impl<A: Allocator + Copy> hb_buffer_t<A> {
     {
         let first = self.glyph(start).cluster;
         let (front, rest) = self.parts(start, end);
-        least_with(rest, least_with(front, first))
+        if any_below(front, first) || any_below(rest, first) {
+            return least_with(rest, least_with(front, first));
+        }
+        first
     }
 
     fn mark_break_span(&mut self, start: usize, end: usize)
@@ -127,7 +132,7 @@ impl<A: Allocator + Copy> hb_buffer_t<A> {
         ensures count { length self.new.line ≡ length self.old.line }
     {
         let least = self.least_cluster(start, end);
-        self.change_span(start, end, |glyph| break_marked_glyph(*glyph, least));
+        self.mark_other_than(start, end, least);
     }
 
     /// The same of a span of two glyphs: of two clusters the greater one's glyph is marked, without a walk.
@@ -242,16 +247,11 @@ fn least_with(glyphs: &[hb_glyph_info_t], cluster: u32) -> u32
         .fold(cluster, |least, glyph| least.min(glyph.cluster))
 }
 
-fn break_marked_glyph(glyph: hb_glyph_info_t, least: u32) -> hb_glyph_info_t
-    ensures { result ≡ marked_above least 3 glyph }
+/// Whether one of the glyphs has a cluster below this one.
+fn any_below(glyphs: &[hb_glyph_info_t], cluster: u32) -> bool
+    ensures { result ≡ list_any (λ g. nat_lt g.cluster cluster) glyphs.now }
 {
-    if glyph.cluster == least {
-        return glyph;
-    }
-    hb_glyph_info_t {
-        mask: glyph.mask | (glyph_flag::UNSAFE_TO_BREAK | glyph_flag::UNSAFE_TO_CONCAT),
-        ..glyph
-    }
+    glyphs.iter().any(|glyph| glyph.cluster < cluster)
 }
 
 fn clustered_glyph(glyph: hb_glyph_info_t, cluster: u32) -> hb_glyph_info_t

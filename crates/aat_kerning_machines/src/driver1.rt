@@ -1,10 +1,10 @@
 //! The machine of the extended kerning table that gives values to the glyphs of a stack.
-ghost use Rattle.std.specs.Prelude.{◌≡◌, [], length, if◌then◌else◌};
+ghost use Rattle.std.specs.Prelude.{◌≡◌, ◌≤◌, [], length, max, if◌then◌else◌};
 ghost use Rattle.aat_buffer.specs.Clusters.{IsSmall};
 ghost use Rattle.aat_font.specs.Entries.{has_flag};
 ghost use Rattle.aat_run.specs.Laws.{FitsAlways};
 ghost use Rattle.aat_kerning_machines.specs.Positions.{IsPlaced};
-ghost use Rattle.aat_kerning_machines.specs.Stack.{kerx_act, pushed_by};
+ghost use Rattle.aat_kerning_machines.specs.Stack.{kerx_act, kerx_value, popped, pushed_by};
 ghost use Rattle.aat_run.specs.inside.Places.{left_with};
 
 use crate::stack::Stack;
@@ -65,9 +65,7 @@ impl Driver1 {
         if entry.has_reset() {
             self.stack.clear();
         }
-        if entry.has_push() {
-            self.stack.push(place);
-        }
+        self.stack.push_if(place, entry.has_push());
     }
 
     /// Does what an entry says.
@@ -90,15 +88,44 @@ impl Driver1 {
         if first == NO_INDEX || tuple_count > MAX_TUPLE_COUNT {
             return;
         }
-        let list = ValueList {
-            values: &aat.values,
-            step: tuple_count.max(1) as usize,
-            ends_at_missing: true,
-            kern_mask: plan.kern_mask,
-            is_cross_stream: has_cross_stream,
-        };
-        list.give_all(first, &mut self.stack, buffer);
+        give_listed(
+            &mut self.stack,
+            aat,
+            first,
+            has_cross_stream,
+            tuple_count,
+            plan,
+            buffer,
+        );
     }
+}
+
+/// Gives the places of a stack the values from an index on. It stands apart, so that a turn that gives none stays
+/// short.
+#[inline(never)]
+fn give_listed<A: Allocator + Copy>(
+    stack: &mut Stack,
+    aat: &Subtable1,
+    first: u16,
+    has_cross_stream: bool,
+    tuple_count: u32,
+    plan: &hb_ot_shape_plan_t,
+    buffer: &mut hb_buffer_t<A>,
+)
+    requires placed { IsPlaced buffer.old }
+    requires few { tuple_count ≤ 65535 }
+    ensures { let step = max tuple_count 1 in
+        left_with stack.new buffer.new
+        ≡ popped has_cross_stream plan.now.kern_mask (kerx_value aat.now.values step) step stack.old first buffer.old }
+{
+    let list = ValueList {
+        values: &aat.values,
+        step: tuple_count.max(1) as usize,
+        ends_at_missing: true,
+        kern_mask: plan.kern_mask,
+        is_cross_stream: has_cross_stream,
+    };
+    list.give_all(first, stack, buffer);
 }
 
 impl StateTableDriver<Subtable1, EntryData> for Driver1 {

@@ -1,6 +1,6 @@
 //! One turn of a kerning machine, by its parts: the marks before the cursor, the look ahead, the act, and what follows
 //! it.
-ghost use Rattle.std.specs.Prelude.{◌≡◌, ◌+◌, ◌<◌, ◌^◌, ◌==◌, ◌&&◌, ◌||◌, if◌then◌else◌, Bool, Some, length, not};
+ghost use Rattle.std.specs.Prelude.{◌≡◌, ◌+◌, ◌-◌, ◌<◌, ◌^◌, ◌==◌, ◌&&◌, ◌||◌, if◌then◌else◌, Bool, Some, length, not};
 ghost use Rattle.aat_buffer.specs.Buffer.{Buffer};
 ghost use Rattle.aat_buffer.specs.Clusters.{IsSmall};
 ghost use Rattle.aat_buffer.specs.Marks.{unsafe_to_break};
@@ -118,6 +118,21 @@ fn mark<A: Allocator + Copy>(buffer: &mut hb_buffer_t<A>, start: usize, end: usi
     buffer.unsafe_to_break(Some(start), Some(end));
 }
 
+/// Marks the glyphs before and at the cursor as unsafe to break between, without asking how long the span is.
+fn mark_at_cursor<A: Allocator + Copy>(buffer: &mut hb_buffer_t<A>)
+    requires ids { IsSmall buffer.old }
+    requires before { 0 < buffer.old.cursor }
+    requires current { buffer.old.cursor < length buffer.old.line }
+    ensures marked { buffer.new ≡ unsafe_to_break buffer.old
+        (Some (buffer.old.cursor - 1)) (Some (buffer.old.cursor + 1)) }
+    ensures length { length buffer.new.line ≡ length buffer.old.line }
+    ensures cursor { buffer.new.cursor ≡ buffer.old.cursor }
+    ensures positions { buffer.new.positions ≡ buffer.old.positions }
+    ensures ids { IsSmall buffer.new }
+{
+    buffer.unsafe_to_break_at_cursor();
+}
+
 /// Marks the glyphs at the cursor and behind it.
 fn mark_behind<A: Allocator + Copy>(buffer: &mut hb_buffer_t<A>)
     requires ids { IsSmall buffer.old }
@@ -165,10 +180,9 @@ fn mark_before<Table, E: Copy, D: StateTableDriver<Table, E>, A: Allocator + Cop
     ensures positions { buffer.new.positions ≡ buffer.old.positions }
     ensures ids { IsSmall buffer.new }
 {
-    let p = buffer.backtrack_len();
-    if 0 < p && buffer.has_current() {
+    if 0 < buffer.backtrack_len() && buffer.has_current() {
         if depends_on_before(driver, entry, run_state.state) {
-            mark(buffer, p - 1, p + 1);
+            mark_at_cursor(buffer);
         }
     }
 }

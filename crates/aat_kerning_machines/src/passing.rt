@@ -153,11 +153,8 @@ pub(crate) fn next_entry<Table, E: Copy, D: StateTableDriver<Table, E>, A: Alloc
 {
     let class = class_at_cursor(run.state_table, buffer);
     let entry = run.state_table.entry(run_state.state, class);
-    if may_pass {
-        let is_passed = does_pass(driver, entry) & (run_state.state == START_OF_TEXT);
-        if is_passed {
-            return pass_glyphs(run, driver, buffer, run_state);
-        }
+    if may_pass && run_state.state == START_OF_TEXT && does_pass(driver, entry) {
+        return pass_glyphs(run, driver, buffer, run_state);
     }
     entry
 }

@@ -1,5 +1,5 @@
 //! The stack of a kerning machine: places of the line whose glyphs get values.
-ghost use Rattle.std.specs.Prelude.{◌≡◌, ◌≤◌, [], ◌∷◌, length, MatchOption};
+ghost use Rattle.std.specs.Prelude.{◌≡◌, ◌≤◌, [], ◌∷◌, if◌then◌else◌, length, MatchOption};
 ghost use Rattle.aat_kerning_machines.specs.Stack.{with_place_pushed};
 
 use std::marker::Model;
@@ -52,16 +52,20 @@ impl Stack {
         self.depth = 0;
     }
 
-    /// Puts a place on the stack as the newest, or takes all places away where it holds eight. O(1).
-    pub fn push(&mut self, place: usize)
-        ensures { self.new ≡ with_place_pushed place self.old }
+    /// Where it is asked for, puts a place on the stack as the newest, or takes all places away where it holds eight. Else
+    /// the stack stays. O(1).
+    pub fn push_if(&mut self, place: usize, does_push: bool)
+        ensures { self.new ≡ (if does_push then with_place_pushed place self.old else self.old) }
     {
         if self.depth == STACK_SIZE {
-            self.clear();
+            if does_push {
+                self.clear();
+            }
             return;
         }
+        // written whether or not it is asked for, since no processor foresees which entries push
         self.places[self.depth] = place;
-        self.depth += 1;
+        self.depth += usize::from(does_push);
     }
 
     /// Takes the newest place away; none where no place waits. O(1).

@@ -54,9 +54,7 @@ impl StateMachineDriver {
     fn prepare(&mut self, entry: &GenericStateEntry<KernEntryData>, place: usize)
         ensures { self.new ≡ pushed_by entry.now place self.old }
     {
-        if entry.has_push() {
-            self.stack.push(place);
-        }
+        self.stack.push_if(place, entry.has_push());
     }
 
     /// Does what an entry says.

@@ -1,6 +1,6 @@
 //! Insertion subtables: runs of glyphs go in at the marked place and at the cursor.
-ghost use Rattle.std.specs.Prelude.{◌≡◌, ℕ, ◌+◌, ◌-◌, ◌<◌, ◌≤◌, ◌↔◌, ◌&&◌, if◌then◌else◌, nat_lt, length, map, not, All, Bool, take, false, true, IfErr, IsErrOf, IsTrue, OnErr, OnOk};
-ghost use Rattle.aat_buffer.specs.Buffer.{Buffer, Is16Bit, failed, model_at, with_glyphs_at};
+ghost use Rattle.std.specs.Prelude.{◌≡◌, ◌+◌, ◌-◌, ◌<◌, ◌≤◌, ◌↔◌, ◌&&◌, if◌then◌else◌, nat_lt, length, not, All, take, false, IfErr, IsErrOf, IsTrue, OnErr, OnOk};
+ghost use Rattle.aat_buffer.specs.Buffer.{Is16Bit, failed, model_at, with_cursor, with_glyphs_at};
 ghost use Rattle.aat_glyph.specs.declared.error.BufferError.{BufferError};
 ghost use Rattle.aat_glyph.specs.declared.error.BufferError.TheVariants as BufferError;
 ghost use Rattle.aat_buffer.specs.Clusters.{IsSmall};
@@ -9,7 +9,7 @@ ghost use Rattle.aat_run.specs.Budget.{paid};
 ghost use Rattle.aat_run.specs.Driven.{IsRefusal, IsRefused};
 ghost use Rattle.aat_run.specs.Laws.{FitsFresh, SameSettings};
 ghost use Rattle.aat_kinds.specs.Insertion.{IsLineOfWholeRuns, at_cursor, at_mark, copies, current_count, current_part, fresh, held_act, held_fit, inserted, line_of_first_run, marked_count, put_in, run_for, with_mark};
-ghost use Rattle.aat_kinds.specs.inside.Run.{IsRefusedRun};
+ghost use Rattle.aat_kinds.specs.inside.Run.{IsRefusedRun, put_behind_current};
 
 use aat_buffer::{BufferError, hb_buffer_t, hb_glyph_info_t};
 use aat_font::entry_bits::insertion::{
@@ -124,9 +124,8 @@ impl<'a> InsertionCtx<'a> {
         ensures current { OnErr result (IsTrue (is_present entry.now.extra.current_insert_index)) }
     {
         let _length = buffer.len();
-        if entry.has_mark() {
-            self.mark = place;
-        }
+        // written whether or not the entry marks, since no processor foresees which do
+        self.mark = if entry.has_mark() { place } else { self.mark };
         if entry.extra.current_insert_index == NO_GLYPHS {
             return Ok(());
         }
@@ -271,7 +270,37 @@ fn insert_current<A: Allocator + Copy>(
     }
     let place = buffer.backtrack_len();
     let moved = steps_over(entry, run.len());
-    put_in(buffer, run, place, goes_behind(entry), place + moved)
+    let behind = goes_behind(entry);
+    if behind && run.len() == 1 && moved == 1 && buffer.has_current() {
+        return put_behind_current(buffer, run);
+    }
+    put_in(buffer, run, place, behind, place + moved)
+}
+
+/// Puts a run of one glyph in behind the glyph at the cursor, and moves the cursor to it, as `put_in` does. A copy of the
+/// glyph at the cursor goes in before it, and it then gets the id of the run, so that none is carried over the gap and
+/// back. Refused as `put_in` is.
+#[tactic(auto, using(crate::proofs::Putting::small_of_made, crate::proofs::Putting::put_behind, crate::specs::facts::InsertionLaws::length_inserted), unfolding(crate::specs::Insertion::inserted))]
+fn put_behind_current<A: Allocator + Copy>(
+    buffer: &mut hb_buffer_t<A>,
+    run: &[GlyphId],
+) -> Result<(), AatError>
+    requires current { buffer.old.cursor < length buffer.old.line }
+    requires one { length run.now ≡ 1 }
+    requires ids { IsSmall buffer.old }
+    ensures ok { OnOk result (buffer.new ≡ put_behind_current run.now buffer.old) }
+    ensures ids { OnOk result (IsSmall buffer.new) }
+    ensures reason { IfErr result (IsRefusal buffer.old (put_behind_current run.now buffer.old)) }
+    ensures too_long { buffer.old.max_len < length (put_behind_current run.now buffer.old).line
+        → IsErrOf result AatError.TooLong }
+    ensures refused { OnErr result (IsRefusedRun buffer.old buffer.new) }
+{
+    let _length = buffer.len();
+    let place = buffer.backtrack_len();
+    let model = *buffer.cur();
+    buffer.insert_glyphs_at(place, &[model])?;
+    buffer.cur_mut().glyph_id = u32::from(run[0].0);
+    Ok(())
 }
 
 /// Pays for the run of an entry for the cursor, and answers the run.
@@ -397,6 +426,26 @@ fn insert_copies<A: Allocator + Copy>(
     if run.len() == 1 {
         return buffer.insert_glyphs_at(place, &[copy_of(model, run[0])]);
     }
+    insert_records(buffer, place, model, run)
+}
+
+/// The same of a run of at most 31 glyphs. It stands apart, so that a run of one glyph does not pay for the room of the
+/// longest.
+#[inline(never)]
+fn insert_records<A: Allocator + Copy>(
+    buffer: &mut hb_buffer_t<A>,
+    place: usize,
+    model: hb_glyph_info_t,
+    run: &[GlyphId],
+) -> Result<(), BufferError>
+    requires place { place ≤ buffer.old.cursor }
+    requires few { length run.now ≤ 31 }
+    ensures ok { OnOk result (buffer.new ≡ with_glyphs_at buffer.old place (copies model run.now)) }
+    ensures small { All Is16Bit (copies model run.now) }
+    ensures too_long { IsErrOf result BufferError.TooLong
+        ↔ (buffer.old.max_len < length buffer.old.line + length run.now) }
+    ensures err { OnErr result (buffer.new ≡ failed buffer.old) }
+{
     let records = records_of(model, run);
     buffer.insert_glyphs_at(place, &records[..run.len()])
 }
@@ -411,6 +460,16 @@ fn start_of(place: usize, behind: bool, len: usize) -> usize
         place + 1
     } else {
         place
+    }
+}
+
+/// Puts the cursor at a place. Where it stands there already, which is most frequent, the line is not moved.
+fn stand_at<A: Allocator + Copy>(buffer: &mut hb_buffer_t<A>, place: usize)
+    requires { place ≤ length buffer.old.line }
+    ensures { buffer.new ≡ with_cursor buffer.old place }
+{
+    if buffer.backtrack_len() != place {
+        buffer.move_to(place);
     }
 }
 
@@ -452,6 +511,6 @@ fn put_in<A: Allocator + Copy>(
         buffer.move_to(start);
     }
     insert_copies(buffer, start, model, run)?;
-    buffer.move_to(cursor);
+    stand_at(buffer, cursor);
     Ok(())
 }

@@ -42,14 +42,16 @@ fn may_pass<T: Copy, C: driver_context_t<T>>(
     ranges.len() < 2 && rests_at_end(machine, context)
 }
 
-/// Takes the turns at glyphs that do not wake the machine, where that is known, and where it is in the state for the start
-/// of the text, on everywhere, and at rest at the end.
+/// Takes the turns at glyphs that do not wake the machine, where these are known and may be passed. It does so only where
+/// the last turn began and ended in the state for the start of the text: behind another turn there are seldom glyphs to
+/// pass.
 fn pass_on<T: Copy, C: driver_context_t<T>, A: Allocator + Copy>(
     machine: &ExtendedStateTable<T>,
     wakers: Option<Wakers>,
     context: &C,
     buffer: &mut hb_buffer_t<A>,
     does_pass: bool,
+    was_at_start: bool,
     run_state: &mut RunState,
 )
     requires others { IfSome wakers (PassesOthers C.advances C.resting machine.now) }
@@ -68,7 +70,7 @@ fn pass_on<T: Copy, C: driver_context_t<T>, A: Allocator + Copy>(
     let Some(wakers) = wakers else {
         return;
     };
-    if does_pass && run_state.state == START_OF_TEXT {
+    if does_pass && was_at_start && run_state.state == START_OF_TEXT {
         pass_asleep(wakers, buffer, run_state);
     }
 }
@@ -104,6 +106,7 @@ fn run_turns<T: Copy, C: driver_context_t<T>, A: Allocator + Copy>(
         turns: 0,
     };
     let does_pass = may_pass(machine, &*context, ranges);
+    let mut was_at_start = true;
     while turn_once(
         machine,
         context,
@@ -119,8 +122,10 @@ fn run_turns<T: Copy, C: driver_context_t<T>, A: Allocator + Copy>(
             &*context,
             buffer,
             does_pass,
+            was_at_start,
             &mut run_state,
         );
+        was_at_start = run_state.state == START_OF_TEXT;
     }
     Ok(run_state.turns)
 }
@@ -172,8 +177,8 @@ fn take_turns<T: Copy, C: driver_context_t<T>, A: Allocator + Copy>(
 /// rules.
 ///
 /// The ranges have to follow one another from 0 without a gap. With fewer than two of them the machine is on at each
-/// cluster. Where it is said which glyphs may wake the machine, it has to pass each other one in state 0, and is not
-/// asked at them.
+/// cluster. Where it is said which glyphs may wake the machine, it has to pass each other one in state 0, and need not
+/// be asked at them.
 #[tactic(auto, unfolding(crate::specs::Driven::machine_run, crate::specs::Driven::registers_behind))]
 pub fn run_machine<T: Copy, C: driver_context_t<T>, A: Allocator + Copy>(
     machine: &ExtendedStateTable<T>,

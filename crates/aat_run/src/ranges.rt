@@ -2,7 +2,7 @@
 ghost use Rattle.std.specs.Prelude.{◌≡◌, ◌<◌, ◌≤◌, IfSome, IsTrue, [], false, find, length};
 ghost use Rattle.std.specs.List.{list_all, list_any};
 ghost use Rattle.aat_run.specs.RangeOf.{binary_digits, is_held_at};
-ghost use Rattle.aat_run.specs.Ranges.{IsGapless, ends_at_last, flags_in, holds, is_driven_on, switch_for};
+ghost use Rattle.aat_run.specs.Ranges.{IsGapless, ends_at_last, flags_in, flags_on, holds, is_driven_on, switch_for};
 ghost use Rattle.aat_run.specs.Stretches.{IsSwitchedAlike};
 ghost use Rattle.aat_run.specs.Switches.{meets};
 ghost use Rattle.aat_run.specs.Throughout.{is_everywhere_on, is_nowhere_on};
@@ -211,9 +211,21 @@ pub(crate) fn is_driven_on(
     requires { IsGapless ranges.now }
     ensures { result ≡ is_driven_on ranges.now feature_flags cluster }
 {
-    if ranges.len() < 2 {
-        return true;
-    }
+    ranges.len() < 2 || is_on_in(ranges, feature_flags, place, cluster)
+}
+
+/// Whether the range of a cluster switches a machine with some feature flags on, with a place at which it is looked for
+/// first. It stands apart, so that a turn with fewer than two ranges stays short.
+#[inline(never)]
+fn is_on_in(
+    ranges: &[range_flags_t],
+    feature_flags: hb_mask_t,
+    place: &mut usize,
+    cluster: u32,
+) -> bool
+    requires { IsGapless ranges.now }
+    ensures { result ≡ meets (flags_on ranges.now cluster) feature_flags }
+{
     match range_from(ranges, place, cluster) {
         Some(range) => range.flags & feature_flags != 0,
         None => false,

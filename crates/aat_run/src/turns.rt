@@ -1,6 +1,6 @@
 //! One turn of the driver, by its parts: the class at the cursor, the test whether the line is marked before it, the
 //! mark, the act, and what follows it.
-ghost use Rattle.std.specs.Prelude.{◌≡◌, ◌+◌, ◌<◌, ◌≤◌, ◌^◌, ◌==◌, ◌&&◌, if◌then◌else◌, ℕ, Bool, true, Option, Some, length, not, OnOk, OnErr, IfOk, IfErr};
+ghost use Rattle.std.specs.Prelude.{◌≡◌, ◌+◌, ◌<◌, ◌^◌, ◌==◌, ◌&&◌, if◌then◌else◌, ℕ, Bool, true, Option, Some, length, not, OnOk, OnErr, IfOk, IfErr};
 ghost use Rattle.aat_buffer.specs.Clusters.{IsSmall};
 ghost use Rattle.aat_font.specs.Idle.{has_entry};
 ghost use Rattle.aat_font.specs.Table.{TableValue, class_of, entry_of};
@@ -71,12 +71,11 @@ fn does_alike<T: Copy, C: driver_context_t<T>, A: Allocator + Copy>(
     match other {
         None => false,
         Some(other) => {
-            if context.is_actionable(&other, buffer) {
+            // the state first, by which most entries differ
+            if other.new_state != entry.new_state || context.is_actionable(&other, buffer) {
                 false
-            } else if other.new_state == entry.new_state {
-                context.can_advance(&other) == context.can_advance(entry)
             } else {
-                false
+                context.can_advance(&other) == context.can_advance(entry)
             }
         }
     }
@@ -138,12 +137,13 @@ fn is_safe<T: Copy, C: driver_context_t<T>, A: Allocator + Copy>(
         (entry_of machine.now 0 class) (entry_of machine.now run_state.state 0)
         (config buffer.now context.now run_state) }
 {
-    // 1: the entry is not actionable, since an act may use what was marked before the cursor
-    if context.is_actionable(entry, buffer) {
+    // 2: a part of the text that begins at the cursor is led as the run is, whatever the registers hold. It is asked
+    // first, since most turns that are not safe fail here
+    if !restarts_alike(machine, context, buffer, entry, class, run_state) {
         return false;
     }
-    // 2: a part of the text that begins at the cursor is led as the run is, whatever the registers hold
-    if !restarts_alike(machine, context, buffer, entry, class, run_state) {
+    // 1: the entry is not actionable, since an act may use what was marked before the cursor
+    if context.is_actionable(entry, buffer) {
         return false;
     }
     // 3: the entry that the state has for the end of the text is not actionable, by the registers as they are here

@@ -6,15 +6,19 @@ use Rattle.aat_run.specs.inside.Branches.{acts, does_alike, is_idle_at_end, safe
 use Rattle.aat_run.specs.Safe.{is_safe}
 
 -- and, or as branches
-formula : (acts first stays_home alike ahead : Bool) → (not acts && ((first || (stays_home || alike)) && ahead)) ≡ cond acts false (cond (cond first true (cond stays_home true alike)) ahead false)
-formula true first stays_home alike ahead = refl
+formula : (acts first stays_home alike ahead : Bool) → (not acts && ((first || (stays_home || alike)) && ahead)) ≡ cond (cond first true (cond stays_home true alike)) (cond acts false ahead) false
+formula true true stays_home alike ahead = refl
+formula true false true alike ahead = refl
+formula true false false true ahead = refl
+formula true false false false ahead = refl
 formula false true stays_home alike ahead = refl
 formula false false true alike ahead = refl
 formula false false false true ahead = refl
 formula false false false false ahead = refl
 
-idle_and_alike : (acts same alike : Bool) → (not acts && (same && alike)) ≡ cond acts false (cond same alike false)
-idle_and_alike true same alike = refl
+idle_and_alike : (acts same alike : Bool) → (not acts && (same && alike)) ≡ cond same (cond acts false alike) false
+idle_and_alike true true alike = refl
+idle_and_alike true false alike = refl
 idle_and_alike false true alike = refl
 idle_and_alike false false alike = refl
 

@@ -36,7 +36,7 @@ module _ {R S E : Type 0} (on : ℕ → Bool) (class_of : ℕ → Option ℕ) (e
     same_alike : (e : E) (o : Option E) (c : Config S) → Good c.registers → does_alike held c e o ≡ does_alike plain (seen c) e o
     unfolding does_alike
     same_alike e None c good = refl
-    same_alike e (Some f) c good = ap (λ t. cond t false (cond (next f == next e) (is_alike (advances f) (advances e)) false)) (same_acts f c good)
+    same_alike e (Some f) c good = ap (λ t. cond (next f == next e) (cond t false (is_alike (advances f) (advances e))) false) (same_acts f c good)
 
     same_ahead : (o : Option E) (c : Config S) → Good c.registers → is_idle_at_end held c o ≡ is_idle_at_end plain (seen c) o
     same_ahead None c good = refl
@@ -46,9 +46,9 @@ module _ {R S E : Type 0} (on : ℕ → Bool) (class_of : ℕ → Option ℕ) (e
     same_safe e f g c good =
         let alike = same_alike e f c good in
         let branches : safe_branches held c e f g ≡ safe_branches plain (seen c) e f g =
-        ap (λ t. cond t false (cond (cond (c.state == 0) true (cond (not (advances e) && (next e == 0)) true (does_alike held c e f))) (is_idle_at_end held c g) false)) (same_acts e c good)
-        ∙ (ap (λ t. cond (acts plain (seen c) e) false (cond (cond (c.state == 0) true (cond (not (advances e) && (next e == 0)) true t)) (is_idle_at_end held c g) false)) alike
-        ∙ ap (λ t. cond (acts plain (seen c) e) false (cond (cond (c.state == 0) true (cond (not (advances e) && (next e == 0)) true (does_alike plain (seen c) e f))) t false)) (same_ahead g c good)) in
+        ap (λ t. cond (cond (c.state == 0) true (cond (not (advances e) && (next e == 0)) true t)) (cond (acts held c e) false (is_idle_at_end held c g)) false) alike
+        ∙ (ap (λ t. cond (cond (c.state == 0) true (cond (not (advances e) && (next e == 0)) true (does_alike plain (seen c) e f))) (cond t false (is_idle_at_end held c g)) false) (same_acts e c good)
+        ∙ ap (λ t. cond (cond (c.state == 0) true (cond (not (advances e) && (next e == 0)) true (does_alike plain (seen c) e f))) (cond (acts plain (seen c) e) false t) false) (same_ahead g c good)) in
         safe_by_branches held c e f g ∙ (branches ∙ sym (safe_by_branches plain (seen c) e f g))
 
     same_marked : (e : E) (c : Config S) → Good c.registers → marked plain e (seen c) ≡ marked held e c

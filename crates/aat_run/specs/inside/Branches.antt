@@ -1,4 +1,4 @@
--- The formula of a safe turn, as the branches that a body takes: SafeBranches of the proofs shows that they are the
+-- The formula of a safe turn, as the branches that a body takes: SafeBranches of the facts shows that they are the
 -- formula.
 use Rattle.std.specs.Prelude.{◌==◌, ◌&&◌, not, Bool, true, false, Option, Some, None, length, if◌then◌else◌}
 use Rattle.aat_run.specs.Context.{Machine, Config}
@@ -12,8 +12,7 @@ module _ {R E : Type 0} (m : Machine R E) (c : Config R) where
   unfoldable pub does_alike : E → Option E → Bool
   does_alike e None = false
   does_alike e (Some f) =
-      if acts f then false
-      else (if m.next f == m.next e then is_alike (m.advances f) (m.advances e) else false)
+      if m.next f == m.next e then (if acts f then false else is_alike (m.advances f) (m.advances e)) else false
 
   -- an entry for the end of the text that does not act
   abbrev pub is_idle_at_end : Option E → Bool
@@ -30,8 +29,7 @@ module _ {R E : Type 0} (m : Machine R E) (c : Config R) where
       if c.state == 0 then true
       else (if stays_for_start e then true else does_alike e from_start)
 
-  -- the branches: e acts; it does as it would in the first state; what lies ahead
+  -- the branches: the first state leads on as e does; e acts; the entry for the end acts
   abbrev pub safe_branches : E → Option E → Option E → Bool
   safe_branches e from_start at_end =
-      if acts e then false
-      else (if restarts_alike e from_start then is_idle_at_end at_end else false)
+      if restarts_alike e from_start then (if acts e then false else is_idle_at_end at_end) else false
