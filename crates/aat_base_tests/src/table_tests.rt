@@ -4,6 +4,7 @@ mod ankr;
 mod dense;
 mod ends;
 mod fonts;
+mod judged;
 mod kerning;
 mod numbers;
 mod questions;

@@ -1,7 +1,7 @@
 //! Lookups, classes and state tables that are made from fixed numbers.
 
 use crate::stop::Stop;
-use aat_layout::font::{ExtendedStateTable, GenericStateEntry, Lookup};
+use aat_layout::font::{Acting, ExtendedStateTable, GenericStateEntry, Lookup};
 use std::alloc::Global;
 
 /// The glyphs of all lines and tables are those from 1 to this one.
@@ -11,7 +11,7 @@ pub(crate) const LAST_GLYPH: u16 = 200;
 pub(crate) const GIVEN_CLASSES: u16 = 4;
 
 /// What a machine does at each state and class.
-pub(crate) trait Entries<T: Copy> {
+pub(crate) trait Entries<T: Acting> {
     /// The entry of a state and a class.
     fn entry(&self, state: u16, class: u16) -> GenericStateEntry<T>;
 }
@@ -32,7 +32,7 @@ pub(crate) fn lookup_of(alloc: Global, factor: u16) -> Result<Lookup, Stop> {
 }
 
 /// A state table of so many classes, with an entry for each of them in so many states.
-pub(crate) fn table_of<T: Copy, E: Entries<T>>(
+pub(crate) fn table_of<T: Acting, E: Entries<T>>(
     alloc: Global,
     classes: u16,
     states: u16,
@@ -48,7 +48,7 @@ pub(crate) fn table_of<T: Copy, E: Entries<T>>(
 }
 
 /// A state table in which some glyphs, rising, have one class of their own, with an entry for each class in one state.
-pub(crate) fn sparse_table_of<T: Copy, E: Entries<T>>(
+pub(crate) fn sparse_table_of<T: Acting, E: Entries<T>>(
     alloc: Global,
     glyphs: &[u16],
     entries: &E,
@@ -76,7 +76,7 @@ fn classes_of(alloc: Global, classes: u16) -> Result<Vec<(u16, u16)>, Stop> {
 }
 
 /// Adds the rules of a state, one for each class.
-fn add_rules<T: Copy, E: Entries<T>>(
+fn add_rules<T: Acting, E: Entries<T>>(
     rules: &mut Vec<(u16, u16, GenericStateEntry<T>)>,
     classes: u16,
     state: u16,

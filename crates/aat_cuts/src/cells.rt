@@ -5,21 +5,21 @@ ghost use Rattle.aat_font.specs.Table.{Rule, entry_of};
 ghost use Rattle.aat_cuts.specs.Reached.{AreGathered, HasRow, IsCell, IsWhole, width};
 
 use crate::labels::STATES;
-use aat_font::{ExtendedStateTable, GenericStateEntry};
+use aat_font::{Acting, ExtendedStateTable, GenericStateEntry};
 use std::alloc::{AllocError, Global};
 
 /// A state, a class, and their entry.
 pub(crate) type Cell<T> = (u16, u16, GenericStateEntry<T>);
 
 /// How many classes are looked at: all, and at least 2, since a class that is not below their number is taken as 1.
-pub(crate) fn width<T: Copy>(table: &ExtendedStateTable<T>) -> u16
+pub(crate) fn width<T: Acting>(table: &ExtendedStateTable<T>) -> u16
     ensures { result ≡ width table.now }
 {
     table.class_count().max(2)
 }
 
 /// The first class for which a state has no entry, if there is one.
-pub(crate) fn missing_class<T: Copy>(table: &ExtendedStateTable<T>, state: u16) -> Option<u16>
+pub(crate) fn missing_class<T: Acting>(table: &ExtendedStateTable<T>, state: u16) -> Option<u16>
     ensures none { IfNone result (IsWhole table.now state) }
     ensures some { IfSome result (λ class. entry_of table.now state class ≡ None) }
 {
@@ -32,7 +32,7 @@ pub(crate) fn missing_class<T: Copy>(table: &ExtendedStateTable<T>, state: u16) 
 }
 
 /// Adds the entries of a state, before the first class for which it has none.
-fn gather_row<T: Copy>(
+fn gather_row<T: Acting>(
     table: &ExtendedStateTable<T>,
     state: u16,
     cells: &mut Vec<Cell<T>>,
@@ -53,7 +53,7 @@ fn gather_row<T: Copy>(
 }
 
 /// The entries of each state, of each before the first class for which it has none.
-pub(crate) fn cells_of<T: Copy>(
+pub(crate) fn cells_of<T: Acting>(
     alloc: Global,
     table: &ExtendedStateTable<T>,
 ) -> Result<Vec<Cell<T>>, AllocError>

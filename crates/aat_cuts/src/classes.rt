@@ -9,11 +9,11 @@ ghost use Rattle.aat_cuts.specs.inside.Steps.{AreClasses, AreListed, AreOfGlyphs
 
 use crate::labels::{STATES, zeros};
 use aat_font::entry_bits::class;
-use aat_font::{ExtendedStateTable, GlyphId};
+use aat_font::{Acting, ExtendedStateTable, GlyphId};
 use std::alloc::{AllocError, Global};
 
 /// Puts the label 1 at the class of a glyph that is listed, if the table gives it one.
-fn label_class<T: Copy>(table: &ExtendedStateTable<T>, glyph: u16, labels: &mut [u8])
+fn label_class<T: Acting>(table: &ExtendedStateTable<T>, glyph: u16, labels: &mut [u8])
     requires labels { AreLabels labels.old }
     ensures labels { AreLabels labels.new }
     ensures kept { (k : ℕ) → is_labelled labels.old k ≡ true → is_labelled labels.new k ≡ true }
@@ -26,7 +26,7 @@ fn label_class<T: Copy>(table: &ExtendedStateTable<T>, glyph: u16, labels: &mut 
 }
 
 /// Puts the label 1 at the classes of glyphs that are listed.
-fn label_classes<T: Copy>(table: &ExtendedStateTable<T>, pairs: &[(u16, u16)], labels: &mut [u8])
+fn label_classes<T: Acting>(table: &ExtendedStateTable<T>, pairs: &[(u16, u16)], labels: &mut [u8])
     requires labels { AreLabels labels.old }
     ensures labels { AreLabels labels.new }
     ensures kept { (k : ℕ) → is_labelled labels.old k ≡ true → is_labelled labels.new k ≡ true }
@@ -40,7 +40,7 @@ fn label_classes<T: Copy>(table: &ExtendedStateTable<T>, pairs: &[(u16, u16)], l
 
 /// Puts the label 1 at each class that some glyph has: those of glyphs that are listed, and two that glyphs have
 /// without that.
-fn label_all<T: Copy>(table: &ExtendedStateTable<T>, pairs: &[(u16, u16)], labels: &mut [u8])
+fn label_all<T: Acting>(table: &ExtendedStateTable<T>, pairs: &[(u16, u16)], labels: &mut [u8])
     requires labels { AreLabels labels.old }
     requires zero { (k : ℕ) → label_in labels.old k ≡ 0 }
     requires pairs { pairs.now ≡ table.now.classes }
@@ -53,7 +53,7 @@ fn label_all<T: Copy>(table: &ExtendedStateTable<T>, pairs: &[(u16, u16)], label
 }
 
 /// Labels above 0 of the classes that some glyph has.
-pub(crate) fn glyph_classes<T: Copy>(
+pub(crate) fn glyph_classes<T: Acting>(
     alloc: Global,
     table: &ExtendedStateTable<T>,
 ) -> Result<Vec<u8>, AllocError>

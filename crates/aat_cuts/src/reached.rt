@@ -8,7 +8,7 @@ ghost use Rattle.aat_cuts.specs.Reached.{AreGathered, AreReachLabels, IsFound, I
 use crate::cells::{Cell, cells_of, missing_class};
 use crate::labels::{Asked, Edge, START, STATES};
 use crate::least::least_labels;
-use aat_font::ExtendedStateTable;
+use aat_font::{Acting, ExtendedStateTable};
 use std::alloc::{AllocError, Global};
 
 /// The states that a run may reach, and their entries.
@@ -58,7 +58,7 @@ fn reach_labels<T: Copy>(alloc: Global, cells: &[Cell<T>]) -> Result<Vec<u8>, Al
 }
 
 /// The first state with a label above 0, and the first class for which it has no entry, if there is one.
-fn missing_entry<T: Copy>(table: &ExtendedStateTable<T>, labels: &[u8]) -> Option<(u16, u16)>
+fn missing_entry<T: Acting>(table: &ExtendedStateTable<T>, labels: &[u8]) -> Option<(u16, u16)>
     requires labels { AreLabels labels.now }
     ensures none { IfNone result ((s : ℕ) → s < 65536 → is_labelled labels.now s ≡ true → IsWhole table.now s) }
     ensures some { IfSome result (λ place. (is_labelled labels.now place.0 ≡ true)
@@ -91,7 +91,7 @@ fn labelled_cells<T: Copy>(
 }
 
 /// What was found of a table by the labels of its states: an entry that is missing, or the entries of these states.
-fn reach_by<T: Copy>(
+fn reach_by<T: Acting>(
     alloc: Global,
     table: &ExtendedStateTable<T>,
     cells: &[Cell<T>],
@@ -110,7 +110,7 @@ fn reach_by<T: Copy>(
 }
 
 /// Finds the states that a run may reach, up to one that lacks an entry.
-pub(crate) fn find_reached<T: Copy>(
+pub(crate) fn find_reached<T: Acting>(
     alloc: Global,
     table: &ExtendedStateTable<T>,
 ) -> Result<Reach<T>, AllocError>

@@ -11,7 +11,7 @@ use crate::cells::Cell;
 use crate::reached::Reached;
 use crate::steps::{Step, Trouble, find_trouble};
 use aat_font::entry_bits::{NO_INDEX, rearrangement};
-use aat_font::{ContextualEntryData, ExtendedStateTable, GenericStateEntry};
+use aat_font::{Acting, ContextualEntryData, ExtendedStateTable, GenericStateEntry};
 use std::alloc::{AllocError, Global};
 
 /// A register of a machine.
@@ -126,7 +126,7 @@ fn differs<T: Copy, R: MachineRegister<T>>(
 }
 
 /// What an entry does to a register.
-fn step_of<T: Copy, R: MachineRegister<T>>(
+fn step_of<T: Acting, R: MachineRegister<T>>(
     register: &R,
     table: &ExtendedStateTable<T>,
     classes: &[u8],
@@ -148,7 +148,7 @@ fn step_of<T: Copy, R: MachineRegister<T>>(
 }
 
 /// What entries do to a register.
-pub(crate) fn steps_of<T: Copy, R: MachineRegister<T>>(
+pub(crate) fn steps_of<T: Acting, R: MachineRegister<T>>(
     alloc: Global,
     register: &R,
     table: &ExtendedStateTable<T>,
@@ -167,7 +167,7 @@ pub(crate) fn steps_of<T: Copy, R: MachineRegister<T>>(
 
 /// Finds an entry that uses a register of a machine that may not be set, or else one that is taken for that of state
 /// 0, which sets it differently, where it may be used behind them.
-pub(crate) fn find_in_register<T: Copy, R: MachineRegister<T>>(
+pub(crate) fn find_in_register<T: Acting, R: MachineRegister<T>>(
     alloc: Global,
     register: &R,
     table: &ExtendedStateTable<T>,

@@ -2,8 +2,9 @@
 
 use aat_font::entry_bits::NO_INDEX;
 use aat_font::{
-    ContextualEntryData, ContextualSubtable, ExtendedStateTable, GenericStateEntry, GlyphId,
-    InsertionEntryData, InsertionSubtable, LigatureSubtable, Lookup, SubtableKind, TableError,
+    Acting, ContextualEntryData, ContextualSubtable, ExtendedStateTable, GenericStateEntry,
+    GlyphId, InsertionEntryData, InsertionSubtable, LigatureSubtable, Lookup, SubtableKind,
+    TableError,
 };
 use std::alloc::Global;
 use std::test::Fail;
@@ -51,7 +52,7 @@ fn entry_at<T: Copy>(
 }
 
 /// A table of 6 classes and 3 states: what cells do not give does nothing.
-pub fn table<T: Copy>(
+pub fn table<T: Acting>(
     alloc: Global,
     classes: &[(u16, u16)],
     cells: &[Cell<T>],

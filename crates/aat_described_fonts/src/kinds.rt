@@ -2,9 +2,9 @@
 
 use crate::data::{KindData, LigatureData, MachineData, Rule, SubtableData, Value};
 use aat_font::{
-    ContextualEntryData, ContextualSubtable, Coverage, ExtendedStateTable, GenericStateEntry,
-    GlyphId, InsertionEntryData, InsertionSubtable, LigatureSubtable, Lookup, Subtable,
-    SubtableKind, TableError,
+    Acting, ContextualEntryData, ContextualSubtable, Coverage, ExtendedStateTable,
+    GenericStateEntry, GlyphId, InsertionEntryData, InsertionSubtable, LigatureSubtable, Lookup,
+    Subtable, SubtableKind, TableError,
 };
 use std::alloc::{AllocError, Global};
 
@@ -58,7 +58,7 @@ fn filled_rules<T: Copy>(
 }
 
 /// The machine of a description. Refused as its classes and rules are.
-pub fn machine_of<T: Copy>(
+pub fn machine_of<T: Acting>(
     alloc: Global,
     machine: &MachineData<T>,
 ) -> Result<ExtendedStateTable<T>, TableError> {

@@ -61,6 +61,10 @@ impl driver_context_t<u16> for PuttingCtx {
         entry.has_advance()
     }
 
+    fn acts_by_entries<A: Allocator + Copy>(&self, _buffer: &hb_buffer_t<A>) -> bool {
+        false
+    }
+
     fn rests(&self, _entry: &GenericStateEntry<u16>) -> bool {
         false
     }

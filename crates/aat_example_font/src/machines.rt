@@ -3,7 +3,7 @@
 use crate::error::ExampleError;
 use aat_font::entry_bits::class::DELETED_GLYPH;
 use aat_font::entry_bits::state::START_OF_TEXT;
-use aat_font::{ExtendedStateTable, GenericStateEntry};
+use aat_font::{Acting, ExtendedStateTable, GenericStateEntry};
 use std::alloc::{AllocError, Global};
 
 /// How many classes a machine has, those of the two glyphs last.
@@ -63,7 +63,7 @@ fn rules<T: Copy + Drop>(
 
 /// The machine of these entries, and of the classes of its two glyphs. It is refused only where the classes do not rise,
 /// or where memory is wanting.
-pub fn machine<T: Copy + Drop>(
+pub fn machine<T: Acting + Drop>(
     alloc: Global,
     classes: &[(u16, u16)],
     acts: Acts<T>,

@@ -1,9 +1,9 @@
 //! What an entry of a machine has behind its flags, as text.
-use aat_font::{ContextualEntryData, EntryData, InsertionEntryData, KernEntryData};
+use aat_font::{Acting, ContextualEntryData, EntryData, InsertionEntryData, KernEntryData};
 use std::io::{self, Write};
 
 /// What an entry has behind its flags.
-pub(crate) trait EntryText: Copy {
+pub(crate) trait EntryText: Acting {
     /// Writes it, behind a space, or nothing.
     fn write_text<W: Write>(&self, out: &mut W) -> io::Result<()>;
 }

@@ -1,5 +1,5 @@
 -- Arrays and grids that are filled answer as the rows do.
-use Rattle.std.proofs.Common.{◌≡◌, ℕ, zero, suc, ◌+◌, ◌-◌, ◌*◌, ◌/◌, ◌%◌, ◌<◌, ◌≤◌, ◌⊎◌, inl, inr, List, length, get_or, None, Option, option_map, true, false, ltb, ◌∙◌, ap, refl, sym, le_refl, arith}
+use Rattle.std.proofs.Common.{◌≡◌, ℕ, zero, suc, ◌+◌, ◌-◌, ◌*◌, ◌/◌, ◌%◌, ◌<◌, ◌≤◌, ◌⊎◌, inl, inr, List, length, get_or, None, Bool, Option, option_map, true, false, ltb, ◌∙◌, ap, refl, sym, le_refl, arith}
 use Rattle.std.proofs.lemmas.Bool.{cases_lt}
 use Rattle.std.proofs.lemmas.Bool.Decides.{nat_tests}
 use Rattle.std.proofs.lemmas.List.{get_or_past, get_or_read}
@@ -7,7 +7,10 @@ use Rattle.std.proofs.lemmas.Nat.{div-mul-add, mod-mul-add, mod_below, mul-add-l
 use Rattle.std.proofs.Math.Nat.{div-add-mod, suc-mul}
 use Rattle.aat_font.specs.Keys.{first, value_in, IsRising}
 use Rattle.aat_font.specs.Table.{Rule, rule_key}
-use Rattle.aat_font.specs.inside.Dense.{value_over, AnswersOver, PairsWithin, ruled_entry, RulesBelow, AnswersAsRules}
+use Rattle.aat_font.specs.declared.judged.JudgedEntry.{JudgedEntry}
+use Rattle.aat_font.specs.declared.judged.JudgedEntry.TheVariants.{Missing}
+use Rattle.aat_font.specs.declared.state_table.GenericStateEntry.{GenericStateEntry}
+use Rattle.aat_font.specs.inside.Dense.{value_over, AnswersOver, PairsWithin, judged, judged_rule, ruled_entry, RulesBelow, AnswersAsRules}
 use Rattle.aat_font.proofs.Rising.{keys_rise}
 use Rattle.aat_font.proofs.Search.{at_key_none}
 
@@ -54,27 +57,28 @@ positive : (a b : ℕ) → 0 < a * b → 0 < a
 positive zero b h = omega arith
 positive (suc a) b h = omega arith
 
-module _ {E : Type 0} (count states : ℕ) (rules : List (Rule E)) (cells : List (Option E)) (long : length cells ≡ states * count)
-    (entries : (k : ℕ) → k < states * count → get_or cells k None ≡ ruled_entry rules (k / count) (k % count))
+module _ {T : Type 0} (acts : GenericStateEntry T → Bool) (count states : ℕ) (rules : List (Rule (GenericStateEntry T))) (cells : List (JudgedEntry T))
+    (long : length cells ≡ states * count)
+    (entries : (k : ℕ) → k < states * count → get_or cells k Missing ≡ judged_rule acts rules (k / count) (k % count))
     (below : 0 < states → RulesBelow states rules) where
-  in_grid : (s k : ℕ) → k < count → s * count + k < states * count → get_or cells (s * count + k) None ≡ ruled_entry rules s k
+  in_grid : (s k : ℕ) → k < count → s * count + k < states * count → get_or cells (s * count + k) Missing ≡ judged_rule acts rules s k
   in_grid s k lt inside =
       entries (s * count + k) inside
-      ∙ ap (λ a. ruled_entry rules a ((s * count + k) % count)) (div-mul-add s count k lt)
-      ∙ ap (λ a. ruled_entry rules s a) (mod-mul-add s count k lt)
+      ∙ ap (λ a. judged_rule acts rules a ((s * count + k) % count)) (div-mul-add s count k lt)
+      ∙ ap (λ a. judged_rule acts rules s a) (mod-mul-add s count k lt)
 
-  none_ruled : (s k : ℕ) → 0 < states → states ≤ s → None ≡ ruled_entry rules s k
+  none_ruled : (s k : ℕ) → 0 < states → states ≤ s → Missing ≡ judged_rule acts rules s k
   none_ruled s k some past =
-      sym (ap (option_map (λ (r : Rule E). r.2)) (at_key_none rule_key rules (s * 65536 + k) (λ i d lt. λ e. omega (arith, e, below some i d lt))))
+      sym (ap (λ (o : Option (Rule (GenericStateEntry T))). judged acts s (option_map (λ (r : Rule (GenericStateEntry T)). r.2) o) (ruled_entry rules 0 k) (ruled_entry rules s 0)) (at_key_none rule_key rules (s * 65536 + k) (λ i d lt. λ e. omega (arith, e, below some i d lt))))
 
-  ruled : (s k : ℕ) → k < count → 0 < states → (s < states) ⊎ (states ≤ s) → get_or cells (s * count + k) None ≡ ruled_entry rules s k
+  ruled : (s k : ℕ) → k < count → 0 < states → (s < states) ⊎ (states ≤ s) → get_or cells (s * count + k) Missing ≡ judged_rule acts rules s k
   ruled s k lt some (inl inside) = in_grid s k lt (omega (arith, mul-add-lt s count k states inside lt))
   ruled s k lt some (inr past) =
-      get_or_past cells (s * count + k) None (omega (arith, long, mul-le states count s count past (le_refl count)))
+      get_or_past cells (s * count + k) Missing (omega (arith, long, mul-le states count s count past (le_refl count)))
       ∙ none_ruled s k some past
 
-  -- a grid with the entry of each class of all states that have a rule
-  pub grid_answers : AnswersAsRules count cells rules
+  -- a grid with the entry of each class of all states that have a rule, judged
+  pub grid_answers : AnswersAsRules acts count cells rules
   grid_answers some s k lt = ruled s k lt (positive states count (omega (arith, long))) (cases_lt s states)
 
 -- the cell behind one of a row, which may be the first of the next row

@@ -7,6 +7,8 @@ pub mod Face
 pub mod FeatureNames
 pub mod KerningTables
 pub mod Idle
+pub mod Judged
+pub mod JudgedExamples
 pub mod Keys
 pub mod Morx
 pub mod Moves
@@ -16,6 +18,7 @@ pub mod Subtables
 pub mod Table
 pub mod TableErrors
 pub mod TableExamples
+pub mod Truth
 pub mod Wakers
 pub mod facts
 pub mod inside

@@ -7,10 +7,11 @@ use crate::entries::{ContextualEntryData, InsertionEntryData};
 use crate::entry_bits::class::END_OF_TEXT;
 use crate::entry_bits::state::START_OF_TEXT;
 use crate::entry_bits::{NO_INDEX, contextual, insertion, ligature, rearrangement};
+use crate::judged::Acting;
 use crate::state_table::{ExtendedStateTable, GenericStateEntry};
 
 /// What the entries of a kind of machine hold, which tells whether one of them ever acts.
-pub(crate) trait Resting: Copy {
+pub(crate) trait Resting: Acting {
     ghost use Rattle.std.specs.Prelude.{◌≡◌, Bool};
     ghost use Rattle.aat_font.specs.declared.state_table.GenericStateEntry.{GenericStateEntry};
 

@@ -15,6 +15,7 @@ mod error;
 mod face;
 mod feat;
 mod idle;
+mod judged;
 mod kern;
 mod kerx;
 pub mod keys;
@@ -44,6 +45,7 @@ pub use feat::{Feat, FeatureName};
 pub use idle::{
     contextual_entry_rests, insertion_entry_rests, ligature_entry_rests, rearrangement_entry_rests,
 };
+pub use judged::{Acting, JudgedEntry};
 pub use kern::{Kern, KernKind, KernMachine, KernSubtable};
 pub use kerx::{Kerx, KerxFormat, KerxSubtable, Subtable1, Subtable4};
 pub use lookup::Lookup;

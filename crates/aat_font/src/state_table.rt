@@ -1,16 +1,19 @@
 //! State tables: the class of each glyph, and what a machine does at a state and a class.
-ghost use Rattle.std.specs.Prelude.{◌≡◌, ◌+◌, ◌*◌, ◌/◌, ◌%◌, ◌<◌, ◌≤◌, ℕ, IfOk, IfErr, OnOk, None, option_map, length, slice_index_or, unwrap_or};
+ghost use Rattle.std.specs.Prelude.{◌≡◌, ◌+◌, ◌*◌, ◌/◌, ◌%◌, ◌<◌, ◌≤◌, ℕ, IfOk, IfErr, IfSome, OnOk, None, option_map, length, slice_index_or, unwrap_or};
 ghost use Rattle.aat_font.specs.Entries.{has_flag, goes_on};
+ghost use Rattle.aat_font.specs.Judged.{entry_in, is_judged_safe, is_safe_by};
 ghost use Rattle.aat_font.specs.Keys.{IsRising};
 ghost use Rattle.aat_font.specs.Table.{class_of, entry_of, known_class, rule_key, table_value};
 ghost use Rattle.aat_font.specs.Table.{first_out_of_range, count_and_rules_fault, earlier_fault, rules_fault, table_fault};
 ghost use Rattle.aat_font.specs.TableErrors.{RefusesFault};
-ghost use Rattle.aat_font.specs.inside.Dense.{ruled_entry, state_count, states_to, AnswersAsRules, RulesBelow};
+ghost use Rattle.aat_font.specs.declared.judged.JudgedEntry.TheVariants.{Missing};
+ghost use Rattle.aat_font.specs.inside.Dense.{judged_rule, ruled_entry, state_count, states_to, AnswersAsRules, RulesBelow};
 ghost use Rattle.aat_font.specs.inside.Walks.{AreBelow, AreNotBelow};
 
 use crate::entry_bits::{DONT_ADVANCE, anchor, class, stack};
 use crate::error::TableError;
-use crate::keys::{Keyed, first_fall, row_at};
+use crate::judged::{Acting, JudgedEntry, judged, judged_rule, ruled_entry};
+use crate::keys::{Keyed, first_fall};
 use crate::lookup::Lookup;
 use crate::plan::GlyphId;
 use crate::walk::{row_here, walk_to};
@@ -76,14 +79,14 @@ impl<T: Copy> GenericStateEntry<T> {
 ///
 /// Apple's TrueType Reference Manual, "Font Tables", section on state tables.
 #[derive(Drop)]
-pub struct ExtendedStateTable<T: Copy, A: Allocator = Global> {
+pub struct ExtendedStateTable<T: Acting, A: Allocator = Global> {
     class_count: u16,
     classes: Lookup<A>,
     rules: Vec<(u16, u16, GenericStateEntry<T>), A>,
-    grid: Vec<Option<GenericStateEntry<T>>, A>,
+    grid: Vec<JudgedEntry<T>, A>,
 }
 
-impl<T: Copy, A: Allocator> Model for ExtendedStateTable<T, A> {
+impl<T: Acting, A: Allocator> Model for ExtendedStateTable<T, A> {
     ghost use Rattle.std.specs.Prelude.{◌<◌};
     ghost use Rattle.aat_font.specs.Keys.{IsRising};
     ghost use Rattle.aat_font.specs.Table.{TableValue, rule_key};
@@ -95,10 +98,10 @@ impl<T: Copy, A: Allocator> Model for ExtendedStateTable<T, A> {
     ghost view = { λ m. record { class_count = m.class_count; classes = m.classes; rules = m.rules.items } };
 
     ghost invariant = { λ m. (1 < m.class_count) × IsRising rule_key m.rules.items
-        × AnswersAsRules m.class_count m.grid.items m.rules.items };
+        × AnswersAsRules T.may_act m.class_count m.grid.items m.rules.items };
 }
 
-impl<T: Copy, A: Allocator + Copy> ExtendedStateTable<T, A> {
+impl<T: Acting, A: Allocator + Copy> ExtendedStateTable<T, A> {
     /// Makes a table of the number of its classes, pairs of a glyph and its class, which have to
     /// rise strictly by glyph, and rules of a state, a class and an entry, which have to rise
     /// strictly by state, then by class. A glyph may have a class that is not below the number.
@@ -182,7 +185,7 @@ impl<T: Copy, A: Allocator + Copy> ExtendedStateTable<T, A> {
     }
 }
 
-impl<T: Copy, A: Allocator> ExtendedStateTable<T, A> {
+impl<T: Acting, A: Allocator> ExtendedStateTable<T, A> {
     /// The number of classes, of which the first four are those of the manual.
     pub fn class_count(&self) -> u16
         ensures { result ≡ self.now.class_count }
@@ -236,8 +239,24 @@ impl<T: Copy, A: Allocator> ExtendedStateTable<T, A> {
         let class = known_class(self.class_count, class);
         let row = state as usize * self.class_count as usize;
         match self.grid.get(row + class as usize) {
-            Some(cell) => *cell,
+            Some(cell) => cell.entry(),
             None => ruled_entry(&self.rules, state, class),
+        }
+    }
+
+    /// The entry of a state and a class, found as in [`ExtendedStateTable::entry`], and whether the line gets a mark
+    /// before a glyph where it is taken, by the table's entries alone. A cell of the grid was judged when the table
+    /// was made; elsewhere up to two more entries are searched.
+    pub fn judged_entry(&self, state: u16, class: u16) -> JudgedEntry<T>
+        ensures entry { entry_in result ≡ entry_of self.now state class }
+        ensures safe { IfSome (entry_of self.now state class) (λ e. is_judged_safe result
+            ≡ is_safe_by T.may_act state e (entry_of self.now 0 class) (entry_of self.now state 0)) }
+    {
+        let class = known_class(self.class_count, class);
+        let place = state as usize * self.class_count as usize + class as usize;
+        match self.grid.get(place) {
+            Some(cell) => *cell,
+            None => judged_rule(&self.rules, state, class),
         }
     }
 }
@@ -254,28 +273,16 @@ fn known_class(class_count: u16, class: u16) -> u16
     }
 }
 
-/// The entry that rising rules have for a state and a class, found by bisection.
-fn ruled_entry<T: Copy>(
-    rules: &[(u16, u16, GenericStateEntry<T>)],
-    state: u16,
-    class: u16,
-) -> Option<GenericStateEntry<T>>
-    requires { IsRising rule_key rules.now }
-    ensures { result ≡ ruled_entry rules.now state class }
-{
-    row_at(rules, rule_key(state, class)).map(|rule| rule.2)
-}
-
 /// The grid of rising rules, in which each state up to the highest with a rule has a cell for each class, or an empty
 /// one where these were more than `MAX_CELLS` cells.
-fn grid_over<T: Copy, A: Allocator>(
+fn grid_over<T: Acting, A: Allocator>(
     alloc: A,
     class_count: u16,
     rules: &[(u16, u16, GenericStateEntry<T>)],
-) -> Result<Vec<Option<GenericStateEntry<T>>, A>, AllocError>
+) -> Result<Vec<JudgedEntry<T>, A>, AllocError>
     requires rising { IsRising rule_key rules.now }
     requires classes { 0 < class_count }
-    ensures answers { IfOk result (λ grid. AnswersAsRules class_count grid.items rules.now) }
+    ensures answers { IfOk result (λ grid. AnswersAsRules T.may_act class_count grid.items rules.now) }
     ensures long { IfOk result (λ grid. length grid.items ≡ state_count class_count rules.now * class_count) }
 {
     let states = state_count(class_count, rules);
@@ -310,20 +317,21 @@ fn states_to(class_count: u16, key: u32) -> usize
     states
 }
 
-/// The entries that rising rules have for each class of so many states, state by state, in one walk over the rules.
-fn cells_of<T: Copy, A: Allocator>(
+/// The judged entries that rising rules have for each class of so many states, state by state. Each is found in one
+/// walk over the rules, and what it is held against by bisection.
+fn cells_of<T: Acting, A: Allocator>(
     alloc: A,
     class_count: u16,
     states: usize,
     rules: &[(u16, u16, GenericStateEntry<T>)],
-) -> Result<Vec<Option<GenericStateEntry<T>>, A>, AllocError>
+) -> Result<Vec<JudgedEntry<T>, A>, AllocError>
     requires rising { IsRising rule_key rules.now }
     requires classes { 0 < class_count }
     requires small { states * class_count ≤ 65536 }
     ensures long { IfOk result (λ cells. length cells.items ≡ states * class_count) }
     ensures entries { IfOk result (λ cells. (place : ℕ) → place < states * class_count
-        → slice_index_or cells.items place None
-        ≡ ruled_entry rules.now (place / class_count) (place % class_count)) }
+        → slice_index_or cells.items place Missing
+        ≡ judged_rule T.may_act rules.now (place / class_count) (place % class_count)) }
 {
     let width = class_count as usize;
     let count = states * width;
@@ -333,7 +341,8 @@ fn cells_of<T: Copy, A: Allocator>(
         let state = (place / width) as u16;
         let class = (place % width) as u16;
         at = walk_to(rules, at, rule_key(state, class));
-        cells.push(entry_here(rules, at, state, class))?;
+        let entry = entry_here(rules, at, state, class);
+        cells.push(judged(rules, state, class, entry))?;
     }
     Ok(cells)
 }
@@ -355,7 +364,7 @@ fn entry_here<T: Copy>(
 }
 
 /// The number by which rules rise.
-fn rule_key(state: u16, class: u16) -> u32
+pub(crate) fn rule_key(state: u16, class: u16) -> u32
     ensures { result ≡ state * 65536 + class }
 {
     state as u32 * 65536 + class as u32

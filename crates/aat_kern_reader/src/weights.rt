@@ -1,11 +1,11 @@
 //! What values that are read weigh: the bytes of memory that they take.
 
 use crate::subtables::LeftOutSubtable;
-use aat_font::{GenericStateEntry, KernEntryData, KernSubtable};
+use aat_font::{GenericStateEntry, JudgedEntry, KernEntryData, KernSubtable};
 
 /// The bytes of a rule of a machine, and of its cell in the grid beside the rules.
 pub const KERN_RULE_SIZE: usize = size_of::<(u16, u16, GenericStateEntry<KernEntryData>)>()
-    + size_of::<Option<GenericStateEntry<KernEntryData>>>();
+    + size_of::<JudgedEntry<KernEntryData>>();
 
 /// The bytes of a pair that is listed.
 pub const PAIR_SIZE: usize = size_of::<(u16, u16, i16)>();

@@ -9,9 +9,9 @@ use Rattle.aat_buffer.specs.facts.Cases.{chosen}
 use Rattle.aat_glyph.specs.Directions.{is_horizontal}
 use Rattle.aat_glyph.specs.declared.glyph.Direction.{Direction}
 use Rattle.aat_glyph.specs.declared.glyph.hb_glyph_info_t.{hb_glyph_info_t}
+use Rattle.aat_font.specs.Truth.{is_alike}
 use Rattle.aat_run.specs.Budget.{operations_left}
 use Rattle.aat_run.specs.Outcome.{Outcome, untouched}
-use Rattle.aat_run.specs.Truth.{is_alike}
 use Rattle.aat_kerning.specs.Cut.{ordered_line, ordered_positions, greater_at, IsUnflaggedAt, PairsAlone, IsKernedInParts}
 use Rattle.aat_kerning_machines.specs.KerningLaws.{IsKernedFrom}
 use Rattle.aat_kerning.specs.Positioning.{Kerning, Positioned, positioned, positioning, cursively_attached, in_processing_order, is_for_text}

@@ -8,9 +8,9 @@ use Rattle.aat_buffer.specs.facts.Cases.{chosen}
 use Rattle.aat_glyph.specs.Directions.{is_backward, is_horizontal}
 use Rattle.aat_glyph.specs.declared.glyph.Direction.{Direction}
 use Rattle.aat_glyph.specs.declared.glyph.GlyphPosition.{GlyphPosition}
+use Rattle.aat_font.specs.Truth.{is_alike}
 use Rattle.aat_kerning.specs.Positioning.{Kerning, Positioned, cursively_attached, in_processing_order, is_for_text, positioned, positioning, run_turned_round, turned_round}
 use Rattle.aat_run.specs.Outcome.{Outcome, untouched}
-use Rattle.aat_run.specs.Truth.{is_alike}
 
 -- a subtable that is not for the text
 pub not_for_text : (requested : Bool) (k : Kerning) (s : Positioned) → is_for_text k s.buffer ≡ false → s ≡ positioned requested k s

@@ -22,7 +22,6 @@ use Rattle.aat_glyph.specs.declared.glyph.Direction.{Direction}
 use Rattle.aat_glyph.specs.declared.glyph.GlyphPosition.{GlyphPosition}
 use Rattle.aat_glyph.specs.declared.glyph.hb_glyph_info_t.{hb_glyph_info_t}
 use Rattle.aat_run.specs.Outcome.{untouched}
-use Rattle.aat_run.specs.Truth.{is_alike}
 use Rattle.aat_kerning.specs.Advances.{advance, all_advances, all_values, kern_values, kerx_values, IsInStream, KernSumsAdvances, KerxSumsAdvances, HaveSixteenBits}
 use Rattle.aat_kerning.specs.Cut.{ordered_line, ordered_positions}
 use Rattle.aat_kerning_machines.specs.KerningLaws.{IsMarkedFrom}
@@ -40,6 +39,7 @@ use Rattle.aat_kerning.proofs.Marked.{IsMarkedLine, line_same, line_twice, marke
 use Rattle.aat_kerning.proofs.Positioned.{not_for_text}
 use Rattle.aat_kerning.proofs.Summed.{Fits, fits_of_pairs, sum_from, sum_of_pairs}
 use Rattle.aat_font.specs.Classes.{kerning_by_classes}
+use Rattle.aat_font.specs.Truth.{is_alike}
 
 -- a sum and its parts are the same in either order
 sum_of_reversed : (h : Bool) (qs : List GlyphPosition) → all_advances h (reverse qs) ≡ all_advances h qs

@@ -12,7 +12,7 @@ use Rattle.aat_font.specs.declared.kerx.KerxSubtable.{KerxSubtable}
 use Rattle.aat_font.specs.AnchorPoints.{Points}
 use Rattle.aat_glyph.specs.Directions.{is_horizontal, is_backward}
 use Rattle.aat_glyph.specs.declared.glyph.Direction.{Direction}
-use Rattle.aat_run.specs.Truth.{is_alike}
+use Rattle.aat_font.specs.Truth.{is_alike}
 use Rattle.aat_kerning_machines.specs.KerningMachine.{driver_run}
 use Rattle.aat_run.specs.Outcome.{Outcome, untouched}
 use Rattle.aat_kerning.specs.PairKerning.{pair_kerning, value_of}

@@ -17,11 +17,12 @@ use crate::run::KerningRun;
 use crate::run_state::RunState;
 use crate::state_table_driver::StateTableDriver;
 use aat_buffer::hb_buffer_t;
+use aat_font::Acting;
 use aat_font::entry_bits::state::START_OF_TEXT;
 use std::alloc::Allocator;
 
 /// Takes turns until one ends, and answers their number.
-fn run_turns<Table, E: Copy, D: StateTableDriver<Table, E>, A: Allocator + Copy>(
+fn run_turns<Table, E: Acting, D: StateTableDriver<Table, E>, A: Allocator + Copy>(
     run: &KerningRun<Table, E>,
     pays_first: bool,
     driver: &mut D,
@@ -53,7 +54,7 @@ fn run_turns<Table, E: Copy, D: StateTableDriver<Table, E>, A: Allocator + Copy>
 
 /// Runs a machine over a line from the front, and answers the number of turns. `drive_kerx` has the rules.
 #[tactic(auto, unfolding(crate::specs::KerningMachine::driver_run, crate::specs::KerningMachine::registers_left))]
-fn run_machine<Table, E: Copy, D: StateTableDriver<Table, E>, A: Allocator + Copy>(
+fn run_machine<Table, E: Acting, D: StateTableDriver<Table, E>, A: Allocator + Copy>(
     run: &KerningRun<Table, E>,
     pays_first: bool,
     driver: &mut D,
@@ -106,7 +107,7 @@ fn run_machine<Table, E: Copy, D: StateTableDriver<Table, E>, A: Allocator + Cop
 ///
 /// Apple's TrueType Reference Manual, "The 'kerx' table", formats 1 and 4, and the section on state tables in "Font
 /// Tables".
-pub fn drive_kerx<Table, E: Copy, D: StateTableDriver<Table, E>, A: Allocator + Copy>(
+pub fn drive_kerx<Table, E: Acting, D: StateTableDriver<Table, E>, A: Allocator + Copy>(
     run: &KerningRun<Table, E>,
     driver: &mut D,
     buffer: &mut hb_buffer_t<A>,
@@ -135,7 +136,7 @@ pub fn drive_kerx<Table, E: Copy, D: StateTableDriver<Table, E>, A: Allocator + 
 /// then the cursor moves on where the entry advances or what is left of the budget is 0 or less.
 ///
 /// Apple's TrueType Reference Manual, "The 'kern' table", format 1, and the section on state tables in "Font Tables".
-pub fn drive_kern<Table, E: Copy, D: StateTableDriver<Table, E>, A: Allocator + Copy>(
+pub fn drive_kern<Table, E: Acting, D: StateTableDriver<Table, E>, A: Allocator + Copy>(
     run: &KerningRun<Table, E>,
     driver: &mut D,
     buffer: &mut hb_buffer_t<A>,

@@ -19,9 +19,9 @@ use crate::run::KerningRun;
 use crate::run_state::RunState;
 use crate::state_table_driver::StateTableDriver;
 use aat_buffer::hb_buffer_t;
-use aat_font::GenericStateEntry;
 use aat_font::entry_bits::class::END_OF_TEXT;
 use aat_font::entry_bits::state::START_OF_TEXT;
+use aat_font::{Acting, GenericStateEntry};
 use std::alloc::Allocator;
 
 /// Takes an operation from the budget.
@@ -77,7 +77,7 @@ fn settle<A: Allocator + Copy>(
 
 /// The act of an entry and its state: whether the run goes on.
 #[tactic(auto, unfolding(crate::specs::KerningMachine::kerning_acted))]
-fn act<Table, E: Copy, D: StateTableDriver<Table, E>, A: Allocator + Copy>(
+fn act<Table, E: Acting, D: StateTableDriver<Table, E>, A: Allocator + Copy>(
     run: &KerningRun<Table, E>,
     pays_first: bool,
     driver: &mut D,
@@ -149,7 +149,7 @@ fn mark_behind<A: Allocator + Copy>(buffer: &mut hb_buffer_t<A>)
 
 /// Whether the state tells that what stood before the cursor matters to an entry. The registers, which outlive state 0,
 /// are not asked. All parts of the test are, since no processor foresees each of them.
-fn depends_on_before<Table, E: Copy, D: StateTableDriver<Table, E>>(
+fn depends_on_before<Table, E: Acting, D: StateTableDriver<Table, E>>(
     driver: &D,
     entry: &GenericStateEntry<E>,
     state: u16,
@@ -164,7 +164,7 @@ fn depends_on_before<Table, E: Copy, D: StateTableDriver<Table, E>>(
 
 /// Marks the glyphs before and at the cursor where the state tells that what stood before matters.
 #[tactic(auto, unfolding(crate::specs::KerningMachine::kerning_marked))]
-fn mark_before<Table, E: Copy, D: StateTableDriver<Table, E>, A: Allocator + Copy>(
+fn mark_before<Table, E: Acting, D: StateTableDriver<Table, E>, A: Allocator + Copy>(
     driver: &D,
     buffer: &mut hb_buffer_t<A>,
     entry: &GenericStateEntry<E>,
@@ -189,7 +189,7 @@ fn mark_before<Table, E: Copy, D: StateTableDriver<Table, E>, A: Allocator + Cop
 
 /// The look at the end of the text, where two glyphs or more are left: whether the run goes on to the act of an entry.
 #[tactic(auto, unfolding(crate::specs::KerningMachine::looked_ahead))]
-fn look_ahead<Table, E: Copy, D: StateTableDriver<Table, E>, A: Allocator + Copy>(
+fn look_ahead<Table, E: Acting, D: StateTableDriver<Table, E>, A: Allocator + Copy>(
     run: &KerningRun<Table, E>,
     driver: &D,
     buffer: &mut hb_buffer_t<A>,
@@ -220,7 +220,7 @@ fn look_ahead<Table, E: Copy, D: StateTableDriver<Table, E>, A: Allocator + Copy
 
 /// What an entry does: the marks before the cursor, the look ahead, and then the act.
 #[tactic(auto, unfolding(crate::specs::KerningMachine::kerning_by_entry))]
-fn take_entry<Table, E: Copy, D: StateTableDriver<Table, E>, A: Allocator + Copy>(
+fn take_entry<Table, E: Acting, D: StateTableDriver<Table, E>, A: Allocator + Copy>(
     run: &KerningRun<Table, E>,
     pays_first: bool,
     driver: &mut D,
@@ -246,7 +246,7 @@ fn take_entry<Table, E: Copy, D: StateTableDriver<Table, E>, A: Allocator + Copy
 
 /// One turn, by the entry of the state and of the glyph at the cursor: whether the run goes on.
 #[tactic(auto, unfolding(crate::specs::KerningMachine::kerning_turn, crate::specs::KerningMachine::kerning_by_entry))]
-pub(crate) fn turn_once<Table, E: Copy, D: StateTableDriver<Table, E>, A: Allocator + Copy>(
+pub(crate) fn turn_once<Table, E: Acting, D: StateTableDriver<Table, E>, A: Allocator + Copy>(
     run: &KerningRun<Table, E>,
     pays_first: bool,
     driver: &mut D,

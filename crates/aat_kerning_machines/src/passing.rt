@@ -17,13 +17,13 @@ use crate::state_table_driver::StateTableDriver;
 use aat_buffer::{hb_buffer_t, hb_glyph_info_t};
 use aat_font::entry_bits::class::END_OF_TEXT;
 use aat_font::entry_bits::state::START_OF_TEXT;
-use aat_font::{ExtendedStateTable, GenericStateEntry, GlyphId};
+use aat_font::{Acting, ExtendedStateTable, GenericStateEntry, GlyphId};
 use aat_run::class_at_cursor;
 use std::alloc::Allocator;
 
 /// Whether glyphs may be passed: the state for the start of the text has an entry for the end, and that is not
 /// actionable. A missing one ends the run while two glyphs or more are left, and an actionable one marks them.
-pub(crate) fn may_pass<Table, E: Copy, D: StateTableDriver<Table, E>>(
+pub(crate) fn may_pass<Table, E: Acting, D: StateTableDriver<Table, E>>(
     run: &KerningRun<Table, E>,
     driver: &D,
 ) -> bool
@@ -37,7 +37,7 @@ pub(crate) fn may_pass<Table, E: Copy, D: StateTableDriver<Table, E>>(
 
 /// Whether there is an entry, which rests and leads over its glyph to the state for the start of the text. Here and in
 /// what a driver says of an entry all parts are asked, since no processor foresees each of them.
-fn does_pass<Table, E: Copy, D: StateTableDriver<Table, E>>(
+fn does_pass<Table, E: Acting, D: StateTableDriver<Table, E>>(
     driver: &D,
     entry: Option<GenericStateEntry<E>>,
 ) -> bool
@@ -52,7 +52,7 @@ fn does_pass<Table, E: Copy, D: StateTableDriver<Table, E>>(
 }
 
 /// The entry that the state for the start of the text has for a glyph.
-fn first_entry<E: Copy>(
+fn first_entry<E: Acting>(
     state_table: &ExtendedStateTable<E>,
     glyph: &hb_glyph_info_t,
 ) -> Option<GenericStateEntry<E>>
@@ -65,7 +65,7 @@ fn first_entry<E: Copy>(
 
 /// How many of some glyphs pass before the first one that does not, and the entry that state has for that one, or for
 /// the end of the text.
-fn passed_count<Table, E: Copy, D: StateTableDriver<Table, E>>(
+fn passed_count<Table, E: Acting, D: StateTableDriver<Table, E>>(
     run: &KerningRun<Table, E>,
     driver: &D,
     glyphs: &[hb_glyph_info_t],
@@ -90,7 +90,9 @@ fn passed_count<Table, E: Copy, D: StateTableDriver<Table, E>>(
 /// Moves the cursor over so many glyphs, and takes as many operations from the budget.
 fn pass<A: Allocator + Copy>(buffer: &mut hb_buffer_t<A>, count: usize)
     requires { buffer.old.cursor + count ≤ length buffer.old.line }
-    ensures { buffer.new ≡ with_cursor (paid count buffer.old) (buffer.old.cursor + count) }
+    ensures passed { buffer.new ≡ with_cursor (paid count buffer.old) (buffer.old.cursor + count) }
+    ensures line { buffer.new.line ≡ buffer.old.line }
+    ensures cursor { buffer.new.cursor ≡ buffer.old.cursor + count }
 {
     let _length = buffer.len();
     let place = buffer.backtrack_len() + count;
@@ -104,7 +106,7 @@ fn pass<A: Allocator + Copy>(buffer: &mut hb_buffer_t<A>, count: usize)
 ///
 /// It stands apart from the turns, so that these stay short.
 #[inline(never)]
-fn pass_glyphs<Table, E: Copy, D: StateTableDriver<Table, E>, A: Allocator + Copy>(
+fn pass_glyphs<Table, E: Acting, D: StateTableDriver<Table, E>, A: Allocator + Copy>(
     run: &KerningRun<Table, E>,
     driver: &D,
     buffer: &mut hb_buffer_t<A>,
@@ -132,7 +134,7 @@ fn pass_glyphs<Table, E: Copy, D: StateTableDriver<Table, E>, A: Allocator + Cop
 }
 
 /// The entry of the state and of the glyph at the cursor, behind the turns at glyphs that are passed, where they may be.
-pub(crate) fn next_entry<Table, E: Copy, D: StateTableDriver<Table, E>, A: Allocator + Copy>(
+pub(crate) fn next_entry<Table, E: Acting, D: StateTableDriver<Table, E>, A: Allocator + Copy>(
     run: &KerningRun<Table, E>,
     driver: &D,
     may_pass: bool,

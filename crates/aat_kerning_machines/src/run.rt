@@ -1,10 +1,10 @@
 //! What the run of a kerning machine is given.
 
-use aat_font::{ExtendedStateTable, hb_ot_shape_plan_t};
+use aat_font::{Acting, ExtendedStateTable, hb_ot_shape_plan_t};
 
 /// What the run of a kerning machine is given besides the line and its driver.
 #[derive(Clone, Copy)]
-pub struct KerningRun<'a, Table, E: Copy> {
+pub struct KerningRun<'a, Table, E: Acting> {
     /// The classes of glyphs, and the entry of each state and class.
     pub state_table: &'a ExtendedStateTable<E>,
     /// What the entries name by their indexes: the subtable itself, with its values or anchor points.

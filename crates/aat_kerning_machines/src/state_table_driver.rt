@@ -5,7 +5,7 @@
 ghost use Rattle.std.specs.Prelude.{◌≡◌, length};
 
 use aat_buffer::hb_buffer_t;
-use aat_font::{GenericStateEntry, hb_ot_shape_plan_t};
+use aat_font::{Acting, GenericStateEntry, hb_ot_shape_plan_t};
 use std::alloc::Allocator;
 
 /// One kind of kerning machine over a line: its registers, and what an entry of its table does to positions. A run of
@@ -26,7 +26,7 @@ use std::alloc::Allocator;
 ///   budget, the number of positions and every setting stay.
 ///
 /// Apple's TrueType Reference Manual, "The 'kerx' table", formats 1 and 4, and "The 'kern' table", format 1.
-pub trait StateTableDriver<Table, E: Copy> {
+pub trait StateTableDriver<Table, E: Acting> {
     ghost use Rattle.std.specs.Prelude.{ℕ, Bool};
     ghost use Rattle.aat_buffer.specs.Buffer.{Buffer};
     ghost use Rattle.aat_buffer.specs.Clusters.{IsSmall};

@@ -1,7 +1,7 @@
 //! What values that are read weigh: the bytes of memory that they take.
 
 use crate::subtables::LeftOutSubtable;
-use aat_font::{EntryData, GenericStateEntry, KerxSubtable, Point};
+use aat_font::{EntryData, GenericStateEntry, JudgedEntry, KerxSubtable, Point};
 
 /// The bytes of a glyph with anchor points, besides these.
 pub const ANCHOR_ROW_SIZE: usize = size_of::<(u16, Vec<Point>)>();
@@ -11,7 +11,7 @@ pub const POINT_SIZE: usize = size_of::<Point>();
 
 /// The bytes of a rule of a machine, and of its cell in the grid beside the rules.
 pub const KERX_RULE_SIZE: usize = size_of::<(u16, u16, GenericStateEntry<EntryData>)>()
-    + size_of::<Option<GenericStateEntry<EntryData>>>();
+    + size_of::<JudgedEntry<EntryData>>();
 
 /// The bytes of a pair that is listed.
 pub const PAIR_SIZE: usize = size_of::<(u16, u16, i16)>();

@@ -13,7 +13,7 @@ use Rattle.aat_font.specs.declared.state_table.GenericStateEntry.{GenericStateEn
 use Rattle.aat_font.specs.declared.entries.ContextualEntryData.{ContextualEntryData}
 use Rattle.aat_font.specs.declared.entries.InsertionEntryData.{InsertionEntryData}
 use Rattle.aat_glyph.specs.Directions.{is_backward, is_vertical}
-use Rattle.aat_run.specs.Truth.{is_alike}
+use Rattle.aat_font.specs.Truth.{is_alike}
 use Rattle.aat_run.specs.Driven.{machine_run}
 use Rattle.aat_run.specs.Outcome.{Outcome}
 use Rattle.aat_kinds.specs.Values.{noncontextual}

@@ -181,6 +181,11 @@ impl<'a> driver_context_t<ContextualEntryData> for ContextualCtx<'a> {
         entry.has_advance()
     }
 
+    fn acts_by_entries<A: Allocator + Copy>(&self, buffer: &hb_buffer_t<A>) -> bool {
+        // at the end of the text an entry is actionable only where a glyph is marked
+        buffer.has_current()
+    }
+
     fn rests(&self, entry: &GenericStateEntry<ContextualEntryData>) -> bool {
         contextual_entry_rests(entry)
     }

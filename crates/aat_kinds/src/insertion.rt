@@ -165,6 +165,10 @@ impl<'a> driver_context_t<InsertionEntryData> for InsertionCtx<'a> {
         entry.has_advance()
     }
 
+    fn acts_by_entries<A: Allocator + Copy>(&self, _buffer: &hb_buffer_t<A>) -> bool {
+        true
+    }
+
     fn rests(&self, entry: &GenericStateEntry<InsertionEntryData>) -> bool {
         insertion_entry_rests(entry)
     }

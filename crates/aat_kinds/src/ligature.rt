@@ -334,6 +334,10 @@ impl<'a, const SLOTS: usize> driver_context_t<u16> for LigatureCtx<'a, SLOTS> {
         entry.has_advance()
     }
 
+    fn acts_by_entries<A: Allocator + Copy>(&self, _buffer: &hb_buffer_t<A>) -> bool {
+        true
+    }
+
     fn rests(&self, entry: &GenericStateEntry<u16>) -> bool {
         ligature_entry_rests(entry)
     }

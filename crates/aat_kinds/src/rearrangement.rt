@@ -166,6 +166,11 @@ impl<const LONGEST: usize> driver_context_t<()> for RearrangementCtx<LONGEST> {
         entry.has_advance()
     }
 
+    fn acts_by_entries<A: Allocator + Copy>(&self, _buffer: &hb_buffer_t<A>) -> bool {
+        // by an empty span no entry is actionable
+        self.start < self.end
+    }
+
     fn rests(&self, entry: &GenericStateEntry<()>) -> bool {
         rearrangement_entry_rests(entry)
     }

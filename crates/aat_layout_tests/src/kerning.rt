@@ -5,7 +5,7 @@ use crate::checks::place_all;
 use aat_described_fonts::drop_font;
 use aat_layout::buffer::{BufferError, Direction, GlyphPosition, hb_buffer_t, hb_glyph_info_t};
 use aat_layout::font::{
-    Ankr, ClassPairs, EntryData, ExtendedStateTable, FaceTables, GenericStateEntry, Kern,
+    Acting, Ankr, ClassPairs, EntryData, ExtendedStateTable, FaceTables, GenericStateEntry, Kern,
     KernEntryData, KernKind, KernMachine, KernSubtable, Kerx, KerxFormat, KerxSubtable, Pairs,
     Point, Subtable1, Subtable4, TableError, hb_font_t, hb_ot_shape_plan_t,
 };
@@ -118,7 +118,7 @@ const CLASSES: [(u16, u16); 4] = [(0, 4), (1, 4), (2, 5), (3, 65535)];
 const ANCHORS: [(u16, u16); 4] = [(0, 0), (0, 9), (65535, 0), (0, 1)];
 
 /// What an entry holds of the index that it names.
-trait Extra: Copy {
+trait Extra: Acting {
     fn of(index: u16) -> Self;
 }
 

@@ -1,10 +1,10 @@
 //! What entries of state tables hold beside a state and flags, read from bytes.
 
 use aat_bytes::be16;
-use aat_font::{ContextualEntryData, EntryData, InsertionEntryData};
+use aat_font::{Acting, ContextualEntryData, EntryData, InsertionEntryData};
 
 /// What an entry holds beside a state and flags, as it stands behind them.
-pub trait EntryRead: Copy {
+pub trait EntryRead: Acting {
     ghost use Rattle.std.specs.Prelude.{◌≡◌, ◌+◌, ◌≤◌, ℕ, List, length};
 
     ghost SIZE: { ℕ };

@@ -12,7 +12,7 @@ use crate::entry_write::EntryWrite;
 use crate::error::MorxWriteError;
 use crate::lookups::lookup_bytes;
 use crate::refusals::rules_refusal;
-use aat_font::{ExtendedStateTable, GenericStateEntry};
+use aat_font::{Acting, ExtendedStateTable, GenericStateEntry};
 use aat_writer::{append_longs, append_words};
 use std::alloc::{AllocError, Allocator};
 
@@ -96,7 +96,7 @@ pub(crate) fn machine_bytes<T: EntryWrite, A: Allocator>(
 }
 
 /// Why the rules of a machine are not written.
-fn refusal<T: Copy, A: Allocator>(machine: &ExtendedStateTable<T, A>) -> Option<MorxWriteError>
+fn refusal<T: Acting, A: Allocator>(machine: &ExtendedStateTable<T, A>) -> Option<MorxWriteError>
     ensures { result ≡ rules_refusal machine.now.class_count machine.now.rules }
 {
     rules_refusal(machine.class_count(), machine.rules())

@@ -1,7 +1,7 @@
 //! State tables with a rule for each state and class.
 
 use crate::sizes::Size;
-use aat_font::{ExtendedStateTable, GenericStateEntry, TableError};
+use aat_font::{Acting, ExtendedStateTable, GenericStateEntry, TableError};
 use std::alloc::{AllocError, Global};
 
 /// Pairs of every second glyph and a value, from the first value on, of which there are so many in turn.
@@ -49,7 +49,7 @@ fn append_row<T: Copy + Drop>(
 }
 
 /// A machine of some classes whose entries all have the same flags and the same behind them.
-pub(crate) fn machine_of<T: Copy + Drop>(
+pub(crate) fn machine_of<T: Acting + Drop>(
     alloc: Global,
     size: &Size,
     classes: &[(u16, u16)],
@@ -64,7 +64,7 @@ pub(crate) fn machine_of<T: Copy + Drop>(
 }
 
 /// The same, of classes of every second glyph.
-pub(crate) fn machine<T: Copy + Drop>(
+pub(crate) fn machine<T: Acting + Drop>(
     alloc: Global,
     size: &Size,
     flags: u16,

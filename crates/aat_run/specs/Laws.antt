@@ -1,6 +1,8 @@
 -- The laws of an act, which a run asks for, and what a run keeps.
 use Rattle.std.specs.Prelude.{◌≡◌, ℕ, ◌+◌, ◌<◌, ◌≤◌, Bool, true, false, length, None}
 use Rattle.aat_buffer.specs.Buffer.{Buffer}
+use Rattle.aat_font.specs.Entries.{goes_on}
+use Rattle.aat_font.specs.declared.state_table.GenericStateEntry.{GenericStateEntry}
 use Rattle.aat_run.specs.Budget.{potential, extent}
 use Rattle.aat_run.specs.Context.{Moved, Context, Config}
 use Rattle.aat_run.specs.Machine.{Turn, IsWholeRun}
@@ -113,6 +115,11 @@ pub record RestsBy {R E : Type 0} (rests : E → Bool) (actionable : E → R →
   where
     pub unactionable : (e : E) → rests e ≡ true → (r : R) (p n : ℕ) → actionable e r p n ≡ false
     pub stays : (e : E) → rests e ≡ true → (r : R) (b : Buffer) → act e r b ≡ record { registers = r; buffer = b }
+
+-- entries are actionable exactly where a test says that they may act, and advance unless 0x4000 is set
+pub record ActsByEntries {T : Type 0} (may_act advances actionable : GenericStateEntry T → Bool) : Type 0 where
+  pub acting : (e : GenericStateEntry T) → actionable e ≡ may_act e
+  pub advancing : (e : GenericStateEntry T) → advances e ≡ goes_on e
 
 -- what a run asks of every context
 pub record IsLawful {R E : Type 0} (context : Context R E) (fits : R → ℕ → ℕ → Type 0) : Type 0 where

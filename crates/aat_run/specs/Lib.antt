@@ -16,7 +16,6 @@ pub mod Safe
 pub mod Stretches
 pub mod Switches
 pub mod Throughout
-pub mod Truth
 pub mod Waking
 pub mod facts
 pub mod inside

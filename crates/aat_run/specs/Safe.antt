@@ -1,8 +1,8 @@
 -- Where a turn of the rewriting machine leaves the line without a mark before the cursor. (No chapter of the manual:
 -- break safety is the shaper's own.)
 use Rattle.std.specs.Prelude.{◌==◌, ◌&&◌, ◌||◌, not, Bool, Option, length}
+use Rattle.aat_font.specs.Truth.{is_some_and, is_alike}
 use Rattle.aat_run.specs.Context.{Machine, Config}
-use Rattle.aat_run.specs.Truth.{is_some_and, is_alike}
 
 -- What the mark tells. A text that is cut before the cursor is shaped in two parts. The first one ends here, with the
 -- entry for the end of the text, and the second one begins at this glyph, in state 0, that for the start of the text.

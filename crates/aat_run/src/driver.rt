@@ -26,12 +26,12 @@ use crate::run_state::RunState;
 use crate::turns::{rests_at_end, turn_once};
 use crate::wakers::{Wakers, pass_asleep};
 use aat_buffer::{hb_buffer_t, hb_mask_t};
-use aat_font::ExtendedStateTable;
 use aat_font::entry_bits::state::START_OF_TEXT;
+use aat_font::{Acting, ExtendedStateTable};
 use std::alloc::Allocator;
 
 /// Whether glyphs may be passed: the machine is on everywhere, since it has fewer than two ranges, and at rest at the end.
-fn may_pass<T: Copy, C: driver_context_t<T>>(
+fn may_pass<T: Acting, C: driver_context_t<T>>(
     machine: &ExtendedStateTable<T>,
     context: &C,
     ranges: &[range_flags_t],
@@ -45,7 +45,7 @@ fn may_pass<T: Copy, C: driver_context_t<T>>(
 /// Takes the turns at glyphs that do not wake the machine, where these are known and may be passed. It does so only where
 /// the last turn began and ended in the state for the start of the text: behind another turn there are seldom glyphs to
 /// pass.
-fn pass_on<T: Copy, C: driver_context_t<T>, A: Allocator + Copy>(
+fn pass_on<T: Acting, C: driver_context_t<T>, A: Allocator + Copy>(
     machine: &ExtendedStateTable<T>,
     wakers: Option<Wakers>,
     context: &C,
@@ -77,7 +77,7 @@ fn pass_on<T: Copy, C: driver_context_t<T>, A: Allocator + Copy>(
 
 /// Takes turns until one ends, and answers their number.
 #[tactic(auto, using(crate::specs::facts::Settings::refused_behind))]
-fn run_turns<T: Copy, C: driver_context_t<T>, A: Allocator + Copy>(
+fn run_turns<T: Acting, C: driver_context_t<T>, A: Allocator + Copy>(
     machine: &ExtendedStateTable<T>,
     wakers: Option<Wakers>,
     context: &mut C,
@@ -143,7 +143,7 @@ fn begin<A: Allocator + Copy>(buffer: &mut hb_buffer_t<A>, in_place: bool)
 /// Takes turns from the front until one ends, and answers their number. Where there are two ranges or more and none
 /// switches the machine on, each turn would pass a glyph: then there is one for each glyph and one more, and the line
 /// is passed over.
-fn take_turns<T: Copy, C: driver_context_t<T>, A: Allocator + Copy>(
+fn take_turns<T: Acting, C: driver_context_t<T>, A: Allocator + Copy>(
     machine: &ExtendedStateTable<T>,
     wakers: Option<Wakers>,
     context: &mut C,
@@ -180,7 +180,7 @@ fn take_turns<T: Copy, C: driver_context_t<T>, A: Allocator + Copy>(
 /// cluster. Where it is said which glyphs may wake the machine, it has to pass each other one in state 0, and need not
 /// be asked at them.
 #[tactic(auto, unfolding(crate::specs::Driven::machine_run, crate::specs::Driven::registers_behind))]
-pub fn run_machine<T: Copy, C: driver_context_t<T>, A: Allocator + Copy>(
+pub fn run_machine<T: Acting, C: driver_context_t<T>, A: Allocator + Copy>(
     machine: &ExtendedStateTable<T>,
     wakers: Option<Wakers>,
     context: &mut C,
@@ -257,7 +257,7 @@ pub fn run_machine<T: Copy, C: driver_context_t<T>, A: Allocator + Copy>(
 /// cluster there can be no turn asks for a range. No memory is taken but by the act.
 ///
 /// Apple's TrueType Reference Manual, "The 'morx' table", and the section on state tables in "Font Tables".
-pub fn drive<T: Copy, C: driver_context_t<T>, A: Allocator + Copy>(
+pub fn drive<T: Acting, C: driver_context_t<T>, A: Allocator + Copy>(
     machine: &ExtendedStateTable<T>,
     context: &mut C,
     c: &mut hb_aat_apply_context_t<A>,

@@ -6,7 +6,7 @@ ghost use Rattle.std.specs.Prelude.{◌≡◌, OnOk, IfErr, OnErr, length};
 
 use crate::error::AatError;
 use aat_buffer::hb_buffer_t;
-use aat_font::GenericStateEntry;
+use aat_font::{Acting, GenericStateEntry};
 use std::alloc::Allocator;
 
 /// One kind of state machine over a line: its registers, and what an entry of its table does to them and to the
@@ -17,7 +17,7 @@ use std::alloc::Allocator;
 /// `max_ops`, in operations; a negative one counts as 0 here. An entry is found by the state and the class of the
 /// glyph at the cursor; at the end, class 0. Its `extra` is the context's own.
 ///
-/// Whoever writes a context gives the ghost members and proves the clauses of its five calls, and then the laws, of
+/// Whoever writes a context gives the ghost members and proves the clauses of its six calls, and then the laws, of
 /// which `specs/Laws.antt` has each as a word, and all but the first as `MeetsLaws`. They hold for every entry, whatever its
 /// numbers, and for all registers that fit:
 ///
@@ -37,14 +37,14 @@ use std::alloc::Allocator;
 ///   never rise, unless clusters stay apart (`HB_BUFFER_CLUSTER_LEVEL_CHARACTERS`); and no act makes a new cluster.
 ///
 /// Apple's TrueType Reference Manual, "The 'morx' table", and the section on state tables in "Font Tables".
-pub trait driver_context_t<T: Copy> {
-    ghost use Rattle.std.specs.Prelude.{ℕ, Bool};
+pub trait driver_context_t<T: Acting> {
+    ghost use Rattle.std.specs.Prelude.{ℕ, Bool, true};
     ghost use Rattle.aat_buffer.specs.Buffer.{Buffer};
     ghost use Rattle.aat_buffer.specs.Clusters.{IsSmall};
     ghost use Rattle.aat_font.specs.declared.state_table.GenericStateEntry.{GenericStateEntry};
     ghost use Rattle.aat_run.specs.Context.{Moved};
     ghost use Rattle.aat_run.specs.Driven.{IsRefusal, IsRefused};
-    ghost use Rattle.aat_run.specs.Laws.{RestsBy, FitsWhereFresh, KeepsFit, PassesFit, Pays, Bounded, Lengthens, MakesNoPositions, KeepsSettings, KeepsPlaceWhere, KeepsLengthWhere, KeepsClusterOrder};
+    ghost use Rattle.aat_run.specs.Laws.{ActsByEntries, RestsBy, FitsWhereFresh, KeepsFit, PassesFit, Pays, Bounded, Lengthens, MakesNoPositions, KeepsSettings, KeepsPlaceWhere, KeepsLengthWhere, KeepsClusterOrder};
 
     /// The registers fit a cursor and a length: the places that they name lie on the line, and their numbers in their
     /// types. `drive` requires it of the registers that it is handed, at cursor 0.
@@ -82,7 +82,8 @@ pub trait driver_context_t<T: Copy> {
         ensures { result ≡ advances entry.now };
 
     /// Whether the entry may do something by what the registers hold before its act: then the line is marked as unsafe
-    /// to break before the cursor. It is asked of entries that are not taken, too. `false` does not say that the entry
+    /// to break before the cursor. Where `acts_by_entries` is false it is asked of
+    /// entries that are not taken, too. `false` does not say that the entry
     /// leaves the registers as they are, nor that it would do nothing by other ones. Of the buffer it may look at
     /// cursor and length alone.
     fn is_actionable<A: Allocator + Copy>(
@@ -91,6 +92,14 @@ pub trait driver_context_t<T: Copy> {
         buffer: &hb_buffer_t<A>,
     ) -> bool
         ensures { result ≡ actionable entry.now self.now buffer.now.cursor (length buffer.now.line) };
+
+    /// `true` only where, by registers, cursor and length, each entry is actionable exactly where `Acting` says that
+    /// it may act, and advances unless its bit `DONT_ADVANCE` is set. Then the driver takes the answer of
+    /// `judged_entry` whether the line gets a mark, and else it asks `is_actionable`. `false` is right of each
+    /// context.
+    fn acts_by_entries<A: Allocator + Copy>(&self, buffer: &hb_buffer_t<A>) -> bool
+        ensures { result ≡ true → ActsByEntries T.may_act advances
+            (λ e. actionable e self.now buffer.now.cursor (length buffer.now.line)) };
 
     /// Whether the entry never acts and sets nothing, whatever the registers hold. The driver passes a glyph at once where
     /// state 0 has such an entry for it. `false` is right of each entry.

@@ -11,6 +11,7 @@ ghost use Rattle.aat_run.specs.Laws.{HasOrderOf, MeetsLaws, RunsEnd};
 ghost use Rattle.aat_run.specs.Machine.{turn};
 
 use crate::driver_context::driver_context_t;
+use aat_font::Acting;
 
 /// The least budget that a buffer holds changes no test and no payment of a run.
 #[tactic(auto, using(crate::proofs::FloorUnseen::floor_is_unseen))]
@@ -19,19 +20,19 @@ pub fn floor_is_unseen()
 {}
 
 /// Each context meets the eleven laws of `driver_context_t`, as one word.
-pub fn contexts_meet_laws<T: Copy, C: driver_context_t<T>>()
+pub fn contexts_meet_laws<T: Acting, C: driver_context_t<T>>()
     ensures { MeetsLaws C.act C.fits C.is_fresh C.stays_in_place C.keeps_length }
 {}
 
 /// Each run of a context ends by itself, within the turns that it is given, and more turns would change nothing.
-pub fn runs_end<T: Copy, C: driver_context_t<T>>()
+pub fn runs_end<T: Acting, C: driver_context_t<T>>()
     ensures { (on : ℕ → Bool) (table : TableValue (GenericStateEntry T))
         → RunsEnd (turn (machine_with on table C.advances C.actionable C.act)) C.fits }
 {}
 
 /// A run of a context keeps an order of the clusters along the line, unless clusters stay apart, and makes no new
 /// cluster.
-pub fn runs_keep_order<T: Copy, C: driver_context_t<T>>()
+pub fn runs_keep_order<T: Acting, C: driver_context_t<T>>()
     ensures { (on : ℕ → Bool) (table : TableValue (GenericStateEntry T)) (r : C) (b : Buffer)
         → C.fits r 0 (length b.line)
         → HasOrderOf b

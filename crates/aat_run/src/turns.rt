@@ -3,6 +3,7 @@
 ghost use Rattle.std.specs.Prelude.{◌≡◌, ◌+◌, ◌<◌, ◌^◌, ◌==◌, ◌&&◌, if◌then◌else◌, ℕ, Bool, true, Option, Some, length, not, OnOk, OnErr, IfOk, IfErr};
 ghost use Rattle.aat_buffer.specs.Clusters.{IsSmall};
 ghost use Rattle.aat_font.specs.Idle.{has_entry};
+ghost use Rattle.aat_font.specs.Judged.{is_safe_by};
 ghost use Rattle.aat_font.specs.Table.{TableValue, class_of, entry_of};
 ghost use Rattle.aat_font.specs.declared.state_table.GenericStateEntry.{GenericStateEntry};
 ghost use Rattle.aat_run.specs.Context.{Machine, machine_with, is_at_end, class_at, cluster_seen, entry_at};
@@ -21,12 +22,12 @@ use crate::run_state::RunState;
 use aat_buffer::{hb_buffer_t, hb_mask_t};
 use aat_font::entry_bits::class::END_OF_TEXT;
 use aat_font::entry_bits::state::START_OF_TEXT;
-use aat_font::{ExtendedStateTable, GenericStateEntry, GlyphId};
+use aat_font::{Acting, ExtendedStateTable, GenericStateEntry, GlyphId};
 use std::alloc::Allocator;
 
 /// The class at the cursor: 0, `END_OF_TEXT`, at the end, and 1, `OUT_OF_BOUNDS`, of a glyph without a class. Each
 /// glyph id has to be at most 0xFFFF. Besides the search of the class it takes a bounded number of steps.
-pub fn class_at_cursor<T: Copy, A: Allocator + Copy>(
+pub fn class_at_cursor<T: Acting, A: Allocator + Copy>(
     machine: &ExtendedStateTable<T>,
     buffer: &hb_buffer_t<A>,
 ) -> u16
@@ -57,7 +58,7 @@ fn count<A: Allocator + Copy>(buffer: &hb_buffer_t<A>, run_state: &mut RunState)
 
 /// Whether another entry is not actionable, goes to the state of this one, and advances as it does.
 #[tactic(auto, unfolding(crate::specs::inside::Branches::does_alike))]
-fn does_alike<T: Copy, C: driver_context_t<T>, A: Allocator + Copy>(
+fn does_alike<T: Acting, C: driver_context_t<T>, A: Allocator + Copy>(
     context: &C,
     buffer: &hb_buffer_t<A>,
     entry: &GenericStateEntry<T>,
@@ -82,7 +83,7 @@ fn does_alike<T: Copy, C: driver_context_t<T>, A: Allocator + Copy>(
 }
 
 /// Whether an entry stays, and goes to the state for the start of the text.
-fn stays_for_start<T: Copy, C: driver_context_t<T>>(
+fn stays_for_start<T: Acting, C: driver_context_t<T>>(
     context: &C,
     entry: &GenericStateEntry<T>,
 ) -> bool
@@ -93,7 +94,7 @@ fn stays_for_start<T: Copy, C: driver_context_t<T>>(
 
 /// Whether the state for the start of the text leads on from the cursor as the run goes on: HarfBuzz's condition 2, of
 /// which one part is enough. What a part that begins there would find in its registers is not looked at.
-fn restarts_alike<T: Copy, C: driver_context_t<T>, A: Allocator + Copy>(
+fn restarts_alike<T: Acting, C: driver_context_t<T>, A: Allocator + Copy>(
     machine: &ExtendedStateTable<T>,
     context: &C,
     buffer: &hb_buffer_t<A>,
@@ -125,7 +126,7 @@ fn restarts_alike<T: Copy, C: driver_context_t<T>, A: Allocator + Copy>(
 /// Whether the line gets no mark before the cursor, by the three conditions of HarfBuzz, which numbers them so. Where
 /// it gets none the two parts may still come out differently: `specs/Safe.antt` says what the mark tells.
 #[tactic(auto, using(crate::specs::facts::SafeBranches::safe_by_branches))]
-fn is_safe<T: Copy, C: driver_context_t<T>, A: Allocator + Copy>(
+fn is_safe<T: Acting, C: driver_context_t<T>, A: Allocator + Copy>(
     machine: &ExtendedStateTable<T>,
     context: &C,
     buffer: &hb_buffer_t<A>,
@@ -153,18 +154,45 @@ fn is_safe<T: Copy, C: driver_context_t<T>, A: Allocator + Copy>(
     }
 }
 
+/// Whether the line gets no mark before the cursor: as `judged_entry` says, where the context acts by entries, and
+/// else by `is_safe`.
+#[tactic(auto, using(crate::specs::facts::SafeBranches::safe_by_entries))]
+fn is_safe_at_cursor<T: Acting, C: driver_context_t<T>, A: Allocator + Copy>(
+    machine: &ExtendedStateTable<T>,
+    context: &C,
+    buffer: &hb_buffer_t<A>,
+    entry: &GenericStateEntry<T>,
+    is_judged_safe: bool,
+    class: u16,
+    run_state: RunState,
+) -> bool
+    requires judged { is_judged_safe ≡ is_safe_by T.may_act run_state.state entry.now
+        (entry_of machine.now 0 class) (entry_of machine.now run_state.state 0) }
+    ensures { (on : ℕ → Bool) → result ≡ is_safe (machine_with on machine.now C.advances C.actionable C.act) entry.now
+        (entry_of machine.now 0 class) (entry_of machine.now run_state.state 0)
+        (config buffer.now context.now run_state) }
+{
+    if context.acts_by_entries(buffer) {
+        return is_judged_safe;
+    }
+    is_safe(machine, context, buffer, entry, class, run_state)
+}
+
 /// Marks the line before the cursor as unsafe to break, unless `is_safe` holds there.
 #[tactic(auto, unfolding(crate::specs::Machine::marked))]
-fn mark_unsafe<T: Copy, C: driver_context_t<T>, A: Allocator + Copy>(
+fn mark_unsafe<T: Acting, C: driver_context_t<T>, A: Allocator + Copy>(
     machine: &ExtendedStateTable<T>,
     context: &C,
     buffer: &mut hb_buffer_t<A>,
     entry: &GenericStateEntry<T>,
+    is_judged_safe: bool,
     class: u16,
     run_state: RunState,
 )
     requires ids { IsSmall buffer.old }
     requires class { class ≡ class_at (class_of machine.now) buffer.old }
+    requires judged { is_judged_safe ≡ is_safe_by T.may_act run_state.state entry.now
+        (entry_of machine.now 0 class) (entry_of machine.now run_state.state 0) }
     ensures marked { (on : ℕ → Bool)
         → buffer.new ≡ marked (machine_with on machine.now C.advances C.actionable C.act) entry.now
         (config buffer.old context.now run_state) }
@@ -174,7 +202,15 @@ fn mark_unsafe<T: Copy, C: driver_context_t<T>, A: Allocator + Copy>(
     ensures settings { SameSettings buffer.old buffer.new }
 {
     if 0 < buffer.backtrack_len() && buffer.has_current() {
-        if !is_safe(machine, context, buffer, entry, class, run_state) {
+        if !is_safe_at_cursor(
+            machine,
+            context,
+            buffer,
+            entry,
+            is_judged_safe,
+            class,
+            run_state,
+        ) {
             buffer.unsafe_to_break_at_cursor();
         }
     }
@@ -203,17 +239,20 @@ fn settle<A: Allocator + Copy>(buffer: &mut hb_buffer_t<A>, does_advance: bool) 
 
 /// The mark, the act and the new state of an entry: whether the run goes on.
 #[tactic(auto, using(crate::specs::facts::Settings::refused_behind), unfolding(crate::specs::Machine::acted))]
-fn act<T: Copy, C: driver_context_t<T>, A: Allocator + Copy>(
+fn act<T: Acting, C: driver_context_t<T>, A: Allocator + Copy>(
     machine: &ExtendedStateTable<T>,
     context: &mut C,
     buffer: &mut hb_buffer_t<A>,
     entry: &GenericStateEntry<T>,
+    is_judged_safe: bool,
     class: u16,
     run_state: &mut RunState,
 ) -> Result<bool, AatError>
     requires fit { C.fits context.old buffer.old.cursor (length buffer.old.line) }
     requires ids { IsSmall buffer.old }
     requires class { class ≡ class_at (class_of machine.now) buffer.old }
+    requires judged { is_judged_safe ≡ is_safe_by T.may_act run_state.old.state entry.now
+        (entry_of machine.now 0 class) (entry_of machine.now run_state.old.state 0) }
     ensures turn { (on : ℕ → Bool) → IfOk result (λ goes.
         acted (machine_with on machine.now C.advances C.actionable C.act) entry.now
         (config buffer.old context.old run_state.old)
@@ -224,7 +263,15 @@ fn act<T: Copy, C: driver_context_t<T>, A: Allocator + Copy>(
         (config buffer.old context.old run_state.old))).buffer) }
     ensures refused { OnErr result (IsRefused buffer.old buffer.new) }
 {
-    mark_unsafe(machine, &*context, buffer, entry, class, *run_state);
+    mark_unsafe(
+        machine,
+        &*context,
+        buffer,
+        entry,
+        is_judged_safe,
+        class,
+        *run_state,
+    );
     context.transition(entry, buffer)?;
     run_state.state = entry.new_state;
     Ok(settle(buffer, context.can_advance(entry)))
@@ -232,7 +279,7 @@ fn act<T: Copy, C: driver_context_t<T>, A: Allocator + Copy>(
 
 /// What the entry at a state and the cursor does; a missing one ends the run.
 #[tactic(auto, unfolding(crate::specs::Machine::by_entry))]
-fn act_by_entry<T: Copy, C: driver_context_t<T>, A: Allocator + Copy>(
+fn act_by_entry<T: Acting, C: driver_context_t<T>, A: Allocator + Copy>(
     machine: &ExtendedStateTable<T>,
     context: &mut C,
     buffer: &mut hb_buffer_t<A>,
@@ -253,14 +300,23 @@ fn act_by_entry<T: Copy, C: driver_context_t<T>, A: Allocator + Copy>(
     ensures refused { OnErr result (IsRefused buffer.old buffer.new) }
 {
     let class = class_at_cursor(machine, buffer);
-    match machine.entry(run_state.state, class) {
-        Some(entry) => act(machine, context, buffer, &entry, class, run_state),
+    let judged = machine.judged_entry(run_state.state, class);
+    match judged.entry() {
+        Some(entry) => act(
+            machine,
+            context,
+            buffer,
+            &entry,
+            judged.is_safe(),
+            class,
+            run_state,
+        ),
         None => Ok(false),
     }
 }
 
 /// Whether the state for the start of the text has an entry for the end, and that rests.
-pub(crate) fn rests_at_end<T: Copy, C: driver_context_t<T>>(
+pub(crate) fn rests_at_end<T: Acting, C: driver_context_t<T>>(
     machine: &ExtendedStateTable<T>,
     context: &C,
 ) -> bool
@@ -274,7 +330,7 @@ pub(crate) fn rests_at_end<T: Copy, C: driver_context_t<T>>(
 
 /// One turn: whether the run goes on.
 #[tactic(auto, unfolding(crate::specs::Machine::turn, crate::specs::Machine::off))]
-pub(crate) fn turn_once<T: Copy, C: driver_context_t<T>, A: Allocator + Copy>(
+pub(crate) fn turn_once<T: Acting, C: driver_context_t<T>, A: Allocator + Copy>(
     machine: &ExtendedStateTable<T>,
     context: &mut C,
     buffer: &mut hb_buffer_t<A>,

@@ -2,8 +2,8 @@
 use Rattle.std.specs.Prelude.{ℕ, ◌==◌, ◌&&◌, ◌||◌, not, Bool, true, nat_lt, List, find, reverse}
 use Rattle.std.specs.List.{list_all}
 use Rattle.std.specs.Option.{option_map_or}
+use Rattle.aat_font.specs.Truth.{is_alike}
 use Rattle.aat_font.specs.declared.plan.Feature.{Feature}
-use Rattle.aat_run.specs.Truth.{is_alike}
 
 -- a feature holds a cluster: the cluster is in its range, of which the end u32::MAX never comes
 abbrev pub holds : ℕ → Feature → Bool

@@ -3,7 +3,7 @@ ghost use Rattle.std.specs.Prelude.{◌≡◌};
 
 use crate::log::Log;
 use aat_buffer::hb_buffer_t;
-use aat_font::GenericStateEntry;
+use aat_font::{Acting, GenericStateEntry};
 use aat_run::{AatError, driver_context_t};
 use std::alloc::Allocator;
 use std::marker::Model;
@@ -39,7 +39,7 @@ impl<'a, C> Traced<'a, C> {
     }
 }
 
-impl<'a, T: Copy, C: driver_context_t<T>> driver_context_t<T> for Traced<'a, C> {
+impl<'a, T: Acting, C: driver_context_t<T>> driver_context_t<T> for Traced<'a, C> {
     ghost use Rattle.std.specs.Prelude.{false};
     ghost use Rattle.aat_run.specs.facts.IdleRuns.{never_rests};
 
@@ -65,6 +65,10 @@ impl<'a, T: Copy, C: driver_context_t<T>> driver_context_t<T> for Traced<'a, C> 
 
     fn can_advance(&self, entry: &GenericStateEntry<T>) -> bool {
         self.inner.can_advance(entry)
+    }
+
+    fn acts_by_entries<A: Allocator + Copy>(&self, buffer: &hb_buffer_t<A>) -> bool {
+        self.inner.acts_by_entries(buffer)
     }
 
     /// No entry rests, since each transition is counted.

@@ -7,9 +7,10 @@ use aat_layout::font::entry_bits::ligature::{
 use aat_layout::font::entry_bits::rearrangement::{MARK_FIRST, MARK_LAST};
 use aat_layout::font::entry_bits::{DONT_ADVANCE, NO_INDEX, contextual, insertion};
 use aat_layout::font::{
-    Chain, ChainFeature, ContextualEntryData, ContextualSubtable, Coverage, ExtendedStateTable,
-    FaceTables, Feat, FeatureName, GenericStateEntry, GlyphId, InsertionEntryData,
-    InsertionSubtable, LigatureSubtable, Lookup, Morx, Subtable, SubtableKind, hb_font_t,
+    Acting, Chain, ChainFeature, ContextualEntryData, ContextualSubtable, Coverage,
+    ExtendedStateTable, FaceTables, Feat, FeatureName, GenericStateEntry, GlyphId,
+    InsertionEntryData, InsertionSubtable, LigatureSubtable, Lookup, Morx, Subtable, SubtableKind,
+    hb_font_t,
 };
 use std::alloc::{AllocError, Global};
 use std::test::Fail;
@@ -61,7 +62,7 @@ fn add_rules<T: Copy>(
 }
 
 /// A machine with these entries, and idle ones at all other states and classes.
-fn machine<T: Copy>(
+fn machine<T: Acting>(
     alloc: Global,
     listed: &[Rule<T>],
     idle: T,

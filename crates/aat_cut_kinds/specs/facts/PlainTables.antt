@@ -3,11 +3,11 @@ use Rattle.std.proofs.Common.{◌≡◌, ◌∙◌, ℕ, ◌+◌, ◌*◌, ◌==
 use Rattle.std.proofs.lemmas.Option.{same_Some}
 use Rattle.aat_font.specs.Entries.{goes_on, has_flag, is_present}
 use Rattle.aat_font.specs.Table.{Rule, TableValue, entry_of, known_class, rule_key}
+use Rattle.aat_font.specs.Truth.{is_some_and, is_alike}
 use Rattle.aat_font.specs.declared.entries.InsertionEntryData.{InsertionEntryData}
 use Rattle.aat_font.specs.declared.plan.GlyphId.{GlyphId}
 use Rattle.aat_run.specs.Context.{Config, Machine, machine_of}
 use Rattle.aat_run.specs.Safe.{is_safe}
-use Rattle.aat_run.specs.Truth.{is_alike, is_some_and}
 use Rattle.aat_kinds.specs.Insertion.{Entry, Registers, actionable, context}
 use Rattle.aat_cut_kinds.specs.Settled.{HasEntries, IsPlain}
 

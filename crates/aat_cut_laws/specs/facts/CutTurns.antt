@@ -6,12 +6,12 @@ use Rattle.std.specs.Prelude.{int_lt, negsuc, pos, ◌-ℤ◌}
 use Rattle.aat_buffer.specs.Buffer.{Buffer}
 use Rattle.aat_buffer.specs.facts.Cases.{either}
 use Rattle.aat_glyph.specs.declared.glyph.hb_glyph_info_t.{hb_glyph_info_t}
+use Rattle.aat_font.specs.Truth.{is_alike}
 use Rattle.aat_run.specs.Budget.{has_operations, operations_left, paid}
 use Rattle.aat_run.specs.Context.{Config, Machine, Moved, class_at, cluster_seen, is_at_end, is_inside}
 use Rattle.aat_run.specs.Laws.{KeepsFit, PassesFit, Pays, Stands}
 use Rattle.aat_run.specs.Machine.{Goes, Turn, acted, behind_act, break_marked_at, by_entry, counted, left_by, marked, passed, run_to_end, settled_by, stepped, turn}
 use Rattle.aat_run.specs.Safe.{is_safe}
-use Rattle.aat_run.specs.Truth.{is_alike}
 use Rattle.aat_run.specs.facts.MachineRuns.{cursor_of_marked, length_of_marked, paid_less, turn_falls, turn_when_on, whole_step}
 use Rattle.aat_run.specs.facts.Runs.{followed}
 use Rattle.aat_run.specs.inside.Branches.{acts}

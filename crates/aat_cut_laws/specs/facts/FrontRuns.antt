@@ -5,12 +5,12 @@ use Rattle.std.proofs.lemmas.Bool.Decides.{nat_tests}
 use Rattle.aat_buffer.specs.Buffer.{Buffer}
 use Rattle.aat_buffer.specs.facts.Cases.{chosen}
 use Rattle.aat_glyph.specs.declared.glyph.hb_glyph_info_t.{hb_glyph_info_t}
+use Rattle.aat_font.specs.Truth.{is_some_and, is_alike}
 use Rattle.aat_run.specs.Budget.{has_operations, paid, potential}
 use Rattle.aat_run.specs.Context.{Config, Machine, Moved, class_at, is_inside}
 use Rattle.aat_run.specs.Laws.{KeepsFit, PassesFit, Pays, Stands}
 use Rattle.aat_run.specs.Machine.{Ends, Goes, OnGoes, Turn, acted, behind_act, break_marked_at, by_entry, counted, left_by, marked, off, passed, run_to_end, settled_by, stepped, turn}
 use Rattle.aat_run.specs.Safe.{is_safe}
-use Rattle.aat_run.specs.Truth.{is_alike, is_some_and}
 use Rattle.aat_run.specs.facts.MachineRuns.{cursor_of_marked, length_of_marked, turn_falls, whole_step}
 use Rattle.aat_run.specs.facts.Runs.{mapped}
 use Rattle.aat_run.specs.facts.Turns.{Lower}

@@ -3,9 +3,13 @@ use Rattle.std.specs.Prelude.{◌≡◌, ◌+◌, ◌*◌, ◌-◌, ◌/◌, ◌
 use Rattle.std.specs.List.{list_any}
 use Rattle.aat_font.specs.declared.dense.Dense.{Dense}
 use Rattle.aat_font.specs.declared.dense.Dense.TheVariants.{Array, Moves, Classes, Pages, Search}
+use Rattle.aat_font.specs.Judged.{is_safe_by}
 use Rattle.aat_font.specs.Keys.{first, value_in, at_key}
 use Rattle.aat_font.specs.Moves.{place_over, AreMoved}
 use Rattle.aat_font.specs.Table.{Rule, rule_key}
+use Rattle.aat_font.specs.declared.judged.JudgedEntry.{JudgedEntry}
+use Rattle.aat_font.specs.declared.judged.JudgedEntry.TheVariants.{Missing, Safe, Unsafe}
+use Rattle.aat_font.specs.declared.state_table.GenericStateEntry.{GenericStateEntry}
 use Rattle.aat_font.specs.inside.GlyphSpans.{cell_count}
 
 -- the value of a glyph in an array over the glyphs from the lowest on, none outside it
@@ -75,6 +79,18 @@ PairsWithin lowest count pairs =
 abbrev pub ruled_entry : {E : Type 0} → List (Rule E) → ℕ → ℕ → Option E
 ruled_entry rules state class = option_map (λ r. r.2) (at_key rule_key rules (state * 65536 + class))
 
+-- an entry by its state, the entry of state 0 for its class and that of its state for the end of the text
+abbrev pub judged : {T : Type 0} → (GenericStateEntry T → Bool) → ℕ → Option (GenericStateEntry T)
+    → Option (GenericStateEntry T) → Option (GenericStateEntry T) → JudgedEntry T
+judged acts state None from_start at_end = Missing
+judged acts state (Some e) from_start at_end = if is_safe_by acts state e from_start at_end then Safe e else Unsafe e
+
+-- the entry that rules have for a state and a class, judged by those that they have
+abbrev pub judged_rule : {T : Type 0} → (GenericStateEntry T → Bool) → List (Rule (GenericStateEntry T)) → ℕ → ℕ
+    → JudgedEntry T
+judged_rule acts rules state class =
+    judged acts state (ruled_entry rules state class) (ruled_entry rules 0 class) (ruled_entry rules state 0)
+
 -- the number of states of a grid up to that of a rule's number, none where they have more than 65,536 cells
 abbrev pub states_to : ℕ → ℕ → ℕ
 states_to class_count key =
@@ -91,7 +107,8 @@ RulesBelow {E} states rules =
     (i : ℕ) (d : Rule E) → i < length rules → rule_key (slice_index_or rules i d) < states * 65536
 
 -- a grid of states by classes answers as rules do, unless it is empty
-abbrev pub AnswersAsRules : {E : Type 0} → ℕ → List (Option E) → List (Rule E) → Type 0
-AnswersAsRules class_count cells rules =
+abbrev pub AnswersAsRules : {T : Type 0} → (GenericStateEntry T → Bool) → ℕ → List (JudgedEntry T)
+    → List (Rule (GenericStateEntry T)) → Type 0
+AnswersAsRules acts class_count cells rules =
     0 < length cells → (state class : ℕ) → class < class_count
-    → slice_index_or cells (state * class_count + class) None ≡ ruled_entry rules state class
+    → slice_index_or cells (state * class_count + class) Missing ≡ judged_rule acts rules state class

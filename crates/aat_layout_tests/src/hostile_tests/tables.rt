@@ -2,8 +2,8 @@
 
 use crate::hostile_tests::numbers::{GLYPHS, Numbers};
 use aat_layout::font::{
-    ContextualEntryData, EntryData, ExtendedStateTable, GenericStateEntry, InsertionEntryData,
-    KernEntryData, Lookup, TableError,
+    Acting, ContextualEntryData, EntryData, ExtendedStateTable, GenericStateEntry,
+    InsertionEntryData, KernEntryData, Lookup, TableError,
 };
 use std::alloc::{AllocError, Global};
 
@@ -48,7 +48,7 @@ const PLACES: [u16; 12] = [0, 0, 1, 2, 3, 4, 5, 31, 32, 33, 65534, 65535];
 type Rule<T> = (u16, u16, GenericStateEntry<T>);
 
 /// What an entry holds beside a state and flags.
-pub(crate) trait Extra: Copy {
+pub(crate) trait Extra: Acting {
     /// Places about the ends of the lists.
     fn hostile(numbers: &mut Numbers) -> Self;
 }

@@ -161,8 +161,7 @@ module _ {R T : Type 0} (on : ℕ → Bool) (table : TableValue (GenericStateEnt
         let same_line : c.buffer.line ≡ b.line = line_of x.in_place in
         let over = idle_by on table x.advances x.actionable x.act rests law.law law.advances f.0 f.1 f.2 (potential c.buffer + 1) (length c.buffer.line) c refl (omega arith) (omega arith) (rw same_line idle) in
         let turns : (run_to_end (machine_of on table x) c).turns ≡ length b.line + 1 = omega (arith, over.counted, ap (λ (gs : List hb_glyph_info_t). length gs) same_line) in
-        ap (λ (d : Buffer). record { buffer = d; turns = (run_to_end (machine_of on table x) c).turns }) over.buffer
-        ∙ ap (λ (n : ℕ). record { buffer = with_cursor (cond x.in_place b (without_positions b)) 0; turns = n }) turns
+        rw (over.buffer, turns) refl
       where
         line_of : (in_place : Bool) → (cond in_place b (without_positions b)).line ≡ b.line
         line_of true = refl

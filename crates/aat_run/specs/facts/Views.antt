@@ -2,12 +2,12 @@
 use Rattle.std.proofs.Common.{◌≡◌, ℕ, ◌+◌, ◌&&◌, ◌==◌, not, Bool, true, false, cond, length, Option, Some, None, refl, ap, sym, ◌∙◌}
 use Rattle.aat_buffer.specs.Buffer.{Buffer}
 use Rattle.aat_run.specs.Context.{Machine, Moved, Config, is_at_end, is_inside, class_at}
-use Rattle.aat_run.specs.Truth.{is_alike}
 use Rattle.aat_run.specs.Machine.{Turn, Ends, Goes, behind_act, settled_by, stepped, break_marked_at, marked, acted, by_entry, off, passed, counted, turn, run_to_end}
 use Rattle.aat_run.specs.Safe.{is_safe}
 use Rattle.aat_run.specs.Budget.{potential}
 use Rattle.aat_run.specs.inside.Branches.{safe_branches, acts, does_alike, is_idle_at_end}
 use Rattle.aat_buffer.specs.facts.Cases.{chosen}
+use Rattle.aat_font.specs.Truth.{is_alike}
 use Rattle.aat_run.specs.facts.Runs.{OnGoes, mapped, run_maps}
 use Rattle.aat_run.specs.facts.SafeBranches.{safe_by_branches}
 use Rattle.aat_run.specs.facts.Turns.{settled_goes}

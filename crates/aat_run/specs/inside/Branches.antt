@@ -1,8 +1,8 @@
 -- The formula of a safe turn, as the branches that a body takes: SafeBranches of the facts shows that they are the
 -- formula.
 use Rattle.std.specs.Prelude.{◌==◌, ◌&&◌, not, Bool, true, false, Option, Some, None, length, if◌then◌else◌}
+use Rattle.aat_font.specs.Truth.{is_alike}
 use Rattle.aat_run.specs.Context.{Machine, Config}
-use Rattle.aat_run.specs.Truth.{is_alike}
 
 module _ {R E : Type 0} (m : Machine R E) (c : Config R) where
   abbrev pub acts : E → Bool

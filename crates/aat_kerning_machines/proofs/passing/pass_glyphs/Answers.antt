@@ -22,7 +22,7 @@ returns-then-count-gt0-clause-come g c pays_first =
     let m = machine_over run d.actionable d.act pays_first in
     let glyphs = passed_from d.resting run.state_table.now b count c.from_cursor.result.now c.from_cursor.ensures c.passed_count-count.ensures.within c.if-count-gt0.true c.passed_count-count.ensures.passed in
     let stands = come_first (kerning_turn m) d.fits from c.requires.fit in
-    rw (c.pass.ensures, c.requires.start)
+    rw (c.pass.ensures.passed, c.requires.start)
     (passed_all pays_first run.state_table.now d.actionable act d.resting (laws.rests_alone run.table.now is_cross kern_mask run.tuple_count) c.requires.end
     d.fits (laws.positions_alone run.table.now is_cross kern_mask run.tuple_count) (laws.keeps_fit run.table.now is_cross kern_mask run.tuple_count) laws.passes_fit from
     count b r turns c.if-count-gt0.true stands glyphs.0 glyphs.1)
@@ -32,9 +32,7 @@ returns-then-count-gt0-clause-entry g c =
     let table = c.args.run.now.state_table.now in
     let b = c.args.buffer.now in
     let d = c.pass.new.buffer in
-    let line : d.line ≡ b.line = rw c.pass.ensures refl in
-    let cursor : d.cursor ≡ b.cursor + c.passed_count-count.result.0 = rw c.pass.ensures refl in
-    let behind = entry_behind table b d c.passed_count-count.result.0 c.from_cursor.result.now c.from_cursor.ensures line cursor in
+    let behind = entry_behind table b d c.passed_count-count.result.0 c.from_cursor.result.now c.from_cursor.ensures c.pass.ensures.line c.pass.ensures.cursor in
     rw c.requires.start (c.passed_count-count.ensures.entry ∙ behind)
 
 pub returns-else-count-gt0-clause-entry : goal.returns-else-count-gt0-clause-entry

@@ -1,8 +1,8 @@
-use Rattle.std.proofs.Common.{◌∙◌, ap, length}
+use Rattle.std.proofs.Common.{length}
 use Rattle.std.specs.Option.{option_copied}
 use Rattle.std.proofs.lemmas.Result.{err_from_is_err_and}
 use Rattle.aat_kinds.specs.Kinds.{sizes_of}
-use Rattle.aat_map.specs.Map.{list_or, lists_for}
+use Rattle.aat_map.specs.Map.{lists_for}
 use Rattle.aat_map.proofs.DefaultLists.{list_for}
 use Rattle.aat_morx.proofs.Chained.{all_chains_ran, chain_ran, chain_refused, stays_with_more}
 use Rattle.aat_morx.proofs.chains.run_chains.Goals as goal
@@ -11,7 +11,7 @@ pub returns-in_err-turns-clause-reason : goal.returns-in_err-turns-clause-reason
 returns-in_err-turns-clause-reason g c =
     let p = err_from_is_err_and c.from_residual.result c.from_residual.ensures.1 in
     let l = c.loop-i in
-    let listed = list_for (option_copied c.args.map) c.args.chains.now l.i c.index-chains-i.result c.ranges_of-ranges.result.now c.loop-i-test.true c.index-chains-i.is (c.ranges_of-ranges.ensures.list ∙ ap (list_or (option_copied c.args.map) l.i) c.default_range.ensures) in
+    let listed = list_for (option_copied c.args.map) c.args.chains.now l.i c.index-chains-i.result c.ranges_of-ranges.result.now c.loop-i-test.true c.index-chains-i.is (rw (← c.default_range.ensures) c.ranges_of-ranges.ensures.list) in
     rw (p.1, p.2) (chain_refused (sizes_of g.row.SLOTS g.row.LONGEST c.args.face.now) c.args.chains.now (lists_for (option_copied c.args.map) c.args.chains.now) c.args.buffer.now l.i c.index-chains-i.result c.ranges_of-ranges.result.now c.deref.result.now
     c.loop-i-test.true c.index-chains-i.is listed c.deref.ensures.value l.buffer l.turns l.invariant.same
     c.in_err-turns.field-0.0 c.requires.slots l.invariant.within.settings.max_len c.in_err-turns.ensures.reason)
@@ -19,7 +19,7 @@ returns-in_err-turns-clause-reason g c =
 pub loop-i-preserved : goal.loop-i-preserved
 loop-i-preserved g c =
     let l = c.loop-i in
-    let listed = list_for (option_copied c.args.map) c.args.chains.now l.i c.index-chains-i.result c.ranges_of-ranges.result.now c.loop-i-test.true c.index-chains-i.is (c.ranges_of-ranges.ensures.list ∙ ap (list_or (option_copied c.args.map) l.i) c.default_range.ensures) in
+    let listed = list_for (option_copied c.args.map) c.args.chains.now l.i c.index-chains-i.result c.ranges_of-ranges.result.now c.loop-i-test.true c.index-chains-i.is (rw (← c.default_range.ensures) c.ranges_of-ranges.ensures.list) in
     record {
       same = chain_ran (sizes_of g.row.SLOTS g.row.LONGEST c.args.face.now) c.args.chains.now (lists_for (option_copied c.args.map) c.args.chains.now) c.args.buffer.now l.i c.index-chains-i.result c.ranges_of-ranges.result.now c.deref.result.now
           c.loop-i-test.true c.index-chains-i.is listed c.deref.ensures.value l.buffer l.turns l.invariant.same

@@ -13,8 +13,8 @@ returns-then-not-wakes-clause-run g c =
     let s = c.args.subtable.now in
     let b = c.args.buffer.now in
     let switch = switch_for c.args.run.now.ranges.now in
-    let runs : is_skipped switch s b.direction ≡ false = rw (← c.direction.ensures) (sym c.is_skipped.ensures.skipped ∙ c.if-is_skipped.false) in
-    c.pass_over.ensures.rest ∙ sym (asleep_run (sizes_of g.row.SLOTS g.row.LONGEST c.args.run.now.face.now) switch s b (c.wakes.ensures.asleep s c.requires.wake c.if-not-wakes.true) runs)
+    let runs : is_skipped switch s b.direction ≡ false = rw (← c.direction.ensures, ← c.is_skipped.ensures.skipped) c.if-is_skipped.false in
+    rw (asleep_run (sizes_of g.row.SLOTS g.row.LONGEST c.args.run.now.face.now) switch s b (c.wakes.ensures.asleep s c.requires.wake c.if-not-wakes.true) runs) c.pass_over.ensures.rest
 
 pub returns-then-not-wakes-clause-tells : goal.returns-then-not-wakes-clause-tells
 returns-then-not-wakes-clause-tells g c =

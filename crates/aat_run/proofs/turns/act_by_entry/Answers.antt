@@ -9,5 +9,5 @@ pub returns-in-Some-clause-reason : goal.returns-in-Some-clause-reason
 unfolding by_entry
 returns-in-Some-clause-reason g c on =
     let read : entry_of c.args.machine.now c.args.run_state.now.state (class_at (class_of c.args.machine.now) c.args.buffer.now) ≡ Some c.in-Some.entry =
-    sym (rw c.class_at_cursor-class.ensures at c.entry.ensures) ∙ c.in-Some.is in
+    sym (rw c.class_at_cursor-class.ensures at c.judged_entry-judged.ensures.entry) ∙ sym c.entry.ensures ∙ c.in-Some.is in
     rw read (c.act.ensures.reason on)
