@@ -110,8 +110,8 @@ impl<T: Copy> JudgedEntry<T> {
     {
         match self {
             JudgedEntry::Missing => None,
-            JudgedEntry::Safe(entry) => Some(*entry),
-            JudgedEntry::Unsafe(entry) => Some(*entry),
+            // in one arm, since no processor foresees which of them it is
+            JudgedEntry::Safe(entry) | JudgedEntry::Unsafe(entry) => Some(*entry),
         }
     }
 

@@ -201,7 +201,8 @@ fn kern_at<A: Allocator + Copy>(
 /// mask meets it too, from the last solid one on. In as many steps as the line is long, a search of the pairs for
 /// each pair of the line, and the marks.
 ///
-/// It takes no memory and cannot be refused.
+/// It takes no memory and cannot be refused. It stands apart from the machines, so that both stay short.
+#[inline(never)]
 pub(crate) fn kern_pairs<A: Allocator + Copy>(run: &PairRun, buffer: &mut hb_buffer_t<A>)
     requires ids { IsSmall buffer.old }
     requires placed { IsPlaced buffer.old }

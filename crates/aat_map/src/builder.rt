@@ -125,7 +125,9 @@ impl<A: Allocator + Copy> hb_aat_map_builder_t<A> {
         &self.current_features
     }
 
-    /// Sets the range and the settings that are kept in it, which have to rise by their group.
+    /// Sets the range and the settings that are kept in it, which have to rise by their group. It stands apart, so that
+    /// the loop over starts and ends stays short.
+    #[inline(never)]
     pub(crate) fn set_range(&mut self, range: (u32, u32), settings: Vec<feature_info_t, A>)
         requires ordered { range.0 ≤ range.1 }
         requires rising { IsRisingByGroup settings.items }

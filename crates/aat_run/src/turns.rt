@@ -27,6 +27,9 @@ use std::alloc::Allocator;
 
 /// The class at the cursor: 0, `END_OF_TEXT`, at the end, and 1, `OUT_OF_BOUNDS`, of a glyph without a class. Each
 /// glyph id has to be at most 0xFFFF. Besides the search of the class it takes a bounded number of steps.
+///
+/// It stands apart from the turns, so that these stay short.
+#[inline(never)]
 pub fn class_at_cursor<T: Acting, A: Allocator + Copy>(
     machine: &ExtendedStateTable<T>,
     buffer: &hb_buffer_t<A>,
