@@ -5,7 +5,7 @@ use crate::source::FontSource;
 use aat_bytes::{Tag, tag_at};
 use aat_face::Face;
 use aat_inspection::write_dump;
-use aat_sfnt::FontFile;
+use aat_read_sfnt::FontFile;
 use anyhow::{Context, Result, bail};
 use clap::ArgMatches;
 use std::io::Write;

@@ -6,8 +6,8 @@ use crate::tracing::write_trace;
 use aat_drawing::{
     DrawError, DrawnLine, LineMetrics, Picture, write_glyphs, write_json, write_svg,
 };
-use aat_outlines::Outlines;
-use aat_sfnt::FontFile;
+use aat_read_outlines::Outlines;
+use aat_read_sfnt::FontFile;
 use anyhow::{Context as _, Result, anyhow, bail};
 use std::alloc::Global;
 use std::io::{self, Write};

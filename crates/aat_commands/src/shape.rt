@@ -10,7 +10,7 @@ use crate::request::Request;
 use crate::source::{FontSource, text_of_file};
 use aat_drawing::DrawnLine;
 use aat_face::Face;
-use aat_sfnt::FontFile;
+use aat_read_sfnt::FontFile;
 use aat_shaper::Shaper;
 use anyhow::{Context as _, Result, anyhow};
 use clap::ArgMatches;

@@ -2,7 +2,7 @@
 
 use aat_bytes::{Fault, ReadError};
 use aat_face::Face;
-use aat_sfnt::FontFile;
+use aat_read_sfnt::FontFile;
 use anyhow::{Context, Error, Result, anyhow};
 use clap::ArgMatches;
 use std::alloc::Global;

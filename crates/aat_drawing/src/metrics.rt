@@ -1,8 +1,8 @@
 //! How much room a line takes.
 
 use aat_bytes::i16_at;
-use aat_sfnt::FontFile;
-use aat_sfnt::tags::HHEA;
+use aat_read_sfnt::FontFile;
+use aat_read_sfnt::tags::HHEA;
 
 /// How far a line reaches above and below its baseline, in units of the font.
 #[derive(Clone, Copy, PartialEq, Eq, Debug)]

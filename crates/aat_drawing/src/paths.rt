@@ -2,7 +2,7 @@
 
 use crate::error::DrawError;
 use crate::line::DrawnLine;
-use aat_outlines::{HalfPoint, Outlines, Segment, segments};
+use aat_read_outlines::{HalfPoint, Outlines, Segment, segments};
 use std::alloc::{AllocError, Global};
 use std::io::{self, Write};
 

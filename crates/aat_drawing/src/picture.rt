@@ -7,7 +7,7 @@ use crate::line::{DrawnGlyph, DrawnLine};
 use crate::marks::{half_units, write_bar, write_box};
 use crate::metrics::LineMetrics;
 use crate::paths::write_outlines;
-use aat_outlines::Outlines;
+use aat_read_outlines::Outlines;
 use std::alloc::Global;
 use std::io::{self, Write};
 

@@ -1,12 +1,12 @@
 //! Why the example font is not made.
 
-use aat_chain_writer::ChainWriteError;
 use aat_font::TableError;
-use aat_kern_writer::KernWriteError;
-use aat_kerx_writer::{AnkrWriteError, KerxWriteError};
 use aat_tracking::TrackingError;
-use aat_trak_writer::TrakWriteError;
-use aat_writer::WriteError;
+use aat_write_kern::KernWriteError;
+use aat_write_kerx::{AnkrWriteError, KerxWriteError};
+use aat_write_lookup::WriteError;
+use aat_write_morx::ChainWriteError;
+use aat_write_trak::TrakWriteError;
 use std::alloc::{AllocError, AllocFailed};
 use thiserror::Error;
 

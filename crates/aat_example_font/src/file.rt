@@ -8,18 +8,18 @@ use crate::morx::morx;
 use crate::names::{features, names};
 use crate::tracks::tracking;
 use aat_bytes::Tag;
-use aat_kern_writer::write_kern;
-use aat_kerx_reader::ANKR;
-use aat_kerx_writer::{write_ankr, write_kerx};
-use aat_lookup_reader::FEAT;
-use aat_machine_reader::MORX;
-use aat_pair_reader::{KERN, KERX};
-use aat_sfnt::tags::{CMAP, GDEF, HEAD, HHEA, HMTX, MAXP, NAME};
-use aat_sfnt_writer::{
+use aat_read_kerx::ANKR;
+use aat_read_lookup::FEAT;
+use aat_read_machine::MORX;
+use aat_read_pairs::{KERN, KERX};
+use aat_read_sfnt::tags::{CMAP, GDEF, HEAD, HHEA, HMTX, MAXP, NAME};
+use aat_read_trak::TRAK;
+use aat_write_kern::write_kern;
+use aat_write_kerx::{write_ankr, write_kerx};
+use aat_write_sfnt::{
     FontTable, write_cmap, write_font, write_gdef, write_head, write_hhea, write_hmtx, write_maxp,
 };
-use aat_trak_reader::TRAK;
-use aat_trak_writer::write_trak;
+use aat_write_trak::write_trak;
 use std::alloc::Global;
 
 /// The bytes of a table.

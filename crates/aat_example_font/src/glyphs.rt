@@ -1,6 +1,6 @@
 //! The glyphs of the example font.
 
-use aat_sfnt_writer::Mapping;
+use aat_write_sfnt::Mapping;
 
 /// How many glyphs there are.
 pub(crate) const GLYPH_COUNT: u16 = 8;

@@ -8,8 +8,8 @@ use crate::names::{
     ALTERNATES, ALTERNATES_OFF, ALTERNATES_ON, COMMON_OFF, COMMON_ON, LIGATURES, LOWER_CASE, PLAIN,
     SMALL_CAPITALS,
 };
-use aat_chain_writer::write_morx;
 use aat_font::{Chain, ChainFeature, Coverage, Morx, Subtable, SubtableKind};
+use aat_write_morx::write_morx;
 use std::alloc::Global;
 
 /// The flags of the chain.

@@ -18,30 +18,30 @@ use Rattle.aat_font.specs.FeatureNames.{kind_of}
 use Rattle.aat_font.specs.Keys.{first, first_fall}
 use Rattle.aat_font.specs.declared.feat.FeatureName.{FeatureName}
 use Rattle.aat_font.specs.inside.GlyphSpans.{glyph_span}
-use Rattle.aat_kern_reader.specs.Kern.{KernValue, kern_of}
-use Rattle.aat_kern_reader.specs.Weights.{kern_weight}
-use Rattle.aat_kern_reader.proofs.TableBounded.{kern_bounded}
-use Rattle.aat_kerx_reader.specs.AnchorLaws.{points_weight}
-use Rattle.aat_kerx_reader.specs.KerxTables.{KerxValue}
-use Rattle.aat_kerx_reader.specs.Weights.{kerx_weight}
-use Rattle.aat_kerx_reader.specs.declared.ankr.TheConstants.{ANKR}
-use Rattle.aat_kerx_reader.proofs.AnchorRows.{points_bounded}
-use Rattle.aat_kerx_reader.proofs.TableBounded.{kerx_bounded}
-use Rattle.aat_lookup_reader.specs.Features.{feat_of, feature_count, feature_name, feature_names, rising_names}
-use Rattle.aat_lookup_reader.specs.Sizes.{cells_beside, pairs_size}
-use Rattle.aat_lookup_reader.specs.declared.feat.TheConstants.{FEAT}
-use Rattle.aat_machine_reader.specs.declared.kinds.TheConstants.{MORX}
-use Rattle.aat_pair_reader.specs.declared.values.TheConstants.{KERN, KERX}
-use Rattle.aat_reader.specs.Weights.{morx_weight}
-use Rattle.aat_reader.proofs.Bounded.{memory_bounded}
-use Rattle.aat_sfnt.specs.GlyphClasses.{properties_of}
-use Rattle.aat_sfnt.specs.Metrics.{LongMetrics, advance_of}
-use Rattle.aat_sfnt.specs.declared.gdef.GlyphClasses.{GlyphClasses}
-use Rattle.aat_sfnt.specs.Directory.{Directory, bytes_of_record, directory_at, directory_of, directory_place, is_font_version, record_of, table_of}
-use Rattle.aat_trak_reader.specs.Trak.{trak_of}
-use Rattle.aat_trak_reader.specs.TrakLaws.{table_size}
-use Rattle.aat_trak_reader.specs.declared.fault.TheConstants.{TRAK}
-use Rattle.aat_trak_reader.proofs.Bounded.{traks_are_bounded}
+use Rattle.aat_read_kern.specs.Kern.{KernValue, kern_of}
+use Rattle.aat_read_kern.specs.Weights.{kern_weight}
+use Rattle.aat_read_kern.proofs.TableBounded.{kern_bounded}
+use Rattle.aat_read_kerx.specs.AnchorLaws.{points_weight}
+use Rattle.aat_read_kerx.specs.KerxTables.{KerxValue}
+use Rattle.aat_read_kerx.specs.Weights.{kerx_weight}
+use Rattle.aat_read_kerx.specs.declared.ankr.TheConstants.{ANKR}
+use Rattle.aat_read_kerx.proofs.AnchorRows.{points_bounded}
+use Rattle.aat_read_kerx.proofs.TableBounded.{kerx_bounded}
+use Rattle.aat_read_lookup.specs.Features.{feat_of, feature_count, feature_name, feature_names, rising_names}
+use Rattle.aat_read_lookup.specs.Sizes.{cells_beside, pairs_size}
+use Rattle.aat_read_lookup.specs.declared.feat.TheConstants.{FEAT}
+use Rattle.aat_read_machine.specs.declared.kinds.TheConstants.{MORX}
+use Rattle.aat_read_pairs.specs.declared.values.TheConstants.{KERN, KERX}
+use Rattle.aat_read_morx.specs.Weights.{morx_weight}
+use Rattle.aat_read_morx.proofs.Bounded.{memory_bounded}
+use Rattle.aat_read_sfnt.specs.GlyphClasses.{properties_of}
+use Rattle.aat_read_sfnt.specs.Metrics.{LongMetrics, advance_of}
+use Rattle.aat_read_sfnt.specs.declared.gdef.GlyphClasses.{GlyphClasses}
+use Rattle.aat_read_sfnt.specs.Directory.{Directory, bytes_of_record, directory_at, directory_of, directory_place, is_font_version, record_of, table_of}
+use Rattle.aat_read_trak.specs.Trak.{trak_of}
+use Rattle.aat_read_trak.specs.TrakLaws.{table_size}
+use Rattle.aat_read_trak.specs.declared.fault.TheConstants.{TRAK}
+use Rattle.aat_read_trak.proofs.Bounded.{traks_are_bounded}
 use Rattle.aat_face.specs.Chains.{chain_values_of}
 use Rattle.aat_face.specs.FaceLaws.{FaceMemoryIsBounded, IsBounded}
 use Rattle.aat_face.specs.Faces.{face_of_tables, faults_of, tables_in}

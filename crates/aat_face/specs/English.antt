@@ -1,8 +1,8 @@
 -- English names. Apple's TrueType Reference Manual, "The 'name' table".
 use Rattle.std.specs.Prelude.{ℕ, List, Option, option_map}
 use Rattle.std.specs.Option.{option_or}
-use Rattle.aat_sfnt.specs.Names.{text_of}
-use Rattle.aat_sfnt.specs.declared.name.NameKey.{NameKey}
+use Rattle.aat_read_sfnt.specs.Names.{text_of}
+use Rattle.aat_read_sfnt.specs.declared.name.NameKey.{NameKey}
 use Rattle.aat_face.specs.declared.encoding.NameEncoding.{NameEncoding}
 use Rattle.aat_face.specs.declared.encoding.NameEncoding.TheVariants.{Utf16, MacRoman}
 

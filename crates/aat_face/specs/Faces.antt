@@ -10,13 +10,13 @@ use Rattle.aat_font.specs.declared.feat.FeatureName.{FeatureName}
 use Rattle.aat_font.specs.declared.kern.KernSubtable.{KernSubtable}
 use Rattle.aat_font.specs.declared.kerx.KerxSubtable.{KerxSubtable}
 use Rattle.aat_font.specs.declared.plan.GlyphId.{GlyphId}
-use Rattle.aat_kern_reader.specs.declared.subtables.LeftOutSubtable.{LeftOutSubtable as LeftOutOfKern}
-use Rattle.aat_kerx_reader.specs.declared.subtables.LeftOutSubtable.{LeftOutSubtable}
-use Rattle.aat_lookup_reader.specs.Features.{feature_name_id, setting_name_id}
-use Rattle.aat_reader.specs.Chains.{ChainValue, values_of_morx}
-use Rattle.aat_sfnt.specs.Characters.{glyph_of}
-use Rattle.aat_sfnt.specs.Directory.{Directory, directory_of}
-use Rattle.aat_sfnt.specs.declared.cmap.Cmap.{Cmap}
+use Rattle.aat_read_kern.specs.declared.subtables.LeftOutSubtable.{LeftOutSubtable as LeftOutOfKern}
+use Rattle.aat_read_kerx.specs.declared.subtables.LeftOutSubtable.{LeftOutSubtable}
+use Rattle.aat_read_lookup.specs.Features.{feature_name_id, setting_name_id}
+use Rattle.aat_read_morx.specs.Chains.{ChainValue, values_of_morx}
+use Rattle.aat_read_sfnt.specs.Characters.{glyph_of}
+use Rattle.aat_read_sfnt.specs.Directory.{Directory, directory_of}
+use Rattle.aat_read_sfnt.specs.declared.cmap.Cmap.{Cmap}
 use Rattle.aat_tracking.specs.Tracks.{TrackingTable}
 use Rattle.aat_face.specs.Chains.{chains_in}
 use Rattle.aat_face.specs.English.{Text, english_text}

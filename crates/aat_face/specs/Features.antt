@@ -4,9 +4,9 @@ use Rattle.aat_bytes.specs.Faults.{after}
 use Rattle.aat_bytes.specs.declared.error.Fault.{Fault}
 use Rattle.aat_font.specs.declared.face.FaceTables.{FaceTables}
 use Rattle.aat_font.specs.declared.feat.FeatureName.{FeatureName}
-use Rattle.aat_lookup_reader.specs.Features.{feat_of}
-use Rattle.aat_lookup_reader.specs.declared.feat.TheConstants.{FEAT}
-use Rattle.aat_sfnt.specs.Directory.{Directory}
+use Rattle.aat_read_lookup.specs.Features.{feat_of}
+use Rattle.aat_read_lookup.specs.declared.feat.TheConstants.{FEAT}
+use Rattle.aat_read_sfnt.specs.Directory.{Directory}
 use Rattle.aat_face.specs.Tables.{found_in, table_in}
 
 -- the table of features, and its bytes, where the numbers of names stand

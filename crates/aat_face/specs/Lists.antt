@@ -1,9 +1,9 @@
 -- Values of all glyphs of a font. Apple's TrueType Reference Manual, "The 'hmtx' table".
 use Rattle.std.specs.Prelude.{ℕ, List, map, unwrap_or}
 use Rattle.std.specs.List.{range_with_len}
-use Rattle.aat_sfnt.specs.GlyphClasses.{properties_of}
-use Rattle.aat_sfnt.specs.Metrics.{LongMetrics, advance_of}
-use Rattle.aat_sfnt.specs.declared.gdef.GlyphClasses.{GlyphClasses}
+use Rattle.aat_read_sfnt.specs.GlyphClasses.{properties_of}
+use Rattle.aat_read_sfnt.specs.Metrics.{LongMetrics, advance_of}
+use Rattle.aat_read_sfnt.specs.declared.gdef.GlyphClasses.{GlyphClasses}
 
 -- each of so many glyphs with its value
 abbrev pub pairs_over : ℕ → (ℕ → ℕ) → List (ℕ × ℕ)

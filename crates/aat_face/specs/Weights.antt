@@ -8,18 +8,18 @@ use Rattle.aat_font.specs.AnchorPoints.{Points}
 use Rattle.aat_font.specs.declared.feat.FeatureName.{FeatureName}
 use Rattle.aat_font.specs.declared.kern.KernSubtable.{KernSubtable}
 use Rattle.aat_font.specs.declared.kerx.KerxSubtable.{KerxSubtable}
-use Rattle.aat_kern_reader.specs.Weights.{kern_weight}
-use Rattle.aat_kern_reader.specs.declared.subtables.LeftOutSubtable.{LeftOutSubtable}
-use Rattle.aat_kerx_reader.specs.AnchorLaws.{points_weight}
-use Rattle.aat_kerx_reader.specs.Weights.{kerx_weight}
-use Rattle.aat_lookup_reader.specs.Sizes.{pairs_size}
-use Rattle.aat_machine_reader.specs.declared.kinds.TheConstants.{MORX}
-use Rattle.aat_pair_reader.specs.declared.values.TheConstants.{KERX}
-use Rattle.aat_reader.specs.Chains.{ChainValue}
-use Rattle.aat_reader.specs.Weights.{morx_weight}
-use Rattle.aat_sfnt.specs.Directory.{directory_of, table_of}
+use Rattle.aat_read_kern.specs.Weights.{kern_weight}
+use Rattle.aat_read_kern.specs.declared.subtables.LeftOutSubtable.{LeftOutSubtable}
+use Rattle.aat_read_kerx.specs.AnchorLaws.{points_weight}
+use Rattle.aat_read_kerx.specs.Weights.{kerx_weight}
+use Rattle.aat_read_lookup.specs.Sizes.{pairs_size}
+use Rattle.aat_read_machine.specs.declared.kinds.TheConstants.{MORX}
+use Rattle.aat_read_pairs.specs.declared.values.TheConstants.{KERX}
+use Rattle.aat_read_morx.specs.Chains.{ChainValue}
+use Rattle.aat_read_morx.specs.Weights.{morx_weight}
+use Rattle.aat_read_sfnt.specs.Directory.{directory_of, table_of}
 use Rattle.aat_tracking.specs.Tracks.{TrackingTable}
-use Rattle.aat_trak_reader.specs.TrakLaws.{table_size}
+use Rattle.aat_read_trak.specs.TrakLaws.{table_size}
 use Rattle.aat_face.specs.Faces.{FaceValue}
 use Rattle.aat_face.specs.declared.weights.TheConstants.{FACE_SIZE, FAULT_SIZE, FEATURE_NAME_SIZE}
 

@@ -1,7 +1,7 @@
 //! A font with the list of its faults.
 ghost use Rattle.std.specs.Prelude.{◌≡◌, IfOk, IfErr, option_copied};
 ghost use Rattle.aat_bytes.specs.declared.error.ReadError.TheVariants as errors;
-ghost use Rattle.aat_lookup_reader.specs.Lookups.{Gives};
+ghost use Rattle.aat_read_lookup.specs.Lookups.{Gives};
 ghost use Rattle.aat_face.specs.Faces.{advances_in, face_of, face_of_tables, faults_of, feature_text, font_value, glyph_of_character, name_of, properties_in, setting_text, tables_in};
 
 use crate::chains::{chains_in, layer_tables};
@@ -18,9 +18,9 @@ use crate::text::{NameText, english_text};
 use crate::tracking::trak_in;
 use aat_bytes::{Fault, ReadError};
 use aat_font::{GlyphId, Lookup, hb_font_t};
-use aat_kerx_reader::LeftOutSubtable;
-use aat_lookup_reader::{feature_name_id, setting_name_id};
-use aat_sfnt::{Cmap, FontFile, Names};
+use aat_read_kerx::LeftOutSubtable;
+use aat_read_lookup::{feature_name_id, setting_name_id};
+use aat_read_sfnt::{Cmap, FontFile, Names};
 use aat_tracking::Tracking;
 use std::alloc::{AllocError, Global};
 use std::marker::Model;
@@ -40,7 +40,7 @@ pub struct Face<'a> {
     has_gpos: bool,
     faults: Vec<Fault>,
     left_out: Vec<LeftOutSubtable>,
-    left_out_of_kern: Vec<aat_kern_reader::LeftOutSubtable>,
+    left_out_of_kern: Vec<aat_read_kern::LeftOutSubtable>,
 }
 
 impl<'a> Model for Face<'a> {
@@ -310,7 +310,7 @@ impl<'a> Face<'a> {
 
     /// The subtables of `kern` that are left out, in their order, since their format is none that is read, or they are
     /// of variations.
-    pub fn left_out_of_kern(&self) -> &[aat_kern_reader::LeftOutSubtable]
+    pub fn left_out_of_kern(&self) -> &[aat_read_kern::LeftOutSubtable]
         ensures { result.now ≡ self.now.left_out_of_kern }
     {
         &self.left_out_of_kern

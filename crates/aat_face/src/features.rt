@@ -6,8 +6,8 @@ ghost use Rattle.aat_face.specs.Tables.{read_if_found};
 use crate::tables::{found_in, optional_table};
 use aat_bytes::{Fault, ReadError};
 use aat_font::{FaceTables, Feat};
-use aat_lookup_reader::{FEAT, read_feat};
-use aat_sfnt::FontFile;
+use aat_read_lookup::{FEAT, read_feat};
+use aat_read_sfnt::FontFile;
 use std::alloc::{AllocError, Global};
 use std::marker::Model;
 

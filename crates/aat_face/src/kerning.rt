@@ -1,16 +1,16 @@
 //! The tables of kerning: `kerx`, `kern` and `ankr`.
 ghost use Rattle.std.specs.Prelude.{◌≡◌, Some, IfOk, option_map};
-ghost use Rattle.aat_kern_reader.specs.Kern.{kern_of};
+ghost use Rattle.aat_read_kern.specs.Kern.{kern_of};
 ghost use Rattle.aat_face.specs.Kerning.{ankr_in, ankr_values_of, has_gpos_in, kern_in, kerx_in, kerx_values_of, left_out_of, left_out_of_kern};
 ghost use Rattle.aat_face.specs.Tables.{found_in, read_if_found};
 
 use crate::tables::{found_in, optional_table};
 use aat_bytes::{Fault, ReadError, Tag};
 use aat_font::{Ankr, FaceTables, Kern, Kerx};
-use aat_kern_reader::{KernRead, read_kern};
-use aat_kerx_reader::{ANKR, KerxRead, LeftOutSubtable, read_ankr, read_kerx};
-use aat_pair_reader::{KERN, KERX};
-use aat_sfnt::FontFile;
+use aat_read_kern::{KernRead, read_kern};
+use aat_read_kerx::{ANKR, KerxRead, LeftOutSubtable, read_ankr, read_kerx};
+use aat_read_pairs::{KERN, KERX};
+use aat_read_sfnt::FontFile;
 use std::alloc::{AllocError, Global};
 
 /// Glyph positioning, which is another layer's.
@@ -126,7 +126,7 @@ pub fn kerx_parts(
 pub fn kern_parts(
     alloc: Global,
     reading: Result<Option<KernRead>, Fault>,
-) -> (Option<Kern>, Vec<aat_kern_reader::LeftOutSubtable>)
+) -> (Option<Kern>, Vec<aat_read_kern::LeftOutSubtable>)
     ensures table { result.0 ≡ option_map (λ read. read.subtables) (found_in reading) }
     ensures left_out { result.1.items ≡ left_out_of_kern reading }
 {

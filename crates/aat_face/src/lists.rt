@@ -6,7 +6,7 @@ ghost use Rattle.aat_face.specs.Lists.{advance_pairs, property_pairs};
 
 use aat_bytes::ReadError;
 use aat_font::{Lookup, TableError};
-use aat_sfnt::{GlyphClasses, Metrics};
+use aat_read_sfnt::{GlyphClasses, Metrics};
 use std::alloc::{AllocError, Global};
 
 /// The lookup of pairs that rise strictly by glyph.

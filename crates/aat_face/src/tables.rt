@@ -1,16 +1,16 @@
 //! What is read of each table of a font file. A table that the directory does not name is missing, which is no fault.
 ghost use Rattle.std.specs.Prelude.{◌≡◌, MatchResult, option_copied};
-ghost use Rattle.aat_sfnt.specs.Directory.{table_of};
+ghost use Rattle.aat_read_sfnt.specs.Directory.{table_of};
 ghost use Rattle.aat_face.specs.Tables.{characters_in, classes_in, fault_in, found_in, glyph_count_in, long_metric_count_in, metrics_in, names_in, number_in, unless_missing, units_per_em_in};
 
 use crate::chains::Chains;
 use crate::features::Features;
 use aat_bytes::{Fault, FaultKind, Tag};
 use aat_font::Ankr;
-use aat_kern_reader::KernRead;
-use aat_kerx_reader::KerxRead;
-use aat_sfnt::tags::{CMAP, GDEF, HEAD, HHEA, HMTX, MAXP, NAME};
-use aat_sfnt::{Cmap, FontFile, GlyphClasses, Metrics, Names};
+use aat_read_kern::KernRead;
+use aat_read_kerx::KerxRead;
+use aat_read_sfnt::tags::{CMAP, GDEF, HEAD, HHEA, HMTX, MAXP, NAME};
+use aat_read_sfnt::{Cmap, FontFile, GlyphClasses, Metrics, Names};
 use aat_tracking::Tracking;
 
 /// The bytes of a table, or nothing where the table is missing.
@@ -32,7 +32,7 @@ pub fn glyph_count_in(file: &FontFile<'_>) -> Result<Option<u16>, Fault>
     ensures { result ≡ glyph_count_in file.now }
 {
     match optional_table(file, MAXP)? {
-        Some(bytes) => Ok(Some(aat_sfnt::glyph_count(bytes)?)),
+        Some(bytes) => Ok(Some(aat_read_sfnt::glyph_count(bytes)?)),
         None => Ok(None),
     }
 }
@@ -42,7 +42,7 @@ pub fn units_per_em_in(file: &FontFile<'_>) -> Result<Option<u16>, Fault>
     ensures { result ≡ units_per_em_in file.now }
 {
     match optional_table(file, HEAD)? {
-        Some(bytes) => Ok(Some(aat_sfnt::units_per_em(bytes)?)),
+        Some(bytes) => Ok(Some(aat_read_sfnt::units_per_em(bytes)?)),
         None => Ok(None),
     }
 }
@@ -52,7 +52,7 @@ pub fn long_metric_count_in(file: &FontFile<'_>) -> Result<Option<u16>, Fault>
     ensures { result ≡ long_metric_count_in file.now }
 {
     match optional_table(file, HHEA)? {
-        Some(bytes) => Ok(Some(aat_sfnt::long_metric_count(bytes)?)),
+        Some(bytes) => Ok(Some(aat_read_sfnt::long_metric_count(bytes)?)),
         None => Ok(None),
     }
 }

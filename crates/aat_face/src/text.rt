@@ -3,7 +3,7 @@ ghost use Rattle.std.specs.Prelude.{◌≡◌};
 ghost use Rattle.aat_face.specs.English.{english_text};
 
 use crate::encoding::NameEncoding;
-use aat_sfnt::{NameKey, Names};
+use aat_read_sfnt::{NameKey, Names};
 use std::marker::Model;
 
 /// A text of the table `name`. A contract sees it as the record `Text`.

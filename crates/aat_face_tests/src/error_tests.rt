@@ -2,16 +2,16 @@
 
 use crate::asserting::wanted;
 use aat_bytes::{Fault, FaultKind, ReadError};
-use aat_chain_writer::ChainWriteError;
 use aat_example_font::ExampleError;
 use aat_font::TableError;
-use aat_kern_writer::KernWriteError;
-use aat_kerx_writer::{AnkrWriteError, KerxWriteError};
-use aat_morx_writer::MorxWriteError;
-use aat_sfnt::tags::{CMAP, GDEF, HEAD, SFNT};
+use aat_read_sfnt::tags::{CMAP, GDEF, HEAD, SFNT};
 use aat_tracking::TrackingError;
-use aat_trak_writer::TrakWriteError;
-use aat_writer::WriteError;
+use aat_write_kern::KernWriteError;
+use aat_write_kerx::{AnkrWriteError, KerxWriteError};
+use aat_write_lookup::WriteError;
+use aat_write_machine::MorxWriteError;
+use aat_write_morx::ChainWriteError;
+use aat_write_trak::TrakWriteError;
 use std::alloc::Global;
 use std::fmt::Display;
 use std::process::Abort;

@@ -5,8 +5,8 @@ use crate::asserting::wanted;
 use crate::files::{CAPITALS, LIGATURES, set_byte, small_font};
 use aat_bytes::{Fault, FaultKind, ReadError, Tag};
 use aat_font::GlyphId;
-use aat_lookup_reader::FEAT;
-use aat_sfnt::tags::{CMAP, GDEF, HEAD, HHEA, HMTX, MAXP, NAME, SFNT};
+use aat_read_lookup::FEAT;
+use aat_read_sfnt::tags::{CMAP, GDEF, HEAD, HHEA, HMTX, MAXP, NAME, SFNT};
 use std::alloc::Global;
 use std::test::Fail;
 

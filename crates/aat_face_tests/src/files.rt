@@ -2,9 +2,9 @@
 
 use aat_bytes::Tag;
 use aat_font::FeatureName;
-use aat_lookup_reader::FEAT;
-use aat_sfnt::tags::{CMAP, GDEF, HEAD, HHEA, HMTX, MAXP, NAME};
-use aat_writer::write_feat;
+use aat_read_lookup::FEAT;
+use aat_read_sfnt::tags::{CMAP, GDEF, HEAD, HHEA, HMTX, MAXP, NAME};
+use aat_write_lookup::write_feat;
 use std::alloc::{AllocError, Global};
 use std::test::Fail;
 

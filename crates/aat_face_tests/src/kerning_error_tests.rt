@@ -1,12 +1,12 @@
 //! The texts of the errors of writers of kerning, anchor points and tracks, by value.
 
 use crate::error_tests::assert_texts;
-use aat_kern_writer::KernWriteError;
-use aat_kerx_writer::{AnkrWriteError, KerxWriteError, SubtableWriteError};
-use aat_morx_writer::MorxWriteError;
 use aat_tracking::TrackingError;
-use aat_trak_writer::TrakWriteError;
-use aat_writer::WriteError;
+use aat_write_kern::KernWriteError;
+use aat_write_kerx::{AnkrWriteError, KerxWriteError, SubtableWriteError};
+use aat_write_lookup::WriteError;
+use aat_write_machine::MorxWriteError;
+use aat_write_trak::TrakWriteError;
 use std::test::Fail;
 
 const KERN_WRITE_ERRORS: [(KernWriteError, &str); 9] = [

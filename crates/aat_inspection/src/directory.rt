@@ -1,8 +1,8 @@
 //! The tables of a font's directory.
 
 use aat_bytes::{Tag, slice, tag_at, u16_at, u32_at};
-use aat_sfnt::FontFile;
-use aat_sfnt::tags::TTCF;
+use aat_read_sfnt::FontFile;
+use aat_read_sfnt::tags::TTCF;
 use std::io::{self, Write};
 
 /// The number of bytes of a record.

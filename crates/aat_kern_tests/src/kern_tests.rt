@@ -2,8 +2,8 @@
 
 use aat_bytes::{Fault, FaultKind, ReadError};
 use aat_font::{GlyphId, Kern, KernKind, KernMachine, KernSubtable};
-use aat_kern_reader::{KernRead, LeftOutSubtable, read_kern, read_kern_machine};
-use aat_pair_reader::KERN;
+use aat_read_kern::{KernRead, LeftOutSubtable, read_kern, read_kern_machine};
+use aat_read_pairs::KERN;
 use std::alloc::Global;
 use std::test::Fail;
 

@@ -2,7 +2,7 @@
 
 use aat_bytes::{Fault, FaultKind, ReadError, Tag};
 use aat_font::{ClassPairs, GlyphId, Pairs};
-use aat_pair_reader::{
+use aat_read_pairs::{
     KERN, KERX, read_kern_classes, read_kern_indexes, read_kern_pairs, read_kerx_arrays,
     read_kerx_classes, read_kerx_pairs,
 };

@@ -4,8 +4,8 @@ use aat_font::{
     ClassPairs, ExtendedStateTable, GenericStateEntry, Kern, KernEntryData, KernKind, KernMachine,
     KernSubtable, Lookup, Pairs,
 };
-use aat_kern_reader::read_kern;
-use aat_kern_writer::{KernWriteError, write_kern};
+use aat_read_kern::read_kern;
+use aat_write_kern::{KernWriteError, write_kern};
 use std::alloc::Global;
 use std::test::Fail;
 

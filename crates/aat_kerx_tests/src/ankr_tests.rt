@@ -2,7 +2,7 @@
 
 use aat_bytes::{Fault, FaultKind, ReadError};
 use aat_font::{GlyphId, Point};
-use aat_kerx_reader::{ANKR, read_ankr};
+use aat_read_kerx::{ANKR, read_ankr};
 use std::test::Fail;
 
 /// A table with a lookup of format 6, in which glyph 3 has two points, and glyphs 5 and 7 share one.

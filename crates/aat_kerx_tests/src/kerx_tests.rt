@@ -2,8 +2,8 @@
 
 use aat_bytes::{Fault, FaultKind, ReadError};
 use aat_font::{GlyphId, KerxFormat, KerxSubtable};
-use aat_kerx_reader::{KerxRead, read_kerx};
-use aat_pair_reader::KERX;
+use aat_read_kerx::{KerxRead, read_kerx};
+use aat_read_pairs::KERX;
 use std::alloc::{AllocError, Global};
 use std::test::Fail;
 

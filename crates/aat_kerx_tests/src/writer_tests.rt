@@ -4,8 +4,8 @@ use aat_font::{
     Ankr, ClassPairs, EntryData, ExtendedStateTable, GenericStateEntry, GlyphId, Kerx, KerxFormat,
     KerxSubtable, Pairs, Point, Subtable1, Subtable4,
 };
-use aat_kerx_reader::{read_ankr, read_kerx};
-use aat_kerx_writer::{KerxWriteError, SubtableWriteError, write_ankr, write_kerx};
+use aat_read_kerx::{read_ankr, read_kerx};
+use aat_write_kerx::{KerxWriteError, SubtableWriteError, write_ankr, write_kerx};
 use std::alloc::Global;
 use std::test::Fail;
 

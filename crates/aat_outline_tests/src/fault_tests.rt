@@ -1,11 +1,11 @@
 //! Each fault, with its table, its number and its place.
 use crate::tables::{GLYPHS, PLACES};
 use aat_bytes::{Fault, FaultKind, ReadError, Tag};
-use aat_outlines::tags::{GLYF, LOCA};
-use aat_outlines::{Outlines, long_offsets};
-use aat_sfnt::FontFile;
-use aat_sfnt::tags::{HEAD, MAXP};
-use aat_sfnt_writer::{FontTable, write_font, write_head, write_maxp};
+use aat_read_outlines::tags::{GLYF, LOCA};
+use aat_read_outlines::{Outlines, long_offsets};
+use aat_read_sfnt::FontFile;
+use aat_read_sfnt::tags::{HEAD, MAXP};
+use aat_write_sfnt::{FontTable, write_font, write_head, write_maxp};
 use std::alloc::Global;
 use std::test::Fail;
 

@@ -1,7 +1,7 @@
 //! What HarfBuzz 6.0.0 draws (`hb-view --output-format=svg`), in units of the font. It begins a contour whose first point
 //! is off the curve at another point, and draws the same curve.
 use crate::tables::{GLYPHS, PLACES, off, on};
-use aat_outlines::{HalfPoint, Outline, OutlinePoint, Outlines, Segment, segments};
+use aat_read_outlines::{HalfPoint, Outline, OutlinePoint, Outlines, Segment, segments};
 use std::alloc::Global;
 use std::test::Fail;
 

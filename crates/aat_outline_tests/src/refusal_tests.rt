@@ -1,7 +1,7 @@
 //! A reader over a heap of which more is left each time: each request for memory is refused in turn.
 use crate::tables::{GLYPHS, PLACES};
 use aat_bytes::ReadError;
-use aat_outlines::Outlines;
+use aat_read_outlines::Outlines;
 use linked_list_allocator::LocalHeap;
 use std::test::Fail;
 

@@ -1,5 +1,5 @@
 //! The tables of a font of five glyphs.
-use aat_outlines::OutlinePoint;
+use aat_read_outlines::OutlinePoint;
 
 /// The data of glyphs: none, a contour of four points with one off the curve, a ring whose outer contour has all of its
 /// points off the curve, the contour and a smaller ring, and both of these turned and a flattened ring.

@@ -1,7 +1,7 @@
 //! Outlines that are written and read again, and those that are refused.
 use crate::tables::{GLYPHS, PLACES, off, on};
-use aat_outline_writer::{OutlineWriteError, write_outlines};
-use aat_outlines::{Outline, OutlinePoint, Outlines};
+use aat_read_outlines::{Outline, OutlinePoint, Outlines};
+use aat_write_outlines::{OutlineWriteError, write_outlines};
 use std::alloc::{AllocError, Global};
 use std::test::Fail;
 

@@ -6,8 +6,8 @@ use aat_font::{
     ContextualEntryData, ContextualSubtable, GlyphId, InsertionEntryData, InsertionSubtable,
     LigatureSubtable, Lookup,
 };
-use aat_morx_writer::{write_contextual, write_insertion, write_ligature, write_machine};
-use aat_writer::write_lookup;
+use aat_write_lookup::write_lookup;
+use aat_write_machine::{write_contextual, write_insertion, write_ligature, write_machine};
 use anyhow::Result;
 use std::alloc::Global;
 

@@ -6,8 +6,8 @@ use aat_font::{
     ClassPairs, EntryData, Kern, KernEntryData, KernKind, KernMachine, KernSubtable, Kerx,
     KerxFormat, KerxSubtable, Pairs, Subtable1,
 };
-use aat_kern_writer::write_kern;
-use aat_kerx_writer::write_kerx;
+use aat_write_kern::write_kern;
+use aat_write_kerx::write_kerx;
 use anyhow::Result;
 use std::alloc::{AllocError, Global};
 

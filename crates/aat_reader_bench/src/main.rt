@@ -13,8 +13,8 @@ mod sizes;
 mod table;
 
 use aat_bytes::Tag;
-use aat_machine_reader::MORX;
-use aat_pair_reader::{KERN, KERX};
+use aat_read_machine::MORX;
+use aat_read_pairs::{KERN, KERX};
 use anyhow::{Context, Result};
 use counts::print_counts;
 use kerning::{extended_table, plain_table};

@@ -3,10 +3,10 @@
 use crate::sizes::GLYPH_COUNT;
 use aat_bytes::{ReadError, Tag};
 use aat_font::Morx;
-use aat_kern_reader::{KernRead, read_kern};
-use aat_kerx_reader::{KerxRead, read_kerx};
-use aat_pair_reader::{KERN, KERX};
-use aat_reader::read_morx;
+use aat_read_kern::{KernRead, read_kern};
+use aat_read_kerx::{KerxRead, read_kerx};
+use aat_read_morx::read_morx;
+use aat_read_pairs::{KERN, KERX};
 use std::alloc::Global;
 
 /// The bytes of a table.

@@ -2,8 +2,8 @@
 
 use crate::bodies::body_of;
 use crate::sizes::Size;
-use aat_chain_writer::{ChainBytes, SubtableBytes, write_chains};
 use aat_font::{ChainFeature, Coverage};
+use aat_write_morx::{ChainBytes, SubtableBytes, write_chains};
 use anyhow::Result;
 use std::alloc::Global;
 

@@ -1,7 +1,7 @@
 //! The contours of the glyphs that are drawn. An outer contour goes clockwise, and an inner one the other way. No two
 //! contours of a glyph overlap.
 
-use aat_outlines::OutlinePoint;
+use aat_read_outlines::OutlinePoint;
 
 /// The contours of a glyph.
 pub(crate) type Drawing = &'static [&'static [OutlinePoint]];

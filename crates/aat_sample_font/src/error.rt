@@ -1,11 +1,11 @@
 //! Why the sample font is not made.
 
-use aat_chain_writer::ChainWriteError;
 use aat_example_font::ExampleError;
 use aat_font::TableError;
-use aat_kerx_writer::{AnkrWriteError, KerxWriteError};
-use aat_outline_writer::OutlineWriteError;
-use aat_writer::WriteError;
+use aat_write_kerx::{AnkrWriteError, KerxWriteError};
+use aat_write_lookup::WriteError;
+use aat_write_morx::ChainWriteError;
+use aat_write_outlines::OutlineWriteError;
 use std::alloc::{AllocError, AllocFailed};
 use thiserror::Error;
 

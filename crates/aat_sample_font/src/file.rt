@@ -8,14 +8,14 @@ use crate::morx::morx;
 use crate::names::{features, names};
 use crate::outlines::{OutlineTables, outline_tables};
 use aat_bytes::Tag;
-use aat_kerx_reader::ANKR;
-use aat_kerx_writer::{write_ankr, write_kerx};
-use aat_lookup_reader::FEAT;
-use aat_machine_reader::MORX;
-use aat_outlines::tags::{GLYF, LOCA};
-use aat_pair_reader::KERX;
-use aat_sfnt::tags::{CMAP, HEAD, HHEA, HMTX, MAXP, NAME};
-use aat_sfnt_writer::{FontTable, write_cmap, write_font};
+use aat_read_kerx::ANKR;
+use aat_read_lookup::FEAT;
+use aat_read_machine::MORX;
+use aat_read_outlines::tags::{GLYF, LOCA};
+use aat_read_pairs::KERX;
+use aat_read_sfnt::tags::{CMAP, HEAD, HHEA, HMTX, MAXP, NAME};
+use aat_write_kerx::{write_ankr, write_kerx};
+use aat_write_sfnt::{FontTable, write_cmap, write_font};
 use std::alloc::Global;
 
 /// A table: its tag and its bytes.

@@ -1,6 +1,6 @@
 //! The glyphs of the sample font: their numbers, their metrics and their characters.
 
-use aat_sfnt_writer::Mapping;
+use aat_write_sfnt::Mapping;
 
 /// How many glyphs there are.
 pub(crate) const GLYPH_COUNT: u16 = 13;

@@ -1,7 +1,7 @@
 //! The tables `head`, `hhea`, `hmtx` and `maxp` of the sample font. They are whole, so that other programs read them.
 
 use crate::glyphs::{GLYPH_COUNT, METRICS};
-use aat_writer::append_words;
+use aat_write_lookup::append_words;
 use std::alloc::{AllocError, Global};
 
 /// The units of the em.

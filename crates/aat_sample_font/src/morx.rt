@@ -4,8 +4,8 @@ use crate::capitals::capitals;
 use crate::error::SampleError;
 use crate::ligatures::ligatures;
 use crate::names::{COMMON_OFF, COMMON_ON, LIGATURES, LOWER_CASE, PLAIN, SMALL_CAPITALS};
-use aat_chain_writer::write_morx;
 use aat_font::{Chain, ChainFeature, Coverage, Morx, Subtable, SubtableKind};
+use aat_write_morx::write_morx;
 use std::alloc::Global;
 
 /// The flags of the chain.

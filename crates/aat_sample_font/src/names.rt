@@ -1,7 +1,7 @@
 //! The features of the sample font, and the English names of them and of the font.
 
-use aat_sfnt_writer::{EnglishName, NamedFeature, NamedSetting, write_name, write_named_feat};
-use aat_writer::WriteError;
+use aat_write_lookup::WriteError;
+use aat_write_sfnt::{EnglishName, NamedFeature, NamedSetting, write_name, write_named_feat};
 use std::alloc::Global;
 
 /// The type of the feature of ligatures.

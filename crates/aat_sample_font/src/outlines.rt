@@ -3,9 +3,9 @@
 use crate::drawings::{DRAWINGS, Drawing};
 use crate::error::SampleError;
 use crate::glyphs::{A, F, L};
-use aat_outline_writer::write_outlines;
-use aat_outlines::{Outline, OutlinePoint};
-use aat_writer::{append_longs, append_words};
+use aat_read_outlines::{Outline, OutlinePoint};
+use aat_write_lookup::{append_longs, append_words};
+use aat_write_outlines::write_outlines;
 use std::alloc::{AllocError, Global};
 
 /// Appends the contours of a drawing, and for each how many points there are up to its end.

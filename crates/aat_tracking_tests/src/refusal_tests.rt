@@ -2,7 +2,7 @@
 use crate::tables::TRACKS;
 use aat_bytes::ReadError;
 use aat_glyph::Direction;
-use aat_trak_reader::read_trak;
+use aat_read_trak::read_trak;
 use linked_list_allocator::LocalHeap;
 use std::test::Fail;
 

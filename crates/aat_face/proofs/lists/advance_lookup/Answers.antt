@@ -1,5 +1,5 @@
 use Rattle.std.proofs.Common.{unwrap_or}
-use Rattle.aat_sfnt.specs.Metrics.{advance_of}
+use Rattle.aat_read_sfnt.specs.Metrics.{advance_of}
 use Rattle.aat_face.proofs.Pairs.{pairs_rise}
 use Rattle.aat_face.proofs.lists.advance_lookup.Goals as goal
 

@@ -1,4 +1,4 @@
-use Rattle.aat_sfnt.specs.GlyphClasses.{properties_of}
+use Rattle.aat_read_sfnt.specs.GlyphClasses.{properties_of}
 use Rattle.aat_face.proofs.Pairs.{pairs_rise}
 use Rattle.aat_face.proofs.lists.property_lookup.Goals as goal
 

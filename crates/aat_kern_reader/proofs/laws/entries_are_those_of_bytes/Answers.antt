@@ -1,5 +1,0 @@
-use Rattle.aat_kern_reader.proofs.Entries.{entries_of_bytes}
-use Rattle.aat_kern_reader.proofs.laws.entries_are_those_of_bytes.Goals as goal
-
-pub returns : goal.returns
-returns c = entries_of_bytes

@@ -1,5 +1,0 @@
-use Rattle.aat_morx_writer.proofs.ClassTables.{lookup_is_short}
-use Rattle.aat_kerx_writer.proofs.ankr.offset_lookup.Goals as goal
-
-pub returns-clause-short : goal.returns-clause-short
-returns-clause-short c = lookup_is_short c.args.offsets.now _ c.in_ok-lookup.ensures

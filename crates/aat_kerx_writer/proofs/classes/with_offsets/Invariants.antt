@@ -1,6 +1,0 @@
-use Rattle.std.proofs.Common.{◌≡◌, map, take}
-use Rattle.aat_kerx_writer.specs.PairBytes.{with_offset}
-use Rattle.aat_kerx_writer.proofs.classes.with_offsets.Given as goal
-
-abbrev pub invariant-loop-pair : goal.invariant-loop-pair
-invariant-loop-pair l = l.rows.items ≡ map (with_offset l.width) (take l.pair-index l.pairs)

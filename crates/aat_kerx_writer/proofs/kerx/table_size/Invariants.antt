@@ -1,7 +1,0 @@
-use Rattle.std.proofs.Common.{◌≡◌, ◌^◌, take}
-use Rattle.std.specs.Prelude.{min}
-use Rattle.aat_kerx_writer.specs.KerxBytes.{table_size}
-use Rattle.aat_kerx_writer.proofs.kerx.table_size.Given as goal
-
-abbrev pub invariant-loop-subtable : goal.invariant-loop-subtable
-invariant-loop-subtable l = l.size ≡ min (table_size (take l.subtable-index l.subtables)) (2 ^ 32)

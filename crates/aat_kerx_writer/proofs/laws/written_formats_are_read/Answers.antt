@@ -1,5 +1,0 @@
-use Rattle.aat_kerx_writer.proofs.FormatsAgain as formats
-use Rattle.aat_kerx_writer.proofs.laws.written_formats_are_read.Goals as goal
-
-pub returns : goal.returns
-returns c = formats.written_formats_are_read c.written_lookups_are_read.ensures

@@ -1,5 +1,0 @@
-use Rattle.aat_kerx_writer.proofs.TableAgain as tables
-use Rattle.aat_kerx_writer.proofs.laws.written_kerx_is_read.Goals as goal
-
-pub returns : goal.returns
-returns c = tables.written_kerx_is_read c.written_formats_are_read.ensures

@@ -1,5 +1,0 @@
-use Rattle.aat_kerx_writer.proofs.PointsAgain.{written_points_are_read}
-use Rattle.aat_kerx_writer.proofs.laws.written_points_are_read.Goals as goal
-
-pub returns : goal.returns
-returns c = written_points_are_read c.written_lookups_are_read.ensures

@@ -1,9 +1,0 @@
-use Rattle.std.proofs.Common.{◌≡◌, ◌++◌, take}
-use Rattle.std.specs.List.{flat_map}
-use Rattle.aat_writer.specs.Words.{word_bytes}
-use Rattle.aat_kerx_writer.specs.PairBytes.{kerning_words}
-use Rattle.aat_kerx_writer.proofs.pairs.append_pairs.Given as goal
-
-abbrev pub invariant-loop-pair : goal.invariant-loop-pair
-invariant-loop-pair l =
-    l.out.items ≡ l.fn.out.items ++ word_bytes (flat_map kerning_words (take l.pair-index l.pairs))

@@ -1,9 +1,0 @@
-use Rattle.std.proofs.Common.{◌≡◌, ◌+◌, ◌++◌, map}
-use Rattle.std.specs.List.{range_with_len}
-use Rattle.aat_lookup_reader.specs.Segments.{value_at}
-use Rattle.aat_lookup_reader.proofs.segment.Segment.append.Given as goal
-
-abbrev pub invariant-loop-k : goal.invariant-loop-k
-invariant-loop-k g l =
-    l.pairs.items
-    ≡ l.fn.pairs.items ++ map (λ k. (l.self.first + k, value_at l.bytes l.self.values k)) (range_with_len 0 l.k)

@@ -1,8 +1,0 @@
-use Rattle.std.proofs.Common.{sym}
-use Rattle.aat_lookup_reader.proofs.Spans.{units_size}
-use Rattle.aat_lookup_reader.proofs.units.Units.pairs_size.Goals as goal
-
-pub returns : goal.returns
-returns c =
-    let sized = units_size c.args.bytes.now c.args.self c.requires in
-    rw (c.size_of_pairs.ensures, c.glyphs.ensures.is, c.span.ensures.is) (sym sized)

@@ -1,5 +1,0 @@
-use Rattle.aat_machine_reader.proofs.OfBytes.{machines_are_those_of_bytes}
-use Rattle.aat_machine_reader.proofs.laws.machines_are_those_of_bytes.Goals as goal
-
-pub returns : goal.returns
-returns g c = machines_are_those_of_bytes g.T.EntryRead.SIZE g.T.EntryRead.extra_at

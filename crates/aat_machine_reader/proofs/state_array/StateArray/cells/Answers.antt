@@ -1,7 +1,0 @@
-use Rattle.std.proofs.Common.{◌*◌, sym, ◌∙◌}
-use Rattle.aat_machine_reader.proofs.Counting.{none_missing}
-use Rattle.aat_machine_reader.proofs.state_array.StateArray.cells.Goals as goal
-
-pub returns-in-None-clause-whole : goal.returns-in-None-clause-whole
-returns-in-None-clause-whole c =
-    none_missing c.args.self.now (c.in_ok-cells.field-0 * c.self.inside.class_count) (sym c.missing_entry.ensures.first ∙ c.in-None.is)

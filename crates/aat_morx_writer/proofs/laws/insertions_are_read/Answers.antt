@@ -1,5 +1,0 @@
-use Rattle.aat_morx_writer.proofs.ListsAgain.{insertions_are_read}
-use Rattle.aat_morx_writer.proofs.laws.insertions_are_read.Goals as goal
-
-pub returns : goal.returns
-returns c = insertions_are_read c.machines_are_read.ensures

@@ -1,7 +1,0 @@
-use Rattle.std.proofs.Common.{◌≡◌, drop}
-use Rattle.aat_morx_writer.specs.MachineRefusals.{misplaced_from}
-use Rattle.aat_morx_writer.proofs.refusals.misplaced.Given as goal
-
-abbrev pub invariant-loop-cell : goal.invariant-loop-cell
-invariant-loop-cell g l =
-    misplaced_from l.class_count l.cell (drop l.cell l.rules) ≡ misplaced_from l.class_count 0 l.rules

@@ -1,6 +1,0 @@
-use Rattle.std.proofs.Common.{◌≡◌, ◌++◌, map, take}
-use Rattle.aat_outline_writer.specs.GlyphData.{flag_of}
-use Rattle.aat_outline_writer.proofs.glyph.append_flags.Given as goal
-
-abbrev pub invariant-loop-point : goal.invariant-loop-point
-invariant-loop-point g l = l.out.items ≡ l.fn.out.items ++ map flag_of (take l.point-index l.points)

@@ -1,6 +1,0 @@
-use Rattle.std.proofs.Common.{◌≡◌}
-use Rattle.aat_outlines.specs.SimpleGlyphs.{ends_of}
-use Rattle.aat_outlines.proofs.simple.ends_of.Given as goal
-
-abbrev pub invariant-loop-contour : goal.invariant-loop-contour
-invariant-loop-contour g l = l.ends.items ≡ ends_of l.bytes l.contour

@@ -1,5 +1,0 @@
-use Rattle.aat_pair_reader.proofs.AddedUp.{offsets_are_added_up}
-use Rattle.aat_pair_reader.proofs.laws.offsets_are_added_up.Goals as goal
-
-pub returns : goal.returns
-returns c = offsets_are_added_up

@@ -1,0 +1,167 @@
+//! Lookups from bytes.
+ghost use Rattle.std.specs.Prelude.{◌≡◌, ◌++◌, None, Ok, IfOk, OnOk, MatchResult};
+ghost use Rattle.std.specs.List.{flat_map};
+ghost use Rattle.aat_font.specs.Keys.{first, first_fall};
+ghost use Rattle.aat_font.specs.Segments.{first_segment_fall, pairs_of_segments};
+ghost use Rattle.aat_read_lookup.specs.Lookups.{Gives, Refuses, lookup_at, pairs_of};
+ghost use Rattle.aat_read_lookup.specs.inside.Sound.{AreSound, IsSound};
+ghost use Rattle.aat_read_lookup.specs.declared.layout.Layout.TheVariants.{Searched};
+
+use crate::layout::Layout;
+use crate::units::Units;
+use aat_bytes::{ReadError, Tag};
+use aat_font::{Lookup, LookupSegment, TableError};
+use std::alloc::{AllocError, Allocator};
+
+/// Appends the pairs of units.
+fn append_units<A: Allocator>(
+    units: Units,
+    bytes: &[u8],
+    pairs: &mut Vec<(u16, u16), A>,
+) -> Result<(), AllocError>
+    requires { AreSound bytes.now units }
+    ensures { OnOk result (pairs.new.items ≡ pairs.old.items ++ pairs_of bytes.now (Searched units)) }
+{
+    for i in 0..units.count {
+        units.segment(i, bytes).append(bytes, pairs)?;
+    }
+    Ok(())
+}
+
+/// The pairs of a layout, in memory of their own size.
+pub(crate) fn pairs_of<A: Allocator>(
+    alloc: A,
+    layout: Layout,
+    bytes: &[u8],
+) -> Result<Vec<(u16, u16), A>, AllocError>
+    requires { IsSound bytes.now layout }
+    ensures { IfOk result (λ pairs. pairs.items ≡ pairs_of bytes.now layout) }
+{
+    let mut pairs = Vec::with_capacity(alloc, layout.glyphs(bytes))?;
+    match layout {
+        Layout::Array(segment) => segment.append(bytes, &mut pairs)?,
+        Layout::Searched(units) => append_units(units, bytes, &mut pairs)?,
+    }
+    Ok(pairs)
+}
+
+/// Reads the pairs of the lookup that starts at a place of a table, as `read_lookup` does, with the same faults.
+pub fn read_pairs<A: Allocator>(
+    alloc: A,
+    table: Tag,
+    bytes: &[u8],
+    place: usize,
+    glyph_count: u16,
+) -> Result<Vec<(u16, u16), A>, ReadError>
+    ensures { let read = lookup_at table bytes.now place glyph_count in
+        MatchResult result (λ pairs. read ≡ Ok pairs.items) (Refuses read) }
+{
+    let layout = Layout::read(table, bytes, place, glyph_count)?;
+    Ok(pairs_of(alloc, layout, bytes)?)
+}
+
+/// The lookup of pairs. Fails only where it gets no memory.
+pub(crate) fn lookup_of_pairs<A: Allocator + Copy>(
+    alloc: A,
+    pairs: &[(u16, u16)],
+) -> Result<Lookup<A>, AllocError>
+    requires { first_fall first pairs.now ≡ None }
+    ensures { IfOk result (λ lookup. lookup ≡ pairs.now) }
+{
+    match Lookup::new(alloc, pairs) {
+        Ok(lookup) => Ok(lookup),
+        Err(TableError::OutOfMemory) => Err(AllocError),
+        Err(_) => unreachable!(),
+    }
+}
+
+/// The lookup of segments. Fails only where it gets no memory.
+pub(crate) fn lookup_of_segments<A: Allocator + Copy>(
+    alloc: A,
+    segments: &[LookupSegment],
+) -> Result<Lookup<A>, AllocError>
+    requires { first_segment_fall segments.now ≡ None }
+    ensures { IfOk result (λ lookup. lookup ≡ pairs_of_segments segments.now) }
+{
+    match Lookup::from_segments(alloc, segments) {
+        Ok(lookup) => Ok(lookup),
+        Err(TableError::OutOfMemory) => Err(AllocError),
+        Err(_) => unreachable!(),
+    }
+}
+
+/// The lookup of a layout that is kept as pairs. Fails only where it gets no memory.
+fn listed_lookup<A: Allocator + Copy>(
+    alloc: A,
+    layout: Layout,
+    bytes: &[u8],
+) -> Result<Lookup<A>, AllocError>
+    requires { IsSound bytes.now layout }
+    ensures { IfOk result (λ lookup. lookup ≡ pairs_of bytes.now layout) }
+{
+    let pairs = pairs_of(alloc, layout, bytes)?;
+    lookup_of_pairs(alloc, &pairs)
+}
+
+/// The lookup of a layout that is kept as segments. Fails only where it gets no memory.
+fn spread_lookup<A: Allocator + Copy>(
+    alloc: A,
+    layout: Layout,
+    bytes: &[u8],
+) -> Result<Lookup<A>, AllocError>
+    requires { IsSound bytes.now layout }
+    ensures { IfOk result (λ lookup. lookup ≡ pairs_of bytes.now layout) }
+{
+    let segments = layout.lookup_segments(alloc, bytes)?;
+    lookup_of_segments(alloc, &segments)
+}
+
+/// The lookup of a layout. Fails only where it gets no memory.
+fn lookup_of<A: Allocator + Copy>(
+    alloc: A,
+    layout: Layout,
+    bytes: &[u8],
+) -> Result<Lookup<A>, AllocError>
+    requires { IsSound bytes.now layout }
+    ensures { IfOk result (λ lookup. lookup ≡ pairs_of bytes.now layout) }
+{
+    if layout.is_spread(bytes) {
+        return spread_lookup(alloc, layout, bytes);
+    }
+    listed_lookup(alloc, layout, bytes)
+}
+
+/// Reads the lookup that starts at a place of a table, in bytes from the start of the table. `bytes` is the whole
+/// table: the lists of a lookup may reach to its end, and its offsets count from the start of the lookup. The formats
+/// are 0, 2, 4, 6, 8, and 10 with values of one or two bytes. `glyph_count` is the number of glyphs of `maxp`, which
+/// format 0 has values for.
+///
+/// The first fault in this order, of `table`, with its place from the start of the table. 1, `PastEnd`, a lookup whose
+/// format is not there, and 2, `UnknownFormat`, one of another format, both at `place`. Of formats 0, 8 and 10: 1, a
+/// header that is not there, at `place`; 2, values of another size than 1 or 2, at the size; 1, values that are not
+/// there, at the first value. Of formats 2, 4 and 6: 1, a header of 12 bytes that is not there, at `place`; 3,
+/// `ShortLength`, units that are smaller than their records, at their size; 1, units that are not there, at the first
+/// of them; then for each unit in the order of the file 5, `NotRising`, at the unit, if its last glyph is below its
+/// first one or its first glyph is not above the last one of the unit before, and 1, values of format 4 that are not
+/// there, at the first value; and last 1, units of format 4 that share so many values that these, counted for each
+/// unit, and the records of the units are more bytes than stand from `place` to the end of the table, at `place`. A
+/// unit may be wider than its record. A terminator that is counted as the last unit is none.
+///
+/// `OutOfMemory` comes only if the bytes have no fault. There are at most 65,536 glyphs. They are kept as pairs, and as
+/// segments where the pairs and the cells beside them would take more than 7 bytes for each byte that the lookup is
+/// read from: so it takes at most 7 bytes for each. Its list is in memory twice until it is read. `lookup_size` tells
+/// how many bytes it takes, and `lookup_bytes` how many it is read from.
+///
+/// Apple's TrueType Reference Manual, "Font Tables", section on lookup tables.
+pub fn read_lookup<A: Allocator + Copy>(
+    alloc: A,
+    table: Tag,
+    bytes: &[u8],
+    place: usize,
+    glyph_count: u16,
+) -> Result<Lookup<A>, ReadError>
+    ensures { Gives result (lookup_at table bytes.now place glyph_count) }
+{
+    let layout = Layout::read(table, bytes, place, glyph_count)?;
+    Ok(lookup_of(alloc, layout, bytes)?)
+}

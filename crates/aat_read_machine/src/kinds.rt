@@ -1,0 +1,79 @@
+//! The kinds of subtables of `morx` that have lists, from bytes.
+ghost use Rattle.std.specs.Prelude.{◌≡◌, ◌+◌, ◌^◌, ◌<◌, ◌≤◌, length};
+ghost use Rattle.aat_read_lookup.specs.Lookups.{Gives};
+ghost use Rattle.aat_read_machine.specs.Kinds.{insertion_tables_at, ligature_at, list_place};
+
+use crate::lists::{glyphs_from, numbers16, numbers32};
+use crate::machine::read_machine;
+use aat_bytes::{Fault, FaultKind, ReadError, Tag, be32};
+use aat_font::{InsertionEntryData, InsertionSubtable, LigatureSubtable};
+use std::alloc::Global;
+
+/// The tag of the extended glyph metamorphosis table.
+pub const MORX: Tag = Tag(0x6D6F_7278);
+
+/// Where a list starts whose offset, from the subtable's place, stands so many bytes behind that place.
+pub(crate) fn list_place(bytes: &[u8], place: usize, at: u8) -> usize
+    requires { place + at + 4 ≤ length bytes.now }
+    ensures place { result ≡ list_place bytes.now place at }
+    ensures small { result < 2 ^ 63 + 2 ^ 32 }
+{
+    place + be32(bytes, place + at as usize) as usize
+}
+
+/// Reads a subtable of ligature substitution, whose state table starts at a place of the table `morx`. `bytes` is the
+/// table from its start, up to where the lists of the subtable may reach.
+///
+/// The first fault in this order, of `morx`, with its place from the start of the table: 1, `PastEnd`, a header of 28
+/// bytes that is not there, at `place`; then those of `read_machine`. The lists reach to the end of `bytes`, and one that
+/// starts past it is empty. `OutOfMemory` comes only if the bytes have no fault.
+///
+/// Apple's TrueType Reference Manual, "The 'morx' table", ligature substitution.
+#[tactic(auto, unfolding(crate::specs::Kinds::ligature_at))]
+pub fn read_ligature(
+    alloc: Global,
+    bytes: &[u8],
+    place: usize,
+    glyph_count: u16,
+) -> Result<LigatureSubtable, ReadError>
+    ensures { Gives result (ligature_at bytes.now place glyph_count) }
+{
+    if bytes.len() < 28 || place > bytes.len() - 28 {
+        return Err(ReadError::Fault(Fault::new(MORX, FaultKind::PastEnd, place)));
+    }
+    let state = read_machine::<u16, Global>(alloc, MORX, bytes, place, glyph_count)?;
+    let ligature_actions = numbers32(alloc, bytes, list_place(bytes, place, 16))?;
+    let components = numbers16(alloc, bytes, list_place(bytes, place, 20))?;
+    let ligatures = glyphs_from(alloc, bytes, list_place(bytes, place, 24))?;
+    Ok(LigatureSubtable {
+        state,
+        ligature_actions,
+        components,
+        ligatures,
+    })
+}
+
+/// Reads a subtable of glyph insertion, whose state table starts at a place of the table `morx`. `bytes` is the table from
+/// its start, up to where the list of the subtable may reach.
+///
+/// The first fault in this order, of `morx`, with its place from the start of the table: 1, `PastEnd`, a header of 20
+/// bytes that is not there, at `place`; then those of `read_machine`. The list reaches to the end of `bytes`, and one that
+/// starts past it is empty. `OutOfMemory` comes only if the bytes have no fault.
+///
+/// Apple's TrueType Reference Manual, "The 'morx' table", glyph insertion.
+#[tactic(auto, unfolding(crate::specs::Kinds::insertion_tables_at))]
+pub fn read_insertion(
+    alloc: Global,
+    bytes: &[u8],
+    place: usize,
+    glyph_count: u16,
+) -> Result<InsertionSubtable, ReadError>
+    ensures { Gives result (insertion_tables_at bytes.now place glyph_count) }
+{
+    if bytes.len() < 20 || place > bytes.len() - 20 {
+        return Err(ReadError::Fault(Fault::new(MORX, FaultKind::PastEnd, place)));
+    }
+    let state = read_machine::<InsertionEntryData, Global>(alloc, MORX, bytes, place, glyph_count)?;
+    let glyphs = glyphs_from(alloc, bytes, list_place(bytes, place, 16))?;
+    Ok(InsertionSubtable { state, glyphs })
+}

@@ -1,0 +1,58 @@
+-- Pairs that are listed: format 0 of both tables. Apple's TrueType Reference Manual, "The 'kern' table" and "The 'kerx'
+-- table".
+use Rattle.std.specs.Prelude.{ℕ, ℤ, ◌+◌, ◌*◌, ◌-◌, ◌/◌, List, length, map, Some, None, Result, Ok, Err, if◌then◌else◌, nat_lt}
+use Rattle.std.specs.List.{range_with_len}
+use Rattle.aat_bytes.specs.Faults.{fault_at}
+use Rattle.aat_bytes.specs.Numbers.{be16, be32}
+use Rattle.aat_bytes.specs.declared.error.Fault.{Fault}
+use Rattle.aat_bytes.specs.declared.error.FaultKind.TheVariants.{PastEnd, NotRising}
+use Rattle.aat_bytes.specs.declared.tag.Tag.{Tag}
+use Rattle.aat_font.specs.Keys.{first_fall}
+use Rattle.aat_font.specs.Pairs.{key_of_pair}
+use Rattle.aat_read_pairs.specs.KerningValues.{kerning_value, no_tuples}
+use Rattle.aat_read_pairs.specs.declared.values.TheConstants.{KERN, KERX}
+use Rattle.aat_read_pairs.specs.declared.values.Tuples.{Tuples}
+
+-- the place of a pair: a left glyph, a right glyph, and what stands for their value
+abbrev pub pair_place : ℕ → ℕ → ℕ
+pair_place place i = place + 6 * i
+
+-- what a pair says
+abbrev pub pair_at : List ℕ → Tuples → ℕ → ℕ → ℕ × ℕ × ℤ
+pair_at bytes tuples place i = (
+  be16 bytes (pair_place place i),
+  be16 bytes (pair_place place i + 2),
+  kerning_value bytes tuples (be16 bytes (pair_place place i + 4)),
+)
+
+-- what so many pairs say
+abbrev pub pairs_at : List ℕ → Tuples → ℕ → ℕ → List (ℕ × ℕ × ℤ)
+pairs_at bytes tuples place count = map (pair_at bytes tuples place) (range_with_len 0 count)
+
+-- pairs that rise strictly by left, then by right glyph, or the place of the first that does not. HarfBuzz bisects pairs
+-- that do not rise and finds some of them; here they are a fault
+abbrev pub rising_pairs : Tag → ℕ → List (ℕ × ℕ × ℤ) → Result (List (ℕ × ℕ × ℤ)) Fault
+rising_pairs table place pairs = elim (first_fall key_of_pair pairs) [
+  | None ↦ Ok pairs
+  | Some i ↦ Err (fault_at table NotRising (pair_place place i))
+]
+
+-- so many pairs from a place on, or the first that is not there as a whole, or that does not rise
+unfoldable pub listed_pairs : Tag → List ℕ → Tuples → ℕ → ℕ → Result (List (ℕ × ℕ × ℤ)) Fault
+listed_pairs table bytes tuples place count =
+    if nat_lt (length bytes) (place + 6 * count) then
+    Err (fault_at table PastEnd (pair_place place ((length bytes - place) / 6))) else
+    rising_pairs table place (pairs_at bytes tuples place count)
+
+-- the pairs of a subtable of `kern` that goes on at a place behind its header: their number, three numbers for a search
+-- that are not believed, and the pairs
+unfoldable pub kern_pairs_at : List ℕ → ℕ → Result (List (ℕ × ℕ × ℤ)) Fault
+kern_pairs_at bytes place =
+    if nat_lt (length bytes) (place + 8) then Err (fault_at KERN PastEnd place) else
+    listed_pairs KERN bytes no_tuples (place + 8) (be16 bytes place)
+
+-- the pairs of a subtable of `kerx` that starts at a place, with a header of 12 bytes, in 32 bits what `kern` has in 16
+unfoldable pub kerx_pairs_at : List ℕ → ℕ → ℕ → Result (List (ℕ × ℕ × ℤ)) Fault
+kerx_pairs_at bytes start tuple_count =
+    if nat_lt (length bytes) (start + 28) then Err (fault_at KERX PastEnd start) else
+    listed_pairs KERX bytes (record { place = start; count = tuple_count }) (start + 28) (be32 bytes (start + 12))

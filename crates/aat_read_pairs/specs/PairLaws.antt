@@ -1,0 +1,60 @@
+-- What pairs that are read say, in the words of their bytes.
+use Rattle.std.specs.Prelude.{◌≡◌, ℕ, ℤ, pos, ◌+◌, ◌*◌, ◌-◌, ◌<◌, ◌≤◌, List, length, if◌then◌else◌, nat_le, nat_lt, ◌==◌, ◌&&◌, Ok, None}
+use Rattle.aat_bytes.specs.Numbers.{be16, signed16}
+use Rattle.aat_font.specs.Classes.{ClassValues, kerning_by_classes}
+use Rattle.aat_font.specs.Keys.{first_fall}
+use Rattle.aat_font.specs.Pairs.{key_of_pair}
+use Rattle.aat_read_pairs.specs.KernClasses.{kern_classes_at}
+use Rattle.aat_read_pairs.specs.ListedPairs.{kern_pairs_at, kerx_pairs_at}
+
+-- pairs that are read rise strictly
+abbrev pub PairsRise : Type 0
+PairsRise =
+    (bytes : List ℕ) (place : ℕ) (pairs : List (ℕ × ℕ × ℤ))
+    → kern_pairs_at bytes place ≡ Ok pairs → first_fall key_of_pair pairs ≡ None
+
+-- those of `kerx` too
+abbrev pub ExtendedPairsRise : Type 0
+ExtendedPairsRise =
+    (bytes : List ℕ) (start tuple_count : ℕ) (pairs : List (ℕ × ℕ × ℤ))
+    → kerx_pairs_at bytes start tuple_count ≡ Ok pairs → first_fall key_of_pair pairs ≡ None
+
+-- the offset that a class table of `kern` at a place has for a glyph, and 0 where it has none
+abbrev pub offset_in : List ℕ → ℕ → ℕ → ℕ
+offset_in bytes place glyph =
+    if nat_le (be16 bytes place) glyph && nat_lt glyph (be16 bytes place + be16 bytes (place + 2)) then
+    be16 bytes (place + 4 + 2 * (glyph - be16 bytes place)) else 0
+
+-- the value of a left and a right offset stands as far from the start of the subtable as their sum says: it is 0 where
+-- there is no left offset, and past the end
+abbrev pub value_of_offsets : List ℕ → ℕ → ℕ → ℕ → ℤ
+value_of_offsets bytes start left right =
+    if left == 0 then pos 0 else
+    if nat_lt (length bytes) (start + left + right + 2) then pos 0 else signed16 (be16 bytes (start + left + right))
+
+-- the value of two glyphs by a subtable of format 2 of `kern` that is read is that of their offsets
+abbrev pub OffsetsAreAddedUp : Type 0
+OffsetsAreAddedUp =
+    (bytes : List ℕ) (start place left right : ℕ) (pairs : ClassValues)
+    → left < 65536 → right < 65536 → kern_classes_at bytes start place ≡ Ok pairs
+    → kerning_by_classes pairs left right
+    ≡ value_of_offsets bytes start
+    (offset_in bytes (start + be16 bytes (place + 2)) left) (offset_in bytes (start + be16 bytes (place + 4)) right)
+
+-- pairs that are read have 6 bytes each
+abbrev pub PairsAreBounded : Type 0
+PairsAreBounded =
+    (bytes : List ℕ) (place : ℕ) (pairs : List (ℕ × ℕ × ℤ))
+    → kern_pairs_at bytes place ≡ Ok pairs → 6 * length pairs ≤ length bytes - place
+
+-- those of `kerx` too
+abbrev pub ExtendedPairsAreBounded : Type 0
+ExtendedPairsAreBounded =
+    (bytes : List ℕ) (start tuple_count : ℕ) (pairs : List (ℕ × ℕ × ℤ))
+    → kerx_pairs_at bytes start tuple_count ≡ Ok pairs → 6 * length pairs ≤ length bytes - start
+
+-- a subtable of format 2 of `kern` that is read has a value for each byte from its start on at most
+abbrev pub ClassValuesAreBounded : Type 0
+ClassValuesAreBounded =
+    (bytes : List ℕ) (start place : ℕ) (pairs : ClassValues)
+    → kern_classes_at bytes start place ≡ Ok pairs → length pairs.values ≤ length bytes - start

@@ -1,0 +1,22 @@
+use Rattle.std.proofs.Common.{◌+◌, ◌-◌, ◌/◌, arith}
+use Rattle.aat_read_sfnt.specs.SegmentMapping.{end_code, segment_count}
+use Rattle.aat_read_sfnt.proofs.RisingEnds.{end_before, end_later}
+use Rattle.aat_read_sfnt.proofs.cmap.segment_mapping.SegmentMapping.segments_before.Goals as goal
+
+pub loop-low-preserved-then-be16-character : goal.loop-low-preserved-then-be16-character
+loop-low-preserved-then-be16-character c =
+    let low = c.loop-low.low in
+    let middle = low + (c.loop-low.high - low) / 2 in
+    let was = c.loop-low.invariant in
+    let bytes = c.self.inside.bytes.now in
+    let before = end_before (end_code bytes) (segment_count bytes) c.self.invariant.1 c.args.character middle (omega arith) (omega arith) in
+    (omega arith, was.1, before, was.3)
+
+pub loop-low-preserved : goal.loop-low-preserved
+loop-low-preserved c =
+    let low = c.loop-low.low in
+    let middle = low + (c.loop-low.high - low) / 2 in
+    let was = c.loop-low.invariant in
+    let bytes = c.self.inside.bytes.now in
+    let later = end_later (end_code bytes) (segment_count bytes) c.self.invariant.1 c.args.character middle (omega arith) in
+    (omega arith, omega arith, was.2, later)

@@ -1,0 +1,133 @@
+-- Worked examples of a font's bytes.
+use Rattle.std.specs.Prelude.{◌≡◌, ℕ, List, [], ◌∷◌, Some, None, Ok, Err, replicate}
+use Rattle.aat_bytes.specs.Faults.{fault_at}
+use Rattle.aat_bytes.specs.declared.error.FaultKind.TheVariants.{PastEnd, ShortLength, Missing, NotRising}
+use Rattle.aat_read_sfnt.specs.ClassDefinition.{class_in_ranges, class_ranges_at}
+use Rattle.aat_read_sfnt.specs.Directory.{Directory, directory_of, table_of}
+use Rattle.aat_read_sfnt.specs.Header.{glyph_count}
+use Rattle.aat_read_sfnt.specs.Metrics.{advance_of, metrics_of}
+use Rattle.aat_read_sfnt.specs.SegmentMapping.{segment_glyph, segments_at}
+use Rattle.aat_read_sfnt.specs.SegmentedCoverage.{group_glyph, groups_at}
+use Rattle.aat_read_sfnt.specs.declared.tags.TheConstants.{CMAP, GDEF, HEAD, MAXP, SFNT, TTCF}
+
+-- a profile of version 0.5 and 7 glyphs
+abbrev pub example_profile : List ℕ
+example_profile = 0 ∷ 0 ∷ 80 ∷ 0 ∷ 0 ∷ 7 ∷ []
+
+-- a file of two tables: `maxp` at 44, which is the profile, and `head` at 48, which reaches past the end
+abbrev pub example_file : List ℕ
+example_file =
+    0 ∷ 1 ∷ 0 ∷ 0 ∷ 0 ∷ 2 ∷ 0 ∷ 0 ∷ 0 ∷ 0 ∷ 0 ∷ 0
+    ∷ 109 ∷ 97 ∷ 120 ∷ 112 ∷ 0 ∷ 0 ∷ 0 ∷ 0 ∷ 0 ∷ 0 ∷ 0 ∷ 44 ∷ 0 ∷ 0 ∷ 0 ∷ 6
+    ∷ 104 ∷ 101 ∷ 97 ∷ 100 ∷ 0 ∷ 0 ∷ 0 ∷ 0 ∷ 0 ∷ 0 ∷ 0 ∷ 48 ∷ 0 ∷ 0 ∷ 0 ∷ 6 ∷ example_profile
+
+-- its directory
+abbrev pub example_directory : Directory
+example_directory = record { file = example_file; place = 0 }
+
+-- a table is a slice of the file, one that reaches past the end is a fault, and a file that is no collection has one
+-- font
+abbrev pub TablesAreSlices : Type 0
+TablesAreSlices =
+    (directory_of example_file 0 ≡ Ok example_directory)
+    × (directory_of example_file 1 ≡ Err (fault_at SFNT Missing 0))
+    × (table_of example_directory MAXP ≡ Ok example_profile)
+    × (glyph_count example_profile ≡ Ok 7)
+    × (table_of example_directory HEAD ≡ Err (fault_at HEAD PastEnd 0))
+    × (table_of example_directory CMAP ≡ Err (fault_at CMAP Missing 0))
+
+-- a collection of one font, whose directory stands at 16 and has no tables
+abbrev pub example_collection : List ℕ
+example_collection =
+    116 ∷ 116 ∷ 99 ∷ 102 ∷ 0 ∷ 1 ∷ 0 ∷ 0 ∷ 0 ∷ 0 ∷ 0 ∷ 1 ∷ 0 ∷ 0 ∷ 0 ∷ 16
+    ∷ 79 ∷ 84 ∷ 84 ∷ 79 ∷ 0 ∷ 0 ∷ 0 ∷ 0 ∷ 0 ∷ 0 ∷ 0 ∷ 0 ∷ []
+
+-- a collection lists the places of its directories
+abbrev pub CollectionsListTheirFonts : Type 0
+CollectionsListTheirFonts =
+    (directory_of example_collection 0 ≡ Ok (record { file = example_collection; place = 16 }))
+    × (directory_of example_collection 1 ≡ Err (fault_at TTCF Missing 8))
+
+-- two long metrics, of the advances 500 and 600, and a bearing
+abbrev pub example_metrics : List ℕ
+example_metrics = 1 ∷ 244 ∷ 0 ∷ 9 ∷ 2 ∷ 88 ∷ 0 ∷ 9 ∷ 0 ∷ 9 ∷ []
+
+-- a glyph past the long metrics has the last advance; long metrics that are not there do not count
+abbrev pub AdvancesAreListed : Type 0
+AdvancesAreListed =
+    (advance_of (metrics_of example_metrics 2 3) 0 ≡ Some 500)
+    × (advance_of (metrics_of example_metrics 2 3) 1 ≡ Some 600)
+    × (advance_of (metrics_of example_metrics 9 3) 2 ≡ Some 600)
+    × (advance_of (metrics_of example_metrics 2 3) 3 ≡ None)
+    × (advance_of (metrics_of example_metrics 0 3) 0 ≡ None)
+
+-- segments from A to C by a delta of -55, from a to b by a list of 20 and 0 and a delta of 1, and the last of all
+abbrev pub example_segments : List ℕ
+example_segments =
+    0 ∷ 4 ∷ 0 ∷ 44 ∷ 0 ∷ 0 ∷ 0 ∷ 6 ∷ 0 ∷ 0 ∷ 0 ∷ 0 ∷ 0 ∷ 0
+    ∷ 0 ∷ 67 ∷ 0 ∷ 98 ∷ 255 ∷ 255 ∷ 0 ∷ 0 ∷ 0 ∷ 65 ∷ 0 ∷ 97 ∷ 255 ∷ 255
+    ∷ 255 ∷ 201 ∷ 0 ∷ 1 ∷ 0 ∷ 1 ∷ 0 ∷ 0 ∷ 0 ∷ 4 ∷ 0 ∷ 0 ∷ 0 ∷ 20 ∷ 0 ∷ 0 ∷ []
+
+-- a delta wraps, an offset counts from its own place, and a number of 0 gets no delta
+abbrev pub SegmentsMapCharacters : Type 0
+SegmentsMapCharacters =
+    (segments_at example_segments 0 ≡ Ok example_segments)
+    × (segment_glyph example_segments 65 ≡ Some 10)
+    × (segment_glyph example_segments 67 ≡ Some 12)
+    × (segment_glyph example_segments 68 ≡ None)
+    × (segment_glyph example_segments 97 ≡ Some 21)
+    × (segment_glyph example_segments 98 ≡ None)
+    × (segment_glyph example_segments 65535 ≡ None)
+    × (segment_glyph example_segments 65601 ≡ None)
+
+-- a length that does not hold the lists
+abbrev pub ShortSegmentsAreAFault : Type 0
+ShortSegmentsAreAFault =
+    segments_at (0 ∷ 4 ∷ 0 ∷ 23 ∷ 0 ∷ 0 ∷ 0 ∷ 2 ∷ replicate 20 0) 100 ≡ Err (fault_at CMAP ShortLength 102)
+
+-- a group from 65536 on, of the glyphs 5 and 6
+abbrev pub example_groups : List ℕ
+example_groups =
+    0 ∷ 12 ∷ 0 ∷ 0 ∷ 0 ∷ 0 ∷ 0 ∷ 28 ∷ 0 ∷ 0 ∷ 0 ∷ 0 ∷ 0 ∷ 0 ∷ 0 ∷ 1
+    ∷ 0 ∷ 1 ∷ 0 ∷ 0 ∷ 0 ∷ 1 ∷ 0 ∷ 1 ∷ 0 ∷ 0 ∷ 0 ∷ 5 ∷ []
+
+-- a group numbers its glyphs from its first character on
+abbrev pub GroupsMapCharacters : Type 0
+GroupsMapCharacters =
+    (group_glyph example_groups 65 ≡ None)
+    × (group_glyph example_groups 65536 ≡ Some 5)
+    × (group_glyph example_groups 65537 ≡ Some 6)
+    × (group_glyph example_groups 65538 ≡ None)
+
+-- two groups that both end at 65537
+abbrev pub falling_groups : List ℕ
+falling_groups =
+    0 ∷ 12 ∷ 0 ∷ 0 ∷ 0 ∷ 0 ∷ 0 ∷ 40 ∷ 0 ∷ 0 ∷ 0 ∷ 0 ∷ 0 ∷ 0 ∷ 0 ∷ 2
+    ∷ 0 ∷ 1 ∷ 0 ∷ 0 ∷ 0 ∷ 1 ∷ 0 ∷ 1 ∷ 0 ∷ 0 ∷ 0 ∷ 5
+    ∷ 0 ∷ 1 ∷ 0 ∷ 0 ∷ 0 ∷ 1 ∷ 0 ∷ 1 ∷ 0 ∷ 0 ∷ 0 ∷ 7 ∷ []
+
+-- the last character of the second one is a fault
+abbrev pub FallingGroupsAreAFault : Type 0
+FallingGroupsAreAFault =
+    (groups_at example_groups 100 ≡ Ok example_groups)
+    × (groups_at falling_groups 100 ≡ Err (fault_at CMAP NotRising 132))
+
+-- a range of class 3 from glyph 5 to 7
+abbrev pub example_ranges : List ℕ
+example_ranges = 0 ∷ 2 ∷ 0 ∷ 1 ∷ 0 ∷ 5 ∷ 0 ∷ 7 ∷ 0 ∷ 3 ∷ []
+
+-- a range has both of its ends
+abbrev pub RangesHaveTheirEnds : Type 0
+RangesHaveTheirEnds =
+    (class_in_ranges example_ranges 4 ≡ 0)
+    × (class_in_ranges example_ranges 5 ≡ 3)
+    × (class_in_ranges example_ranges 7 ≡ 3)
+    × (class_in_ranges example_ranges 8 ≡ 0)
+
+-- two ranges, of which the second begins at the last glyph of the first, and a range from 7 to 5
+abbrev pub FallingRangesAreAFault : Type 0
+FallingRangesAreAFault =
+    (class_ranges_at example_ranges 12 ≡ Ok example_ranges)
+    × (class_ranges_at (0 ∷ 2 ∷ 0 ∷ 2 ∷ 0 ∷ 5 ∷ 0 ∷ 7 ∷ 0 ∷ 3 ∷ 0 ∷ 7 ∷ 0 ∷ 9 ∷ 0 ∷ 1 ∷ []) 12
+    ≡ Err (fault_at GDEF NotRising 22))
+    × (class_ranges_at (0 ∷ 2 ∷ 0 ∷ 1 ∷ 0 ∷ 7 ∷ 0 ∷ 5 ∷ 0 ∷ 3 ∷ []) 12 ≡ Err (fault_at GDEF NotRising 16))

@@ -1,0 +1,146 @@
+//! The character map.
+ghost use Rattle.std.specs.Prelude.{◌≡◌, ◌+◌, ◌*◌, ◌<◌, ◌≤◌, ◌==◌, IfSome, length};
+ghost use Rattle.aat_bytes.specs.Numbers.{be16, be32};
+ghost use Rattle.aat_read_sfnt.specs.Characters.{best_record, cmap_of, first_encoding, glyph_of, record_place, record_with, subtable_at, subtable_of};
+
+pub mod segment_mapping;
+pub mod segmented_coverage;
+pub mod short_tables;
+
+use crate::tags::CMAP;
+use aat_bytes::{Fault, FaultKind, be16, be32, slice_from};
+use segment_mapping::SegmentMapping;
+use segmented_coverage::SegmentedCoverage;
+use short_tables::{ByteEncoding, TrimmedTable};
+
+/// Platforms and encodings in the order in which they are taken.
+const ENCODINGS: [u32; 8] = [0x3000A, 6, 4, 0x30001, 3, 2, 1, 0];
+
+/// The subtable of characters that is read, by its format.
+///
+/// Apple's TrueType Reference Manual, "The 'cmap' table".
+#[derive(Drop)]
+pub enum Cmap<'a> {
+    /// Format 0.
+    ByteEncoding(ByteEncoding<'a>),
+    /// Format 4.
+    SegmentMapping(SegmentMapping<'a>),
+    /// Format 6.
+    TrimmedTable(TrimmedTable<'a>),
+    /// Format 12.
+    SegmentedCoverage(SegmentedCoverage<'a>),
+}
+
+/// Whether the record at an index has a platform and encoding.
+fn has_encoding(cmap: &[u8], index: u16, encoding: u32) -> bool
+    requires whole { 4 + 8 * be16 cmap.now 2 ≤ length cmap.now }
+    requires below { index < be16 cmap.now 2 }
+    ensures { result ≡ (be32 cmap.now (record_place index) == encoding) }
+{
+    be32(cmap, 4 + 8 * index as usize) == encoding
+}
+
+/// The first record of a platform and encoding.
+#[tactic(auto, unfolding(crate::specs::Characters::record_with))]
+fn record_with(cmap: &[u8], encoding: u32) -> Option<u16>
+    requires { 4 + 8 * be16 cmap.now 2 ≤ length cmap.now }
+    ensures first { result ≡ record_with cmap.now encoding }
+    ensures below { IfSome result (λ i. i < be16 cmap.now 2) }
+{
+    (0..be16(cmap, 2)).find(|index| has_encoding(cmap, *index, encoding))
+}
+
+/// The first of some encodings that has a record.
+#[tactic(auto, unfolding(crate::specs::Characters::first_encoding))]
+fn first_encoding(cmap: &[u8], among: &[u32]) -> Option<u32>
+    requires { 4 + 8 * be16 cmap.now 2 ≤ length cmap.now }
+    ensures { result ≡ first_encoding cmap.now among.now }
+{
+    among
+        .iter()
+        .copied()
+        .find(|encoding| record_with(cmap, *encoding).is_some())
+}
+
+/// The record whose subtable is read.
+fn best_record(cmap: &[u8]) -> Option<u16>
+    requires { 4 + 8 * be16 cmap.now 2 ≤ length cmap.now }
+    ensures first { result ≡ best_record cmap.now }
+    ensures below { IfSome result (λ i. i < be16 cmap.now 2) }
+{
+    match first_encoding(cmap, &ENCODINGS) {
+        Some(encoding) => record_with(cmap, encoding),
+        None => None,
+    }
+}
+
+/// The subtable at the start of bytes, which stand at a place of the table.
+#[tactic(auto, unfolding(crate::specs::Characters::subtable_at))]
+fn subtable_at(bytes: &[u8], place: u32) -> Result<Cmap<'_>, Fault>
+    ensures { result ≡ subtable_at bytes.now place }
+{
+    if bytes.len() < 2 {
+        return Err(Fault::new(CMAP, FaultKind::PastEnd, place as usize));
+    }
+    match be16(bytes, 0) {
+        0 => Ok(Cmap::ByteEncoding(ByteEncoding::read(bytes, place)?)),
+        4 => Ok(Cmap::SegmentMapping(SegmentMapping::read(bytes, place)?)),
+        6 => Ok(Cmap::TrimmedTable(TrimmedTable::read(bytes, place)?)),
+        12 => Ok(Cmap::SegmentedCoverage(SegmentedCoverage::read(bytes, place)?)),
+        _ => Err(Fault::new(CMAP, FaultKind::UnknownFormat, place as usize)),
+    }
+}
+
+/// The subtable of the record that is read.
+#[tactic(auto, unfolding(crate::specs::Characters::subtable_of))]
+fn best_subtable(cmap: &[u8]) -> Result<Cmap<'_>, Fault>
+    requires { 4 + 8 * be16 cmap.now 2 ≤ length cmap.now }
+    ensures { result ≡ subtable_of cmap.now (best_record cmap.now) }
+{
+    let Some(index) = best_record(cmap) else {
+        return Err(Fault::new(CMAP, FaultKind::Missing, 4));
+    };
+    let place = be32(cmap, 4 + 8 * index as usize + 4);
+    match slice_from(cmap, place as usize) {
+        Some(subtable) => subtable_at(subtable, place),
+        None => Err(Fault::new(CMAP, FaultKind::PastEnd, place as usize)),
+    }
+}
+
+impl<'a> Cmap<'a> {
+    /// The map of the table `cmap`.
+    ///
+    /// The first fault in this order: 1, `PastEnd`, a header of 4 bytes that is not there; 2, `UnknownFormat`, a
+    /// version that is not 0; 1, records that are not there; 4, `Missing`, no record of a platform and encoding that
+    /// is read; and of the subtable 1, a field that is not there, 2, another format than 0, 4, 6 and 12, 3,
+    /// `ShortLength`, a length of format 4 that does not hold its lists, and 5, `NotRising`, at the first of the last
+    /// characters of formats 4 and 12 that is not above the one before it. HarfBuzz bisects them and believes that they
+    /// rise.
+    #[tactic(auto, unfolding(crate::specs::Characters::cmap_of))]
+    pub fn read(cmap: &'a [u8]) -> Result<Cmap<'a>, Fault>
+        ensures { result ≡ cmap_of cmap.now }
+    {
+        if cmap.len() < 4 {
+            return Err(Fault::new(CMAP, FaultKind::PastEnd, 0));
+        }
+        if be16(cmap, 0) != 0 {
+            return Err(Fault::new(CMAP, FaultKind::UnknownFormat, 0));
+        }
+        if cmap.len() < 4 + 8 * be16(cmap, 2) as usize {
+            return Err(Fault::new(CMAP, FaultKind::PastEnd, 4));
+        }
+        best_subtable(cmap)
+    }
+
+    /// The glyph of a character, or `None` where it has none that is not 0.
+    pub fn glyph(&self, character: char) -> Option<u16>
+        ensures { result ≡ glyph_of self.now character }
+    {
+        match self {
+            Cmap::ByteEncoding(subtable) => subtable.glyph(character),
+            Cmap::SegmentMapping(subtable) => subtable.glyph(character),
+            Cmap::TrimmedTable(subtable) => subtable.glyph(character),
+            Cmap::SegmentedCoverage(subtable) => subtable.glyph(character),
+        }
+    }
+}

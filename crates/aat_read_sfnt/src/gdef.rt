@@ -1,0 +1,63 @@
+//! The glyph definition table: classes of glyphs.
+ghost use Rattle.std.specs.Prelude.{◌≡◌};
+ghost use Rattle.aat_read_sfnt.specs.GlyphClasses.{glyph_classes_of, properties_of, properties_of_class};
+
+use crate::class_definition::ClassDefinition;
+use crate::tags::GDEF;
+use aat_bytes::{Fault, FaultKind, be16};
+
+/// The classes of a font's glyphs.
+#[derive(Drop)]
+pub struct GlyphClasses<'a> {
+    /// The class of a glyph: 1 is a base, 2 a ligature, 3 a mark, 4 a component.
+    pub classes: ClassDefinition<'a>,
+    /// The class of a mark, among marks.
+    pub mark_classes: ClassDefinition<'a>,
+}
+
+/// The properties of a class.
+fn properties_of_class(class: u16, mark_class: u16) -> u16
+    ensures { result ≡ properties_of_class class mark_class }
+{
+    match class {
+        1 => 0x02,
+        2 => 0x04,
+        3 => 0x08 + 256 * (mark_class % 256),
+        _ => 0,
+    }
+}
+
+impl<'a> GlyphClasses<'a> {
+    /// The classes of the table `GDEF`.
+    ///
+    /// The first fault in this order: 1, `PastEnd`, a header of 12 bytes that is not there; 2, `UnknownFormat`, a
+    /// version that is not 1; then of the classes, and then of the classes of marks, 1, a field that is not there, 2,
+    /// another format than 1 and 2, and 5, `NotRising`, at the first range of format 2 whose last glyph is below its
+    /// first one, or whose first glyph is not above the last one of the range before. HarfBuzz bisects ranges and
+    /// believes that they rise.
+    #[tactic(auto, unfolding(crate::specs::GlyphClasses::glyph_classes_of))]
+    pub fn read(gdef: &'a [u8]) -> Result<GlyphClasses<'a>, Fault>
+        ensures { result ≡ glyph_classes_of gdef.now }
+    {
+        if gdef.len() < 12 {
+            return Err(Fault::new(GDEF, FaultKind::PastEnd, 0));
+        }
+        if be16(gdef, 0) != 1 {
+            return Err(Fault::new(GDEF, FaultKind::UnknownFormat, 0));
+        }
+        let classes = ClassDefinition::read(gdef, be16(gdef, 4))?;
+        let mark_classes = ClassDefinition::read(gdef, be16(gdef, 10))?;
+        Ok(GlyphClasses {
+            classes,
+            mark_classes,
+        })
+    }
+
+    /// The properties of a glyph, as `hb_font_t` has them: 0x02 a base, 0x04 a ligature, 0x08 a mark, which has its
+    /// class among marks in the high byte, and 0 for every other glyph.
+    pub fn properties(&self, glyph: u16) -> u16
+        ensures { result ≡ properties_of self.now glyph }
+    {
+        properties_of_class(self.classes.class(glyph), self.mark_classes.class(glyph))
+    }
+}

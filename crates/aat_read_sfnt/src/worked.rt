@@ -1,0 +1,26 @@
+//! Worked examples of a font's bytes as theorems. These calls do nothing: what is proved is their contracts.
+ghost use Rattle.aat_read_sfnt.specs.Examples.{AdvancesAreListed, CollectionsListTheirFonts, FallingGroupsAreAFault, FallingRangesAreAFault, GroupsMapCharacters, RangesHaveTheirEnds, SegmentsMapCharacters, ShortSegmentsAreAFault, TablesAreSlices};
+
+/// The definitions of directories and of the profile compute to the examples.
+#[tactic(auto, unfolding(aat_bytes::specs::Numbers::slice, crate::specs::Directory::place_in_collection, crate::specs::Directory::directory_place, crate::specs::Directory::directory_at, crate::specs::Header::glyph_count))]
+pub fn directories()
+    ensures tables { TablesAreSlices }
+    ensures collections { CollectionsListTheirFonts }
+{}
+
+/// The definitions of format 4 compute to the examples.
+#[tactic(auto, unfolding(aat_bytes::specs::Numbers::u16_at, crate::specs::SegmentMapping::segments_at, crate::specs::SegmentMapping::glyph_in_segment))]
+pub fn segments()
+    ensures segments { SegmentsMapCharacters }
+    ensures short { ShortSegmentsAreAFault }
+{}
+
+/// The definitions of metrics, of format 12 and of classes compute to the examples.
+#[tactic(auto, unfolding(crate::specs::ClassDefinition::class_ranges_at, crate::specs::SegmentedCoverage::groups_at))]
+pub fn lists()
+    ensures advances { AdvancesAreListed }
+    ensures groups { GroupsMapCharacters }
+    ensures falling_groups { FallingGroupsAreAFault }
+    ensures ranges { RangesHaveTheirEnds }
+    ensures falling { FallingRangesAreAFault }
+{}

@@ -1,6 +1,0 @@
-use Rattle.std.proofs.Common.{◌≡◌, ◌++◌, take}
-use Rattle.aat_sfnt_writer.specs.NamedFeatures.{all_setting_bytes}
-use Rattle.aat_sfnt_writer.proofs.feat.append_all_settings.Given as goal
-
-abbrev pub invariant-loop-feature : goal.invariant-loop-feature
-invariant-loop-feature g l = l.out.items ≡ l.fn.out.items ++ all_setting_bytes (take l.feature-index l.features)

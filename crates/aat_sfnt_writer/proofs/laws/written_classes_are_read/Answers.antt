@@ -1,5 +1,0 @@
-use Rattle.aat_sfnt_writer.proofs.TablesAgain.{classes_are_read}
-use Rattle.aat_sfnt_writer.proofs.laws.written_classes_are_read.Goals as goal
-
-pub returns : goal.returns
-returns c = classes_are_read

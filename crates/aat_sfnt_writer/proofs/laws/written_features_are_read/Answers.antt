@@ -1,5 +1,0 @@
-use Rattle.aat_sfnt_writer.proofs.FeaturesAgain.{written_features_are_read}
-use Rattle.aat_sfnt_writer.proofs.laws.written_features_are_read.Goals as goal
-
-pub returns : goal.returns
-returns c = written_features_are_read

@@ -1,9 +1,0 @@
-use Rattle.std.proofs.Common.{◌≡◌, ◌++◌, take}
-use Rattle.std.specs.List.{flat_map}
-use Rattle.aat_sfnt_writer.specs.LongMetrics.{metric_words}
-use Rattle.aat_writer.specs.Words.{word_bytes}
-use Rattle.aat_sfnt_writer.proofs.metrics.append_metrics.Given as goal
-
-abbrev pub invariant-loop-advance : goal.invariant-loop-advance
-invariant-loop-advance g l =
-    l.out.items ≡ l.fn.out.items ++ word_bytes (flat_map metric_words (take l.advance-index l.advances))

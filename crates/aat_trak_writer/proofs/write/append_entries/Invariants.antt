@@ -1,9 +1,0 @@
-use Rattle.std.proofs.Common.{◌≡◌, ◌++◌}
-use Rattle.std.specs.List.{flat_map, range_with_len}
-use Rattle.aat_trak_writer.specs.TrakBytes.{entry_of}
-use Rattle.aat_writer.specs.Words.{word_bytes}
-use Rattle.aat_trak_writer.proofs.write.append_entries.Given as goal
-
-abbrev pub invariant-loop-k : goal.invariant-loop-k
-invariant-loop-k g l =
-    l.out.items ≡ l.fn.out.items ++ word_bytes (flat_map (entry_of l.at l.table) (range_with_len 0 l.k))

@@ -1,9 +1,0 @@
-use Rattle.std.proofs.Common.{◌≡◌, ◌++◌, take}
-use Rattle.std.specs.List.{flat_map}
-use Rattle.aat_trak_writer.specs.TrakBytes.{fixed_words}
-use Rattle.aat_writer.specs.Words.{word_bytes}
-use Rattle.aat_trak_writer.proofs.write.append_sizes.Given as goal
-
-abbrev pub invariant-loop-size : goal.invariant-loop-size
-invariant-loop-size g l =
-    l.out.items ≡ l.fn.out.items ++ word_bytes (flat_map fixed_words (take l.size-index l.sizes))

@@ -1,8 +1,0 @@
-use Rattle.std.proofs.Common.{◌≡◌, ◌++◌, map, take}
-use Rattle.aat_trak_writer.specs.TrakBytes.{value_word}
-use Rattle.aat_writer.specs.Words.{word_bytes}
-use Rattle.aat_trak_writer.proofs.write.append_values.Given as goal
-
-abbrev pub invariant-loop-value : goal.invariant-loop-value
-invariant-loop-value g l =
-    l.out.items ≡ l.fn.out.items ++ word_bytes (map value_word (take l.value-index l.values))

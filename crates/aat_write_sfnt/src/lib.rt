@@ -1,0 +1,23 @@
+//! Writers of a font file: its directory, and the tables of characters, metrics, classes, names and named features.
+//!
+//! `aat_read_sfnt` reads each of them again, and `aat_read_lookup` the features.
+#![tactic(auto)]
+
+mod cmap;
+mod feat;
+mod font;
+mod gdef;
+mod header;
+#[doc(hidden)]
+pub mod laws;
+mod longs;
+mod metrics;
+mod name;
+
+pub use cmap::{Mapping, write_cmap};
+pub use feat::{NamedFeature, NamedSetting, write_named_feat};
+pub use font::{FontTable, write_font};
+pub use gdef::write_gdef;
+pub use header::{write_head, write_maxp};
+pub use metrics::{write_hhea, write_hmtx};
+pub use name::{EnglishName, write_name};

@@ -1,0 +1,9 @@
+use Rattle.std.proofs.Common.{◌≡◌, ◌++◌, take}
+use Rattle.std.specs.List.{flat_map}
+use Rattle.aat_write_trak.specs.TrakBytes.{fixed_words}
+use Rattle.aat_write_lookup.specs.Words.{word_bytes}
+use Rattle.aat_write_trak.proofs.write.append_sizes.Given as goal
+
+abbrev pub invariant-loop-size : goal.invariant-loop-size
+invariant-loop-size g l =
+    l.out.items ≡ l.fn.out.items ++ word_bytes (flat_map fixed_words (take l.size-index l.sizes))
