@@ -1,7 +1,7 @@
 //! The tracks of `trak`, with their names.
 use crate::names::text_of;
 use aat_face::Face;
-use aat_tracking::{Track, TrackData};
+use aat_placement::{Track, TrackData};
 use std::alloc::Global;
 use std::io::{self, Write};
 

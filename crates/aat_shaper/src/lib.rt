@@ -15,6 +15,6 @@ mod tracking;
 #[doc(hidden)]
 pub mod worked;
 
+pub use aat_placement::{Track, TrackData, Tracking, TrackingError};
 pub use aat_shaped_text::{ShapedGlyph, TextGlyph};
-pub use aat_tracking::{Track, TrackData, Tracking, TrackingError};
 pub use shaper::Shaper;
