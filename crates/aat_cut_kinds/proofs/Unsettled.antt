@@ -15,8 +15,8 @@ use Rattle.aat_cuts.specs.Held.{HoldsOver, IsLigatureAgreeing, IsLigatureTidy, I
 use Rattle.aat_cuts.specs.Kinds.{IsContextualSettled, IsInsertionSettled, IsQuietAtEnd, IsRearrangementSettled}
 use Rattle.aat_cuts.specs.Reached.{AreFollowed, IsComplete, IsReached}
 use Rattle.aat_cuts.specs.Settled.{IsRegisterUnsettled, MayBeUnset, MayBeUsed, Register, the_end_set_by, the_mark}
-use Rattle.aat_settled_cuts.specs.UnsettledExamples.{CaseVerdicts, FailedPremises, IsIncomplete, IsNeverTidy}
-use Rattle.aat_settled_cuts.proofs.Labelled.{agreeing_by, complete_by, quiet_by, sufficient_by, tidy_by}
+use Rattle.aat_cut_kinds.specs.UnsettledExamples.{CaseVerdicts, FailedPremises, IsIncomplete, IsNeverTidy}
+use Rattle.aat_cut_kinds.proofs.Labelled.{agreeing_by, complete_by, quiet_by, sufficient_by, tidy_by}
 
 module _ {T : Type 0} (table : TableValue (GenericStateEntry T)) (is_reached : ℕ → Bool) (complete : IsComplete table is_reached) where
   -- the state that an entry of a reached one leads to is reached

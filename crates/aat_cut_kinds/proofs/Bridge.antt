@@ -17,7 +17,7 @@ use Rattle.aat_cut_kinds.specs.facts.BackwardCuts.{fall_of_rise, turned_leaves_p
 use Rattle.aat_cut_kinds.specs.facts.ButMasks.{any_at_fall, any_at_rise, any_backward}
 use Rattle.aat_cut_kinds.specs.facts.ContextualCuts as contextual
 use Rattle.aat_cut_kinds.specs.facts.InsertionCuts.{leaves_parts_at_fall, leaves_parts_at_rise}
-use Rattle.aat_settled_cuts.specs.SettledCuts.{AnySettledBackwardInsertionLeavesParts, AnySettledInsertionLeavesParts, AnySettledInsertionLeavesPartsAtFall, SettledBackwardInsertionLeavesParts, SettledContextualLeavesParts, SettledInsertionLeavesParts, SettledInsertionLeavesPartsAtFall}
+use Rattle.aat_cut_kinds.specs.SettledCuts.{AnySettledBackwardInsertionLeavesParts, AnySettledInsertionLeavesParts, AnySettledInsertionLeavesPartsAtFall, SettledBackwardInsertionLeavesParts, SettledContextualLeavesParts, SettledInsertionLeavesParts, SettledInsertionLeavesPartsAtFall}
 
 -- a complete table has its entries
 has_entries : {T : Type 0} (table : TableValue (GenericStateEntry T)) (reached : ℕ → Bool) → IsComplete table reached → HasEntries table reached
