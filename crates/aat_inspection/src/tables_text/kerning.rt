@@ -1,6 +1,6 @@
 //! The tables of kerning, and anchor points.
-use crate::machines::write_machine;
-use crate::pairs::{write_classes, write_pairs, write_values};
+use crate::tables_text::machines::write_machine;
+use crate::tables_text::pairs::{write_classes, write_pairs, write_values};
 use aat_font::{Ankr, KernKind, KernSubtable, KerxFormat, KerxSubtable, Point, hb_font_t};
 use std::alloc::Global;
 use std::io::{self, Write};

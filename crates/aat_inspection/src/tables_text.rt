@@ -1,5 +1,4 @@
 //! The tables of a face as text, a line for each fact.
-#![tactic(auto)]
 
 mod chains;
 mod entries;

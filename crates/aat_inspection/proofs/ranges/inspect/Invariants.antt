@@ -2,8 +2,8 @@ use Rattle.std.proofs.Common.{◌≤◌, length, map}
 use Rattle.std.specs.Prelude.{All}
 use Rattle.aat_layout.specs.Face.{chains_in, tables_of}
 use Rattle.aat_layout.specs.Requests.{requests_of}
-use Rattle.aat_inspector.specs.Inspected.{IsAsked, Lead, table_line}
-use Rattle.aat_inspector.proofs.ranges.inspect.Given as goal
+use Rattle.aat_inspection.specs.Inspected.{IsAsked, Lead, table_line}
+use Rattle.aat_inspection.proofs.ranges.inspect.Given as goal
 
 abbrev pub invariant-loop-place : goal.invariant-loop-place
 invariant-loop-place l = record {

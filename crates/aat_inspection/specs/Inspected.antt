@@ -15,7 +15,7 @@ use Rattle.aat_layout.specs.Feature.{Feature}
 use Rattle.aat_layout.specs.feature_range_t.{feature_range_t}
 use Rattle.aat_layout.specs.AatError.{AatError}
 use Rattle.aat_layout.specs.AatError.TheVariants.{OutOfMemory}
-use Rattle.aat_inspector.specs.declared.ranges.InspectedRange.{InspectedRange}
+use Rattle.aat_inspection.specs.declared.ranges.InspectedRange.{InspectedRange}
 
 -- a line of the table: a chain, the first and the last cluster of a range, the flags there, and for each subtable
 -- whether it is on

@@ -1,5 +1,5 @@
 //! Pairs that kern.
-use crate::lookups::write_lookup;
+use crate::tables_text::lookups::write_lookup;
 use aat_font::{ClassPairs, Pairs};
 use std::alloc::Global;
 use std::io::{self, Write};

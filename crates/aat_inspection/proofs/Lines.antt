@@ -13,9 +13,9 @@ use Rattle.aat_layout.specs.Ranges.{FollowFrom, IsGapless, flags_in, holds, is_w
 use Rattle.aat_layout.specs.Switches.{meets}
 use Rattle.aat_layout.specs.feature_range_t.{feature_range_t}
 use Rattle.aat_layout.specs.range_flags_t.{range_flags_t}
-use Rattle.aat_inspector.specs.Inspected.{IsAsked, IsAskedAt, Lead, TableLine, chain_and_cluster, table_line}
-use Rattle.aat_inspector.specs.declared.ranges.InspectedRange.{InspectedRange}
-use Rattle.aat_inspector.specs.inside.Lines.{line_over}
+use Rattle.aat_inspection.specs.Inspected.{IsAsked, IsAskedAt, Lead, TableLine, chain_and_cluster, table_line}
+use Rattle.aat_inspection.specs.declared.ranges.InspectedRange.{InspectedRange}
+use Rattle.aat_inspection.specs.inside.Lines.{line_over}
 
 -- an element that was read
 pub read_at : {A : Type 0} (xs : List A) (i : ℕ) (x : A) → i < length xs → x ≡ get_or xs i x → slice_get xs i ≡ Some x

@@ -1,6 +1,6 @@
 //! State tables.
-use crate::entries::EntryText;
-use crate::lookups::write_lookup;
+use crate::tables_text::entries::EntryText;
+use crate::tables_text::lookups::write_lookup;
 use aat_font::{ExtendedStateTable, GenericStateEntry};
 use std::alloc::Global;
 use std::io::{self, Write};

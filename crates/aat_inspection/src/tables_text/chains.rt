@@ -1,5 +1,6 @@
 //! The chains of `morx`.
-use crate::kinds::{kind_name, write_kind};
+use crate::chains::kind_name;
+use crate::tables_text::kinds::write_kind;
 use aat_font::{ChainFeature, Subtable, hb_font_t};
 use bitflags::Flags;
 use std::alloc::Global;

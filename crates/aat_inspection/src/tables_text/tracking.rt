@@ -1,5 +1,5 @@
 //! The tracks of `trak`, with their names.
-use crate::names::text_of;
+use crate::tables_text::names::text_of;
 use aat_face::Face;
 use aat_placement::{Track, TrackData};
 use std::alloc::Global;

@@ -1,9 +1,9 @@
 use Rattle.std.proofs.Common.{◌∙◌, ap, Bool, List, get_or, map}
 use Rattle.aat_layout.specs.Switches.{meets}
 use Rattle.aat_layout.specs.range_flags_t.{range_flags_t}
-use Rattle.aat_inspector.specs.Inspected.{TableLine, table_line}
-use Rattle.aat_inspector.proofs.Lines.{lines_more}
-use Rattle.aat_inspector.proofs.ranges.add_chain.Goals as goal
+use Rattle.aat_inspection.specs.Inspected.{TableLine, table_line}
+use Rattle.aat_inspection.proofs.Lines.{lines_more}
+use Rattle.aat_inspection.proofs.ranges.add_chain.Goals as goal
 
 pub loop-range-preserved : goal.loop-range-preserved
 loop-range-preserved c =

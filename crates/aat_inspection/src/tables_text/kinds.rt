@@ -1,20 +1,9 @@
 //! What a subtable of `morx` does.
-use crate::lookups::write_lookup;
-use crate::machines::write_machine;
+use crate::tables_text::lookups::write_lookup;
+use crate::tables_text::machines::write_machine;
 use aat_font::{ContextualSubtable, GlyphId, InsertionSubtable, LigatureSubtable, SubtableKind};
 use std::alloc::Global;
 use std::io::{self, Write};
-
-/// The name of what a subtable does.
-pub(crate) fn kind_name(kind: &SubtableKind) -> &'static str {
-    match kind {
-        SubtableKind::Rearrangement(_) => "rearrangement",
-        SubtableKind::Contextual(_) => "contextual",
-        SubtableKind::Ligature(_) => "ligature",
-        SubtableKind::NonContextual(_) => "noncontextual",
-        SubtableKind::Insertion(_) => "insertion",
-    }
-}
 
 /// Writes the lookups of a contextual subtable.
 fn write_contextual<W: Write>(

@@ -1,5 +1,5 @@
 //! The features of `feat`, with their names.
-use crate::names::text_of;
+use crate::tables_text::names::text_of;
 use aat_face::Face;
 use aat_font::FeatureName;
 use std::alloc::Global;

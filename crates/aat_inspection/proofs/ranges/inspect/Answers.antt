@@ -5,10 +5,10 @@ use Rattle.aat_layout.specs.Map.{list_at}
 use Rattle.aat_layout.specs.Ranges.{IsGapless, is_whole_list}
 use Rattle.aat_layout.specs.Requests.{requests_of}
 use Rattle.aat_layout.specs.range_flags_t.{range_flags_t}
-use Rattle.aat_inspector.specs.Inspected.{IsAsked, Lead, TableLine, table_line}
-use Rattle.aat_inspector.specs.inside.Lines.{line_over}
-use Rattle.aat_inspector.proofs.Lines.{asked_more, lead_more, read_at}
-use Rattle.aat_inspector.proofs.ranges.inspect.Goals as goal
+use Rattle.aat_inspection.specs.Inspected.{IsAsked, Lead, TableLine, table_line}
+use Rattle.aat_inspection.specs.inside.Lines.{line_over}
+use Rattle.aat_inspection.proofs.Lines.{asked_more, lead_more, read_at}
+use Rattle.aat_inspection.proofs.ranges.inspect.Goals as goal
 
 pub loop-place-preserved : goal.loop-place-preserved
 loop-place-preserved c =

@@ -1,7 +1,7 @@
 use Rattle.std.proofs.Common.{◌≡◌, ◌++◌, map, take}
-use Rattle.aat_inspector.specs.Inspected.{table_line}
-use Rattle.aat_inspector.specs.inside.Lines.{line_over}
-use Rattle.aat_inspector.proofs.ranges.add_chain.Given as goal
+use Rattle.aat_inspection.specs.Inspected.{table_line}
+use Rattle.aat_inspection.specs.inside.Lines.{line_over}
+use Rattle.aat_inspection.proofs.ranges.add_chain.Given as goal
 
 abbrev pub invariant-loop-range : goal.invariant-loop-range
 invariant-loop-range l =

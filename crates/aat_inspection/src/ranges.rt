@@ -6,8 +6,8 @@ ghost use Rattle.aat_layout.specs.Compiled.{HaveFlags};
 ghost use Rattle.aat_layout.specs.Face.{tables_of};
 ghost use Rattle.aat_layout.specs.Ranges.{is_whole_list};
 ghost use Rattle.aat_layout.specs.Switches.{meets};
-ghost use Rattle.aat_inspector.specs.Inspected.{IsAsked, Lead, RefusesInspection, chains_of, requests_to, table_lines};
-ghost use Rattle.aat_inspector.specs.inside.Lines.{line_over};
+ghost use Rattle.aat_inspection.specs.Inspected.{IsAsked, Lead, RefusesInspection, chains_of, requests_to, table_lines};
+ghost use Rattle.aat_inspection.specs.inside.Lines.{line_over};
 
 use aat_layout::buffer::hb_mask_t;
 use aat_layout::font::{Chain, Feature, Subtable, hb_font_t};
