@@ -5,7 +5,7 @@ use Rattle.aat_layout.specs.Buffer.{Buffer}
 use Rattle.aat_layout.specs.Cut.{IsLeftOfAlikeParts, PairsAlone}
 use Rattle.aat_layout.specs.Outcome.{Outcome}
 use Rattle.aat_layout.specs.Positioning.{Kerning}
-use Rattle.aat_line_breaker.specs.LineCut.{IsCutWithin, IsLast, IsLeftOfPartsAt}
+use Rattle.aat_shaper.specs.LineCut.{IsCutWithin, IsLast, IsLeftOfPartsAt}
 
 pub apart_at :
     (ks : List Kerning) (kern : Buffer → Outcome) (old new : Buffer) (limit : ℤ) (skips : ℕ) (found : Option ℕ)

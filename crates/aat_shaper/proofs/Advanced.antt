@@ -7,7 +7,7 @@ use Rattle.aat_layout.specs.Advances.{advance, all_advances}
 use Rattle.aat_layout.specs.Buffer.{Buffer, position_list, reversed, zero_position}
 use Rattle.aat_layout.specs.Cut.{ordered_line, ordered_positions}
 use Rattle.aat_layout.specs.Directions.{is_backward, is_horizontal}
-use Rattle.aat_line_breaker.specs.LineCut.{advance_before, text_advance}
+use Rattle.aat_shaper.specs.LineCut.{advance_before, text_advance}
 
 length_turned :
     {A : Type 0} (o : Option (List A)) → length (unwrap_or (option_map reverse o) []) ≡ length (unwrap_or o [])

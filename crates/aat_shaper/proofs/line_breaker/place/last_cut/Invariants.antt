@@ -1,7 +1,7 @@
 use Rattle.std.proofs.Common.{◌≡◌, ◌*◌, pos, ◌+ℤ◌, ◌≤ℤ◌}
-use Rattle.aat_line_breaker.specs.LineCut.{IsCutWithin, advance_before}
-use Rattle.aat_line_breaker.proofs.Lasts.{IsLastBelow}
-use Rattle.aat_line_breaker.proofs.place.last_cut.Given as goal
+use Rattle.aat_shaper.specs.LineCut.{IsCutWithin, advance_before}
+use Rattle.aat_shaper.proofs.Lasts.{IsLastBelow}
+use Rattle.aat_shaper.proofs.line_breaker.place.last_cut.Given as goal
 
 abbrev pub invariant-loop-place : goal.invariant-loop-place
 invariant-loop-place g l = record {

@@ -1,22 +1,20 @@
 //! A line breaker: finds the last place within a limit of advance at which a kerned line may be cut, and kerns one.
-#![tactic(auto)]
-
 ghost use Rattle.std.specs.Prelude.{◌≡◌, ◌↔◌, false, IfErr, IfOk, IfSome, IsErrOf, IsSome, OnErr, OnOk};
 ghost use Rattle.aat_layout.specs.Clusters.{IsSmall};
 ghost use Rattle.aat_layout.specs.FontKerning.{kern_subtables, kerned_by_kern};
 ghost use Rattle.aat_layout.specs.Pairs.{kern_skips};
 ghost use Rattle.aat_layout.specs.Positioning.{AreKernPairs};
-ghost use Rattle.aat_line_breaker.specs.LineCut.{IsCutWithin, IsLast, IsLeftOfPartsAt};
+ghost use Rattle.aat_shaper.specs.LineCut.{IsCutWithin, IsLast, IsLeftOfPartsAt};
 
 mod between;
 mod order;
 mod place;
 
-pub use crate::between::may_break_between;
-pub use crate::place::last_cut;
 use aat_layout::buffer::hb_buffer_t;
 use aat_layout::font::{hb_font_t, hb_ot_shape_plan_t};
 use aat_layout::{AatError, KERN_SKIPS, hb_ot_layout_kern};
+pub use between::may_break_between;
+pub use place::last_cut;
 use std::alloc::Allocator;
 
 /// Kerns a line by the kerning table of a font, and answers the last place, in processing order, at which the line may

@@ -1,6 +1,6 @@
 -- The last number below a bound that is so.
 use Rattle.std.proofs.Common.{◌≡◌, ℕ, ◌+◌, ◌<◌, Option, Some, None, arith, subst, ◌⊎◌, inl, inr}
-use Rattle.aat_line_breaker.specs.LineCut.{IsLast}
+use Rattle.aat_shaper.specs.LineCut.{IsLast}
 
 -- the last one below n
 abbrev pub IsLastBelow : (ℕ → Type 0) → ℕ → Option ℕ → Type 0

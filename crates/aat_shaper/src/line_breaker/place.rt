@@ -5,10 +5,10 @@ ghost use Rattle.aat_layout.specs.Cut.{IsCutPlace, IsLeftOfAlikeParts, PairsAlon
 ghost use Rattle.aat_layout.specs.Outcome.{Outcome};
 ghost use Rattle.aat_layout.specs.Positioning.{Kerning};
 ghost use Rattle.aat_layout.specs.Positions.{IsPlaced};
-ghost use Rattle.aat_line_breaker.specs.LineCut.{IsCutWithin, IsLast, IsLeftOfPartsAt, advance_before};
+ghost use Rattle.aat_shaper.specs.LineCut.{IsCutWithin, IsLast, IsLeftOfPartsAt, advance_before};
 
-use crate::between::may_break_between;
-use crate::order::{advance_at, glyph_at};
+use crate::line_breaker::between::may_break_between;
+use crate::line_breaker::order::{advance_at, glyph_at};
 use aat_layout::buffer::hb_buffer_t;
 use aat_layout::is_solid;
 use std::alloc::Allocator;

@@ -4,7 +4,7 @@ use Rattle.std.proofs.lemmas.List.Elements.{All-map, All-weaker}
 use Rattle.aat_layout.specs.Cut.{PairsAlone}
 use Rattle.aat_layout.specs.FontKerning.{kern_subtables}
 use Rattle.aat_layout.specs.Positioning.{Kerning, is_for_text, is_kern_pairs, kerning_of_kern_subtable, kern_positioning}
-use Rattle.aat_line_breaker.proofs.kern_and_cut.Goals as goal
+use Rattle.aat_shaper.proofs.line_breaker.kern_and_cut.Goals as goal
 
 pub returns-clause-apart : goal.returns-clause-apart
 returns-clause-apart g c =

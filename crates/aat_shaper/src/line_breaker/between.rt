@@ -1,6 +1,6 @@
 //! Whether a line may be broken between two glyphs, as far as their marks tell.
 ghost use Rattle.std.specs.Prelude.{◌≡◌};
-ghost use Rattle.aat_line_breaker.specs.LineBreak.{may_break_between};
+ghost use Rattle.aat_shaper.specs.LineBreak.{may_break_between};
 
 use aat_layout::buffer::{glyph_flag, hb_glyph_info_t};
 
@@ -11,7 +11,7 @@ use aat_layout::buffer::{glyph_flag, hb_glyph_info_t};
 /// besides, and it promises nothing of the two parts shaped apart: a machine may carry what it noted before the place
 /// over it without a mark, and a glyph that was deleted took its mark along.
 ///
-/// [`last_cut`]: crate::last_cut
+/// [`last_cut`]: crate::line_breaker::last_cut
 pub fn may_break_between(before: &hb_glyph_info_t, after: &hb_glyph_info_t) -> bool
     ensures { result ≡ may_break_between before.now after.now }
 {

@@ -1,11 +1,11 @@
 use Rattle.std.proofs.Common.{◌≡◌, ℕ, ℤ, ◌+ℤ◌, to_z, of_z, w64, arith, true≢false, ap, sym, ◌∙◌, subst}
 use Rattle.std.proofs.lemmas.Int.{ints, to_z-of_z}
-use Rattle.aat_line_breaker.specs.LineCut.{IsCutWithin, advance_before}
-use Rattle.aat_line_breaker.proofs.Advanced.{advance_more, length-ordered_line}
-use Rattle.aat_line_breaker.proofs.Lasts.{IsLastBelow, last_here, last_stays, last_of_all}
-use Rattle.aat_line_breaker.proofs.Parts.{apart_at}
-use Rattle.aat_line_breaker.proofs.place.last_cut.Goals as goal
-use Rattle.aat_line_breaker.proofs.place.last_cut.Goals.{then-fits, else-fits}
+use Rattle.aat_shaper.specs.LineCut.{IsCutWithin, advance_before}
+use Rattle.aat_shaper.proofs.Advanced.{advance_more, length-ordered_line}
+use Rattle.aat_shaper.proofs.Lasts.{IsLastBelow, last_here, last_stays, last_of_all}
+use Rattle.aat_shaper.proofs.Parts.{apart_at}
+use Rattle.aat_shaper.proofs.line_breaker.place.last_cut.Goals as goal
+use Rattle.aat_shaper.proofs.line_breaker.place.last_cut.Goals.{then-fits, else-fits}
 
 pub loop-place-preserved : goal.loop-place-preserved
 loop-place-preserved g c =

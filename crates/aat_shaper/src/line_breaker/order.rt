@@ -3,7 +3,7 @@ ghost use Rattle.std.specs.Prelude.{◌≡◌, ◌<◌, ◌≤ℤ◌, length, ne
 ghost use Rattle.aat_layout.specs.Buffer.{glyph_at, position_at};
 ghost use Rattle.aat_layout.specs.Cut.{ordered_line};
 ghost use Rattle.aat_layout.specs.Positions.{IsPlaced};
-ghost use Rattle.aat_line_breaker.specs.LineCut.{advance_at, ordered_position_at};
+ghost use Rattle.aat_shaper.specs.LineCut.{advance_at, ordered_position_at};
 
 use aat_layout::buffer::{hb_buffer_t, hb_glyph_info_t};
 use std::alloc::Allocator;
