@@ -3,7 +3,7 @@ use crate::asserting::wanted;
 use aat_described_fonts::{
     ChainData, FontData, KindData, NO_TABLES, SubtableData, drop_font, font_of,
 };
-use aat_inspector::{InspectedRange, Table, inspect};
+use aat_inspection::{InspectedRange, Table, inspect};
 use aat_layout::AatError;
 use aat_layout::font::{ChainFeature, Coverage, Feature, FeatureName, hb_font_t, hb_tag_t};
 use std::alloc::Global;

@@ -3,7 +3,7 @@
 #![tactic(auto)]
 
 use aat_face::Face;
-use aat_face_text::{write_characters, write_face};
+use aat_inspection::{write_characters, write_face};
 use anyhow::{Context, Result, bail};
 use std::io::{BufWriter, Write};
 use std::{env, fs, io};

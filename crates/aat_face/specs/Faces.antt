@@ -17,7 +17,7 @@ use Rattle.aat_read_morx.specs.Chains.{ChainValue, values_of_morx}
 use Rattle.aat_read_sfnt.specs.Characters.{glyph_of}
 use Rattle.aat_read_sfnt.specs.Directory.{Directory, directory_of}
 use Rattle.aat_read_sfnt.specs.declared.cmap.Cmap.{Cmap}
-use Rattle.aat_tracking.specs.Tracks.{TrackingTable}
+use Rattle.aat_placement.specs.Tracks.{TrackingTable}
 use Rattle.aat_face.specs.Chains.{chains_in}
 use Rattle.aat_face.specs.English.{Text, english_text}
 use Rattle.aat_face.specs.Features.{feature_bytes, feature_tables, features_in}

@@ -18,10 +18,10 @@ use crate::text::{NameText, english_text};
 use crate::tracking::trak_in;
 use aat_bytes::{Fault, ReadError};
 use aat_font::{GlyphId, Lookup, hb_font_t};
+use aat_placement::Tracking;
 use aat_read_kerx::LeftOutSubtable;
 use aat_read_lookup::{feature_name_id, setting_name_id};
 use aat_read_sfnt::{Cmap, FontFile, Names};
-use aat_tracking::Tracking;
 use std::alloc::{AllocError, Global};
 use std::marker::Model;
 

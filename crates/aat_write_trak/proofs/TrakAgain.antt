@@ -9,7 +9,7 @@ use Rattle.aat_bytes.specs.Faults.{fault_at}
 use Rattle.aat_bytes.specs.Numbers.{be16}
 use Rattle.aat_bytes.specs.declared.error.Fault.{Fault}
 use Rattle.aat_bytes.specs.declared.error.FaultKind.TheVariants.{UnknownFormat}
-use Rattle.aat_tracking.specs.Tracks.{TrackTable, TrackingTable}
+use Rattle.aat_placement.specs.Tracks.{TrackTable, TrackingTable}
 use Rattle.aat_read_trak.specs.Trak as reader
 use Rattle.aat_read_trak.specs.declared.fault.TheConstants.{TRAK}
 use Rattle.aat_write_lookup.specs.Words.{word_bytes}
