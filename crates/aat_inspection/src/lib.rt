@@ -8,8 +8,9 @@ mod kerning;
 
 use aat_bytes::{Tag, tag_at};
 use aat_face::Face;
+pub use aat_face_text::{write_characters, write_face, write_faults};
 use aat_face_text::{write_features, write_summary, write_table};
-pub use chains::kind_name;
+pub use chains::{kind_name, write_settled};
 use std::alloc::Global;
 use std::io::{self, Write};
 
