@@ -15,7 +15,7 @@ mod tracking;
 use aat_bytes::Tag;
 use aat_face::Face;
 pub use features::write_features;
-pub use font::{write_characters, write_summary};
+pub use font::{write_characters, write_faults, write_summary};
 use std::alloc::Global;
 use std::io::{self, Write};
 
