@@ -2,6 +2,7 @@
 
 use crate::batch::batch;
 use crate::dump::dump;
+use crate::example::write_example;
 use crate::faults::faults;
 use crate::inspect::inspect;
 use crate::output::OUTPUT;
@@ -38,6 +39,7 @@ pub(crate) fn run_command<W: Write>(
         "dump" => dump(rt, out, session, matches),
         "faults" => faults(rt, out, session, matches),
         "settled" => settled(rt, out, session, matches),
+        "example" => write_example(rt.alloc(), out),
         _ => bail!("no request asks for {name}"),
     }
 }

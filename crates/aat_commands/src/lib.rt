@@ -6,6 +6,7 @@ mod batch;
 mod change;
 mod command_line;
 mod dump;
+mod example;
 mod faults;
 mod filling;
 mod fonts;
@@ -25,3 +26,4 @@ mod tracing;
 mod words;
 
 pub use command_line::{Answer, run};
+pub use example::write_example;
