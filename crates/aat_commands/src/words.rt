@@ -190,7 +190,7 @@ fn batch_command<'a>(alloc: Global) -> Command<'a> {
 
 /// The command that runs the example of the README.
 fn example_command<'a>(alloc: Global) -> Command<'a> {
-    Command::new(alloc, "example").about(
+    Command::new(alloc, "example").hide(true).about(
         "Shapes four glyphs in a font of typed tables, as the README does",
     )
 }
