@@ -6,18 +6,13 @@ mod directory;
 mod features;
 mod kerning;
 
+use aat_bytes::tags::{ANKR, TRAK};
 use aat_bytes::{Tag, tag_at};
 use aat_face::Face;
 use aat_face_text::{write_features, write_summary, write_table};
 pub use chains::kind_name;
 use std::alloc::Global;
 use std::io::{self, Write};
-
-/// The table of anchor points.
-const ANKR: Tag = Tag(0x616E6B72);
-
-/// The table of tracking.
-const TRAK: Tag = Tag(0x7472616B);
 
 /// Writes whether a table is there and is read, has a fault, or is missing.
 fn write_presence<W: Write>(
