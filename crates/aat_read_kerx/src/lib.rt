@@ -12,6 +12,7 @@ pub mod weights;
 #[doc(hidden)]
 pub mod worked;
 
-pub use ankr::{ANKR, read_ankr};
+pub use aat_bytes::tags::ANKR;
+pub use ankr::read_ankr;
 pub use kerx::{KerxRead, read_kerx};
 pub use subtables::LeftOutSubtable;
