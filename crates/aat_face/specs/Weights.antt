@@ -10,7 +10,7 @@ use Rattle.aat_font.specs.declared.feat.FeatureName.{FeatureName}
 use Rattle.aat_font.specs.declared.kern.KernSubtable.{KernSubtable}
 use Rattle.aat_font.specs.declared.kerx.KerxSubtable.{KerxSubtable}
 use Rattle.aat_read_kern.specs.Weights.{kern_weight}
-use Rattle.aat_read_kern.specs.declared.subtables.LeftOutSubtable.{LeftOutSubtable}
+use Rattle.aat_read_pairs.specs.declared.left_out.LeftOutSubtable.{LeftOutSubtable}
 use Rattle.aat_read_kerx.specs.AnchorLaws.{points_weight}
 use Rattle.aat_read_kerx.specs.Weights.{kerx_weight}
 use Rattle.aat_read_lookup.specs.Sizes.{pairs_size}

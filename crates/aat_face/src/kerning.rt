@@ -9,8 +9,8 @@ use aat_bytes::tags::GPOS;
 use aat_bytes::{Fault, ReadError};
 use aat_font::{Ankr, FaceTables, Kern, Kerx};
 use aat_read_kern::{KernRead, read_kern};
-use aat_read_kerx::{ANKR, KerxRead, LeftOutSubtable, read_ankr, read_kerx};
-use aat_read_pairs::{KERN, KERX};
+use aat_read_kerx::{ANKR, KerxRead, read_ankr, read_kerx};
+use aat_read_pairs::{KERN, KERX, LeftOutSubtable};
 use aat_read_sfnt::FontFile;
 use std::alloc::{AllocError, Global};
 
@@ -124,7 +124,7 @@ pub fn kerx_parts(
 pub fn kern_parts(
     alloc: Global,
     reading: Result<Option<KernRead>, Fault>,
-) -> (Option<Kern>, Vec<aat_read_kern::LeftOutSubtable>)
+) -> (Option<Kern>, Vec<LeftOutSubtable>)
     ensures table { result.0 ≡ option_map (λ read. read.subtables) (found_in reading) }
     ensures left_out { result.1.items ≡ left_out_of_kern reading }
 {

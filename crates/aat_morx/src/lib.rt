@@ -9,6 +9,7 @@ mod subtable;
 mod waking;
 
 pub use applying::{apply, apply_with, run_table};
+pub use subtable::{is_for, is_reversed, is_skipped};
 
 #[doc(hidden)]
 pub mod worked;

@@ -13,7 +13,7 @@ use Rattle.aat_read_kern.specs.KernMachines.{kern_machine_at}
 use Rattle.aat_read_kern.specs.declared.header.KernHeader.{KernHeader}
 use Rattle.aat_read_kern.specs.declared.header.KernList.{KernList}
 use Rattle.aat_read_kern.specs.declared.header.KernHeader.TheVariants.{Apple, OpenType}
-use Rattle.aat_read_kern.specs.declared.subtables.LeftOutSubtable.{LeftOutSubtable}
+use Rattle.aat_read_pairs.specs.declared.left_out.LeftOutSubtable.{LeftOutSubtable}
 use Rattle.aat_read_kern.specs.declared.subtables.SubtableRead.{SubtableRead}
 use Rattle.aat_read_kern.specs.declared.subtables.SubtableRead.TheVariants.{Kerns, LeftOut}
 use Rattle.aat_read_machine.specs.InTurn.{in_turn}

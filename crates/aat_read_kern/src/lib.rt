@@ -15,6 +15,6 @@ pub mod weights;
 #[doc(hidden)]
 pub mod worked;
 
+pub use aat_read_pairs::LeftOutSubtable;
 pub use kern::{KernRead, read_kern};
 pub use kern_machine::read_kern_machine;
-pub use subtables::LeftOutSubtable;

@@ -9,7 +9,7 @@ use Rattle.aat_bytes.specs.declared.tags.TheConstants.{KERX}
 use Rattle.aat_font.specs.declared.kerx.KerxSubtable.{KerxSubtable}
 use Rattle.aat_read_machine.specs.InTurn.{in_turn}
 use Rattle.aat_read_kerx.specs.KerxSubtables.{KerxStart, subtable_at}
-use Rattle.aat_read_kerx.specs.declared.subtables.LeftOutSubtable.{LeftOutSubtable}
+use Rattle.aat_read_pairs.specs.declared.left_out.LeftOutSubtable.{LeftOutSubtable}
 use Rattle.aat_read_kerx.specs.declared.subtables.SubtableRead.{SubtableRead}
 use Rattle.aat_read_kerx.specs.declared.subtables.SubtableRead.TheVariants.{Kerns, LeftOut}
 

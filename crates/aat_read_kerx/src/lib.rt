@@ -13,6 +13,6 @@ pub mod weights;
 pub mod worked;
 
 pub use aat_bytes::tags::ANKR;
+pub use aat_read_pairs::LeftOutSubtable;
 pub use ankr::read_ankr;
 pub use kerx::{KerxRead, read_kerx};
-pub use subtables::LeftOutSubtable;

@@ -2,6 +2,7 @@
 use aat_bytes::Fault;
 use aat_face::Face;
 use aat_font::GlyphId;
+use aat_read_pairs::LeftOutSubtable;
 use std::io::{self, Write};
 
 /// Writes the faults of tables.
@@ -12,23 +13,11 @@ fn write_table_faults<W: Write>(out: &mut W, faults: &[Fault]) -> io::Result<()>
     Ok(())
 }
 
-/// Writes that a subtable of a number is left out, with the fault, which names the table.
-fn write_left_out<W: Write>(out: &mut W, number: u32, fault: Fault) -> io::Result<()> {
-    writeln!(out, "left out subtable {number}: {fault}")
-}
-
-/// Writes the subtables of `kerx` that are left out.
-fn write_left_out_of_kerx<W: Write>(out: &mut W, face: &Face<'_>) -> io::Result<()> {
-    for subtable in face.left_out() {
-        write_left_out(out, subtable.number, subtable.fault)?;
-    }
-    Ok(())
-}
-
-/// Writes the subtables of `kern` that are left out.
-fn write_left_out_of_kern<W: Write>(out: &mut W, face: &Face<'_>) -> io::Result<()> {
-    for subtable in face.left_out_of_kern() {
-        write_left_out(out, subtable.number, subtable.fault)?;
+/// Writes the subtables that are left out, each with its number and the fault, which names the table.
+fn write_left_out<W: Write>(out: &mut W, left_out: &[LeftOutSubtable]) -> io::Result<()> {
+    for subtable in left_out {
+        let (number, fault) = (subtable.number, subtable.fault);
+        writeln!(out, "left out subtable {number}: {fault}")?;
     }
     Ok(())
 }
@@ -39,8 +28,8 @@ fn write_left_out_of_kern<W: Write>(out: &mut W, face: &Face<'_>) -> io::Result<
 /// An error is that of the writer. A part of the text may be written then.
 pub fn write_faults<W: Write>(out: &mut W, face: &Face<'_>) -> io::Result<bool> {
     write_table_faults(out, face.faults())?;
-    write_left_out_of_kerx(out, face)?;
-    write_left_out_of_kern(out, face)?;
+    write_left_out(out, face.left_out())?;
+    write_left_out(out, face.left_out_of_kern())?;
     let is_whole = face.left_out().is_empty() && face.left_out_of_kern().is_empty();
     Ok(!(is_whole && face.faults().is_empty()))
 }

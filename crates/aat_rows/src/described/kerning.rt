@@ -1,7 +1,7 @@
 //! Making the kerning tables of fonts.
 
-use crate::data::{KernData, KerxData, MachineData, Pair, Value};
-use crate::kinds::{machine_of, push};
+use crate::described::data::{KernData, KerxData, MachineData, Pair, Value};
+use crate::described::kinds::{machine_of, push};
 use aat_font::{
     Ankr, EntryData, Kern, KernEntryData, KernKind, KernMachine, KernSubtable, Kerx, KerxFormat,
     KerxSubtable, Pairs, Point, Subtable1, Subtable4, TableError,

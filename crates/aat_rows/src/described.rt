@@ -1,5 +1,4 @@
 //! Fonts that are described as data, for tests and worked rows: the descriptions, and the making of the fonts.
-#![tactic(auto)]
 
 mod build;
 mod data;

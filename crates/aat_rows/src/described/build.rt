@@ -1,8 +1,8 @@
 //! Making the fonts.
 
-use crate::data::{ChainData, FontData, Value};
-use crate::kerning::{ankr_of, kern_of, kerx_of};
-use crate::kinds::{push, subtables_of};
+use crate::described::data::{ChainData, FontData, Value};
+use crate::described::kerning::{ankr_of, kern_of, kerx_of};
+use crate::described::kinds::{push, subtables_of};
 use aat_font::{Chain, FaceTables, Feat, FeatureName, Lookup, Morx, TableError, hb_font_t};
 use std::alloc::Global;
 

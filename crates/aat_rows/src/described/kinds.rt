@@ -1,6 +1,6 @@
 //! Making the subtables of fonts.
 
-use crate::data::{KindData, LigatureData, MachineData, Rule, SubtableData, Value};
+use crate::described::data::{KindData, LigatureData, MachineData, Rule, SubtableData, Value};
 use aat_font::{
     Acting, ContextualEntryData, ContextualSubtable, Coverage, ExtendedStateTable,
     GenericStateEntry, GlyphId, InsertionEntryData, InsertionSubtable, LigatureSubtable, Lookup,

@@ -1,6 +1,6 @@
 //! Tables that are made over some memory, asked one thing, and dropped.
 
-use crate::data::{MachineData, Pair, Value};
+use crate::described::data::{MachineData, Pair, Value};
 use aat_font::{ExtendedStateTable, Feat, FeatureName, GlyphId, Lookup, Pairs, TableError};
 use std::alloc::Allocator;
 
