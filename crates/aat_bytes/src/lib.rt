@@ -7,6 +7,7 @@ mod error;
 mod numbers;
 mod slices;
 mod tag;
+pub mod tags;
 #[doc(hidden)]
 pub mod worked;
 

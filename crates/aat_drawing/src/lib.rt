@@ -16,7 +16,7 @@ mod picture;
 
 pub use changes::drawn_changes;
 pub use error::DrawError;
-pub use forms::write_glyphs;
+pub use forms::{write_flagged_glyphs, write_glyphs};
 pub use json::write_json;
 pub use line::{DrawnGlyph, DrawnLine, LineBreak};
 pub use metrics::LineMetrics;

@@ -4,6 +4,7 @@ use Rattle.std.specs.Prelude.{ℕ, ◌+◌, ◌*◌, List, [], length, Option, O
 use Rattle.std.specs.Option.{option_map_or}
 use Rattle.aat_bytes.specs.Faults.{after}
 use Rattle.aat_bytes.specs.declared.tag.Tag.{Tag}
+use Rattle.aat_bytes.specs.declared.tags.TheConstants.{KERX, MORX}
 use Rattle.aat_font.specs.AnchorPoints.{Points}
 use Rattle.aat_font.specs.declared.feat.FeatureName.{FeatureName}
 use Rattle.aat_font.specs.declared.kern.KernSubtable.{KernSubtable}
@@ -13,8 +14,6 @@ use Rattle.aat_read_pairs.specs.declared.left_out.LeftOutSubtable.{LeftOutSubtab
 use Rattle.aat_read_kerx.specs.AnchorLaws.{points_weight}
 use Rattle.aat_read_kerx.specs.Weights.{kerx_weight}
 use Rattle.aat_read_lookup.specs.Sizes.{pairs_size}
-use Rattle.aat_read_machine.specs.declared.kinds.TheConstants.{MORX}
-use Rattle.aat_read_pairs.specs.declared.values.TheConstants.{KERX}
 use Rattle.aat_read_morx.specs.Chains.{ChainValue}
 use Rattle.aat_read_morx.specs.Weights.{morx_weight}
 use Rattle.aat_read_sfnt.specs.Directory.{directory_of, table_of}

@@ -11,20 +11,17 @@ mod ranges;
 mod ranges_table;
 mod tables_text;
 
+use aat_bytes::tags::{ANKR, TRAK};
 use aat_bytes::{Tag, tag_at};
 use aat_face::Face;
-pub use chains::kind_name;
+pub use chains::{kind_name, write_settled};
 pub use ranges::{InspectedRange, inspect};
 pub use ranges_table::Table;
 use std::alloc::Global;
 use std::io::{self, Write};
-pub use tables_text::{write_characters, write_face, write_features, write_summary, write_table};
-
-/// The table of anchor points.
-const ANKR: Tag = Tag(0x616E6B72);
-
-/// The table of tracking.
-const TRAK: Tag = Tag(0x7472616B);
+pub use tables_text::{
+    write_characters, write_face, write_faults, write_features, write_summary, write_table,
+};
 
 /// Writes whether a table is there and is read, has a fault, or is missing.
 fn write_presence<W: Write>(

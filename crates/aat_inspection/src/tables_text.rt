@@ -13,9 +13,10 @@ mod pairs;
 mod tracking;
 
 use aat_bytes::Tag;
+use aat_bytes::tags::{ANKR, FEAT, HMTX, KERN, KERX, MORX, TRAK};
 use aat_face::Face;
 pub use features::write_features;
-pub use font::{write_characters, write_summary};
+pub use font::{write_characters, write_faults, write_summary};
 use std::alloc::Global;
 use std::io::{self, Write};
 
@@ -34,21 +35,6 @@ pub fn write_face<W: Write>(alloc: Global, out: &mut W, face: &Face<'_>) -> io::
     kerning::write_kerning(alloc, out, face.font())?;
     tracking::write_tracking(alloc, out, face)
 }
-
-/// The tags of the tables that [`write_table`] writes.
-const ANKR: Tag = Tag(0x616E6B72);
-
-const FEAT: Tag = Tag(0x66656174);
-
-const HMTX: Tag = Tag(0x686D7478);
-
-const KERN: Tag = Tag(0x6B65726E);
-
-const KERX: Tag = Tag(0x6B657278);
-
-const MORX: Tag = Tag(0x6D6F7278);
-
-const TRAK: Tag = Tag(0x7472616B);
 
 /// Writes what a face has of a table, as [`write_face`] does, and answers whether the table is one that it writes: `hmtx`,
 /// with the properties of the glyphs, `feat`, `morx`, `kerx`, `kern`, `ankr` or `trak`. Of one that the face does not have

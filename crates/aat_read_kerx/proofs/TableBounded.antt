@@ -7,6 +7,7 @@ use Rattle.std.proofs.lemmas.List.{length-take}
 use Rattle.aat_bytes.specs.Numbers.{be32}
 use Rattle.aat_bytes.specs.declared.error.Fault.{Fault}
 use Rattle.aat_bytes.specs.facts.Parts.{ok_parts, parts, passes}
+use Rattle.aat_bytes.specs.declared.tags.TheConstants.{KERX}
 use Rattle.aat_font.specs.Classes.{ClassValues}
 use Rattle.aat_font.specs.KerningTables.{KerxAnchorTables, KerxStackTables}
 use Rattle.aat_font.specs.declared.kerx.KerxFormat.{KerxFormat}
@@ -16,7 +17,6 @@ use Rattle.aat_read_machine.specs.facts.Turns.{turn, weight_more}
 use Rattle.aat_read_pairs.specs.KerxClasses.{kerx_arrays_at, kerx_classes_at}
 use Rattle.aat_read_pairs.specs.ListedPairs.{kerx_pairs_at}
 use Rattle.aat_read_pairs.specs.LongArrays.{kerx_long_arrays_at, wide_value_at}
-use Rattle.aat_read_pairs.specs.declared.values.TheConstants.{KERX}
 use Rattle.aat_read_long_lookup.specs.Sizes.{long_size_at}
 use Rattle.aat_read_long_lookup.proofs.SizeBounds.{rows_are_inside}
 use Rattle.aat_read_pairs.proofs.Counts.{arrays_fit, classes_fit, long_arrays_fit, pairs_fit}

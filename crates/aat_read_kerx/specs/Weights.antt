@@ -1,6 +1,7 @@
 -- What an extended kerning table weighs that is read: the bytes of memory that it takes.
 use Rattle.std.specs.Prelude.{ℕ, ◌+◌, ◌*◌, ◌/◌, List, length, if◌then◌else◌, Ok, Err}
 use Rattle.aat_bytes.specs.Numbers.{be32}
+use Rattle.aat_bytes.specs.declared.tags.TheConstants.{KERX}
 use Rattle.aat_font.specs.Classes.{ClassValues}
 use Rattle.aat_font.specs.KerningTables.{KerxAnchorTables, KerxStackTables}
 use Rattle.aat_font.specs.declared.kerx.KerxFormat.{KerxFormat}
@@ -11,7 +12,6 @@ use Rattle.aat_read_machine.specs.InTurn.{weight_in_turn}
 use Rattle.aat_read_machine.specs.Kinds.{list_place}
 use Rattle.aat_read_machine.specs.Weights.{machine_weight}
 use Rattle.aat_read_pairs.specs.Weights.{pairs_weight}
-use Rattle.aat_read_pairs.specs.declared.values.TheConstants.{KERX}
 use Rattle.aat_read_pairs.specs.declared.weights.TheConstants.{LEFT_OUT_SIZE}
 use Rattle.aat_read_kerx.specs.Formats.{is_long}
 use Rattle.aat_read_kerx.specs.KerxSubtables.{KerxStart, subtable_at, used_bytes}

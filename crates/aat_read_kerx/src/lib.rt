@@ -12,6 +12,7 @@ pub mod weights;
 #[doc(hidden)]
 pub mod worked;
 
+pub use aat_bytes::tags::ANKR;
 pub use aat_read_pairs::LeftOutSubtable;
-pub use ankr::{ANKR, read_ankr};
+pub use ankr::read_ankr;
 pub use kerx::{KerxRead, read_kerx};

@@ -16,10 +16,10 @@ pub mod weights;
 #[doc(hidden)]
 pub mod worked;
 
+pub use aat_bytes::tags::{KERN, KERX};
 pub use kern_classes::read_kern_classes;
 pub use kern_indexes::read_kern_indexes;
 pub use kerx_classes::{read_kerx_arrays, read_kerx_classes};
 pub use left_out::LeftOutSubtable;
 pub use listed::{read_kern_pairs, read_kerx_pairs};
 pub use long_arrays::{kerx_wide_value, read_kerx_long_arrays};
-pub use values::{KERN, KERX};

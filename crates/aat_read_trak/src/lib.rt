@@ -12,5 +12,5 @@ mod trak;
 #[doc(hidden)]
 pub mod worked;
 
-pub use fault::TRAK;
+pub use aat_bytes::tags::TRAK;
 pub use trak::read_trak;

@@ -6,7 +6,7 @@ use aat_read_pairs::LeftOutSubtable;
 use std::io::{self, Write};
 
 /// Writes the faults of tables.
-fn write_faults<W: Write>(out: &mut W, faults: &[Fault]) -> io::Result<()> {
+fn write_table_faults<W: Write>(out: &mut W, faults: &[Fault]) -> io::Result<()> {
     for fault in faults {
         writeln!(out, "fault {fault}")?;
     }
@@ -22,6 +22,18 @@ fn write_left_out<W: Write>(out: &mut W, left_out: &[LeftOutSubtable]) -> io::Re
     Ok(())
 }
 
+/// Writes the faults of tables and the subtables of `kerx` and of `kern` that are left out, a line each, and answers
+/// whether there are any.
+///
+/// An error is that of the writer. A part of the text may be written then.
+pub fn write_faults<W: Write>(out: &mut W, face: &Face<'_>) -> io::Result<bool> {
+    write_table_faults(out, face.faults())?;
+    write_left_out(out, face.left_out())?;
+    write_left_out(out, face.left_out_of_kern())?;
+    let is_whole = face.left_out().is_empty() && face.left_out_of_kern().is_empty();
+    Ok(!(is_whole && face.faults().is_empty()))
+}
+
 /// Writes the number of glyphs, the units of the em, the faults of tables, the subtables of `kerx` and of `kern` that
 /// are left out, and whether the file has `GPOS` and no `kerx`.
 ///
@@ -29,9 +41,7 @@ fn write_left_out<W: Write>(out: &mut W, left_out: &[LeftOutSubtable]) -> io::Re
 pub fn write_summary<W: Write>(out: &mut W, face: &Face<'_>) -> io::Result<()> {
     writeln!(out, "glyphs {}", face.glyph_count())?;
     writeln!(out, "units per em {}", face.units_per_em())?;
-    write_faults(out, face.faults())?;
-    write_left_out(out, face.left_out())?;
-    write_left_out(out, face.left_out_of_kern())?;
+    write_faults(out, face)?;
     if face.has_gpos() && face.font().tables().kerx.is_none() {
         writeln!(out, "table GPOS, by which another layer may kern")?;
     }
