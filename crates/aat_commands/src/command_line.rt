@@ -1,5 +1,6 @@
 //! A command line is run.
 
+use crate::bench::bench;
 use crate::dump::dump;
 use crate::inspect::inspect;
 use crate::output::OUTPUT;
@@ -31,6 +32,7 @@ pub fn run<S: AsStr, W: Write>(rt: &HostRuntime, words: &[S], out: &mut W) -> Re
         Some(("shape", matches)) => shape(rt, out, matches)?,
         Some(("inspect", matches)) => inspect(rt, out, matches)?,
         Some(("dump", matches)) => dump(rt, out, matches)?,
+        Some(("bench", matches)) => bench(rt, out, matches)?,
         _ => {}
     }
     out.flush().context(OUTPUT)?;

@@ -1,6 +1,8 @@
 //! The commands of the program `aat`: a text is shaped and shown, and a font is inspected.
 #![tactic(auto)]
 
+mod bench;
+mod buffer;
 mod command_line;
 mod dump;
 mod filling;

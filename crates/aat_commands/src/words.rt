@@ -63,6 +63,11 @@ fn shaping_arguments<'a>(alloc: Global, command: Command<'a>) -> Result<Command<
         .value_name("WORD")
         .value_parser(DIRECTIONS.as_slice())
         .help("The direction; else the first strong character gives it");
+    command.arg(features)?.arg(direction)
+}
+
+/// What the lines of a text are, besides.
+fn setting_arguments<'a>(alloc: Global, command: Command<'a>) -> Result<Command<'a>, AllocError> {
     let size = Arg::new(alloc, "size")
         .long("point-size")
         .value_name("N")
@@ -73,7 +78,7 @@ fn shaping_arguments<'a>(alloc: Global, command: Command<'a>) -> Result<Command<
         .value_name("N")
         .value_parser(value_parser!(u32))
         .help("Breaks the text into lines of at most N units of the font, where that can be");
-    command.arg(features)?.arg(direction)?.arg(size)?.arg(width)
+    command.arg(size)?.arg(width)
 }
 
 /// What is shown.
@@ -108,6 +113,7 @@ fn shape_command<'a>(alloc: Global) -> Result<Command<'a>, AllocError> {
         .arg(font_argument(alloc))?;
     let command = text_arguments(alloc, command)?;
     let command = shaping_arguments(alloc, command)?;
+    let command = setting_arguments(alloc, command)?;
     output_arguments(alloc, command)?.arg(index_argument(alloc))
 }
 
@@ -135,6 +141,30 @@ fn dump_command<'a>(alloc: Global) -> Result<Command<'a>, AllocError> {
         .arg(index_argument(alloc))
 }
 
+/// The command that times the shaping of a text.
+fn bench_command<'a>(alloc: Global) -> Result<Command<'a>, AllocError> {
+    let rounds = Arg::new(alloc, "rounds")
+        .long("rounds")
+        .value_name("N")
+        .value_parser(value_parser!(u32))
+        .default_value("9")
+        .help("How often each step is timed. With 0 only what comes out is told");
+    let length = Arg::new(alloc, "length")
+        .long("glyphs-per-line")
+        .value_name("N")
+        .value_parser(value_parser!(u32))
+        .help("Cuts each line of the text into lines of N characters, of which each is a glyph");
+    let command = Command::new(alloc, "bench")
+        .about(
+            "Times reading a font and shaping a text, in nanoseconds, as the least and the median of N rounds",
+        )
+        .after_help("Example: aat bench font.ttf --file text.txt --features smcp")
+        .arg(font_argument(alloc))?;
+    let command = text_arguments(alloc, command)?;
+    let command = shaping_arguments(alloc, command)?;
+    command.arg(rounds)?.arg(length)?.arg(index_argument(alloc))
+}
+
 /// The program's command.
 pub(crate) fn command<'a>(alloc: Global) -> Result<Command<'a>, AllocError> {
     Command::new(alloc, "aat")
@@ -142,5 +172,6 @@ pub(crate) fn command<'a>(alloc: Global) -> Result<Command<'a>, AllocError> {
         .subcommand_required(true)
         .subcommand(shape_command(alloc)?)?
         .subcommand(inspect_command(alloc)?)?
-        .subcommand(dump_command(alloc)?)
+        .subcommand(dump_command(alloc)?)?
+        .subcommand(bench_command(alloc)?)
 }
