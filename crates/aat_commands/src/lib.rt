@@ -3,6 +3,8 @@
 #![tactic(auto)]
 
 mod batch;
+mod bench;
+mod buffer;
 mod change;
 mod command_line;
 mod dump;

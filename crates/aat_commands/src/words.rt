@@ -78,6 +78,11 @@ fn shaping_arguments<'a>(alloc: Global, command: Command<'a>) -> Result<Command<
         .value_name("WORD")
         .value_parser(DIRECTIONS.as_slice())
         .help("The direction; else the first strong character gives it");
+    command.arg(features)?.arg(direction)
+}
+
+/// What the lines of a text are, besides.
+fn setting_arguments<'a>(alloc: Global, command: Command<'a>) -> Result<Command<'a>, AllocError> {
     let size = Arg::new(alloc, "size")
         .long("point-size")
         .value_name("N")
@@ -88,7 +93,7 @@ fn shaping_arguments<'a>(alloc: Global, command: Command<'a>) -> Result<Command<
         .value_name("N")
         .value_parser(value_parser!(u32))
         .help("Breaks the text into lines of at most N units of the font, where that can be");
-    command.arg(features)?.arg(direction)?.arg(size)?.arg(width)
+    command.arg(size)?.arg(width)
 }
 
 /// What is shown.
@@ -129,6 +134,7 @@ fn shape_command<'a>(alloc: Global) -> Result<Command<'a>, AllocError> {
         .arg(font_argument(alloc))?;
     let command = text_arguments(alloc, command)?;
     let command = shaping_arguments(alloc, command)?;
+    let command = setting_arguments(alloc, command)?;
     file_arguments(alloc, output_arguments(alloc, command)?)
 }
 
@@ -195,6 +201,35 @@ fn example_command<'a>(alloc: Global) -> Command<'a> {
     )
 }
 
+/// The command that times the shaping of a text.
+fn bench_command<'a>(alloc: Global) -> Result<Command<'a>, AllocError> {
+    let rounds = Arg::new(alloc, "rounds")
+        .long("rounds")
+        .value_name("N")
+        .value_parser(value_parser!(u32))
+        .default_value("9")
+        .help("How often each step is timed. With 0 only what comes out is told");
+    let length = Arg::new(alloc, "length")
+        .long("glyphs-per-line")
+        .value_name("N")
+        .value_parser(value_parser!(u32))
+        .help("Cuts each line of the text into lines of N characters, of which each is a glyph");
+    let command = Command::new(alloc, "bench")
+        .about(
+            "Times reading a font and shaping a text, in nanoseconds, as the least and the median of N rounds",
+        )
+        .after_help("Example: aat bench font.ttf --file text.txt --features smcp")
+        .arg(font_argument(alloc))?;
+    let file = Arg::new(alloc, "file")
+        .long("file")
+        .value_name("PATH")
+        .required(true)
+        .action(ArgAction::Set)
+        .help("The file of the text. Each of its lines is shaped by itself");
+    let command = shaping_arguments(alloc, command.arg(file)?)?;
+    file_arguments(alloc, command.arg(rounds)?.arg(length)?)
+}
+
 /// The program's command.
 pub(crate) fn command<'a>(alloc: Global) -> Result<Command<'a>, AllocError> {
     Command::new(alloc, "aat")
@@ -205,6 +240,7 @@ pub(crate) fn command<'a>(alloc: Global) -> Result<Command<'a>, AllocError> {
         .subcommand(dump_command(alloc)?)?
         .subcommand(faults_command(alloc)?)?
         .subcommand(settled_command(alloc)?)?
+        .subcommand(bench_command(alloc)?)?
         .subcommand(batch_command(alloc))?
         .subcommand(example_command(alloc))
 }

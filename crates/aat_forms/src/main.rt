@@ -7,7 +7,7 @@ use anyhow::Result;
 use std::io::{self, BufWriter, Write};
 
 /// Command lines, without the name of the program, whose words a bar parts.
-static LINES: [&str; 55] = [
+static LINES: [&str; 64] = [
     "shape|sample.ttf|fila fa-la",
     "shape|sample.ttf|fila fa-la|--features|-liga,smcp[5:7]",
     "shape|sample.ttf|fila a\u{301}|--direction|rtl",
@@ -40,6 +40,10 @@ static LINES: [&str; 55] = [
     "shape|sample.ttf|fila a\u{301}|--features|smcp|--output|svg",
     "shape|outline.ttf|fila|--output|svg",
     "shape|short.ttf|fila|--output|svg",
+    "bench|sample.ttf|--file|text.txt|--rounds|0",
+    "bench|sample.ttf|fila fa-la|--rounds|0|--features|smcp,-liga|--direction|rtl",
+    "bench|example.ttf|fafiia|--rounds|0|--features|calt",
+    "bench|sample.ttf|--file|text.txt|--rounds|0|--glyphs-per-line|4",
     "shape|none.ttf|fila",
     "inspect|sample.ttf|--index|1",
     "inspect|sample.ttf|--index|x",
@@ -58,11 +62,16 @@ static LINES: [&str; 55] = [
     "shape|sample.ttf|fila|--trace|--output|json",
     "shape|sample.ttf|fila|--colour",
     "shape|sample.ttf",
+    "bench|sample.ttf",
+    "bench|sample.ttf|fila|--rounds|often",
+    "bench|none.ttf|fila|--rounds|0",
+    "bench|sample.ttf|fila|--rounds|0|--features|toolong",
     "draw",
     "--help",
     "shape|--help",
     "inspect|--help",
     "dump|--help",
+    "bench|--help",
 ];
 
 /// Runs a command line, and writes what it comes to behind its output.
