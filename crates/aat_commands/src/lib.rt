@@ -1,5 +1,9 @@
 //! The commands of the program `aat`: a text is shaped and shown, a font is inspected, and requests of a batch are
 //! answered.
+//!
+//! ```
+//! let answer = run(&rt, &words, &mut out)?;
+//! ```
 #![tactic(auto)]
 
 mod batch;

@@ -1,5 +1,9 @@
-//! What a person or another program is shown of lines that were shaped: the glyphs in the form of `hb-shape`, JSON, and a
-//! picture in SVG.
+//! What a person or another program is shown of lines that were shaped: the glyphs in the form of `hb-shape`, JSON, and
+//! a picture in SVG.
+//!
+//! ```
+//! write_glyphs(&mut out, &line)?;
+//! ```
 #![tactic(auto)]
 
 mod changes;

@@ -1,6 +1,10 @@
-//! What a person reads of a font: the tables of its file, its features, its chains and its kerning, a line for each fact
-//! ([`write_inspection`]); all that its tables have ([`write_face`]); and which flags each chain has over which clusters
-//! for a font and requests, and which of its subtables are on there ([`inspect`]), also as a table ([`Table`]).
+//! What a person reads of a font: the tables of its file, its features, its chains and its kerning, a line for each
+//! fact; all that its tables have ([`write_face`]); and which flags each chain has over which clusters for a font and
+//! requests, and which of its subtables are on there ([`inspect`]), also as a table ([`Table`]).
+//!
+//! ```
+//! write_inspection(alloc, &mut out, &file, 0, &face)?;
+//! ```
 #![tactic(auto)]
 
 mod chains;

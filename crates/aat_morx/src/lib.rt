@@ -1,4 +1,8 @@
-//! Substitution: the subtables of all chains in their order.
+//! Substitution: the subtables of all chains in their order, under a map of what is asked for.
+//!
+//! ```
+//! apply(&mut context, &map)?;
+//! ```
 #![tactic(auto)]
 
 mod applying;

@@ -1,7 +1,10 @@
-//! What stands after the layer's positions, before a line is drawn: offsets added up along attachments (which glyph each
-//! hangs on), and tracks of `trak` (how much wider or tighter a text is set at a point size, and the line that is set so).
+//! What stands after the layer's positions, before a line is drawn: offsets added up along attachments (which glyph
+//! each hangs on), and tracks of `trak` (how much wider or tighter a text is set at a point size, and the line that is
+//! set so): Apple's TrueType Reference Manual, "The 'trak' table".
 //!
-//! Apple's TrueType Reference Manual, "The 'trak' table".
+//! ```
+//! add_up_attachments(alloc, direction, &mut positions)?;
+//! ```
 #![tactic(auto)]
 
 mod error;

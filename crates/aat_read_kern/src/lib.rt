@@ -1,4 +1,8 @@
 //! The kerning table read from bytes, with either header, and its machines, whose classes and indexes are bytes.
+//!
+//! ```
+//! let KernRead { kern, left_out } = read_kern(alloc, &bytes)?;
+//! ```
 #![tactic(auto)]
 
 mod byte_classes;

@@ -1,4 +1,8 @@
 //! The extended kerning table and its anchor points, read from bytes.
+//!
+//! ```
+//! let KerxRead { kerx, left_out } = read_kerx(alloc, &bytes, glyph_count)?;
+//! ```
 #![tactic(auto)]
 
 mod ankr;

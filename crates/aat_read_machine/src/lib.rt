@@ -1,4 +1,8 @@
 //! State tables and the kinds of subtables of `morx`, read from bytes.
+//!
+//! ```
+//! let kind: SubtableKind = read_subtable_kind(alloc, &bytes, place, kind, glyph_count)?;
+//! ```
 #![tactic(auto)]
 
 mod contextual;

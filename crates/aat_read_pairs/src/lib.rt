@@ -1,4 +1,8 @@
 //! Readers of kerning values of pairs of glyphs: the subtables of `kern` and `kerx` that have no machine.
+//!
+//! ```
+//! let pairs = read_kern_pairs(alloc, &bytes, place)?;
+//! ```
 #![tactic(auto)]
 
 mod class_table;
