@@ -26,7 +26,8 @@ fn write_in_one_line<W: Write>(out: &mut W, text: &mut [u8]) -> Result<()> {
             *byte = b'\t';
         }
     }
-    out.write_all(text.strip_suffix(b"\t").unwrap_or(text)).context(OUTPUT)?;
+    out.write_all(text.strip_suffix(b"\t").unwrap_or(text))
+        .context(OUTPUT)?;
     out.write_all(b"\n").context(OUTPUT)
 }
 

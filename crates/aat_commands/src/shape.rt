@@ -155,7 +155,14 @@ fn shape_in<W: Write>(
         Text::Glyphs(list) => shape_glyphs(rt.alloc(), out, context, list)?,
     };
     if context.request.output.is_picture() {
-        write_picture(rt.alloc(), out, font.source.path, context, &font.file()?, &kept)?;
+        write_picture(
+            rt.alloc(),
+            out,
+            font.source.path,
+            context,
+            &font.file()?,
+            &kept,
+        )?;
     }
     Ok(())
 }
@@ -196,7 +203,14 @@ pub(crate) fn shape<W: Write>(
     let request = Request::of_matches(rt.alloc(), matches)?;
     if let Some(path) = matches.get_str("file") {
         let text = text_of_file(rt, session.speaker, path)?;
-        return shape_text(rt, out, session, matches, request, Text::Lines(text.as_str()));
+        return shape_text(
+            rt,
+            out,
+            session,
+            matches,
+            request,
+            Text::Lines(text.as_str()),
+        );
     }
     let text = match matches.get_str("glyphs") {
         Some(list) => Text::Glyphs(list),

@@ -59,7 +59,9 @@ fn text_arguments<'a>(alloc: Global, command: Command<'a>) -> Result<Command<'a>
         .long("glyphs")
         .value_name("LIST")
         .action(ArgAction::Set)
-        .help("Takes a line of glyphs for the text, by their numbers with spaces between, as 4 5 7");
+        .help(
+            "Takes a line of glyphs for the text, by their numbers with spaces between, as 4 5 7",
+        );
     command.arg(text)?.arg(file)?.arg(glyphs)
 }
 
@@ -113,7 +115,9 @@ fn output_arguments<'a>(alloc: Global, command: Command<'a>) -> Result<Command<'
     let flags = Arg::new(alloc, "flags")
         .long("show-flags")
         .action(ArgAction::SetTrue)
-        .help("Writes #1 behind a glyph before which the text may not be broken, in the form glyphs");
+        .help(
+            "Writes #1 behind a glyph before which the text may not be broken, in the form glyphs",
+        );
     command.arg(output)?.arg(unit)?.arg(trace)?.arg(flags)
 }
 
@@ -179,7 +183,9 @@ fn settled_command<'a>(alloc: Global) -> Result<Command<'a>, AllocError> {
 fn batch_command<'a>(alloc: Global) -> Command<'a> {
     Command::new(alloc, "batch")
         .about("Answers requests from the standard input, a line each")
-        .after_help("A request is the words of another command, as: shape font.ttf \"fila\" --features smcp")
+        .after_help(
+            "A request is the words of another command, as: shape font.ttf \"fila\" --features smcp",
+        )
 }
 
 /// The program's command.
