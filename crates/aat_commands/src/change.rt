@@ -5,18 +5,16 @@ use std::alloc::Global;
 
 /// Puts bytes at a place of others, where they all lie within them.
 fn put(bytes: &mut [u8], place: usize, new: &[u8]) -> Result<()> {
-    let place = place.min(bytes.len());
-    let old = bytes.get_mut(place..).context("no such place")?;
-    if old.len() < new.len() {
-        return Err(anyhow!("the change reaches past the end of the file"));
-    }
+    let end = place.saturating_add(new.len());
+    let old = bytes.get_mut(place..end);
+    let old = old.context("the change reaches past the end of the file")?;
     for (byte, new) in old.iter_mut().zip(new) {
         *byte = *new;
     }
     Ok(())
 }
 
-/// Makes a change, which is written `PLACE=HEX`: the bytes from a place on, which is decimal, are taken for those of HEX.
+/// Makes a change, which is written `PLACE=HEX`: the bytes from a place on, which is decimal, are taken for others.
 fn change_place(alloc: Global, bytes: &mut [u8], change: &str) -> Result<()> {
     let (place, hex) = change.split_once('=').context("a change is PLACE=HEX")?;
     let place = place.parse::<usize>()?;
