@@ -2,6 +2,7 @@
 
 use crate::dump::dump;
 use crate::inspect::inspect;
+use crate::make::make;
 use crate::output::OUTPUT;
 use crate::shape::shape;
 use crate::words::command;
@@ -31,6 +32,7 @@ pub fn run<S: AsStr, W: Write>(rt: &HostRuntime, words: &[S], out: &mut W) -> Re
         Some(("shape", matches)) => shape(rt, out, matches)?,
         Some(("inspect", matches)) => inspect(rt, out, matches)?,
         Some(("dump", matches)) => dump(rt, out, matches)?,
+        Some(("make", matches)) => make(rt, out, matches)?,
         _ => {}
     }
     out.flush().context(OUTPUT)?;

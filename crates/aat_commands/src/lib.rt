@@ -6,6 +6,7 @@ mod dump;
 mod filling;
 mod inspect;
 mod line;
+mod make;
 mod names;
 mod output;
 mod paragraph;

@@ -135,6 +135,20 @@ fn dump_command<'a>(alloc: Global) -> Result<Command<'a>, AllocError> {
         .arg(index_argument(alloc))
 }
 
+/// The command that makes a font of a description, for tests.
+fn make_command<'a>(alloc: Global) -> Result<Command<'a>, AllocError> {
+    let description = Arg::new(alloc, "description")
+        .value_name("DESCRIPTION")
+        .required(true)
+        .action(ArgAction::Set)
+        .help("The file of a description in JSON, or - for the standard input");
+    Command::new(alloc, "make")
+        .about("Writes the font that a description tells of, for tests")
+        .after_help("Example: aat make font.json > font.ttf")
+        .hide(true)
+        .arg(description)
+}
+
 /// The program's command.
 pub(crate) fn command<'a>(alloc: Global) -> Result<Command<'a>, AllocError> {
     Command::new(alloc, "aat")
@@ -142,5 +156,6 @@ pub(crate) fn command<'a>(alloc: Global) -> Result<Command<'a>, AllocError> {
         .subcommand_required(true)
         .subcommand(shape_command(alloc)?)?
         .subcommand(inspect_command(alloc)?)?
-        .subcommand(dump_command(alloc)?)
+        .subcommand(dump_command(alloc)?)?
+        .subcommand(make_command(alloc)?)
 }
