@@ -2,7 +2,7 @@
 
 use crate::characters::Characters;
 use crate::features::{NumberedFeature, feat};
-use crate::glyphs::Glyph;
+use crate::glyphs::{Glyph, counted};
 use crate::known::{ByGlyph, Known};
 use crate::outlines::Raw;
 use crate::values::{Members, Told, list, maybe, members, need, object};
@@ -86,7 +86,8 @@ fn add_metrics(known: &Known, tables: &mut Tables, units: u16, glyphs: &[Glyph])
 /// Adds what tells of the glyphs, whose names are known from then on.
 fn add_glyphs(known: &mut Known, tables: &mut Tables, description: &Members) -> Result<()> {
     let units = need(known, description, "units_per_em")?;
-    let glyphs: Vec<Glyph> = need(known, description, "glyphs")?;
+    let told: Vec<Glyph> = need(known, description, "glyphs")?;
+    let glyphs = counted(known.alloc, told)?;
     add_metrics(known, tables, units, &glyphs)?;
     add_outlines(known, tables, &glyphs)?;
     for glyph in glyphs {
