@@ -10,10 +10,10 @@ mod numbers;
 mod questions;
 
 use crate::asserting::wanted;
-use aat_described_fonts::MachineData;
 use aat_font::{
     Coverage, Feature, FeatureName, GenericStateEntry, TableError, hb_ot_shape_plan_t, hb_tag_t,
 };
+use aat_rows::described::MachineData;
 use bitflags::Flags;
 use questions::{Question, Table, assert_answers};
 use std::test::Fail;

@@ -2,15 +2,15 @@
 //! and what comes out. Its one error takes those of all calls by `?`.
 use crate::asserting::wanted;
 use crate::lines::{Seen, buffer_of, seen};
-use aat_described_fonts::{
-    ChainData, FontData, KindData, NO_TABLES, SubtableData, drop_font, font_of,
-};
 use aat_layout::buffer::{BufferError, hb_buffer_t};
 use aat_layout::font::{
     ChainFeature, Coverage, Feature, FeatureName, TableError, hb_font_t, hb_ot_shape_plan_t,
     hb_tag_t,
 };
 use aat_layout::{AatError, Turns, hb_aat_layout_substitute};
+use aat_rows::described::{
+    ChainData, FontData, KindData, NO_TABLES, SubtableData, drop_font, font_of,
+};
 use std::alloc::{AllocError, Global};
 use std::process::Abort;
 use std::test::Fail;

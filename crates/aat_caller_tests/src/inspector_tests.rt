@@ -1,11 +1,11 @@
 //! The inspector on fonts of one and of two chains.
 use crate::asserting::wanted;
-use aat_described_fonts::{
-    ChainData, FontData, KindData, NO_TABLES, SubtableData, drop_font, font_of,
-};
-use aat_inspector::{InspectedRange, Table, inspect};
+use aat_inspection::{InspectedRange, Table, inspect};
 use aat_layout::AatError;
 use aat_layout::font::{ChainFeature, Coverage, Feature, FeatureName, hb_font_t, hb_tag_t};
+use aat_rows::described::{
+    ChainData, FontData, KindData, NO_TABLES, SubtableData, drop_font, font_of,
+};
 use std::alloc::Global;
 use std::process::Abort;
 use std::test::Fail;

@@ -1,9 +1,9 @@
 //! A font that joins two glyphs, deletes one and kerns.
-use aat_described_fonts::{
+use aat_layout::font::{Coverage, FeatureName, GenericStateEntry, GlyphId};
+use aat_rows::described::{
     ChainData, FontData, KernData, KindData, LigatureData, MachineData, NO_TABLES, Rule,
     SubtableData,
 };
-use aat_layout::font::{Coverage, FeatureName, GenericStateEntry, GlyphId};
 
 /// The rule of a state and a class: the state that follows, flags and the first action.
 macro_rules! rule {

@@ -1,11 +1,11 @@
 //! The line breaker on lines of four glyphs.
 use crate::asserting::wanted;
 use crate::lines::{Seen, buffer_of, placed};
-use aat_described_fonts::{FontData, KernData, NO_TABLES, drop_font, font_of};
 use aat_layout::buffer::{BufferError, Direction, hb_buffer_t};
 use aat_layout::font::{hb_font_t, hb_ot_shape_plan_t};
 use aat_layout::{KERX_SKIPS, has_kern_pairs_alone, hb_aat_layout_position};
-use aat_line_breaker::{kern_and_cut, last_cut};
+use aat_rows::described::{FontData, KernData, NO_TABLES, drop_font, font_of};
+use aat_shaper::line_breaker::{kern_and_cut, last_cut};
 use std::alloc::Global;
 use std::process::Abort;
 use std::test::Fail;

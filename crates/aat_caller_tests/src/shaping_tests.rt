@@ -2,10 +2,10 @@
 use crate::asserting::wanted;
 use crate::joining::FONT_OF_ROW_38A;
 use crate::lines::{Placed, Seen, buffer_of, placed, seen};
-use aat_described_fonts::{drop_font, font_of};
 use aat_layout::AatError;
 use aat_layout::buffer::{BufferError, Direction, hb_buffer_t, hb_glyph_info_t};
 use aat_layout::font::{Feature, hb_font_t, hb_ot_shape_plan_t, hb_tag_t};
+use aat_rows::described::{drop_font, font_of};
 use aat_shape::shape;
 use linked_list_allocator::LocalHeap;
 use std::alloc::{Allocator, Global};

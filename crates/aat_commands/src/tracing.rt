@@ -1,26 +1,14 @@
 //! What each subtable changed.
-ghost use Rattle.std.specs.Prelude.{◌≤◌};
 
+use crate::buffer::buffer_of;
 use crate::names::kind_at;
-use aat_layout::buffer::{Direction, hb_buffer_t, hb_glyph_info_t};
-use aat_layout::font::{Feature, GlyphId, hb_font_t, hb_ot_shape_plan_t};
+use aat_layout::buffer::{Direction, hb_glyph_info_t};
+use aat_layout::font::{Feature, hb_font_t, hb_ot_shape_plan_t};
 use aat_shaper::TextGlyph;
 use aat_trace::{Trace, TracedAct, TracedSubtable, trace_substitution};
-use anyhow::{Result, bail};
+use anyhow::Result;
 use std::alloc::{AllocError, Global};
 use std::io::{self, Write};
-
-/// The most glyphs of the line of a text, as `Shaper::shape` has them.
-fn most_glyphs(length: usize) -> usize
-    ensures { result ≤ 0x3FFFFFFF }
-{
-    length.saturating_mul(64).max(16384).min(0x3FFF_FFFF)
-}
-
-/// The budget of a text, as `Shaper::shape` has it.
-fn most_operations(length: usize) -> i32 {
-    length.saturating_mul(1024).max(16384).min(0x7FFF_FFFF) as i32
-}
 
 /// The features in a list of their own.
 fn copy_of(alloc: Global, features: &[Feature]) -> Result<Vec<Feature>, AllocError> {
@@ -37,17 +25,7 @@ pub(crate) fn trace_of(
     text: &[TextGlyph],
     features: &[Feature],
 ) -> Result<Trace> {
-    let length = text.len();
-    let mut buffer = hb_buffer_t::new(alloc, most_glyphs(length), most_operations(length));
-    buffer.set_direction(direction);
-    for glyph in text {
-        let mut info = hb_glyph_info_t::new(u32::from(glyph.glyph_id), glyph.cluster);
-        info.glyph_props = font.glyph_props(GlyphId(glyph.glyph_id));
-        buffer.add(info)?;
-    }
-    if !buffer.all_glyphs_16() {
-        bail!("a glyph has more than 16 bits");
-    }
+    let mut buffer = buffer_of(alloc, font, direction, text, 0)?;
     let plan = hb_ot_shape_plan_t::new(copy_of(alloc, features)?);
     Ok(trace_substitution(alloc, &plan, font, &mut buffer)?)
 }

@@ -1,7 +1,7 @@
 //! Why the example font is not made.
 
 use aat_font::TableError;
-use aat_tracking::TrackingError;
+use aat_placement::TrackingError;
 use aat_write_kern::KernWriteError;
 use aat_write_kerx::{AnkrWriteError, KerxWriteError};
 use aat_write_lookup::WriteError;

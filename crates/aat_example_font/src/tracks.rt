@@ -2,7 +2,7 @@
 
 use crate::error::ExampleError;
 use crate::names::{NORMAL, TIGHT};
-use aat_tracking::{Track, TrackData, Tracking};
+use aat_placement::{Track, TrackData, Tracking};
 use std::alloc::Global;
 
 /// A number as a 16.16 fixed one.

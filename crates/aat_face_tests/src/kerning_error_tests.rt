@@ -1,7 +1,7 @@
 //! The texts of the errors of writers of kerning, anchor points and tracks, by value.
 
 use crate::error_tests::assert_texts;
-use aat_tracking::TrackingError;
+use aat_placement::TrackingError;
 use aat_write_kern::KernWriteError;
 use aat_write_kerx::{AnkrWriteError, KerxWriteError, SubtableWriteError};
 use aat_write_lookup::WriteError;

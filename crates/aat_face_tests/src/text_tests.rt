@@ -8,7 +8,7 @@ use crate::outcomes::{Outcome, assert_often, count, outcome_of};
 use crate::texts::{BOTH, BY_KERN, BY_KERX};
 use aat_example_font::{example_font, example_font_with_kern};
 use aat_face::Face;
-use aat_face_text::write_face;
+use aat_inspection::write_face;
 use std::alloc::Global;
 use std::io;
 use std::process::Abort;

@@ -4,15 +4,15 @@
 ghost use Rattle.aat_layout.specs.Clusters.{IsSmall};
 
 use crate::cases::{Case, Counted};
-use aat_described_fonts::{
-    ChainData, FontData, NO_TABLES, SubtableData, Value, drop_font, font_of,
-};
 use aat_kinds::{SubtableRun, pass_over, run_kind};
 use aat_layout::buffer::{BufferError, hb_buffer_t, hb_glyph_info_t};
 use aat_layout::font::{
     ChainFeature, Feature, FeatureName, TableError, hb_font_t, hb_ot_shape_plan_t, hb_tag_t,
 };
 use aat_layout::{AatError, hb_aat_layout_substitute};
+use aat_rows::described::{
+    ChainData, FontData, NO_TABLES, SubtableData, Value, drop_font, font_of,
+};
 use aat_trace::trace_substitution;
 use std::alloc::{AllocError, Global};
 use std::test::Fail;

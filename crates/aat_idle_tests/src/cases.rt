@@ -1,7 +1,7 @@
 //! Lines, the subtables that run over them, and what that leaves, worked out by hand.
 
-use aat_described_fonts::{SubtableData, Value};
 use aat_layout::buffer::Direction;
+use aat_rows::described::{SubtableData, Value};
 
 /// A subtable, and how many times it stands there.
 pub(crate) type Counted = (SubtableData<'static>, usize);

@@ -6,7 +6,6 @@ use crate::subtables::{
     ENDING, FIRST_GLYPHS, FIRST_LOOKUP, JOIN, NO_GLYPHS, NO_LOOKUP, TWO, bare_machine, contextual,
     inserting, joining, machine, renaming, rule, subtable,
 };
-use aat_described_fonts::{KindData, LigatureData, MachineData, SubtableData};
 use aat_layout::font::entry_bits::DONT_ADVANCE;
 use aat_layout::font::entry_bits::contextual::SET_MARK;
 use aat_layout::font::entry_bits::ligature::{
@@ -14,6 +13,7 @@ use aat_layout::font::entry_bits::ligature::{
 };
 use aat_layout::font::entry_bits::rearrangement::MARK_LAST;
 use aat_layout::font::{Coverage, GenericStateEntry, GlyphId};
+use aat_rows::described::{KindData, LigatureData, MachineData, SubtableData};
 
 /// The line on which nothing is passed where the end may act: each glyph behind the first one is marked.
 const MARKED: Case<'static> = Case {

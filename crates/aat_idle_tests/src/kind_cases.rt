@@ -7,12 +7,12 @@ use crate::subtables::{
     RENAMING, REPLACING, TURNING, TWO, contextual, inserting, machine, renaming, rule, subtable,
     turning,
 };
-use aat_described_fonts::{KindData, LigatureData, MachineData, SubtableData};
 use aat_layout::font::entry_bits::ligature::{
     LIG_ACTION_LAST, LIG_ACTION_OFFSET, LIG_ACTION_STORE,
 };
 use aat_layout::font::entry_bits::rearrangement::MARK_LAST;
 use aat_layout::font::{Coverage, GenericStateEntry, GlyphId};
+use aat_rows::described::{KindData, LigatureData, MachineData, SubtableData};
 
 /// The line that wakes a subtable by its first, its middle or its last glyph.
 const FIRST: &[u32] = &[5, 7, 8];

@@ -5,8 +5,8 @@ use crate::cases::{Case, USUAL};
 use crate::subtables::{
     ASLEEP, EXCHANGING, INSERTING, JOINING, REPLACING, TURNING, TURNING_ON, subtable, turning,
 };
-use aat_described_fonts::{KindData, SubtableData};
 use aat_layout::font::Coverage;
+use aat_rows::described::{KindData, SubtableData};
 
 /// Subtables and chains that wake behind others that do not.
 pub(crate) static MANY_CASES: [Case<'static>; 10] = [

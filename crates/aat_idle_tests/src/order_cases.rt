@@ -5,9 +5,9 @@ use crate::cases::{Case, Counted, USUAL};
 use crate::subtables::{
     EXCHANGING, INSERTING, RENAMING, REPLACING, TURNING, TURNING_ON, subtable, turning,
 };
-use aat_described_fonts::{KindData, SubtableData};
 use aat_layout::buffer::Direction;
 use aat_layout::font::Coverage;
+use aat_rows::described::{KindData, SubtableData};
 
 /// A subtable for text that these bits name.
 macro_rules! covering {

@@ -4,7 +4,7 @@ use crate::cases::{Case, Counted, USUAL};
 use crate::subtables::{
     ENDING, EXCHANGING, INSERTING, JOINING, RENAMING, REPLACING, TURNING, TURNING_ON,
 };
-use aat_described_fonts::SubtableData;
+use aat_rows::described::SubtableData;
 
 /// A subtable that is on where ligatures are asked for.
 macro_rules! asked {

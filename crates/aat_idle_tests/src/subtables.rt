@@ -1,7 +1,6 @@
 //! Subtables as data. Their machines know six classes: 4 has the glyph 5, 5 has the glyph 6, 2 has the glyph 65535, and
 //! each other glyph is out of bounds.
 
-use aat_described_fonts::{KindData, LigatureData, MachineData, SubtableData};
 use aat_layout::font::entry_bits::NO_INDEX;
 use aat_layout::font::entry_bits::ligature::{
     LIG_ACTION_LAST, LIG_ACTION_OFFSET, LIG_ACTION_STORE, PERFORM_ACTION, SET_COMPONENT,
@@ -10,6 +9,7 @@ use aat_layout::font::entry_bits::rearrangement::{MARK_FIRST, MARK_LAST};
 use aat_layout::font::{
     ContextualEntryData, Coverage, GenericStateEntry, GlyphId, InsertionEntryData,
 };
+use aat_rows::described::{KindData, LigatureData, MachineData, SubtableData};
 
 /// What a contextual entry adds that names no lookup, and one that names the first one for the glyph at the cursor.
 pub(crate) const NO_LOOKUP: ContextualEntryData = ContextualEntryData {

@@ -2,7 +2,6 @@
 //! promises nothing, so that the proofs of the tests stay short.
 
 use crate::checks::place_all;
-use aat_described_fonts::drop_font;
 use aat_layout::buffer::{BufferError, Direction, GlyphPosition, hb_buffer_t, hb_glyph_info_t};
 use aat_layout::font::{
     Acting, Ankr, ClassPairs, EntryData, ExtendedStateTable, FaceTables, GenericStateEntry, Kern,
@@ -10,6 +9,7 @@ use aat_layout::font::{
     Point, Subtable1, Subtable4, TableError, hb_font_t, hb_ot_shape_plan_t,
 };
 use aat_layout::{AatError, hb_aat_layout_position, hb_ot_layout_kern};
+use aat_rows::described::drop_font;
 use bitflags::Flags;
 use std::alloc::{AllocError, Global};
 use std::process::Abort;

@@ -6,10 +6,10 @@ use crate::kerning::{
     CALLS, CASE, Call, Case, Left, LongLine, Pair, TABLE, Table, Way, are_left, case_of,
     check_calls, check_each, is_left_at, kern, kern_with, line_of, long_line, position, table_of,
 };
-use aat_described_fonts::drop_font;
 use aat_layout::AatError;
 use aat_layout::buffer::{BufferError, BufferFlags, Direction, hb_buffer_t, hb_glyph_info_t};
 use aat_layout::font::{FaceTables, hb_font_t};
+use aat_rows::described::drop_font;
 use std::alloc::Global;
 use std::process::Abort;
 use std::test::Fail;

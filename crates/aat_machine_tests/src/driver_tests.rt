@@ -4,9 +4,9 @@ ghost use Rattle.aat_run.specs.Ranges.{IsGapless};
 
 use crate::asserting::wanted;
 use aat_buffer::{BufferError, hb_buffer_t, hb_glyph_info_t};
-use aat_described_fonts::{MachineData, drop_font, machine_of};
 use aat_driver_contexts::{CountingCtx, PuttingCtx};
 use aat_font::{ExtendedStateTable, FaceTables, GenericStateEntry, hb_font_t};
+use aat_rows::described::{MachineData, drop_font, machine_of};
 use aat_run::{
     AatError, drive, ends_at_last, hb_aat_apply_context_t, range_flags_t, range_of, run_machine,
 };

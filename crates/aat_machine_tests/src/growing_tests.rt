@@ -4,8 +4,8 @@
 use crate::asserting::wanted;
 use crate::runs::{Seen, Size, ends_with, is_seen, line_of, long_line, run};
 use aat_buffer::hb_buffer_t;
-use aat_described_fonts::{KindData, LigatureData, MachineData, Rule};
 use aat_font::{GenericStateEntry, GlyphId, InsertionEntryData};
+use aat_rows::described::{KindData, LigatureData, MachineData, Rule};
 use std::alloc::{AllocError, Global};
 use std::process::Abort;
 use std::test::Fail;

@@ -4,9 +4,9 @@
 use crate::asserting::wanted;
 use crate::runs::{Seen, Size, add_last, ends_with, is_seen, line_of, long_line, run};
 use aat_buffer::{BufferError, hb_buffer_t};
-use aat_described_fonts::{KindData, MachineData, Rule, Value};
 use aat_font::{ContextualEntryData, GenericStateEntry};
 use aat_kinds::MAX_CONTEXT_LENGTH;
+use aat_rows::described::{KindData, MachineData, Rule, Value};
 use std::alloc::Global;
 use std::process::Abort;
 use std::test::Fail;

@@ -2,14 +2,14 @@
 //! that the proofs of the tests stay short.
 
 use aat_buffer::{BufferError, hb_buffer_t, hb_glyph_info_t};
-use aat_described_fonts::{
-    ChainData, FontData, KindData, NO_TABLES, SubtableData, drop_font, font_of,
-};
 use aat_font::{
     ContextualSubtable, Coverage, ExtendedStateTable, InsertionSubtable, LigatureSubtable,
     SubtableKind, hb_font_t,
 };
 use aat_kinds::{ContextualCtx, InsertionCtx, LigatureCtx, RearrangementCtx};
+use aat_rows::described::{
+    ChainData, FontData, KindData, NO_TABLES, SubtableData, drop_font, font_of,
+};
 use aat_run::{AatError, run_machine};
 use std::alloc::Global;
 

@@ -18,7 +18,8 @@ mod units;
 #[doc(hidden)]
 pub mod worked;
 
-pub use feat::{FEAT, feature_name_id, read_feat, setting_name_id};
+pub use aat_bytes::tags::FEAT;
+pub use feat::{feature_name_id, read_feat, setting_name_id};
 pub use lookup::{read_lookup, read_pairs};
 pub use rows::read_rows;
 pub use size::{lookup_bytes, lookup_size};

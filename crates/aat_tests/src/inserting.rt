@@ -2,8 +2,8 @@
 
 use crate::calls::Call;
 use crate::lines::Seen;
-use aat_described_fonts::{ChainData, FontData, KindData, MachineData, NO_TABLES, SubtableData};
 use aat_layout::font::{Coverage, GenericStateEntry, GlyphId, InsertionEntryData};
+use aat_rows::described::{ChainData, FontData, KindData, MachineData, NO_TABLES, SubtableData};
 use std::alloc::AllocError;
 
 /// The current run goes in before the glyph at the cursor.

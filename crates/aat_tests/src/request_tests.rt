@@ -4,12 +4,12 @@ use crate::requests::{
     Asked, Call, Flagged, aalt, add, add_all, are_alike, compile_by, flags_at, is_chain, is_empty,
     liga, what_is_asked, what_is_compiled,
 };
-use aat_described_fonts::{
-    ChainData, FontData, KindData, NO_TABLES, SubtableData, drop_font, font_of, name_in,
-};
 use aat_layout::font::{ChainFeature, Coverage, FeatureName, TableError, hb_font_t, hb_tag_t};
 use aat_layout::{
     AatError, feature_info_t, feature_mappings, feature_order, hb_aat_map_builder_t, hb_aat_map_t,
+};
+use aat_rows::described::{
+    ChainData, FontData, KindData, NO_TABLES, SubtableData, drop_font, font_of, name_in,
 };
 use linked_list_allocator::LocalHeap;
 use std::alloc::{AllocError, Global};

@@ -4,15 +4,15 @@
 use crate::asserting::wanted;
 use crate::calls::{Call, Outcome, outcome_by};
 use crate::lines::{Seen, are_glyphs, are_unmarked, line_over};
-use aat_described_fonts::{
-    ChainData, FontData, KindData, MachineData, NO_TABLES, Rule, SubtableData, drop_font, font_of,
-};
 use aat_layout::buffer::{BufferError, Direction, hb_buffer_t, hb_glyph_info_t};
 use aat_layout::font::{
     ChainFeature, Coverage, Feature, FeatureName, GenericStateEntry, GlyphId, InsertionEntryData,
     hb_font_t, hb_ot_shape_plan_t, hb_tag_t,
 };
 use aat_layout::{AatError, hb_aat_apply_context_t};
+use aat_rows::described::{
+    ChainData, FontData, KindData, MachineData, NO_TABLES, Rule, SubtableData, drop_font, font_of,
+};
 use std::alloc::Global;
 use std::process::Abort;
 use std::test::Fail;

@@ -1,8 +1,8 @@
 //! What HarfBuzz 6.0.0 draws at a point size (`hb-shape --font-ptem`), in units of the font.
 use crate::tables::TRACKS;
 use aat_glyph::{Direction, GlyphPosition};
+use aat_placement::{Track, TrackData, track};
 use aat_read_trak::read_trak;
-use aat_tracking::{Track, TrackData, track};
 use std::alloc::{AllocError, Global};
 use std::test::Fail;
 

@@ -1,7 +1,7 @@
 //! The anchor point table: each call once, at the ends of its range, and each refusal.
 
-use aat_described_fonts::{FontData, NO_TABLES, drop_font, font_of};
 use aat_font::{GlyphId, Point, TableError, hb_font_t};
+use aat_rows::described::{FontData, NO_TABLES, drop_font, font_of};
 use std::alloc::{AllocError, Global};
 use std::process::Abort;
 use std::test::Fail;

@@ -4,8 +4,8 @@
 use crate::asserting::wanted;
 use crate::table_tests::ENTRY;
 use crate::table_tests::questions::{Table, answer_over};
-use aat_described_fonts::MachineData;
 use aat_font::{ExtendedStateTable, FeatureName, GenericStateEntry, GlyphId, Lookup, TableError};
+use aat_rows::described::MachineData;
 use linked_list_allocator::LocalHeap;
 use std::alloc::{AllocError, Global};
 use std::process::Abort;

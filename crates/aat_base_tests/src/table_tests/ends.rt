@@ -2,8 +2,8 @@
 
 use crate::table_tests::ENTRY;
 use crate::table_tests::questions::{Answer, Question, Table, assert_answers};
-use aat_described_fonts::MachineData;
 use aat_font::GenericStateEntry;
+use aat_rows::described::MachineData;
 use std::alloc::Global;
 use std::process::Abort;
 

@@ -2,13 +2,13 @@
 
 use crate::asserting::wanted;
 use crate::table_tests::ENTRY;
-use aat_described_fonts::{
-    ChainData, FontData, KindData, LigatureData, MachineData, NO_TABLES, SubtableData, drop_font,
-    font_of,
-};
 use aat_font::{
     ChainFeature, ContextualEntryData, Coverage, FaceTables, FeatureName, GenericStateEntry,
     GlyphId, InsertionEntryData, SubtableKind, TableError, hb_font_t,
+};
+use aat_rows::described::{
+    ChainData, FontData, KindData, LigatureData, MachineData, NO_TABLES, SubtableData, drop_font,
+    font_of,
 };
 use std::alloc::{AllocError, Global};
 use std::test::Fail;

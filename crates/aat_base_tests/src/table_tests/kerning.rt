@@ -1,12 +1,12 @@
 //! The tables of kerning: each call once, at the ends of its range, and each refusal.
 use crate::asserting::wanted;
 use crate::table_tests::questions::{ClassData, Question, Table, assert_answers};
-use aat_described_fonts::drop_font;
 use aat_font::{
     Ankr, ClassPairs, EntryData, ExtendedStateTable, FaceTables, GenericStateEntry, GlyphId, Kern,
     KernEntryData, KernKind, KernMachine, KernSubtable, Kerx, KerxFormat, KerxSubtable, Lookup,
     LookupSegment, Pairs, Subtable1, Subtable4, TableError, hb_font_t,
 };
+use aat_rows::described::drop_font;
 use std::alloc::Global;
 use std::test::Fail;
 

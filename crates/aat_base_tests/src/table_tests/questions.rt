@@ -1,10 +1,10 @@
 //! Questions to tables, as data: what a table is made of, what it is asked, and the answer. Each table is made, asked
 //! once and dropped, and who asks learns nothing of the answer, so that the proofs of the tests stay short.
 
-use aat_described_fonts::{MachineData, Pair, Value, kerning_in, name_in, value_in};
 use aat_font::{
     ClassPairs, ExtendedStateTable, FeatureName, GenericStateEntry, GlyphId, TableError,
 };
+use aat_rows::described::{MachineData, Pair, Value, kerning_in, name_in, value_in};
 use std::alloc::{Allocator, Global};
 use std::process::Abort;
 

@@ -2,13 +2,13 @@
 
 use crate::checks::{wanted, wanted_at};
 use crate::hostile_tests::bounds::substituted;
-use aat_described_fonts::drop_font;
 use aat_layout::buffer::{BufferError, hb_buffer_t, hb_glyph_info_t};
 use aat_layout::font::{
     Chain, ContextualEntryData, ContextualSubtable, Coverage, ExtendedStateTable, FaceTables,
     GenericStateEntry, Lookup, Morx, Subtable, SubtableKind, TableError, hb_font_t,
     hb_ot_shape_plan_t,
 };
+use aat_rows::described::drop_font;
 use std::alloc::Global;
 use std::test::Fail;
 

@@ -8,8 +8,8 @@ use super::{
 };
 use crate::calls::{Call, Outcome, outcome_by};
 use crate::lines::{Seen, line_over};
-use aat_described_fonts::{drop_font, font_of};
 use aat_layout::font::{hb_font_t, hb_ot_shape_plan_t};
+use aat_rows::described::{drop_font, font_of};
 use std::alloc::{AllocError, Global};
 use std::process::Abort;
 use std::test::Fail;

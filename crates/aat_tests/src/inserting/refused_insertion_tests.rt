@@ -9,10 +9,10 @@ use super::{
 use crate::calls::{Call, Outcome, outcome_by};
 use crate::hoard::Hoard;
 use crate::lines::{Seen, line_over};
-use aat_described_fonts::{drop_font, font_of};
 use aat_layout::AatError;
 use aat_layout::buffer::hb_buffer_t;
 use aat_layout::font::{hb_font_t, hb_ot_shape_plan_t};
+use aat_rows::described::{drop_font, font_of};
 use linked_list_allocator::LocalHeap;
 use std::alloc::{AllocError, Allocator, Global};
 use std::process::Abort;

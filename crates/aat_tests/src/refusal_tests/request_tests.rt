@@ -7,9 +7,9 @@ use crate::requests::{
     Asked, Call, Flagged, aalt, add, add_all, are_alike, compile_by, is_chain, is_empty, liga,
     what_is_asked, what_is_compiled,
 };
-use aat_described_fonts::{FontData, drop_font, font_of};
 use aat_layout::font::hb_font_t;
 use aat_layout::{AatError, hb_aat_map_builder_t, hb_aat_map_t};
+use aat_rows::described::{FontData, drop_font, font_of};
 use linked_list_allocator::LocalHeap;
 use std::alloc::{AllocError, Global};
 use std::process::Abort;

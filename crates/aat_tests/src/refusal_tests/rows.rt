@@ -1,10 +1,10 @@
 //! The fonts and requests of worked rows.
 
-use aat_described_fonts::{
-    ChainData, FontData, KindData, LigatureData, MachineData, NO_TABLES, Rule, SubtableData,
-};
 use aat_layout::font::{
     ChainFeature, Coverage, FeatureName, GenericStateEntry, GlyphId, InsertionEntryData,
+};
+use aat_rows::described::{
+    ChainData, FontData, KindData, LigatureData, MachineData, NO_TABLES, Rule, SubtableData,
 };
 
 /// No place.

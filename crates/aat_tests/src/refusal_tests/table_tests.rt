@@ -1,8 +1,8 @@
 //! Each table whose rows are copied, over heaps of more and more room.
 
 use crate::asserting::wanted;
-use aat_described_fonts::{MachineData, Rule, kerning_in, name_in, states_in, value_in};
 use aat_layout::font::{FeatureName, GenericStateEntry, TableError};
+use aat_rows::described::{MachineData, Rule, kerning_in, name_in, states_in, value_in};
 use linked_list_allocator::LocalHeap;
 use std::alloc::{AllocError, Global};
 use std::process::Abort;
