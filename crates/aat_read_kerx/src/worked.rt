@@ -2,6 +2,7 @@
 //! contracts.
 ghost use Rattle.aat_read_kerx.specs.AnchorExamples.{AnkrFaultsHaveTheirPlaces, GlyphsHaveTheirPoints, SharedPointsHaveRoom};
 ghost use Rattle.aat_read_kerx.specs.KerxExamples.{AnchorMachineHasItsPairs, KerxFaultsHaveTheirPlaces, LastListReachesToTheEnd, LongValuesAreRead, OthersAreLeftOut, PairsHaveTheirValues, StackMachineHasItsValues};
+ghost use Rattle.aat_read_kerx.specs.SizeExamples.{SizesAreKnown};
 
 /// The definitions of anchor points compute to the examples.
 #[tactic(auto, unfolding(crate::specs::Anchors::ankr_of, crate::specs::Anchors::points_within, aat_read_lookup::specs::Layouts::units_at, aat_read_lookup::specs::Layouts::checked_units, aat_read_lookup::specs::Layouts::searched_at, aat_read_lookup::specs::Layouts::array_of, aat_read_lookup::specs::Layouts::trimmed_array_at, aat_read_lookup::specs::Layouts::layout_at))]
@@ -21,4 +22,9 @@ pub fn tables()
     ensures others { OthersAreLeftOut }
     ensures last { LastListReachesToTheEnd }
     ensures faults { KerxFaultsHaveTheirPlaces }
+{}
+
+/// The types by which memory is counted have their sizes.
+pub fn sizes()
+    ensures { SizesAreKnown }
 {}
