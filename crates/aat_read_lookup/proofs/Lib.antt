@@ -12,3 +12,10 @@ pub mod ReadLayouts
 pub mod SizeBounds
 pub mod KeptCounts
 pub mod RowLists
+pub mod LongFaultless
+pub mod LongKeptPairs
+pub mod LongLayoutsRise
+pub mod LongReadLayouts
+pub mod LongRises
+pub mod LongSizeBounds
+pub mod LongSoundUnits

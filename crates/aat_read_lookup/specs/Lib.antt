@@ -12,3 +12,4 @@ pub mod SizeLaws
 pub mod Sizes
 pub mod facts
 pub mod inside
+pub mod long

@@ -1,7 +1,8 @@
 //! Readers of lookups and of the feature name table.
 //!
 //! A lookup is checked before any memory is asked for. Whatever its bytes say, it has at most 65,536 glyphs, and takes
-//! at most 7 bytes of memory for each byte that it is read from.
+//! at most 7 bytes of memory for each byte that it is read from. Values have 16 bits, or 32 in the calls whose names say
+//! `long`.
 #![tactic(auto)]
 
 mod feat;
@@ -10,6 +11,7 @@ mod kept;
 #[doc(hidden)]
 pub mod laws;
 mod layout;
+mod long;
 mod lookup;
 mod rows;
 mod segment;
@@ -19,6 +21,7 @@ mod units;
 pub mod worked;
 
 pub use feat::{FEAT, feature_name_id, read_feat, setting_name_id};
+pub use long::lookup::{long_lookup_bytes, read_long_rows};
 pub use lookup::{read_lookup, read_pairs};
 pub use rows::read_rows;
 pub use size::{lookup_bytes, lookup_size};

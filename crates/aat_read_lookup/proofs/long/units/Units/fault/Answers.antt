@@ -1,0 +1,14 @@
+use Rattle.std.proofs.Common.{sym, ◌∙◌}
+use Rattle.aat_read_lookup.specs.long.Layouts.{unit_fault}
+use Rattle.aat_read_lookup.proofs.Faultless.{met, passed}
+use Rattle.aat_read_lookup.proofs.long.units.Units.fault.Goals as goal
+
+pub returns-in-Some : goal.returns-in-Some
+returns-in-Some c =
+    let fault_of = unit_fault c.args.table c.args.bytes.now c.args.self in
+    met fault_of c.loop-i.i c.args.self.count _ c.in-Some.fault c.loop-i-test.true c.loop-i.invariant (sym c.in-Some.ensures)
+
+pub loop-i-preserved : goal.loop-i-preserved
+loop-i-preserved c =
+    let fault_of = unit_fault c.args.table c.args.bytes.now c.args.self in
+    passed fault_of c.loop-i.i c.args.self.count _ c.loop-i-test.true c.loop-i.invariant (sym c.unit_fault.ensures ∙ c.in_default.is)

@@ -1,0 +1,170 @@
+-- How the values of 32 bits of a lookup stand in the table, and its first fault, in the rules of lookups with values of
+-- 16 bits. Apple's TrueType Reference Manual, "Font Tables", section on lookup tables.
+use Rattle.std.specs.Prelude.{ℕ, ◌+◌, ◌*◌, ◌-◌, ◌/◌, List, [], ◌∷◌, length, map, Bool, true, false, Option, Some, None, Result, Ok, Err, if◌then◌else◌, nat_lt, ◌==◌, ◌||◌, ◌&&◌, min}
+use Rattle.std.specs.List.{range_with_len, sum_by}
+use Rattle.aat_bytes.specs.Faults.{after, fault_at}
+use Rattle.aat_bytes.specs.Numbers.{be16}
+use Rattle.aat_bytes.specs.declared.error.Fault.{Fault}
+use Rattle.aat_bytes.specs.declared.error.FaultKind.TheVariants.{PastEnd, UnknownFormat, ShortLength, NotRising}
+use Rattle.aat_bytes.specs.declared.tag.Tag.{Tag}
+use Rattle.aat_read_lookup.specs.Layouts.{first_fault, unless_fault}
+use Rattle.aat_read_lookup.specs.long.Segments.{end_of, values_end, values_place}
+use Rattle.aat_read_lookup.specs.declared.long.layout.Layout.{Layout}
+use Rattle.aat_read_lookup.specs.declared.long.layout.Layout.TheVariants.{Array, Searched}
+use Rattle.aat_read_lookup.specs.declared.long.segment.Segment.{Segment}
+use Rattle.aat_read_lookup.specs.declared.long.segment.Values.TheVariants.{Shared, Longs, Words, Bytes}
+use Rattle.aat_read_lookup.specs.declared.long.units.UnitKind.{UnitKind}
+use Rattle.aat_read_lookup.specs.declared.long.units.UnitKind.TheVariants.{SegmentSingle, SegmentArray, Single}
+use Rattle.aat_read_lookup.specs.declared.long.units.Units.{Units}
+
+-- how many bytes the record of a unit has; a unit may be wider
+abbrev pub record_size : UnitKind → ℕ
+record_size SegmentSingle = 8
+record_size SegmentArray = 6
+record_size Single = 6
+
+-- the segment of the unit at a place: formats 2 and 4 have the last glyph, the first glyph, and the value or the offset
+-- of the values from the start of the lookup; format 6 has a glyph and its value
+abbrev pub segment_at : List ℕ → UnitKind → ℕ → ℕ → Segment
+segment_at bytes SegmentSingle start at =
+    record { first = be16 bytes (at + 2); count = be16 bytes at + 1 - be16 bytes (at + 2); values = Shared (at + 4) }
+segment_at bytes SegmentArray start at = record {
+  first = be16 bytes (at + 2);
+  count = be16 bytes at + 1 - be16 bytes (at + 2);
+  values = Longs (start + be16 bytes (at + 4));
+}
+segment_at bytes Single start at = record { first = be16 bytes at; count = 1; values = Shared (at + 2) }
+
+-- the place of a unit: they stand behind a header of 12 bytes
+abbrev pub unit_place : Units → ℕ → ℕ
+unit_place units i = units.start + 12 + units.size * i
+
+-- the segment of a unit
+abbrev pub segment_of : List ℕ → Units → ℕ → Segment
+segment_of bytes units i = segment_at bytes units.kind units.start (unit_place units i)
+
+-- the segments of units, in the order of the file
+abbrev pub unit_segments : List ℕ → Units → List Segment
+unit_segments bytes units = map (segment_of bytes units) (range_with_len 0 units.count)
+
+-- the number of glyphs of units
+abbrev pub glyphs_of : List ℕ → Units → ℕ
+glyphs_of bytes units = sum_by (λ segment. segment.count) (unit_segments bytes units)
+
+-- whether the terminator stands at a place: 0xFFFF twice in formats 2 and 4, once in format 6, as HarfBuzz takes it
+abbrev pub is_terminator : List ℕ → UnitKind → ℕ → Bool
+is_terminator bytes SegmentSingle at = (be16 bytes at == 65535) && (be16 bytes (at + 2) == 65535)
+is_terminator bytes SegmentArray at = (be16 bytes at == 65535) && (be16 bytes (at + 2) == 65535)
+is_terminator bytes Single at = be16 bytes at == 65535
+
+-- the units without the terminator, which may be counted among them as the last one
+abbrev pub without_terminator : List ℕ → Units → Units
+without_terminator bytes units =
+    if units.count == 0 then units else
+    if is_terminator bytes units.kind (unit_place units (units.count - 1)) then
+    record units { count = units.count - 1 } else
+    units
+
+-- the units of a header: the size of a unit and the number of units; three numbers behind them are not believed
+unfoldable pub units_at : Tag → List ℕ → ℕ → UnitKind → Result Units Fault
+units_at table bytes place kind =
+    let size = be16 bytes (place + 2) in
+    let count = be16 bytes (place + 4) in
+    if nat_lt (length bytes) (place + 12) then Err (fault_at table PastEnd place) else
+    if nat_lt size (record_size kind) then Err (fault_at table ShortLength (place + 2)) else
+    if nat_lt (length bytes) (place + 12 + size * count) then
+    Err (fault_at table PastEnd (place + 12 + size * ((length bytes - (place + 12)) / size))) else
+    Ok (without_terminator bytes (record { kind = kind; start = place; size = size; count = count }))
+
+-- the glyph behind the last one of the unit before, or 0 where there is none
+abbrev pub end_before : List ℕ → Units → ℕ → ℕ
+end_before bytes units i = if i == 0 then 0 else end_of (segment_of bytes units (i - 1))
+
+-- the fault of a segment behind a glyph, whose unit stands at a place: it has no glyph, or one that is not above those
+-- before, or values past the end
+abbrev pub segment_fault : Tag → List ℕ → ℕ → ℕ → Segment → Option Fault
+segment_fault table bytes place lowest segment =
+    if (segment.count == 0) || nat_lt segment.first lowest then Some (fault_at table NotRising place) else
+    if nat_lt (length bytes) (values_end segment) then Some (fault_at table PastEnd (values_place segment.values)) else
+    None
+
+-- the fault of a unit. HarfBuzz bisects units that do not rise and finds some of them; here they are a fault
+abbrev pub unit_fault : Tag → List ℕ → Units → ℕ → Option Fault
+unit_fault table bytes units i =
+    segment_fault table bytes (unit_place units i) (end_before bytes units i) (segment_of bytes units i)
+
+-- the first fault of units, in the order of the file
+abbrev pub units_fault : Tag → List ℕ → Units → Option Fault
+units_fault table bytes units = first_fault (map (unit_fault table bytes units) (range_with_len 0 units.count))
+
+-- the units of a lookup that have no fault
+unfoldable pub checked_units : Tag → List ℕ → ℕ → UnitKind → Result Units Fault
+checked_units table bytes place kind =
+    after (units_at table bytes place kind) (λ units. unless_fault (units_fault table bytes units) units)
+
+-- whether a unit has the offset of its values, which other units may have too: in format 4
+abbrev pub has_offset : UnitKind → Bool
+has_offset SegmentSingle = false
+has_offset SegmentArray = true
+has_offset Single = false
+
+-- how many bytes units are read from: their records, without what fills them up, and the values of format 4; those that
+-- units share count for each unit
+abbrev pub unit_bytes : List ℕ → Units → ℕ
+unit_bytes bytes units =
+    record_size units.kind * units.count + (if has_offset units.kind then 4 * glyphs_of bytes units else 0)
+
+-- whether units of format 4 share so many values that their bytes are more than those from the start of the lookup to
+-- the end of the table
+abbrev pub are_crowded : List ℕ → Units → Bool
+are_crowded bytes units = has_offset units.kind && nat_lt (length bytes - units.start) (unit_bytes bytes units)
+
+-- a lookup of format 2, 4 or 6. HarfBuzz takes units that share values as often as they like; here too many are a fault
+unfoldable pub searched_at : Tag → List ℕ → ℕ → UnitKind → Result Layout Fault
+searched_at table bytes place kind =
+    after (checked_units table bytes place kind) (λ units.
+    if are_crowded bytes units then Err (fault_at table PastEnd place) else Ok (Searched units))
+
+-- an array whose values stand inside. HarfBuzz finds no glyph above 0xFFFF, and values of such glyphs are left out
+unfoldable pub array_of : Tag → List ℕ → Segment → Result Layout Fault
+array_of table bytes segment =
+    if nat_lt (length bytes) (values_end segment) then Err (fault_at table PastEnd (values_place segment.values)) else
+    Ok (Array (record segment { count = min segment.count (65536 - segment.first) }))
+
+-- a lookup of format 8: the first glyph, the number of glyphs, and a value for each
+unfoldable pub trimmed_array_at : Tag → List ℕ → ℕ → Result Layout Fault
+trimmed_array_at table bytes place =
+    if nat_lt (length bytes) (place + 6) then Err (fault_at table PastEnd place) else
+    array_of table bytes
+    (record { first = be16 bytes (place + 2); count = be16 bytes (place + 4); values = Longs (place + 6) })
+
+-- a lookup of format 10: the size of a value, the first glyph, the number of glyphs, and a value for each. Values have
+-- 32 bits here, so that of the sizes 1, 2, 4 and 8 the first three are read
+unfoldable pub sized_array_at : Tag → List ℕ → ℕ → Result Layout Fault
+sized_array_at table bytes place =
+    let size = be16 bytes (place + 2) in
+    let first = be16 bytes (place + 4) in
+    let count = be16 bytes (place + 6) in
+    if nat_lt (length bytes) (place + 8) then Err (fault_at table PastEnd place) else
+    if size == 1 then array_of table bytes (record { first = first; count = count; values = Bytes (place + 8) }) else
+    if size == 2 then array_of table bytes (record { first = first; count = count; values = Words (place + 8) }) else
+    if size == 4 then array_of table bytes (record { first = first; count = count; values = Longs (place + 8) }) else
+    Err (fault_at table UnknownFormat (place + 2))
+
+-- the layout of a lookup at a place, by its format, or its first fault
+unfoldable pub layout_at : Tag → List ℕ → ℕ → ℕ → Result Layout Fault
+layout_at table bytes place glyph_count =
+    if nat_lt (length bytes) (place + 2) then Err (fault_at table PastEnd place) else
+    if be16 bytes place == 0 then
+    array_of table bytes (record { first = 0; count = glyph_count; values = Longs (place + 2) }) else
+    if be16 bytes place == 2 then searched_at table bytes place SegmentSingle else
+    if be16 bytes place == 4 then searched_at table bytes place SegmentArray else
+    if be16 bytes place == 6 then searched_at table bytes place Single else
+    if be16 bytes place == 8 then trimmed_array_at table bytes place else
+    if be16 bytes place == 10 then sized_array_at table bytes place else
+    Err (fault_at table UnknownFormat place)
+
+-- the segments of a lookup
+abbrev pub segments_of : List ℕ → Layout → List Segment
+segments_of bytes (Array segment) = segment ∷ []
+segments_of bytes (Searched units) = unit_segments bytes units

@@ -1,0 +1,30 @@
+-- Segments and units that stand inside of the table: what the check of a lookup leaves known for its reading.
+use Rattle.std.specs.Prelude.{ℕ, ◌+◌, ◌*◌, ◌<◌, ◌≤◌, List, length}
+use Rattle.aat_read_lookup.specs.long.Segments.{values_end}
+use Rattle.aat_read_lookup.specs.long.Layouts.{end_before, record_size, segment_of}
+use Rattle.aat_read_lookup.specs.declared.long.layout.Layout.{Layout}
+use Rattle.aat_read_lookup.specs.declared.long.layout.Layout.TheVariants.{Array, Searched}
+use Rattle.aat_read_lookup.specs.declared.long.segment.Segment.{Segment}
+use Rattle.aat_read_lookup.specs.declared.long.units.Units.{Units}
+
+-- a segment's glyphs have 16 bits, and its values stand inside
+pub record Fits (bytes : List ℕ) (segment : Segment) : Type 0 where
+  pub glyphs : segment.first + segment.count ≤ 65536
+  pub values : values_end segment ≤ length bytes
+
+-- units are as wide as their records, and stand inside
+pub record AreInside (bytes : List ℕ) (units : Units) : Type 0 where
+  pub wide : record_size units.kind ≤ units.size
+  pub inside : units.start + 12 + units.size * units.count ≤ length bytes
+
+-- the values of each unit stand inside, and it has a glyph and begins behind the unit before
+pub record AreSound (bytes : List ℕ) (units : Units) : Type 0 where
+  pub inside : AreInside bytes units
+  pub some : (i : ℕ) → i < units.count → 0 < (segment_of bytes units i).count
+  pub rising : (i : ℕ) → i < units.count → end_before bytes units i ≤ (segment_of bytes units i).first
+  pub values : (i : ℕ) → i < units.count → values_end (segment_of bytes units i) ≤ length bytes
+
+-- the values of each segment stand inside, and the glyphs of an array have 16 bits
+abbrev pub IsSound : List ℕ → Layout → Type 0
+IsSound bytes (Array segment) = Fits bytes segment
+IsSound bytes (Searched units) = AreSound bytes units

@@ -1,0 +1,56 @@
+//! The number of glyphs of units, and how many bytes they are read from.
+ghost use Rattle.std.specs.Prelude.{◌≡◌, ◌<◌, ◌^◌};
+ghost use Rattle.aat_read_lookup.specs.long.Layouts.{are_crowded, glyphs_of, has_offset, unit_bytes};
+ghost use Rattle.aat_read_lookup.specs.long.inside.Sound.{AreInside};
+
+use crate::long::units::{UnitKind, Units};
+
+impl UnitKind {
+    /// Whether a unit has the offset of its values.
+    pub(crate) fn has_offset(self) -> bool
+        ensures { result ≡ has_offset self }
+    {
+        match self {
+            UnitKind::SegmentSingle => false,
+            UnitKind::SegmentArray => true,
+            UnitKind::Single => false,
+        }
+    }
+}
+
+impl Units {
+    /// The number of glyphs of the units.
+    pub(crate) fn glyphs(self, bytes: &[u8]) -> usize
+        requires { AreInside bytes.now self }
+        ensures is { result ≡ glyphs_of bytes.now self }
+        ensures few { result < 2 ^ 32 }
+    {
+        let mut glyphs = 0;
+        for i in 0..self.count {
+            glyphs += self.segment(i, bytes).count;
+        }
+        glyphs
+    }
+
+    /// How many bytes the units are read from: their records, and their values, if they have an offset.
+    pub(crate) fn bytes(self, bytes: &[u8]) -> usize
+        requires { AreInside bytes.now self }
+        ensures is { result ≡ unit_bytes bytes.now self }
+        ensures few { result < 2 ^ 35 }
+    {
+        let records = self.kind.record_size() as usize * self.count as usize;
+        if self.kind.has_offset() {
+            return records + 4 * self.glyphs(bytes);
+        }
+        records
+    }
+
+    /// Whether the units share so many values that their bytes are more than those from the start of the lookup to the
+    /// end of the table.
+    pub(crate) fn are_crowded(self, bytes: &[u8]) -> bool
+        requires { AreInside bytes.now self }
+        ensures { result ≡ are_crowded bytes.now self }
+    {
+        self.kind.has_offset() && bytes.len() - self.start < self.bytes(bytes)
+    }
+}

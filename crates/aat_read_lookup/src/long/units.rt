@@ -1,0 +1,224 @@
+//! Units: the records of the formats 2, 4 and 6, which HarfBuzz finds by bisection.
+ghost use Rattle.std.specs.Prelude.{◌≡◌, ◌+◌, ◌-◌, ◌*◌, ◌<◌, ◌≤◌, length, IfOk};
+ghost use Rattle.aat_read_lookup.specs.long.Layouts.{checked_units, end_before, is_terminator, record_size, segment_at, segment_of, unit_fault, unit_place, units_at, units_fault, without_terminator};
+ghost use Rattle.aat_read_lookup.specs.long.Segments.{values_place};
+ghost use Rattle.aat_read_lookup.specs.long.inside.Sound.{AreInside, AreSound};
+
+use crate::long::segment::{Segment, Values};
+use aat_bytes::{Fault, FaultKind, Tag, be16};
+
+/// What a unit says.
+#[derive(Clone, Copy, PartialEq, Eq)]
+pub(crate) enum UnitKind {
+    /// Format 2: a segment and one value.
+    SegmentSingle,
+    /// Format 4: a segment and the offset of its values.
+    SegmentArray,
+    /// Format 6: a glyph and its value.
+    Single,
+}
+
+impl UnitKind {
+    /// How many bytes the record of a unit has.
+    pub(crate) fn record_size(self) -> u16
+        ensures { result ≡ record_size self }
+    {
+        match self {
+            UnitKind::SegmentSingle => 8,
+            UnitKind::SegmentArray => 6,
+            UnitKind::Single => 6,
+        }
+    }
+}
+
+/// Whether the terminator stands at a place.
+fn is_terminator(bytes: &[u8], kind: UnitKind, at: usize) -> bool
+    requires { at + record_size kind ≤ length bytes.now }
+    ensures { result ≡ is_terminator bytes.now kind at }
+{
+    match kind {
+        UnitKind::SegmentSingle => be16(bytes, at) == 0xFFFF && be16(bytes, at + 2) == 0xFFFF,
+        UnitKind::SegmentArray => be16(bytes, at) == 0xFFFF && be16(bytes, at + 2) == 0xFFFF,
+        UnitKind::Single => be16(bytes, at) == 0xFFFF,
+    }
+}
+
+/// The number of glyphs from a first to a last one.
+fn glyphs_between(first: u16, last: u16) -> usize
+    ensures { result ≡ last + 1 - first }
+{
+    (last as usize + 1).saturating_sub(first as usize)
+}
+
+/// The segment of the unit at a place.
+fn segment_at(bytes: &[u8], kind: UnitKind, start: usize, at: usize) -> Segment
+    requires starts { start ≤ at }
+    requires inside { at + record_size kind ≤ length bytes.now }
+    ensures is { result ≡ segment_at bytes.now kind start at }
+    ensures glyphs { result.first + result.count ≤ 65536 }
+    ensures near { values_place result.values ≤ length bytes.now + 65536 }
+{
+    match kind {
+        UnitKind::SegmentSingle => Segment {
+            first: be16(bytes, at + 2),
+            count: glyphs_between(be16(bytes, at + 2), be16(bytes, at)),
+            values: Values::Shared(at + 4),
+        },
+        UnitKind::SegmentArray => Segment {
+            first: be16(bytes, at + 2),
+            count: glyphs_between(be16(bytes, at + 2), be16(bytes, at)),
+            values: Values::Longs(start + be16(bytes, at + 4) as usize),
+        },
+        UnitKind::Single => Segment {
+            first: be16(bytes, at),
+            count: 1,
+            values: Values::Shared(at + 2),
+        },
+    }
+}
+
+/// The units of a lookup that starts at a place.
+#[derive(Clone, Copy)]
+pub(crate) struct Units {
+    /// What a unit says.
+    pub(crate) kind: UnitKind,
+    /// Where the lookup starts.
+    pub(crate) start: usize,
+    /// How many bytes a unit has.
+    pub(crate) size: u16,
+    /// How many units there are, without the terminator.
+    pub(crate) count: u16,
+}
+
+impl Units {
+    /// The place of a unit.
+    fn place(self, i: u16, bytes: &[u8]) -> usize
+        requires inside { AreInside bytes.now self }
+        requires below { i < self.count }
+        ensures is { result ≡ unit_place self i }
+        ensures inside { result + record_size self.kind ≤ length bytes.now }
+    {
+        self.start + 12 + self.size as usize * i as usize
+    }
+
+    /// The segment of a unit.
+    pub(crate) fn segment(self, i: u16, bytes: &[u8]) -> Segment
+        requires inside { AreInside bytes.now self }
+        requires below { i < self.count }
+        ensures is { result ≡ segment_of bytes.now self i }
+        ensures glyphs { result.first + result.count ≤ 65536 }
+        ensures near { values_place result.values ≤ length bytes.now + 65536 }
+    {
+        segment_at(bytes, self.kind, self.start, self.place(i, bytes))
+    }
+
+    /// The units without the terminator.
+    fn without_terminator(self, bytes: &[u8]) -> Units
+        requires { AreInside bytes.now self }
+        ensures is { result ≡ without_terminator bytes.now self }
+        ensures inside { AreInside bytes.now result }
+    {
+        if self.count == 0 {
+            return self;
+        }
+        if is_terminator(bytes, self.kind, self.place(self.count - 1, bytes)) {
+            return Units {
+                kind: self.kind,
+                start: self.start,
+                size: self.size,
+                count: self.count - 1,
+            };
+        }
+        self
+    }
+
+    /// The units of the header at a place.
+    #[tactic(auto, unfolding(crate::specs::long::Layouts::units_at))]
+    fn read(table: Tag, bytes: &[u8], place: usize, kind: UnitKind) -> Result<Units, Fault>
+        requires { place + 2 ≤ length bytes.now }
+        ensures is { result ≡ units_at table bytes.now place kind }
+        ensures inside { IfOk result (λ units. AreInside bytes.now units) }
+    {
+        if bytes.len() < place + 12 {
+            return Err(Fault::new(table, FaultKind::PastEnd, place));
+        }
+        let size = be16(bytes, place + 2);
+        let count = be16(bytes, place + 4);
+        if size < kind.record_size() {
+            return Err(Fault::new(table, FaultKind::ShortLength, place + 2));
+        }
+        let first = place + 12;
+        if bytes.len() < first + size as usize * count as usize {
+            let whole = (bytes.len() - first) / size as usize;
+            return Err(Fault::new(table, FaultKind::PastEnd, first + size as usize * whole));
+        }
+        let units = Units {
+            kind,
+            start: place,
+            size,
+            count,
+        };
+        Ok(units.without_terminator(bytes))
+    }
+
+    /// The glyph behind the last one of the unit before.
+    fn end_before(self, i: u16, bytes: &[u8]) -> usize
+        requires inside { AreInside bytes.now self }
+        requires below { i < self.count }
+        ensures { result ≡ end_before bytes.now self i }
+    {
+        if i == 0 {
+            return 0;
+        }
+        let before = self.segment(i - 1, bytes);
+        before.first as usize + before.count
+    }
+
+    /// The fault of a unit.
+    fn unit_fault(self, table: Tag, bytes: &[u8], i: u16) -> Option<Fault>
+        requires inside { AreInside bytes.now self }
+        requires below { i < self.count }
+        ensures { result ≡ unit_fault table bytes.now self i }
+    {
+        let segment = self.segment(i, bytes);
+        if segment.count == 0 || (segment.first as usize) < self.end_before(i, bytes) {
+            return Some(Fault::new(table, FaultKind::NotRising, self.place(i, bytes)));
+        }
+        if segment.is_past_end(bytes) {
+            return Some(Fault::new(table, FaultKind::PastEnd, segment.values.place()));
+        }
+        None
+    }
+
+    /// The first fault of the units.
+    fn fault(self, table: Tag, bytes: &[u8]) -> Option<Fault>
+        requires { AreInside bytes.now self }
+        ensures { result ≡ units_fault table bytes.now self }
+    {
+        for i in 0..self.count {
+            if let Some(fault) = self.unit_fault(table, bytes, i) {
+                return Some(fault);
+            }
+        }
+        None
+    }
+
+    /// The units of the lookup at a place, which have no fault.
+    #[tactic(auto, unfolding(crate::specs::long::Layouts::checked_units))]
+    pub(crate) fn checked(
+        table: Tag,
+        bytes: &[u8],
+        place: usize,
+        kind: UnitKind,
+    ) -> Result<Units, Fault>
+        requires { place + 2 ≤ length bytes.now }
+        ensures is { result ≡ checked_units table bytes.now place kind }
+        ensures sound { IfOk result (λ units. AreSound bytes.now units) }
+    {
+        let units = Units::read(table, bytes, place, kind)?;
+        match units.fault(table, bytes) {
+            Some(fault) => Err(fault),
+            None => Ok(units),
+        }
+    }
+}
