@@ -20,8 +20,8 @@ use Rattle.aat_read_pairs.specs.KerxClasses.{kerx_arrays_at, kerx_classes_at}
 use Rattle.aat_read_pairs.specs.ListedPairs.{kerx_pairs_at}
 use Rattle.aat_read_pairs.specs.LongArrays.{kerx_long_arrays_at, wide_value_at}
 use Rattle.aat_read_pairs.specs.declared.values.TheConstants.{KERX}
-use Rattle.aat_read_lookup.specs.long.Sizes.{long_size_at}
-use Rattle.aat_read_lookup.proofs.LongSizeBounds.{rows_are_inside}
+use Rattle.aat_read_lookup.specs.LongSizes.{long_size_at}
+use Rattle.aat_read_lookup.proofs.SizeBounds.{rows_are_inside}
 use Rattle.aat_read_pairs.proofs.Counts.{arrays_fit, classes_fit, long_arrays_fit, pairs_fit}
 use Rattle.aat_read_kerx.specs.Formats.{anchor_format_at, arrays_format_at, as_format, format_at, is_long, left_out_at, long_format_at}
 use Rattle.aat_read_kerx.specs.KerxLaws.{KerxIsBounded}

@@ -1,6 +1,6 @@
 //! Laws of reading as theorems. These calls do nothing: what is proved is their contracts.
 ghost use Rattle.aat_read_lookup.specs.LookupLaws.{ValuesAreThoseOfSegments};
-ghost use Rattle.aat_read_lookup.specs.long.LookupLaws as long;
+ghost use Rattle.aat_read_lookup.specs.LongLaws as long;
 ghost use Rattle.aat_read_lookup.specs.SizeLaws.{ArraysAreCounted, BytesAreInside, LookupsAreBounded, PairsRise};
 
 /// A lookup that is read gives each glyph the value that the bytes have for it: that of the one segment that has it.

@@ -11,7 +11,6 @@ mod kept;
 #[doc(hidden)]
 pub mod laws;
 mod layout;
-mod long;
 mod lookup;
 mod rows;
 mod segment;
@@ -21,7 +20,6 @@ mod units;
 pub mod worked;
 
 pub use feat::{FEAT, feature_name_id, read_feat, setting_name_id};
-pub use long::lookup::{long_lookup_bytes, read_long_rows};
 pub use lookup::{read_lookup, read_pairs};
-pub use rows::read_rows;
-pub use size::{lookup_bytes, lookup_size};
+pub use rows::{read_long_rows, read_rows};
+pub use size::{long_lookup_bytes, lookup_bytes, lookup_size};

@@ -1,6 +1,6 @@
 //! Worked examples of lookups and features as theorems. These calls do nothing: what is proved is their contracts.
 ghost use Rattle.aat_read_lookup.specs.FeatureExamples.{FeatFaultsHaveTheirPlaces, FeaturesHaveNames};
-ghost use Rattle.aat_read_lookup.specs.long.LookupExamples as long;
+ghost use Rattle.aat_read_lookup.specs.LongExamples as long;
 ghost use Rattle.aat_read_lookup.specs.SizeExamples.{BytesAreOfRecordsAndValues, SharedValuesAreAFault, SizesAreOfWhatIsKept};
 ghost use Rattle.aat_read_lookup.specs.LookupExamples.{ArraysHaveAValueForEachGlyph, FaultsHaveTheirPlaces, UnitsHaveTheirGlyphs};
 
@@ -28,7 +28,7 @@ pub fn features()
 {}
 
 /// The definitions of lookups with values of 32 bits compute to the examples.
-#[tactic(auto, unfolding(crate::specs::long::Layouts::units_at, crate::specs::long::Layouts::checked_units, crate::specs::long::Layouts::searched_at, crate::specs::long::Layouts::array_of, crate::specs::long::Layouts::trimmed_array_at, crate::specs::long::Layouts::sized_array_at, crate::specs::long::Layouts::layout_at))]
+#[tactic(auto, unfolding(crate::specs::Layouts::units_at, crate::specs::Layouts::checked_units, crate::specs::Layouts::searched_at, crate::specs::Layouts::array_of, crate::specs::Layouts::trimmed_array_at, crate::specs::Layouts::sized_array_at, crate::specs::Layouts::layout_at))]
 pub fn long_lookups()
     ensures arrays { long.ArraysHaveAValueForEachGlyph }
     ensures units { long.UnitsHaveTheirGlyphs }

@@ -2,8 +2,8 @@
 use Rattle.std.specs.Prelude.{◌≡◌, ℕ, ◌*◌, ◌-◌, ◌≤◌, List, length, Ok, None}
 use Rattle.aat_bytes.specs.declared.tag.Tag.{Tag}
 use Rattle.aat_font.specs.Keys.{first, first_fall}
-use Rattle.aat_read_lookup.specs.long.Lookups.{long_lookup_at}
-use Rattle.aat_read_lookup.specs.long.Sizes.{long_bytes_at, long_size_at}
+use Rattle.aat_read_lookup.specs.LongLookups.{long_lookup_at}
+use Rattle.aat_read_lookup.specs.LongSizes.{long_bytes_at, long_size_at}
 
 -- pairs that are read rise strictly
 abbrev pub PairsRise : Type 0

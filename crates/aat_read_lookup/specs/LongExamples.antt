@@ -3,8 +3,9 @@ use Rattle.std.specs.Prelude.{◌≡◌, ℕ, ◌*◌, ◌+◌, List, [], ◌∷
 use Rattle.aat_bytes.specs.Faults.{fault_at}
 use Rattle.aat_bytes.specs.declared.error.FaultKind.TheVariants.{PastEnd, UnknownFormat, ShortLength, NotRising}
 use Rattle.aat_bytes.specs.declared.tag.Tag.{Tag}
-use Rattle.aat_read_lookup.specs.long.Lookups.{long_lookup_at, long_rows_at}
-use Rattle.aat_read_lookup.specs.long.Sizes.{long_bytes_at, long_size_at}
+use Rattle.aat_read_lookup.specs.LookupExamples.{example_header}
+use Rattle.aat_read_lookup.specs.LongLookups.{long_lookup_at, long_rows_at}
+use Rattle.aat_read_lookup.specs.LongSizes.{long_bytes_at, long_size_at}
 
 -- `kerx`
 abbrev pub example_table : Tag
@@ -25,10 +26,6 @@ ArraysHaveAValueForEachGlyph =
     × (long_lookup_at example_table (0 ∷ 10 ∷ 0 ∷ 4 ∷ 0 ∷ 3 ∷ 0 ∷ 1 ∷ 0 ∷ 1 ∷ 0 ∷ 5 ∷ []) 0 9 ≡ Ok ((3, 65541) ∷ []))
     × (long_lookup_at example_table (0 ∷ 10 ∷ 0 ∷ 8 ∷ 0 ∷ 3 ∷ 0 ∷ 0 ∷ []) 0 9
     ≡ Err (fault_at example_table UnknownFormat 2))
-
--- the header of a lookup of a format, with the size and the number of its units
-abbrev pub example_header : ℕ → ℕ → ℕ → List ℕ
-example_header format size count = 0 ∷ format ∷ 0 ∷ size ∷ 0 ∷ count ∷ 0 ∷ 0 ∷ 0 ∷ 0 ∷ 0 ∷ 0 ∷ []
 
 -- glyphs 3 and 5 in format 6, behind two bytes, in units that are wider than their records, with a terminator
 abbrev pub example_singles : List ℕ
