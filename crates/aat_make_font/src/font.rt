@@ -37,8 +37,16 @@ const KEYS: &str =
 /// The tables of a font, by their tags.
 type Tables = BTreeMap<Tag, Vec<u8>>;
 
-/// Adds the outlines of glyphs, if any has one, and tells in `head` that the offsets in `loca` have 32 bits.
-fn add_outlines(known: &Known, tables: &mut Tables, glyphs: &[Glyph]) -> Result<()> {
+/// The bytes of `head` that tell that the offsets in `loca` have 32 bits.
+fn long_head(known: &Known, units_per_em: u16) -> Result<Vec<u8>> {
+    let mut head = write_head(known.alloc, units_per_em)?;
+    head.truncate(50);
+    append_words(&mut head, &[1, 0])?;
+    Ok(head)
+}
+
+/// Adds the outlines of glyphs, if any has one.
+fn add_outlines(known: &Known, tables: &mut Tables, units: u16, glyphs: &[Glyph]) -> Result<()> {
     if !glyphs.iter().any(|glyph| glyph.data.is_some()) {
         return Ok(());
     }
@@ -55,9 +63,7 @@ fn add_outlines(known: &Known, tables: &mut Tables, glyphs: &[Glyph]) -> Result<
     }
     tables.insert(GLYF, glyf)?;
     tables.insert(LOCA, loca)?;
-    if let Some(format) = tables.get_mut(&HEAD).and_then(|head| head.get_mut(51)) {
-        *format = 1;
-    }
+    tables.insert(HEAD, long_head(known, units)?)?;
     Ok(())
 }
 
@@ -89,7 +95,7 @@ fn add_glyphs(known: &mut Known, tables: &mut Tables, description: &Members) -> 
     let told: Vec<Glyph> = need(known, description, "glyphs")?;
     let glyphs = counted(known.alloc, told)?;
     add_metrics(known, tables, units, &glyphs)?;
-    add_outlines(known, tables, &glyphs)?;
+    add_outlines(known, tables, units, &glyphs)?;
     for glyph in glyphs {
         known.glyphs.push(glyph.name)?;
     }

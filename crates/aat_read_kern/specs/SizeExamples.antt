@@ -1,6 +1,7 @@
 -- Worked examples of sizes: how many bytes the types take by which memory is counted.
 use Rattle.std.specs.Prelude.{◌≡◌}
-use Rattle.aat_read_kern.specs.declared.weights.TheConstants.{KERN_RULE_SIZE, KERN_SUBTABLE_SIZE, LEFT_OUT_SIZE, PAIR_SIZE, START_SIZE}
+use Rattle.aat_read_pairs.specs.declared.weights.TheConstants.{LEFT_OUT_SIZE, PAIR_SIZE, START_SIZE}
+use Rattle.aat_read_kern.specs.declared.weights.TheConstants.{KERN_RULE_SIZE, KERN_SUBTABLE_SIZE}
 
 -- the sizes, in bytes
 pub record SizesAreKnown : Type 0 where

@@ -1,6 +1,7 @@
 -- Worked examples of sizes: how many bytes the types take by which memory is counted.
 use Rattle.std.specs.Prelude.{◌≡◌}
-use Rattle.aat_read_kerx.specs.declared.weights.TheConstants.{ANCHOR_ROW_SIZE, KERX_RULE_SIZE, KERX_SUBTABLE_SIZE, LEFT_OUT_SIZE, PAIR_SIZE, POINT_SIZE, START_SIZE}
+use Rattle.aat_read_pairs.specs.declared.weights.TheConstants.{LEFT_OUT_SIZE, PAIR_SIZE, START_SIZE}
+use Rattle.aat_read_kerx.specs.declared.weights.TheConstants.{ANCHOR_ROW_SIZE, KERX_RULE_SIZE, KERX_SUBTABLE_SIZE, POINT_SIZE}
 
 -- the sizes, in bytes
 pub record SizesAreKnown : Type 0 where
