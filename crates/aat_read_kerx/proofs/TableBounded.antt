@@ -17,8 +17,8 @@ use Rattle.aat_read_machine.specs.facts.Turns.{turn, weight_more}
 use Rattle.aat_read_pairs.specs.KerxClasses.{kerx_arrays_at, kerx_classes_at}
 use Rattle.aat_read_pairs.specs.ListedPairs.{kerx_pairs_at}
 use Rattle.aat_read_pairs.specs.LongArrays.{kerx_long_arrays_at, wide_value_at}
-use Rattle.aat_read_long_lookup.specs.Sizes.{long_size_at}
-use Rattle.aat_read_long_lookup.proofs.SizeBounds.{rows_are_inside}
+use Rattle.aat_read_lookup.specs.LongSizes.{long_size_at}
+use Rattle.aat_read_lookup.proofs.SizeBounds.{rows_are_inside}
 use Rattle.aat_read_pairs.proofs.Counts.{arrays_fit, classes_fit, long_arrays_fit, pairs_fit}
 use Rattle.aat_read_pairs.specs.declared.weights.TheConstants.{LEFT_OUT_SIZE}
 use Rattle.aat_read_pairs.specs.facts.Starts.{few_starts}

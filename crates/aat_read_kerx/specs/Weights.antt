@@ -6,7 +6,7 @@ use Rattle.aat_font.specs.Classes.{ClassValues}
 use Rattle.aat_font.specs.KerningTables.{KerxAnchorTables, KerxStackTables}
 use Rattle.aat_font.specs.declared.kerx.KerxFormat.{KerxFormat}
 use Rattle.aat_font.specs.declared.kerx.KerxFormat.TheVariants.{Format0, Format1, Format2, Format2Classes, Format4, Format6, Format6Classes}
-use Rattle.aat_read_long_lookup.specs.Sizes.{long_size_at}
+use Rattle.aat_read_lookup.specs.LongSizes.{long_size_at}
 use Rattle.aat_read_lookup.specs.Sizes.{lookup_size_at}
 use Rattle.aat_read_machine.specs.InTurn.{weight_in_turn}
 use Rattle.aat_read_machine.specs.Kinds.{list_place}

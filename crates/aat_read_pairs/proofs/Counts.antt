@@ -14,7 +14,7 @@ use Rattle.aat_font.specs.Keys.{first_fall}
 use Rattle.aat_font.specs.Pairs.{key_of_pair}
 use Rattle.aat_read_lookup.specs.Lookups.{lookup_at}
 use Rattle.aat_read_lookup.specs.Rows.{rows_at}
-use Rattle.aat_read_long_lookup.specs.Lookups.{long_rows_at}
+use Rattle.aat_read_lookup.specs.LongLookups.{long_rows_at}
 use Rattle.aat_read_pairs.specs.KerxClasses.{array_grid_at, array_value, array_values, class_grid_at, column_count_at, grid_pairs, kerx_arrays_at, kerx_classes_at}
 use Rattle.aat_read_pairs.specs.ListedPairs.{kerx_pairs_at, listed_pairs, pair_at, pairs_at}
 use Rattle.aat_read_pairs.specs.LongArrays as long

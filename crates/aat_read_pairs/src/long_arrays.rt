@@ -10,7 +10,7 @@ use crate::values::Tuples;
 use aat_bytes::tags::KERX;
 use aat_bytes::{Fault, FaultKind, ReadError, be16, be32};
 use aat_font::ClassPairs;
-use aat_read_long_lookup::{long_lookup_bytes, read_long_rows};
+use aat_read_lookup::{long_lookup_bytes, read_long_rows};
 use std::alloc::{AllocError, Allocator};
 
 /// A number of 32 bits in two's complement, if 16 bits have it.

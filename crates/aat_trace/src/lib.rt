@@ -15,6 +15,7 @@ mod subtable;
 mod telling;
 mod trace;
 mod traced;
+mod turns;
 
 pub use trace::trace_substitution;
 pub use traced::{Trace, TracedAct, TracedSubtable};
