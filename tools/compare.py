@@ -134,6 +134,21 @@ def without_kerning(data):
     return bytes(data)
 
 
+def with_column_kerning(data):
+    """The font with a table that has the feature `vkrn`, without which hb-shape kerns no column: `GPOS` beside `kerx`, else
+    `GSUB`, beside which it takes no `morx`. The file becomes a collection of one font."""
+    tag = b"GPOS" if table(data, b"kerx") else b"GSUB"
+    if tag == b"GSUB" and table(data, b"morx"):
+        return data
+    body = struct.pack(">5H H4sH 2H 3HH H4sH 2H H", 1, 0, 10, 30, 42, 1, b"DFLT", 8, 4, 0, 0, 0xFFFF, 1, 0, 1, b"vkrn", 8, 0, 0, 0)
+    data = data + bytes(-len(data) % 4)
+    new = struct.pack(">4sIII", tag, 0, len(data), len(body))
+    listed = sorted([data[place:place + 16] for place in records(data)] + [new])
+    start = len(data) + len(body)
+    directory = data[:4] + struct.pack(">4H", len(listed), 0, 0, 0) + b"".join(listed)
+    return b"ttcf" + struct.pack(">3I", 0x10000, 1, start) + data[16:] + body + directory
+
+
 def advances(data):
     count, hmtx = table(data, b"hhea")[34:36], table(data, b"hmtx")
     count = min(int.from_bytes(count, "big"), len(hmtx) // 4)
@@ -175,7 +190,7 @@ class HarfBuzz:
 
     def run(self, words):
         found = subprocess.run([self.program] + words, capture_output=True, text=True)
-        return found.stdout.rstrip("\n") if found.returncode == 0 else "hb-shape: " + found.stderr.strip()
+        return found.stdout.rstrip("\n").replace("\n", "\t") if found.returncode == 0 else "hb-shape: " + found.stderr.strip()
 
     def lines(self, asked):
         """The line of each of some words. An empty text has an empty one."""
@@ -191,7 +206,8 @@ class HarfBuzz:
     def answers(self, requests):
         """The answers to requests, in the form of `aat`."""
         fonts = [request.font() for request in requests]
-        lines = self.lines([self.words(*pair) for pair in zip(requests, fonts)])
+        asked = [with_column_kerning(font) if request.is_column() else font for request, font in zip(requests, fonts)]
+        lines = self.lines([self.words(*pair) for pair in zip(requests, asked)])
         columns = [i for i, request in enumerate(requests) if request.is_column()]
         base = self.lines([self.words(requests[i], without_kerning(fonts[i])) for i in columns])
         for i, line in zip(columns, base):
@@ -221,24 +237,26 @@ def moved(line, base, advance):
     return "[" + "|".join(out) + "]" if line else line
 
 
-def comparable(answer):
-    """The glyphs of an answer without their flags."""
-    return re.sub(r"#\d+", "", answer.split("\t")[-1])
+def comparable(answer, request):
+    """The glyphs of an answer without their flags. A line without glyphs is empty."""
+    if "--trace" in request.options:
+        answer = answer.split("\t")[-1]
+    return re.sub(r"#\d+|^\[\]$", "", answer)
 
 
 def stored():
     """The requests that are compared, with their line, their answer and why they may differ."""
-    with open(os.path.join(CRATE, "stdin")) as file:
-        lines = file.read().splitlines()
-    with open(os.path.join(CRATE, "stdout")) as file:
-        answers = file.read().splitlines()
+    with open(os.path.join(CRATE, "stdin"), errors="surrogateescape") as file:
+        lines = file.read().split("\n")
+    with open(os.path.join(CRATE, "stdout"), errors="surrogateescape") as file:
+        answers = file.read().split("\n")
     reason = None
     for number, (line, answer) in enumerate(zip(lines, answers), 1):
         if not line or line.startswith("#"):
             reason = line[len(DIFFERS):].strip() if line.startswith(DIFFERS) else None
             continue
-        request = Request(line)
-        if request.is_compared() and not answer.startswith("error "):
+        request = None if answer.startswith("error ") else Request(line)
+        if request and request.is_compared():
             yield number, line, request, answer, reason
 
 
@@ -247,8 +265,8 @@ def compare_stored(harfbuzz, shows_all):
     cases = list(stored())
     counts = {"agree": 0, "differ": 0, "differ as said": 0, "agree though said to differ": 0}
     for case, theirs in zip(cases, harfbuzz.answers([case[2] for case in cases])):
-        number, line, _, answer, reason = case
-        agrees = comparable(answer) == comparable(theirs)
+        number, line, request, answer, reason = case
+        agrees = comparable(answer, request) == comparable(theirs, request)
         word = ("agree though said to differ" if agrees else "differ as said") if reason else ("agree" if agrees else "differ")
         counts[word] += 1
         if word == "differ" or shows_all and not agrees:
@@ -258,7 +276,7 @@ def compare_stored(harfbuzz, shows_all):
 
 
 def characters(path):
-    """Characters that a font of format 4 or 12 of `cmap` may have."""
+    """Characters that a font of format 4 of `cmap` may have: letters, digits and signs, but none that a backward line mirrors."""
     cmap = table(open(path, "rb").read(), b"cmap")
     found = set()
     for i in range(int.from_bytes(cmap[2:4], "big")):
@@ -269,7 +287,8 @@ def characters(path):
                 end, = struct.unpack_from(">H", cmap, place + 14 + k)
                 start, = struct.unpack_from(">H", cmap, place + 16 + half + k)
                 found.update(range(start, min(end, 0xFFFD) + 1))
-    return [chr(c) for c in sorted(found) if unicodedata.category(chr(c))[0] in "LNPS"] or list("abc")
+    known = [chr(c) for c in sorted(found) if unicodedata.category(chr(c))[0] in "LNPS"]
+    return [c for c in known if c != "-" and not unicodedata.mirrored(c)] or list("abc")
 
 
 def texts_for(path, options):
