@@ -59,8 +59,12 @@ impl<'b> Fonts<'b> {
 
     /// The font of a source, if it is read.
     fn kept(&self, source: &FontSource<'_>) -> Option<&'b Font<'b>> {
-        let font = self.fonts.iter().find(|font| font.source.names(source));
-        font.copied()
+        for place in 0..self.fonts.len() {
+            if self.fonts[place].source.names(source) {
+                return Some(self.fonts[place]);
+            }
+        }
+        None
     }
 
     /// Reads a font into the arena.

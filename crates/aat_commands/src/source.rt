@@ -18,8 +18,8 @@ pub(crate) struct FontSource<'a> {
     pub(crate) path: &'a str,
     /// Which font of the file.
     pub(crate) index: u32,
-    /// The changes, where there are any.
-    pub(crate) changes: Option<&'a str>,
+    /// The changes, empty where there are none.
+    pub(crate) changes: &'a str,
 }
 
 impl<'a> FontSource<'a> {
@@ -29,25 +29,22 @@ impl<'a> FontSource<'a> {
         Ok(FontSource {
             path,
             index: matches.get_one::<u32>("index").unwrap_or(0),
-            changes: matches.get_str("change"),
+            changes: matches.get_str("change").unwrap_or(""),
         })
     }
 
     /// Whether another source names the same font in the same words.
     pub(crate) fn names(&self, other: &FontSource<'_>) -> bool {
-        self.index == other.index && self.path == other.path && self.changes == other.changes
+        let is_same_file = self.path == other.path && self.changes == other.changes;
+        is_same_file && self.index == other.index
     }
 
     /// The source with its words in an arena.
     pub(crate) fn kept_in<'b>(&self, arena: &'b Bump) -> Result<FontSource<'b>, AllocError> {
-        let changes = match self.changes {
-            Some(changes) => Some(arena.try_alloc_str(changes)?),
-            None => None,
-        };
         Ok(FontSource {
             path: arena.try_alloc_str(self.path)?,
             index: self.index,
-            changes,
+            changes: arena.try_alloc_str(self.changes)?,
         })
     }
 
@@ -55,8 +52,9 @@ impl<'a> FontSource<'a> {
     pub(crate) fn bytes(&self, rt: &HostRuntime) -> Result<Vec<u8>> {
         let path = self.path;
         let mut bytes = fs::read(rt, path).with_context(|| anyhow!("{path}"))?;
-        if let Some(changes) = self.changes {
-            change_bytes(rt.alloc(), &mut bytes, changes).with_context(|| anyhow!("{path}"))?;
+        if !self.changes.is_empty() {
+            let changed = change_bytes(rt.alloc(), &mut bytes, self.changes);
+            changed.with_context(|| anyhow!("{path}"))?;
         }
         Ok(bytes)
     }

@@ -45,7 +45,8 @@ fn text_arguments<'a>(alloc: Global, command: Command<'a>) -> Result<Command<'a>
     let text = Arg::new(alloc, "text")
         .value_name("TEXT")
         .action(ArgAction::Set)
-        .required_unless_present_any(&["file", "glyphs"])?
+        .required_unless_present("file")?
+        .required_unless_present("glyphs")?
         .conflicts_with("file")?
         .conflicts_with("glyphs")?
         .help("The text. Each of its lines is shaped by itself");
