@@ -74,8 +74,7 @@ class Request:
 
 
 def bytes_of(path):
-    with open(path, "rb") as file:
-        return file.read()
+    return open(path, "rb").read()
 
 
 def first_strong(text):
@@ -94,9 +93,14 @@ def changed(data, changes):
     return bytes(data)
 
 
+def directory_of(data):
+    """The place of the directory, of the first font of a collection."""
+    return int.from_bytes(data[12:16], "big") if data[:4] == b"ttcf" else 0
+
+
 def records(data):
-    """The places of the records of a font's directory, of the first font of a collection."""
-    start = int.from_bytes(data[12:16], "big") if data[:4] == b"ttcf" else 0
+    """The places of the records of the directory."""
+    start = directory_of(data)
     return [start + 12 + 16 * i for i in range(int.from_bytes(data[start + 4:start + 6], "big"))]
 
 
@@ -108,15 +112,20 @@ def table(data, tag):
     return b""
 
 
+def with_table(data, tag, body):
+    """The font with another table. The file becomes a collection of one font, whose directory stands at its end."""
+    start, data = directory_of(data), data + bytes(-len(data) % 4)
+    listed = [data[place:place + 16] for place in records(data) if data[place:place + 4] != tag]
+    listed.append(struct.pack(">4sIII", tag, 0, len(data), len(body)))
+    directory = data[start:start + 4] + struct.pack(">4H", len(listed), 0, 0, 0) + b"".join(sorted(listed))
+    body += bytes(-len(body) % 4)
+    return b"ttcf" + struct.pack(">3I", 0x10000, 1, len(data) + len(body)) + data[16:] + body + directory
+
+
 def with_identity(data):
-    """The font with a `cmap` of the characters of plane 15. A font without the table stays."""
+    """The font with a `cmap` of the characters of plane 15."""
     cmap = struct.pack(">HHHHIHHIIIIII", 0, 1, 3, 10, 12, 12, 0, 28, 0, 1, PLANE, PLANE + 0xFFFF, 0)
-    data = bytearray(data + bytes(-len(data) % 4))
-    for place in records(data):
-        if data[place:place + 4] == b"cmap":
-            struct.pack_into(">II", data, place + 8, len(data), len(cmap))
-            return bytes(data) + cmap
-    return bytes(data)
+    return with_table(data, b"cmap", cmap)
 
 
 def without_kerning(data):
@@ -130,17 +139,13 @@ def without_kerning(data):
 
 def with_column_kerning(data):
     """The font with a table that has the feature `vkrn`, without which hb-shape kerns no column: `GPOS` beside `kerx`, else
-    `GSUB`, beside which it takes no `morx`. The file becomes a collection of one font."""
+    `GSUB`, beside which it takes no `morx`."""
     tag = b"GPOS" if table(data, b"kerx") else b"GSUB"
     if tag == b"GSUB" and table(data, b"morx"):
         return data
     script = (1, b"DFLT", 8, 4, 0, 0, 0xFFFF, 1, 0)
     body = struct.pack(">5H H4sH 2H 4H H4sH 2H H", 1, 0, 10, 30, 42, *script, 1, b"vkrn", 8, 0, 0, 0)
-    data = data + bytes(-len(data) % 4)
-    new = struct.pack(">4sIII", tag, 0, len(data), len(body))
-    listed = sorted([data[place:place + 16] for place in records(data)] + [new])
-    directory = data[:4] + struct.pack(">4H", len(listed), 0, 0, 0) + b"".join(listed)
-    return b"ttcf" + struct.pack(">3I", 0x10000, 1, len(data) + len(body)) + data[16:] + body + directory
+    return with_table(data, tag, body)
 
 
 def advances(data):
@@ -183,26 +188,24 @@ class HarfBuzz:
         words += ["--features=" + features.strip(",")] if features else []
         if request.options.get("--clusters") == "bytes":
             words.append("--utf8-clusters")
-        for name, other in (("--point-size", "--font-ptem"), ("--index", "--face-index")):
-            if name in request.options:
-                words.append(other + "=" + request.options[name])
+        others = (("--point-size", "--font-ptem="), ("--index", "--face-index="))
+        words += [other + request.options[name] for name, other in others if name in request.options]
         return words + ["--unicodes=" + ",".join("%X" % ord(c) for c in request.text())]
 
     def run(self, words):
         found = subprocess.run([self.program] + words, capture_output=True, text=True)
-        return found.stdout.rstrip("\n").replace("\n", "\t") if found.returncode == 0 else "hb-shape: " + found.stderr.strip()
+        return "hb-shape: " + found.stderr.strip() if found.returncode else found.stdout.rstrip("\n").replace("\n", "\t")
 
     def lines(self, asked):
         """The line of each of some words, by hb-shape's own batch where it takes them. An empty text has an empty line."""
         def is_short(words):
             text = ";".join(words) + ","
             return len(text) < 4000 and text.count(";") == len(words) - 1 and not re.search("[=,]A,", text)
-        short = [words for words in asked if is_short(words) and not words[-1].endswith("=")]
-        text = "".join(";".join(words) + "\n" for words in short)
+        short = [";".join(words) for words in asked if is_short(words) and not words[-1].endswith("=")]
+        text = "".join(line + "\n" for line in short)
         found = subprocess.run([self.program, "--batch"], input=text, capture_output=True, text=True).stdout.splitlines()
-        known = dict(zip(map(tuple, short), found)) if len(found) == len(short) else {}
-        return [known[tuple(words)] if tuple(words) in known else "" if words[-1].endswith("=") else self.run(words)
-                for words in asked]
+        known = dict(zip(short, found)) if len(found) == len(short) else {}
+        return ["" if words[-1].endswith("=") else known.get(";".join(words)) or self.run(words) for words in asked]
 
     def answers(self, requests):
         """The answers to requests, in the form of `aat`."""
@@ -218,15 +221,12 @@ class HarfBuzz:
 
 def comparable(answer, request):
     """The glyphs of an answer without their flags. A line without glyphs is empty."""
-    if "--trace" in request.options:
-        answer = answer.split("\t")[-1]
-    return re.sub(r"#\d+|^\[\]$", "", answer)
+    return re.sub(r"#\d+|^\[\]$", "", answer.split("\t")[-1] if "--trace" in request.options else answer)
 
 
 def stored():
     """The requests that are compared: the number of the line, it, the request, its answer, and why it may differ."""
-    reason = None
-    texts = (bytes_of(os.path.join(CRATE, name)).decode(errors="surrogateescape") for name in ("stdin", "stdout"))
+    reason, texts = None, (bytes_of(os.path.join(CRATE, name)).decode(errors="replace") for name in ("stdin", "stdout"))
     for number, (line, answer) in enumerate(zip(*(text.replace("\r\n", "\n").split("\n") for text in texts)), 1):
         if not line or line.startswith("#"):
             reason = line[len(DIFFERS):].strip() if line.startswith(DIFFERS) else None
@@ -273,13 +273,12 @@ def compare_fonts(harfbuzz, options):
              for path in options.fonts for text in texts_for(path, options) for direction in options.directions.split(",")]
     asked = "".join(line + "\n" for line in lines)
     ours = subprocess.run([options.aat, "batch"], input=asked, capture_output=True, text=True).stdout.splitlines()
-    differ = 0
-    for line, answer, theirs in zip(lines, ours, harfbuzz.answers([Request(line) for line in lines])):
-        differ += answer != theirs
-        if answer != theirs and (differ <= 20 or options.all):
-            print("%s\n  aat      %s\n  hb-shape %s" % (line, answer, theirs))
-    print("%d lines over %d fonts, %d differ" % (len(lines), len(options.fonts), differ))
-    return differ + len(lines) - len(ours)
+    theirs = harfbuzz.answers([Request(line) for line in lines])
+    differ = [three for three in zip(lines, ours, theirs) if three[1] != three[2]]
+    for three in differ if options.all else differ[:20]:
+        print("%s\n  aat      %s\n  hb-shape %s" % three)
+    print("%d lines over %d fonts, %d differ" % (len(lines), len(options.fonts), len(differ)))
+    return len(differ) + len(lines) - len(ours)
 
 
 def main():
