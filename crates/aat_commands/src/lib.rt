@@ -18,6 +18,7 @@ mod filling;
 mod fonts;
 mod inspect;
 mod line;
+mod make;
 mod names;
 mod output;
 mod paragraph;
