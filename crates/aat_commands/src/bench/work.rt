@@ -1,5 +1,5 @@
 //! What is measured, and the calls of the layer that are measured by themselves.
-ghost use Rattle.std.specs.Prelude.{IfOk, IsSome};
+ghost use Rattle.std.specs.Prelude.{IsSome};
 ghost use Rattle.aat_layout.specs.Clusters.{IsSmall};
 
 use crate::bench::lines::TextLine;
