@@ -5,10 +5,13 @@
     python3 tools/count.py FOLDER     the checkout that stands in FOLDER
 
 For each public call it counts the definitions behind its contract: the words of crates/*/specs that its clauses cite,
-and those that their definitions cite, and so on. It follows the names that `use` and `ghost use` bring in.
+and those that their definitions cite, and so on. It follows the names that `use` and `ghost use` bring in. Behind them
+it says how many stand behind `Shaper::shape`, behind all public calls, behind these and the laws, and how many there are
+in all: those besides are of worked examples and of contracts inside the crates. Then it prints the README's sentence.
 
 - A public call is a `pub fn`, a function or a method, or a method of a trait's impl that has clauses. The crates are
-  those of the layer and of its callers: no crate of tests, no program, no rows, no fonts of data, and no module `laws` or `worked`.
+  those of the layer and of its callers: no crate of tests, no program, no rows, and no module `laws` or `worked`.
+- A law is a function of a module `laws`, which does nothing: what is proved is its contract.
 - A call over a trait of the repository owes the trait's clauses too, so these count. At a method of a trait's impl
   count what the impl says of the trait's members.
 - A definition is an abbreviation, a function, a record or a data type. Its lines are those of its text, without comments
@@ -30,7 +33,7 @@ USE = re.compile(r"\buse Rattle\.([\w.]+?)(?:\.\{([^}]*)\}| as (\w+))?\s*;?\s*$"
 HANDED_ON = re.compile(r"^pub use Rattle\.([\w.]+?)(?:\.\{([^}]*)\})?\s*$", re.M)
 START = re.compile(r"^(?:abbrev |unfoldable )?(?:pub )?(?:abbrev |unfoldable )?(record |data )?([^\s:]+)")
 WORDS_OF_ANTT = {"use", "pub", "mod", "module", "where", "abbrev", "unfoldable", "record", "data"}
-NOT_COUNTED = re.compile(r"_tests$|^aat_(driver_contexts|cut_contexts|described_fonts|rows|shape)$")
+NOT_COUNTED = re.compile(r"_tests$|^aat_(rows|shape)$")
 FUNCTION = re.compile(r"^( *)(pub )?(?:const )?(?:unsafe )?fn (\w+)")
 
 
@@ -190,7 +193,7 @@ def traits(known):
     """The traits of the repository: each with what its clauses cite."""
     found = {}
     for path in files("crates/*/src/**/*.rt"):
-        outer = known.brought_in("\n".join(re.findall(r"^ghost use .*$", read(path), re.M)))
+        outer = outer_names(path, known)
         for lines in blocks(read(path)):
             if trait := re.match(r"pub trait (\w+)", lines[0]):
                 names = outer | known.brought_in("\n".join(lines[1:]))
@@ -198,15 +201,35 @@ def traits(known):
     return found
 
 
+def sources():
+    """The sources of the crates that are counted: each with its crate and the name of its file."""
+    for path in files("crates/*/src/**/*.rt"):
+        crate, file = path.split("/")[1], path.split("/")[-1]
+        if not (os.path.exists(os.path.join(TOP, f"crates/{crate}/src/main.rt")) or NOT_COUNTED.search(crate)):
+            yield path, crate, file
+
+
+def outer_names(path, known):
+    """What the `ghost use` lines at the top of a source bring in."""
+    return known.brought_in("\n".join(re.findall(r"^ghost use .*$", read(path), re.M)))
+
+
+def laws(known):
+    """What the laws cite."""
+    found = set()
+    for path, _, file in sources():
+        if file == "laws.rt":
+            found |= known.cited(clauses_of(read(path)), outer_names(path, known))
+    return found
+
+
 def calls(known):
     """The public calls: each with what its contract cites."""
     asked = traits(known)
-    for path in files("crates/*/src/**/*.rt"):
-        crate, file = path.split("/")[1], path.split("/")[-1]
-        is_program = os.path.exists(os.path.join(TOP, f"crates/{crate}/src/main.rt"))
-        if is_program or NOT_COUNTED.search(crate) or file in ("laws.rt", "worked.rt"):
+    for path, crate, file in sources():
+        if file in ("laws.rt", "worked.rt"):
             continue
-        outer = known.brought_in("\n".join(re.findall(r"^ghost use .*$", read(path), re.M)))
+        outer = outer_names(path, known)
         for lines in blocks(read(path)):
             first, text = lines[0], "\n".join(lines)
             if re.match(r"(pub(\(crate\))? )?trait\b", first):
@@ -237,16 +260,36 @@ def behind(first, all_items):
     return seen
 
 
+def print_row(name, items, lines):
+    print(f"{name:<64}{len(items):>12}{lines:>8}")
+
+
+def print_sentence(numbers):
+    """What the README says of these pairs of numbers: definitions and lines."""
+    shape, of_calls, with_laws, every = (f"{items:,} {{}}in {lines:,}" for items, lines in numbers)
+    print(f"""
+Behind `Shaper::shape` are {shape.format("definitions ")} lines, behind all public calls {of_calls.format("")}, and behind
+these and the laws (modules `laws`) {with_laws.format("")}. All of `crates/*/specs` has {every.format("")}: the others are
+of worked examples, and of contracts inside the crates (`tools/count.py`).
+""")
+
+
 def print_calls():
     known = Names()
     all_items = definitions(known)
-    lines, every = {item: len(text) for item, (text, _) in all_items.items()}, set()
+    found = {name: behind(cited, all_items) for name, cited in sorted(calls(known), key=lambda call: call[0])}
+    of_calls = set().union(*found.values())
+    counted = {
+        "Shaper::shape": found["aat_shaper: Shaper::shape"],
+        "all public calls": of_calls,
+        "all public calls and the laws": of_calls | behind(laws(known), all_items),
+        "all of crates/*/specs": set(all_items),
+    }
+    lines = {item: len(text) for item, (text, _) in all_items.items()}
     print(f"{'call':<64}{'definitions':>12}{'lines':>8}")
-    for name, cited in sorted(calls(known), key=lambda call: call[0]):
-        found = behind(cited, all_items)
-        every |= found
-        print(f"{name:<64}{len(found):>12}{sum(lines[item] for item in found):>8}")
-    print(f"{'all of them':<64}{len(every):>12}{sum(lines[item] for item in every):>8}")
+    for name, items in (found | counted).items():
+        print_row(name, items, sum(lines[item] for item in items))
+    print_sentence([(len(items), sum(lines[item] for item in items)) for items in counted.values()])
 
 
 def print_lengths():

@@ -1,4 +1,5 @@
 pub mod Faults
 pub mod NumberExamples
 pub mod Numbers
+pub mod TagExamples
 pub mod facts

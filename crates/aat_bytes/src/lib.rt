@@ -1,12 +1,16 @@
-//! The bytes of a font: numbers at places, slices by offset and length, and why a table cannot be read.
+//! The bytes of a font: numbers at places, slices by offset and length, and why a table cannot be read. All numbers are
+//! big-endian. No call takes memory.
 //!
-//! All numbers are big-endian. No call takes memory.
+//! ```
+//! let units_per_em: Option<u16> = u16_at(head, 18);
+//! ```
 #![tactic(auto)]
 
 mod error;
 mod numbers;
 mod slices;
 mod tag;
+pub mod tags;
 #[doc(hidden)]
 pub mod worked;
 

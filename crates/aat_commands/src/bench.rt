@@ -11,10 +11,12 @@ use crate::bench::lines::lines_of;
 use crate::bench::outcome::write_outcomes;
 use crate::bench::timing::write_times;
 use crate::bench::work::{Work, plan_of};
+use crate::fonts::Font;
 use crate::request::Request;
+use crate::session::Session;
 use crate::source::{FontSource, text_of_file};
 use aat_shaper::Shaper;
-use anyhow::Result;
+use anyhow::{Context, Result};
 use clap::ArgMatches;
 use std::io::Write;
 
@@ -31,21 +33,19 @@ struct Options {
 fn measure<W: Write>(
     rt: &HostRuntime,
     out: &mut W,
-    source: FontSource<'_>,
+    font: &Font<'_>,
     request: Request,
     options: Options,
     text: &str,
 ) -> Result<()> {
     let alloc = rt.alloc();
-    let bytes = source.bytes(rt)?;
-    let face = source.face(alloc, &bytes)?;
-    source.tell_faults(rt, &face)?;
+    let face = &font.face;
     let work = Work {
-        source,
-        bytes: &bytes,
-        face: &face,
+        source: font.source,
+        bytes: font.bytes,
+        face,
         unit: request.unit,
-        lines: lines_of(alloc, &face, &request, text, options.length)?,
+        lines: lines_of(alloc, face, &request, text, options.length)?,
         plan: plan_of(request.features),
     };
     let mut shaper = Shaper::new(alloc, face.font());
@@ -56,10 +56,11 @@ fn measure<W: Write>(
     Ok(())
 }
 
-/// Tells what shaping the text that a command line gives leaves, and how long it takes.
+/// Tells what shaping the text of a file leaves, and how long it takes.
 pub(crate) fn bench<W: Write>(
     rt: &HostRuntime,
     out: &mut W,
+    session: &mut Session<'_>,
     matches: &ArgMatches<'_>,
 ) -> Result<()> {
     let request = Request::of_matches(rt.alloc(), matches)?;
@@ -68,14 +69,9 @@ pub(crate) fn bench<W: Write>(
         rounds: matches.get_one::<u32>("rounds").unwrap_or(0),
         length: matches.get_one::<u32>("length"),
     };
-    match matches.get_str("file") {
-        Some(path) => {
-            let text = text_of_file(rt, path)?;
-            measure(rt, out, source, request, options, text.as_str())
-        }
-        None => {
-            let text = matches.get_str("text").unwrap_or("");
-            measure(rt, out, source, request, options, text)
-        }
-    }
+    let path = matches.get_str("file").context("a text is missing")?;
+    let text = text_of_file(rt, session.speaker, path)?;
+    let font = session.fonts.font(rt, &source)?;
+    font.tell_faults(rt, session.speaker)?;
+    measure(rt, out, font, request, options, text.as_str())
 }

@@ -1,13 +1,20 @@
 //! A command line is run.
 
+use crate::batch::batch;
 use crate::bench::bench;
 use crate::dump::dump;
+use crate::example::write_example;
+use crate::faults::faults;
 use crate::inspect::inspect;
+use crate::make::make;
 use crate::output::OUTPUT;
+use crate::session::Session;
+use crate::settled::settled;
 use crate::shape::shape;
 use crate::words::command;
-use anyhow::{Context, Result};
-use clap::Error;
+use anyhow::{Context, Result, bail};
+use bumpalo::Bump;
+use clap::{ArgMatches, Error};
 use std::convert::AsStr;
 use std::io::Write;
 
@@ -20,6 +27,27 @@ pub enum Answer {
     Words(Error),
 }
 
+/// Runs a command of a name that a request of a batch may ask for too.
+pub(crate) fn run_command<W: Write>(
+    rt: &HostRuntime,
+    out: &mut W,
+    session: &mut Session<'_>,
+    name: &str,
+    matches: &ArgMatches<'_>,
+) -> Result<()> {
+    match name {
+        "shape" => shape(rt, out, session, matches),
+        "inspect" => inspect(rt, out, session, matches),
+        "dump" => dump(rt, out, session, matches),
+        "faults" => faults(rt, out, session, matches),
+        "settled" => settled(rt, out, session, matches),
+        "bench" => bench(rt, out, session, matches),
+        "make" => make(rt, out, session, matches),
+        "example" => write_example(rt.alloc(), out),
+        _ => bail!("no request asks for {name}"),
+    }
+}
+
 /// Runs a command line, whose first word is the program's name. The output goes to `out`, which is flushed.
 ///
 /// An error names the file, and the table and the place where it has them. A part of the output may be written then.
@@ -28,12 +56,12 @@ pub fn run<S: AsStr, W: Write>(rt: &HostRuntime, words: &[S], out: &mut W) -> Re
         Ok(matches) => matches,
         Err(error) => return Ok(Answer::Words(error)),
     };
+    let arena = Bump::new(rt.alloc());
+    let mut session = Session::new(rt.alloc(), &arena);
     match matches.subcommand() {
-        Some(("shape", matches)) => shape(rt, out, matches)?,
-        Some(("inspect", matches)) => inspect(rt, out, matches)?,
-        Some(("dump", matches)) => dump(rt, out, matches)?,
-        Some(("bench", matches)) => bench(rt, out, matches)?,
-        _ => {}
+        Some(("batch", _)) => batch(rt, out, &mut session)?,
+        Some((name, matches)) => run_command(rt, out, &mut session, name, matches)?,
+        None => {}
     }
     out.flush().context(OUTPUT)?;
     Ok(Answer::Done)

@@ -1,21 +1,23 @@
 //! The command `aat dump`.
 
+use crate::fonts::Font;
 use crate::output::OUTPUT;
+use crate::session::Session;
 use crate::source::FontSource;
 use aat_bytes::{Tag, tag_at};
-use aat_face::Face;
-use aat_inspection::write_dump;
-use aat_read_sfnt::FontFile;
+use aat_inspection::{write_characters, write_dump, write_face};
 use anyhow::{Context, Result, bail};
 use clap::ArgMatches;
+use std::alloc::Global;
 use std::io::Write;
 
 /// Refuses a table that is missing or has a fault.
-fn find_table(path: &str, file: &FontFile<'_>, face: &Face<'_>, table: Tag) -> Result<()> {
-    if let Err(fault) = file.table(table) {
+fn find_table(font: &Font<'_>, table: Tag) -> Result<()> {
+    let path = font.source.path;
+    if let Err(fault) = font.file()?.table(table) {
         bail!("{path}: {fault}");
     }
-    for fault in face.faults() {
+    for fault in font.face.faults() {
         if fault.table == table {
             bail!("{path}: {fault}");
         }
@@ -23,18 +25,34 @@ fn find_table(path: &str, file: &FontFile<'_>, face: &Face<'_>, table: Tag) -> R
     Ok(())
 }
 
-/// Writes out what is read of a table.
+/// Writes out what is read of a table, or of all of them.
+fn dump_tables<W: Write>(
+    alloc: Global,
+    out: &mut W,
+    font: &Font<'_>,
+    table: Option<&str>,
+) -> Result<()> {
+    let Some(table) = table else {
+        return write_face(alloc, out, &font.face).context(OUTPUT);
+    };
+    let tag = tag_at(table.as_bytes(), 0).context("a tag has four characters")?;
+    find_table(font, tag)?;
+    write_dump(alloc, out, &font.face, table).context(OUTPUT)?;
+    Ok(())
+}
+
+/// Writes out what is read of a font, and the glyphs of characters where these are asked.
 pub(crate) fn dump<W: Write>(
     rt: &HostRuntime,
     out: &mut W,
+    session: &mut Session<'_>,
     matches: &ArgMatches<'_>,
 ) -> Result<()> {
     let source = FontSource::of_matches(matches)?;
-    let table = matches.get_str("table").context("a table is missing")?;
-    let tag = tag_at(table.as_bytes(), 0).context("a tag has four characters")?;
-    let bytes = source.bytes(rt)?;
-    let face = source.face(rt.alloc(), &bytes)?;
-    find_table(source.path, &source.file(&bytes)?, &face, tag)?;
-    write_dump(rt.alloc(), out, &face, table).context(OUTPUT)?;
-    Ok(())
+    let font = session.fonts.font(rt, &source)?;
+    dump_tables(rt.alloc(), out, font, matches.get_str("table"))?;
+    match matches.get_str("characters") {
+        Some(text) => write_characters(out, &font.face, text).context(OUTPUT),
+        None => Ok(()),
+    }
 }

@@ -1,6 +1,7 @@
 //! The command `aat inspect`.
 
 use crate::output::OUTPUT;
+use crate::session::Session;
 use crate::source::FontSource;
 use aat_inspection::write_inspection;
 use anyhow::{Context, Result};
@@ -11,11 +12,11 @@ use std::io::Write;
 pub(crate) fn inspect<W: Write>(
     rt: &HostRuntime,
     out: &mut W,
+    session: &mut Session<'_>,
     matches: &ArgMatches<'_>,
 ) -> Result<()> {
     let source = FontSource::of_matches(matches)?;
-    let bytes = source.bytes(rt)?;
-    let face = source.face(rt.alloc(), &bytes)?;
-    write_inspection(rt.alloc(), out, &bytes, source.index, &face).context(OUTPUT)?;
+    let font = session.fonts.font(rt, &source)?;
+    write_inspection(rt.alloc(), out, font.bytes, source.index, &font.face).context(OUTPUT)?;
     Ok(())
 }

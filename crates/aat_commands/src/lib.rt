@@ -1,21 +1,36 @@
-//! The commands of the program `aat`: a text is shaped and shown, and a font is inspected.
+//! The commands of the program `aat`: a text is shaped and shown, a font is inspected, and requests of a batch are
+//! answered.
+//!
+//! ```
+//! let answer = run(&rt, &words, &mut out)?;
+//! ```
 #![tactic(auto)]
 
+mod batch;
 mod bench;
 mod buffer;
+mod change;
 mod command_line;
 mod dump;
+mod example;
+mod faults;
 mod filling;
+mod fonts;
 mod inspect;
 mod line;
+mod make;
 mod names;
 mod output;
 mod paragraph;
 mod progress;
 mod request;
+mod request_words;
+mod session;
+mod settled;
 mod shape;
 mod source;
 mod tracing;
 mod words;
 
 pub use command_line::{Answer, run};
+pub use example::write_example;

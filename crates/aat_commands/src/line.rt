@@ -1,6 +1,7 @@
 //! A line is shaped, and what is told of it is put together.
 
 use crate::request::{Output, Request};
+use crate::session::Speaker;
 use crate::tracing::trace_of;
 use aat_drawing::{DrawnGlyph, DrawnLine, LineBreak, drawn_changes};
 use aat_face::Face;
@@ -18,8 +19,10 @@ pub(crate) struct Context<'a, 'f> {
     pub(crate) face: &'a Face<'f>,
     /// What is asked.
     pub(crate) request: Request,
-    /// What the subtables of `morx` are called.
+    /// What the subtables of `morx` are called, where a picture is asked.
     pub(crate) subtables: Vec<String>,
+    /// Who speaks on the error stream.
+    pub(crate) speaker: Speaker,
 }
 
 /// A line that was shaped.

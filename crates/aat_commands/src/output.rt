@@ -4,7 +4,8 @@ use crate::line::{Context, ShapedLine};
 use crate::request::Output;
 use crate::tracing::write_trace;
 use aat_drawing::{
-    DrawError, DrawnLine, LineMetrics, Picture, write_glyphs, write_json, write_svg,
+    DrawError, DrawnLine, LineMetrics, Picture, write_flagged_glyphs, write_glyphs, write_json,
+    write_svg,
 };
 use aat_read_outlines::Outlines;
 use aat_read_sfnt::FontFile;
@@ -14,6 +15,19 @@ use std::io::{self, Write};
 
 /// What an error of a writer is told of.
 pub(crate) const OUTPUT: &str = "the output";
+
+/// Writes the glyphs of a line, with their flags where these are asked.
+fn write_plain<W: Write>(
+    out: &mut W,
+    context: &Context<'_, '_>,
+    line: &DrawnLine,
+) -> io::Result<()> {
+    if context.request.shows_flags {
+        write_flagged_glyphs(out, line)
+    } else {
+        write_glyphs(out, line)
+    }
+}
 
 /// Writes a line in a form that shows each line by itself.
 pub(crate) fn write_line<W: Write>(
@@ -26,9 +40,9 @@ pub(crate) fn write_line<W: Write>(
         (Output::Json, _) => write_json(alloc, out, &line.drawn),
         (Output::Trace, Some(trace)) => {
             write_trace(out, context.face.font(), trace)?;
-            write_glyphs(out, &line.drawn)
+            write_plain(out, context, &line.drawn)
         }
-        _ => write_glyphs(out, &line.drawn),
+        _ => write_plain(out, context, &line.drawn),
     }
 }
 

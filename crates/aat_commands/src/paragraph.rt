@@ -5,8 +5,24 @@ use crate::progress::Progress;
 use aat_layout::buffer::Direction;
 use aat_shaper::TextGlyph;
 use aat_text::{LineEnd, first_strong_direction, line_ends, missing_characters, text_of};
-use anyhow::Result;
+use anyhow::{Context as _, Result, anyhow};
 use std::alloc::Global;
+
+/// The glyph of a number, at a place of a line of glyphs.
+fn glyph_at(place: usize, number: &str) -> Result<TextGlyph> {
+    let glyph = number.parse::<u16>()?;
+    Ok(TextGlyph::new(glyph, u32::try_from(place)?))
+}
+
+/// The glyphs of a list of numbers, which spaces part. The cluster of each is its place.
+fn glyphs_of(alloc: Global, list: &str) -> Result<Vec<TextGlyph>> {
+    let mut glyphs = Vec::new(alloc);
+    for (place, number) in list.split_whitespace().enumerate() {
+        let glyph = glyph_at(place, number).with_context(|| anyhow!("glyph \"{number}\""))?;
+        glyphs.push(glyph)?;
+    }
+    Ok(glyphs)
+}
 
 /// A line of the text that was given.
 #[derive(Drop)]
@@ -34,6 +50,19 @@ impl Paragraph {
             direction,
         })
     }
+
+    /// A line of glyphs, by a list of their numbers. A line ends only at its end.
+    pub(crate) fn of_glyphs(
+        alloc: Global,
+        context: &Context<'_, '_>,
+        list: &str,
+    ) -> Result<Paragraph> {
+        Ok(Paragraph {
+            text: glyphs_of(alloc, list)?,
+            ends: Vec::new(alloc),
+            direction: context.request.direction.unwrap_or(Direction::LeftToRight),
+        })
+    }
 }
 
 /// Tells on the error stream the first character of a line of a number that has no glyph in the font, and how many there
@@ -51,10 +80,11 @@ pub(crate) fn tell_missing(
         return Ok(());
     };
     progress.clear(rt)?;
+    let speaker = context.speaker;
     let (code, place) = (first.character as u32, first.place);
     let count = missing.len();
     eprintln!(rt;
-        "aat: line {number}: no glyph for U+{code:04X} at {place}, the first of {count}"
+        "{speaker}: line {number}: no glyph for U+{code:04X} at {place}, the first of {count}"
     )?;
     Ok(())
 }

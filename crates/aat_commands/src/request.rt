@@ -4,7 +4,7 @@ use aat_features::parse_feature;
 use aat_layout::buffer::Direction;
 use aat_layout::font::Feature;
 use aat_text::ClusterUnit;
-use anyhow::{Context, Result, anyhow};
+use anyhow::{Context, Result, anyhow, ensure};
 use clap::ArgMatches;
 use std::alloc::Global;
 
@@ -28,6 +28,11 @@ impl Output {
     pub(crate) fn is_picture(self) -> bool {
         self == Output::Svg || self == Output::Boxes
     }
+
+    /// Whether glyphs may be shown with their flags.
+    fn has_flags(self) -> bool {
+        self == Output::Glyphs || self == Output::Trace
+    }
 }
 
 /// What is asked of a shaping.
@@ -45,6 +50,8 @@ pub(crate) struct Request {
     pub(crate) unit: ClusterUnit,
     /// The form in which lines are shown.
     pub(crate) output: Output,
+    /// Whether flags of glyphs are shown.
+    pub(crate) shows_flags: bool,
 }
 
 /// The direction of a word.
@@ -95,6 +102,11 @@ impl Request {
         } else {
             matches.get_str("output").map_or(Output::Glyphs, output_of)
         };
+        let shows_flags = matches.get_flag("flags");
+        ensure!(
+            !shows_flags || output.has_flags(),
+            "flags are shown in the form glyphs alone"
+        );
         Ok(Request {
             features,
             direction,
@@ -102,6 +114,7 @@ impl Request {
             width: matches.get_one::<u32>("width"),
             unit,
             output,
+            shows_flags,
         })
     }
 }

@@ -1,16 +1,17 @@
 //! The command `aat shape`.
 
 use crate::filling::{Filling, part};
+use crate::fonts::Font;
 use crate::line::{Context, shape_line};
 use crate::names::subtable_names;
 use crate::output::{OUTPUT, write_line, write_picture};
 use crate::paragraph::{Paragraph, tell_missing};
 use crate::progress::Progress;
 use crate::request::Request;
+use crate::session::Session;
 use crate::source::{FontSource, text_of_file};
 use aat_drawing::DrawnLine;
 use aat_face::Face;
-use aat_read_sfnt::FontFile;
 use aat_shaper::Shaper;
 use anyhow::{Context as _, Result, anyhow};
 use clap::ArgMatches;
@@ -45,18 +46,17 @@ fn line_ends_of(
     filling.ends(alloc, paragraph)
 }
 
-/// Shapes a line of the text, and writes the lines that it is broken into, or keeps them for a picture.
+/// Shapes a paragraph, and writes the lines that it is broken into, or keeps them for a picture.
 fn shape_paragraph<W: Write>(
     alloc: Global,
     out: &mut W,
     context: &Context<'_, '_>,
     shaper: &mut Shaper<'_>,
-    line: &str,
+    paragraph: &Paragraph,
     kept: &mut Vec<DrawnLine>,
 ) -> Result<()> {
-    let paragraph = Paragraph::new(alloc, context, line)?;
     let mut start = 0;
-    for end in &line_ends_of(alloc, context, shaper, &paragraph)? {
+    for end in &line_ends_of(alloc, context, shaper, paragraph)? {
         let text = part(&paragraph.text, start, *end);
         let ends = paragraph.ends.as_slice();
         let shaped = shape_line(alloc, context, shaper, paragraph.direction, text, ends)?;
@@ -70,8 +70,21 @@ fn shape_paragraph<W: Write>(
     Ok(())
 }
 
-/// Shapes each line of a text, and writes the lines or keeps them for a picture.
-fn shape_lines<W: Write>(
+/// Shapes a line of the text, and writes or keeps the lines that it is broken into.
+fn shape_text_line<W: Write>(
+    alloc: Global,
+    out: &mut W,
+    context: &Context<'_, '_>,
+    shaper: &mut Shaper<'_>,
+    line: &str,
+    kept: &mut Vec<DrawnLine>,
+) -> Result<()> {
+    let paragraph = Paragraph::new(alloc, context, line)?;
+    shape_paragraph(alloc, out, context, shaper, &paragraph, kept)
+}
+
+/// Shapes each line of a text, and tells how far the work is.
+fn shape_told_lines<W: Write>(
     rt: &HostRuntime,
     out: &mut W,
     context: &Context<'_, '_>,
@@ -85,7 +98,7 @@ fn shape_lines<W: Write>(
     for line in text.lines() {
         number = number.saturating_add(1);
         tell_missing(rt, progress, context, number, line)?;
-        shape_paragraph(alloc, out, context, &mut shaper, line, &mut kept).with_context(|| anyhow!(
+        shape_text_line(alloc, out, context, &mut shaper, line, &mut kept).with_context(|| anyhow!(
             "line {number}"
         ))?;
         progress.add(rt, line.len())?;
@@ -93,62 +106,115 @@ fn shape_lines<W: Write>(
     Ok(kept)
 }
 
-/// Shapes each line of a text, and shows them.
-fn shape_text<W: Write>(
+/// Shapes each line of a text, and writes the lines or keeps them for a picture.
+fn shape_lines<W: Write>(
     rt: &HostRuntime,
     out: &mut W,
-    path: &str,
     context: &Context<'_, '_>,
-    file: &FontFile<'_>,
     text: &str,
-) -> Result<()> {
+) -> Result<Vec<DrawnLine>> {
     let mut progress = Progress::new(rt, text.len());
-    let kept = shape_lines(rt, out, context, &mut progress, text);
+    let kept = shape_told_lines(rt, out, context, &mut progress, text);
     progress.clear(rt)?;
-    let kept = kept?;
+    kept
+}
+
+/// Shapes a line of glyphs, and writes it or keeps it for a picture.
+fn shape_glyphs<W: Write>(
+    alloc: Global,
+    out: &mut W,
+    context: &Context<'_, '_>,
+    list: &str,
+) -> Result<Vec<DrawnLine>> {
+    let mut shaper = shaper_of(alloc, context.face, &context.request);
+    let mut kept = Vec::new(alloc);
+    let paragraph = Paragraph::of_glyphs(alloc, context, list)?;
+    shape_paragraph(alloc, out, context, &mut shaper, &paragraph, &mut kept)?;
+    Ok(kept)
+}
+
+/// What is shaped.
+#[derive(Clone, Copy)]
+enum Text<'a> {
+    /// The lines of a text.
+    Lines(&'a str),
+    /// A line of glyphs, by a list of their numbers.
+    Glyphs(&'a str),
+}
+
+/// Shapes a text in a font, and shows its lines.
+fn shape_in<W: Write>(
+    rt: &HostRuntime,
+    out: &mut W,
+    font: &Font<'_>,
+    context: &Context<'_, '_>,
+    text: Text<'_>,
+) -> Result<()> {
+    let kept = match text {
+        Text::Lines(text) => shape_lines(rt, out, context, text)?,
+        Text::Glyphs(list) => shape_glyphs(rt.alloc(), out, context, list)?,
+    };
     if context.request.output.is_picture() {
-        write_picture(rt.alloc(), out, path, context, file, &kept)?;
+        write_picture(
+            rt.alloc(),
+            out,
+            font.source.path,
+            context,
+            &font.file()?,
+            &kept,
+        )?;
     }
     Ok(())
 }
 
-/// Shapes a text in a font.
-fn shape_in<W: Write>(
+/// Shapes a text as the command line asks.
+fn shape_text<W: Write>(
     rt: &HostRuntime,
     out: &mut W,
-    source: FontSource<'_>,
+    session: &mut Session<'_>,
+    matches: &ArgMatches<'_>,
     request: Request,
-    text: &str,
+    text: Text<'_>,
 ) -> Result<()> {
     let alloc = rt.alloc();
-    let bytes = source.bytes(rt)?;
-    let face = source.face(alloc, &bytes)?;
-    let file = source.file(&bytes)?;
-    source.tell_faults(rt, &face)?;
-    let context = Context {
-        face: &face,
-        request,
-        subtables: subtable_names(alloc, face.font())?,
+    let font = session.fonts.font(rt, &FontSource::of_matches(matches)?)?;
+    font.tell_faults(rt, session.speaker)?;
+    let subtables = if request.output.is_picture() {
+        subtable_names(alloc, font.face.font())?
+    } else {
+        Vec::new(alloc)
     };
-    shape_text(rt, out, source.path, &context, &file, text)
+    let context = Context {
+        face: &font.face,
+        request,
+        subtables,
+        speaker: session.speaker,
+    };
+    shape_in(rt, out, font, &context, text)
 }
 
 /// Shapes the text that a command line gives.
 pub(crate) fn shape<W: Write>(
     rt: &HostRuntime,
     out: &mut W,
+    session: &mut Session<'_>,
     matches: &ArgMatches<'_>,
 ) -> Result<()> {
     let request = Request::of_matches(rt.alloc(), matches)?;
-    let source = FontSource::of_matches(matches)?;
-    match matches.get_str("file") {
-        Some(path) => {
-            let text = text_of_file(rt, path)?;
-            shape_in(rt, out, source, request, text.as_str())
-        }
-        None => {
-            let text = matches.get_str("text").unwrap_or("");
-            shape_in(rt, out, source, request, text)
-        }
+    if let Some(path) = matches.get_str("file") {
+        let text = text_of_file(rt, session.speaker, path)?;
+        return shape_text(
+            rt,
+            out,
+            session,
+            matches,
+            request,
+            Text::Lines(text.as_str()),
+        );
     }
+    let text = match matches.get_str("glyphs") {
+        Some(list) => Text::Glyphs(list),
+        None => Text::Lines(matches.get_str("text").unwrap_or("")),
+    };
+    shape_text(rt, out, session, matches, request, text)
 }

@@ -1,34 +1,62 @@
 //! The files that a command reads.
 
+use crate::change::change_bytes;
+use crate::session::Speaker;
 use aat_bytes::{Fault, ReadError};
 use aat_face::Face;
 use aat_read_sfnt::FontFile;
-use anyhow::{Context, Error, Result, anyhow};
+use anyhow::{Context, Error, Result, anyhow, ensure};
+use bumpalo::Bump;
 use clap::ArgMatches;
-use std::alloc::Global;
+use std::alloc::{AllocError, Global};
 use std::{fs, io};
 
-/// The path of the font and its index in the file.
+/// What names a font: its path, its index in the file, and the changes of the file's bytes.
 #[derive(Clone, Copy)]
 pub(crate) struct FontSource<'a> {
     /// The path of the file.
     pub(crate) path: &'a str,
     /// Which font of the file.
     pub(crate) index: u32,
+    /// The changes, empty where there are none.
+    pub(crate) changes: &'a str,
 }
 
 impl<'a> FontSource<'a> {
     /// The font that the command line names.
     pub(crate) fn of_matches(matches: &ArgMatches<'a>) -> Result<FontSource<'a>> {
         let path = matches.get_str("font").context("a font is missing")?;
-        let index = matches.get_one::<u32>("index").unwrap_or(0);
-        Ok(FontSource { path, index })
+        Ok(FontSource {
+            path,
+            index: matches.get_one::<u32>("index").unwrap_or(0),
+            changes: matches.get_str("change").unwrap_or(""),
+        })
     }
 
-    /// The bytes of the file.
+    /// Whether another source names the same font in the same words.
+    pub(crate) fn names(&self, other: &FontSource<'_>) -> bool {
+        let is_same_file = self.path == other.path && self.changes == other.changes;
+        is_same_file && self.index == other.index
+    }
+
+    /// The source with its words in an arena.
+    pub(crate) fn kept_in<'b>(&self, arena: &'b Bump) -> Result<FontSource<'b>, AllocError> {
+        Ok(FontSource {
+            path: arena.try_alloc_str(self.path)?,
+            index: self.index,
+            changes: arena.try_alloc_str(self.changes)?,
+        })
+    }
+
+    /// The bytes of the file, with their changes.
     pub(crate) fn bytes(&self, rt: &HostRuntime) -> Result<Vec<u8>> {
         let path = self.path;
-        fs::read(rt, path).with_context(|| anyhow!("{path}"))
+        let mut bytes = fs::read(rt, path).with_context(|| anyhow!("{path}"))?;
+        if !self.changes.is_empty() {
+            let changed = change_bytes(rt.alloc(), &mut bytes, self.changes);
+            changed.with_context(|| anyhow!("{path}"))?;
+        }
+        Ok(bytes)
     }
 
     /// What an error of the font is told as.
@@ -54,20 +82,12 @@ impl<'a> FontSource<'a> {
             Err(fault) => Err(self.fault(fault)),
         }
     }
-
-    /// Tells on the error stream which tables are not read.
-    pub(crate) fn tell_faults(&self, rt: &HostRuntime, face: &Face<'_>) -> Result<()> {
-        let path = self.path;
-        for fault in face.faults() {
-            eprintln!(rt; "aat: {path}: {fault}")?;
-        }
-        Ok(())
-    }
 }
 
-/// The text of a file, or of the standard input where the path is `-`.
-pub(crate) fn text_of_file(rt: &HostRuntime, path: &str) -> Result<String> {
+/// The text of a file, or of the standard input where the path is `-` and that has no requests.
+pub(crate) fn text_of_file(rt: &HostRuntime, speaker: Speaker, path: &str) -> Result<String> {
     let text = if path == "-" {
+        ensure!(!speaker.is_request(), "the standard input has the requests");
         io::read_to_string(rt.alloc(), rt.reader())
     } else {
         fs::read_to_string(rt, path)

@@ -24,30 +24,46 @@ fn font_argument<'a>(alloc: Global) -> Arg<'a> {
         .help("The file of a font")
 }
 
-/// Which font of a collection every command takes.
-fn index_argument<'a>(alloc: Global) -> Arg<'a> {
-    Arg::new(alloc, "index")
+/// Which font of a collection every command takes, and with which bytes of the file changed.
+fn file_arguments<'a>(alloc: Global, command: Command<'a>) -> Result<Command<'a>, AllocError> {
+    let index = Arg::new(alloc, "index")
         .long("index")
         .value_name("N")
         .value_parser(value_parser!(u32))
         .default_value("0")
-        .help("Which font of a collection, from 0")
+        .help("Which font of a collection, from 0");
+    let change = Arg::new(alloc, "change")
+        .long("change")
+        .value_name("LIST")
+        .action(ArgAction::Set)
+        .help("Takes bytes of the file for others, from a place on, as 12=00FF,40=01");
+    command.arg(index)?.arg(change)
 }
 
-/// The text, by itself or in a file.
+/// The text: by itself, in a file, or as glyphs.
 fn text_arguments<'a>(alloc: Global, command: Command<'a>) -> Result<Command<'a>, AllocError> {
     let text = Arg::new(alloc, "text")
         .value_name("TEXT")
         .action(ArgAction::Set)
         .required_unless_present("file")?
+        .required_unless_present("glyphs")?
         .conflicts_with("file")?
+        .conflicts_with("glyphs")?
         .help("The text. Each of its lines is shaped by itself");
     let file = Arg::new(alloc, "file")
         .long("file")
         .value_name("PATH")
         .action(ArgAction::Set)
+        .conflicts_with("glyphs")?
         .help("Takes the text from a file, or from the standard input where it is -");
-    command.arg(text)?.arg(file)
+    let glyphs = Arg::new(alloc, "glyphs")
+        .long("glyphs")
+        .value_name("LIST")
+        .action(ArgAction::Set)
+        .help(
+            "Takes a line of glyphs for the text, by their numbers with spaces between, as 4 5 7",
+        );
+    command.arg(text)?.arg(file)?.arg(glyphs)
 }
 
 /// How the text is shaped.
@@ -102,7 +118,13 @@ fn output_arguments<'a>(alloc: Global, command: Command<'a>) -> Result<Command<'
         .action(ArgAction::SetTrue)
         .conflicts_with("output")?
         .help("Tells before the glyphs what each subtable of morx changed");
-    command.arg(output)?.arg(unit)?.arg(trace)
+    let flags = Arg::new(alloc, "flags")
+        .long("show-flags")
+        .action(ArgAction::SetTrue)
+        .help(
+            "Writes #1 behind a glyph before which the text may not be broken, in the form glyphs",
+        );
+    command.arg(output)?.arg(unit)?.arg(trace)?.arg(flags)
 }
 
 /// The command that shapes a text.
@@ -114,31 +136,70 @@ fn shape_command<'a>(alloc: Global) -> Result<Command<'a>, AllocError> {
     let command = text_arguments(alloc, command)?;
     let command = shaping_arguments(alloc, command)?;
     let command = setting_arguments(alloc, command)?;
-    output_arguments(alloc, command)?.arg(index_argument(alloc))
+    file_arguments(alloc, output_arguments(alloc, command)?)
 }
 
 /// The command that tells of a font.
 fn inspect_command<'a>(alloc: Global) -> Result<Command<'a>, AllocError> {
-    Command::new(alloc, "inspect")
+    let command = Command::new(alloc, "inspect")
         .about("Tells the tables of a font with their faults, its features, chains and subtables")
         .after_help("Example: aat inspect font.ttf")
-        .arg(font_argument(alloc))?
-        .arg(index_argument(alloc))
+        .arg(font_argument(alloc))?;
+    file_arguments(alloc, command)
 }
 
 /// The command that writes a table out.
 fn dump_command<'a>(alloc: Global) -> Result<Command<'a>, AllocError> {
     let table = Arg::new(alloc, "table")
         .value_name("TABLE")
-        .required(true)
         .value_parser(TABLES.as_slice())
-        .help("The table. Of long lists the first 1,000 are written");
-    Command::new(alloc, "dump")
+        .help("The table, else all of them. Of long lists the first 1,000 are written");
+    let characters = Arg::new(alloc, "characters")
+        .long("characters")
+        .value_name("TEXT")
+        .action(ArgAction::Set)
+        .help("Writes the glyphs of the characters of a text too");
+    let command = Command::new(alloc, "dump")
         .about("Writes out what is read of a table")
         .after_help("Example: aat dump font.ttf morx")
         .arg(font_argument(alloc))?
         .arg(table)?
-        .arg(index_argument(alloc))
+        .arg(characters)?;
+    file_arguments(alloc, command)
+}
+
+/// The command that tells the faults of a font.
+fn faults_command<'a>(alloc: Global) -> Result<Command<'a>, AllocError> {
+    let command = Command::new(alloc, "faults")
+        .about("Tells the faults of the tables of a font, and the subtables that are left out")
+        .after_help("Example: aat faults font.ttf")
+        .arg(font_argument(alloc))?;
+    file_arguments(alloc, command)
+}
+
+/// The command that tells which subtables are settled.
+fn settled_command<'a>(alloc: Global) -> Result<Command<'a>, AllocError> {
+    let command = Command::new(alloc, "settled")
+        .about("Tells of each subtable of morx whether it is settled for cuts, or why it is not")
+        .after_help("Example: aat settled font.ttf")
+        .arg(font_argument(alloc))?;
+    file_arguments(alloc, command)
+}
+
+/// The command that answers requests.
+fn batch_command<'a>(alloc: Global) -> Command<'a> {
+    Command::new(alloc, "batch")
+        .about("Answers requests from the standard input, a line each")
+        .after_help(
+            "A request is the words of another command, as: shape font.ttf \"fila\" --features smcp",
+        )
+}
+
+/// The command that runs the example of the README.
+fn example_command<'a>(alloc: Global) -> Command<'a> {
+    Command::new(alloc, "example").hide(true).about(
+        "Shapes four glyphs in a font of typed tables, as the README does",
+    )
 }
 
 /// The command that times the shaping of a text.
@@ -160,9 +221,34 @@ fn bench_command<'a>(alloc: Global) -> Result<Command<'a>, AllocError> {
         )
         .after_help("Example: aat bench font.ttf --file text.txt --features smcp")
         .arg(font_argument(alloc))?;
-    let command = text_arguments(alloc, command)?;
-    let command = shaping_arguments(alloc, command)?;
-    command.arg(rounds)?.arg(length)?.arg(index_argument(alloc))
+    let file = Arg::new(alloc, "file")
+        .long("file")
+        .value_name("PATH")
+        .required(true)
+        .action(ArgAction::Set)
+        .help("The file of the text. Each of its lines is shaped by itself");
+    let command = shaping_arguments(alloc, command.arg(file)?)?;
+    file_arguments(alloc, command.arg(rounds)?.arg(length)?)
+}
+
+/// The command that makes a font of a description, for tests.
+fn make_command<'a>(alloc: Global) -> Result<Command<'a>, AllocError> {
+    let description = Arg::new(alloc, "description")
+        .value_name("DESCRIPTION")
+        .required(true)
+        .action(ArgAction::Set)
+        .help("The file of a description in JSON, or - for the standard input");
+    let compare = Arg::new(alloc, "compare")
+        .long("compare")
+        .value_name("FONT")
+        .action(ArgAction::Set)
+        .help("Tells whether this file has the bytes of the font, in place of writing them");
+    Command::new(alloc, "make")
+        .about("Writes the font that a description tells of, for tests")
+        .after_help("Example: aat make font.json > font.ttf")
+        .hide(true)
+        .arg(description)?
+        .arg(compare)
 }
 
 /// The program's command.
@@ -173,5 +259,10 @@ pub(crate) fn command<'a>(alloc: Global) -> Result<Command<'a>, AllocError> {
         .subcommand(shape_command(alloc)?)?
         .subcommand(inspect_command(alloc)?)?
         .subcommand(dump_command(alloc)?)?
-        .subcommand(bench_command(alloc)?)
+        .subcommand(faults_command(alloc)?)?
+        .subcommand(settled_command(alloc)?)?
+        .subcommand(bench_command(alloc)?)?
+        .subcommand(batch_command(alloc))?
+        .subcommand(example_command(alloc))?
+        .subcommand(make_command(alloc)?)
 }

@@ -5,4 +5,6 @@ pub mod FallExamples
 pub mod OtherCutExamples
 pub mod PremiseExamples
 pub mod Settled
+pub mod SettledCuts
+pub mod UnsettledExamples
 pub mod facts

@@ -1,6 +1,7 @@
 //! Laws of the definitions as theorems. These calls do nothing: what is proved is their contracts.
 
 ghost use Rattle.aat_cut_kinds.specs.Cuts.{AnyBackwardInsertionLeavesParts, AnyInsertionLeavesParts, AnyInsertionLeavesPartsAtFall, BackwardInsertionLeavesParts, ContextualLeavesParts, InsertionLeavesParts, InsertionLeavesPartsAtFall, NoncontextualLeavesParts, ReversedLeavesParts};
+ghost use Rattle.aat_cut_kinds.specs.SettledCuts.{AnySettledBackwardInsertionLeavesParts, AnySettledInsertionLeavesParts, AnySettledInsertionLeavesPartsAtFall, SettledBackwardInsertionLeavesParts, SettledContextualLeavesParts, SettledInsertionLeavesParts, SettledInsertionLeavesPartsAtFall};
 
 /// Where a settled contextual subtable is on at a start of a cluster, and leaves, of the two glyphs there, the one with
 /// the greater cluster without the mark, and some of the budget, it leaves the glyphs that it leaves of the line up to
@@ -55,4 +56,47 @@ pub fn any_unmarked_falling_insertion_cut()
 /// The same as `unmarked_backward_insertion_cut` of any complete insertion subtable, but for the masks.
 pub fn any_unmarked_backward_insertion_cut()
     ensures { AnyBackwardInsertionLeavesParts }
+{}
+
+/// Where a contextual subtable is settled as `aat_cuts` says it, and is on at a start of a cluster, and its run leaves,
+/// of the two glyphs there, the one with the greater cluster without the mark, and some of the budget, the run leaves the
+/// glyphs that it leaves of the line up to there, and behind them those that it leaves of the rest, with their masks, and
+/// of neither part less of the budget.
+pub fn settled_contextual_cut()
+    ensures { SettledContextualLeavesParts }
+{}
+
+/// Where all clusters before a place inside the line are below some c, none from there on is, and an insertion
+/// subtable that is settled as `aat_cuts` says it is on there, and its run leaves the first glyph not below c
+/// unmarked, and some of the budget, the run leaves what it leaves of the line up to there, then of the rest, with
+/// masks, and of neither part less of the budget. An entry that puts no glyphs in has to name no run.
+pub fn settled_insertion_cut()
+    ensures { SettledInsertionLeavesParts }
+{}
+
+/// The same where none before is below c and all from there on are: the last glyph not below c is left unmarked.
+pub fn settled_falling_insertion_cut()
+    ensures { SettledInsertionLeavesPartsAtFall }
+{}
+
+/// The same as `settled_insertion_cut` where the subtable takes the line from its end, and is on at the glyph before
+/// the place: it need not be on at the one behind it.
+pub fn settled_backward_insertion_cut()
+    ensures { SettledBackwardInsertionLeavesParts }
+{}
+
+/// The same as `settled_insertion_cut` of any settled insertion subtable, but for the masks: these may be others where
+/// an entry that puts no glyphs in names a run.
+pub fn any_settled_insertion_cut()
+    ensures { AnySettledInsertionLeavesParts }
+{}
+
+/// The same where none before is below c and all from there on are: the last glyph not below c is left unmarked.
+pub fn any_settled_falling_insertion_cut()
+    ensures { AnySettledInsertionLeavesPartsAtFall }
+{}
+
+/// The same as `settled_backward_insertion_cut` of any settled insertion subtable, but for the masks.
+pub fn any_settled_backward_insertion_cut()
+    ensures { AnySettledBackwardInsertionLeavesParts }
 {}

@@ -1,9 +1,11 @@
-//! Examples of cuts as theorems. These calls do nothing: what is proved is their contracts.
+//! Examples of cuts, and of machines that are settled and of some that are not, as theorems. These calls do nothing:
+//! what is proved is their contracts.
 ghost use Rattle.aat_cut_kinds.specs.CutExamples.{CutExamples};
 ghost use Rattle.aat_cut_kinds.specs.EmptyRunExamples.{EmptyRunExamples};
 ghost use Rattle.aat_cut_kinds.specs.FallExamples.{FallExamples};
 ghost use Rattle.aat_cut_kinds.specs.OtherCutExamples.{InsertionCutExamples, LigatureCutExamples, RearrangementCutExamples};
 ghost use Rattle.aat_cut_kinds.specs.PremiseExamples.{BackwardPremises, ContextualPremises, FallingPremises, RisingPremises};
+ghost use Rattle.aat_cut_kinds.specs.UnsettledExamples.{CaseVerdicts, FailedPremises};
 
 /// What a settled contextual subtable leaves of a line and of its parts, and five lines whose parts leave something else.
 #[tactic(auto, using(crate::proofs::Examples::cut_examples))]
@@ -66,4 +68,17 @@ pub fn insertion_premises_at_a_fall()
 #[tactic(auto, using(crate::proofs::Examples::backward_premises))]
 pub fn insertion_premises_from_the_end()
     ensures { BackwardPremises }
+{}
+
+/// Of the machines of the examples of cuts: which are settled, and why the others are not; and that one is not plain.
+#[tactic(auto, using(crate::proofs::Unsettled::case_verdicts))]
+pub fn verdicts_of_cases()
+    ensures { CaseVerdicts }
+{}
+
+/// Which premise a machine fails whose line comes out differently in two parts: it is not complete, it uses what was not
+/// set since state 0, or an entry sets it differently that is taken for that of state 0.
+#[tactic(auto, using(crate::proofs::Unsettled::failed_premises))]
+pub fn premises_of_cases()
+    ensures { FailedPremises }
 {}

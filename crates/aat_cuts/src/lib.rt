@@ -1,5 +1,9 @@
 //! Whether the machines of `morx` are settled: a property of their tables alone, of which entries a run from state 0
 //! may come to and what these use, that a caller can ask once for a subtable or for a font.
+//!
+//! ```
+//! let reason: Option<Unsettled> = find_unsettled(alloc, &subtable.kind)?;
+//! ```
 #![tactic(auto)]
 
 mod cells;

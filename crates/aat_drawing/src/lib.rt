@@ -1,5 +1,9 @@
-//! What a person or another program is shown of lines that were shaped: the glyphs in the form of `hb-shape`, JSON, and a
-//! picture in SVG.
+//! What a person or another program is shown of lines that were shaped: the glyphs in the form of `hb-shape`, JSON, and
+//! a picture in SVG.
+//!
+//! ```
+//! write_glyphs(&mut out, &line)?;
+//! ```
 #![tactic(auto)]
 
 mod changes;
@@ -16,7 +20,7 @@ mod picture;
 
 pub use changes::drawn_changes;
 pub use error::DrawError;
-pub use forms::write_glyphs;
+pub use forms::{write_flagged_glyphs, write_glyphs};
 pub use json::write_json;
 pub use line::{DrawnGlyph, DrawnLine, LineBreak};
 pub use metrics::LineMetrics;

@@ -14,6 +14,7 @@ use Rattle.aat_bytes.specs.declared.error.FaultKind.{FaultKind}
 use Rattle.aat_bytes.specs.declared.error.FaultKind.TheVariants.{PastEnd, UnknownFormat, ShortLength, Missing, NotRising}
 use Rattle.aat_bytes.specs.declared.tag.Tag.{Tag}
 use Rattle.aat_bytes.specs.facts.Parts.{ok_parts, parts, passes}
+use Rattle.aat_bytes.specs.declared.tags.TheConstants.{ANKR, FEAT, KERN, KERX, MORX, TRAK}
 use Rattle.aat_font.specs.FeatureNames.{kind_of}
 use Rattle.aat_font.specs.Keys.{first, first_fall}
 use Rattle.aat_font.specs.declared.feat.FeatureName.{FeatureName}
@@ -24,14 +25,10 @@ use Rattle.aat_read_kern.proofs.TableBounded.{kern_bounded}
 use Rattle.aat_read_kerx.specs.AnchorLaws.{points_weight}
 use Rattle.aat_read_kerx.specs.KerxTables.{KerxValue}
 use Rattle.aat_read_kerx.specs.Weights.{kerx_weight}
-use Rattle.aat_read_kerx.specs.declared.ankr.TheConstants.{ANKR}
 use Rattle.aat_read_kerx.proofs.AnchorRows.{points_bounded}
 use Rattle.aat_read_kerx.proofs.TableBounded.{kerx_bounded}
 use Rattle.aat_read_lookup.specs.Features.{feat_of, feature_count, feature_name, feature_names, rising_names}
 use Rattle.aat_read_lookup.specs.Sizes.{cells_beside, pairs_size}
-use Rattle.aat_read_lookup.specs.declared.feat.TheConstants.{FEAT}
-use Rattle.aat_read_machine.specs.declared.kinds.TheConstants.{MORX}
-use Rattle.aat_read_pairs.specs.declared.values.TheConstants.{KERN, KERX}
 use Rattle.aat_read_morx.specs.Weights.{morx_weight}
 use Rattle.aat_read_morx.proofs.Bounded.{memory_bounded}
 use Rattle.aat_read_sfnt.specs.GlyphClasses.{properties_of}
@@ -40,7 +37,6 @@ use Rattle.aat_read_sfnt.specs.declared.gdef.GlyphClasses.{GlyphClasses}
 use Rattle.aat_read_sfnt.specs.Directory.{Directory, bytes_of_record, directory_at, directory_of, directory_place, is_font_version, record_of, table_of}
 use Rattle.aat_read_trak.specs.Trak.{trak_of}
 use Rattle.aat_read_trak.specs.TrakLaws.{table_size}
-use Rattle.aat_read_trak.specs.declared.fault.TheConstants.{TRAK}
 use Rattle.aat_read_trak.proofs.Bounded.{traks_are_bounded}
 use Rattle.aat_face.specs.Chains.{chain_values_of}
 use Rattle.aat_face.specs.FaceLaws.{FaceMemoryIsBounded, IsBounded}

@@ -1,7 +1,7 @@
 -- The chains of a font file. Apple's TrueType Reference Manual, "The 'morx' table".
 use Rattle.std.specs.Prelude.{ℕ, List, Option, Result}
 use Rattle.aat_bytes.specs.declared.error.Fault.{Fault}
-use Rattle.aat_read_machine.specs.declared.kinds.TheConstants.{MORX}
+use Rattle.aat_bytes.specs.declared.tags.TheConstants.{MORX}
 use Rattle.aat_read_morx.specs.Chains.{ChainValue, morx_of}
 use Rattle.aat_read_sfnt.specs.Directory.{Directory}
 use Rattle.aat_face.specs.Tables.{table_in}

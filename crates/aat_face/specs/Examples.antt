@@ -3,19 +3,17 @@ use Rattle.std.specs.Prelude.{◌≡◌, ℕ, pos, negsuc, false, List, [], ◌�
 use Rattle.aat_bytes.specs.declared.error.Fault.{Fault}
 use Rattle.aat_bytes.specs.Faults.{fault_at}
 use Rattle.aat_bytes.specs.declared.error.FaultKind.TheVariants.{PastEnd, UnknownFormat, Missing}
+use Rattle.aat_bytes.specs.declared.tags.TheConstants.{HEAD, KERN, SFNT, TRAK}
 use Rattle.aat_font.specs.declared.morx.Subtable.{Subtable}
 use Rattle.aat_font.specs.declared.morx.SubtableKind.TheVariants.{NonContextual}
 use Rattle.aat_read_lookup.specs.FeatureExamples.{example_feat}
-use Rattle.aat_read_pairs.specs.declared.values.TheConstants.{KERN}
 use Rattle.aat_read_morx.specs.MorxExamples.{example_chain, example_table}
 use Rattle.aat_read_sfnt.specs.Examples.{example_file, example_metrics, example_profile}
 use Rattle.aat_read_sfnt.specs.Metrics.{metrics_of}
 use Rattle.aat_read_sfnt.specs.declared.class_definition.ClassDefinition.TheVariants.{Array, Ranges}
 use Rattle.aat_read_sfnt.specs.declared.gdef.GlyphClasses.{GlyphClasses}
-use Rattle.aat_read_sfnt.specs.declared.tags.TheConstants.{HEAD, SFNT}
-use Rattle.aat_tracking.specs.Tracks.{TrackingTable}
+use Rattle.aat_placement.specs.Tracks.{TrackingTable}
 use Rattle.aat_read_trak.specs.TrakExamples.{sizes_and_values, trak_header, two_tracks}
-use Rattle.aat_read_trak.specs.declared.fault.TheConstants.{TRAK}
 use Rattle.aat_face.specs.English.{english_text, text_in}
 use Rattle.aat_face.specs.Faces.{FaceValue, FontValue, face_of, feature_text, setting_text}
 use Rattle.aat_face.specs.Lists.{advance_pairs, property_pairs}

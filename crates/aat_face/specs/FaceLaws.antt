@@ -2,10 +2,7 @@
 use Rattle.std.specs.Prelude.{◌≡◌, ℕ, ◌+◌, ◌*◌, ◌≤◌, List, length, Ok}
 use Rattle.std.specs.Option.{option_map_or}
 use Rattle.aat_bytes.specs.declared.tag.Tag.{Tag}
-use Rattle.aat_read_kerx.specs.declared.ankr.TheConstants.{ANKR}
-use Rattle.aat_read_machine.specs.declared.kinds.TheConstants.{MORX}
-use Rattle.aat_read_pairs.specs.declared.values.TheConstants.{KERN, KERX}
-use Rattle.aat_read_trak.specs.declared.fault.TheConstants.{TRAK}
+use Rattle.aat_bytes.specs.declared.tags.TheConstants.{ANKR, KERN, KERX, MORX, TRAK}
 use Rattle.aat_face.specs.Faces.{FaceValue, face_of}
 use Rattle.aat_face.specs.Weights.{bytes_of_table, face_weight}
 

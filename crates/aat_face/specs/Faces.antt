@@ -10,14 +10,13 @@ use Rattle.aat_font.specs.declared.feat.FeatureName.{FeatureName}
 use Rattle.aat_font.specs.declared.kern.KernSubtable.{KernSubtable}
 use Rattle.aat_font.specs.declared.kerx.KerxSubtable.{KerxSubtable}
 use Rattle.aat_font.specs.declared.plan.GlyphId.{GlyphId}
-use Rattle.aat_read_kern.specs.declared.subtables.LeftOutSubtable.{LeftOutSubtable as LeftOutOfKern}
-use Rattle.aat_read_kerx.specs.declared.subtables.LeftOutSubtable.{LeftOutSubtable}
+use Rattle.aat_read_pairs.specs.declared.left_out.LeftOutSubtable.{LeftOutSubtable}
 use Rattle.aat_read_lookup.specs.Features.{feature_name_id, setting_name_id}
 use Rattle.aat_read_morx.specs.Chains.{ChainValue, values_of_morx}
 use Rattle.aat_read_sfnt.specs.Characters.{glyph_of}
 use Rattle.aat_read_sfnt.specs.Directory.{Directory, directory_of}
 use Rattle.aat_read_sfnt.specs.declared.cmap.Cmap.{Cmap}
-use Rattle.aat_tracking.specs.Tracks.{TrackingTable}
+use Rattle.aat_placement.specs.Tracks.{TrackingTable}
 use Rattle.aat_face.specs.Chains.{chains_in}
 use Rattle.aat_face.specs.English.{Text, english_text}
 use Rattle.aat_face.specs.Features.{feature_bytes, feature_tables, features_in}
@@ -89,7 +88,7 @@ pub record FaceValue : Type 0 where
   pub has_gpos : Bool
   pub faults : List Fault
   pub left_out : List LeftOutSubtable
-  pub left_out_of_kern : List LeftOutOfKern
+  pub left_out_of_kern : List LeftOutSubtable
 
 -- the advances of glyphs, if the font has metrics
 abbrev pub advances_in : Tables → ℕ → Option (List (ℕ × ℕ))

@@ -2,10 +2,10 @@
 use Rattle.std.specs.Prelude.{ℕ, List, Option, None, Result, Ok, option_map}
 use Rattle.aat_bytes.specs.Faults.{after}
 use Rattle.aat_bytes.specs.declared.error.Fault.{Fault}
+use Rattle.aat_bytes.specs.declared.tags.TheConstants.{FEAT}
 use Rattle.aat_font.specs.declared.face.FaceTables.{FaceTables}
 use Rattle.aat_font.specs.declared.feat.FeatureName.{FeatureName}
 use Rattle.aat_read_lookup.specs.Features.{feat_of}
-use Rattle.aat_read_lookup.specs.declared.feat.TheConstants.{FEAT}
 use Rattle.aat_read_sfnt.specs.Directory.{Directory}
 use Rattle.aat_face.specs.Tables.{found_in, table_in}
 

@@ -3,17 +3,14 @@
 use Rattle.std.specs.Prelude.{ℕ, List, [], Option, Bool, Result, is_ok}
 use Rattle.std.specs.Option.{option_map_or}
 use Rattle.aat_bytes.specs.declared.error.Fault.{Fault}
+use Rattle.aat_bytes.specs.declared.tags.TheConstants.{ANKR, GPOS, KERN, KERX}
 use Rattle.aat_font.specs.AnchorPoints.{Points}
 use Rattle.aat_read_kern.specs.Kern.{KernValue, kern_of}
-use Rattle.aat_read_kern.specs.declared.subtables.LeftOutSubtable.{LeftOutSubtable as LeftOutOfKern}
 use Rattle.aat_read_kerx.specs.Anchors.{ankr_of}
 use Rattle.aat_read_kerx.specs.KerxTables.{KerxValue, kerx_of}
-use Rattle.aat_read_kerx.specs.declared.ankr.TheConstants.{ANKR}
-use Rattle.aat_read_kerx.specs.declared.subtables.LeftOutSubtable.{LeftOutSubtable}
-use Rattle.aat_read_pairs.specs.declared.values.TheConstants.{KERN, KERX}
+use Rattle.aat_read_pairs.specs.declared.left_out.LeftOutSubtable.{LeftOutSubtable}
 use Rattle.aat_read_sfnt.specs.Directory.{Directory, table_of}
 use Rattle.aat_face.specs.Tables.{found_in, table_in}
-use Rattle.aat_face.specs.declared.kerning.TheConstants.{GPOS}
 
 -- the extended kerning of these bytes, in a font of so many glyphs
 abbrev pub kerx_values_of : ℕ → List ℕ → Result KerxValue Fault
@@ -44,5 +41,5 @@ abbrev pub left_out_of : Result (Option KerxValue) Fault → List LeftOutSubtabl
 left_out_of kerx = option_map_or (λ read. read.left_out) (found_in kerx) []
 
 -- the subtables of kerning that are left out
-abbrev pub left_out_of_kern : Result (Option KernValue) Fault → List LeftOutOfKern
+abbrev pub left_out_of_kern : Result (Option KernValue) Fault → List LeftOutSubtable
 left_out_of_kern kern = option_map_or (λ read. read.left_out) (found_in kern) []

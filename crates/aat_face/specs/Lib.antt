@@ -6,6 +6,7 @@ pub mod Faces
 pub mod Features
 pub mod Kerning
 pub mod Lists
+pub mod SizeExamples
 pub mod Tables
 pub mod Tracking
 pub mod Weights

@@ -5,6 +5,7 @@ use Rattle.aat_bytes.specs.declared.error.Fault.{Fault}
 use Rattle.aat_bytes.specs.declared.error.FaultKind.{FaultKind}
 use Rattle.aat_bytes.specs.declared.error.FaultKind.TheVariants.{PastEnd, UnknownFormat, ShortLength, Missing, NotRising}
 use Rattle.aat_bytes.specs.declared.tag.Tag.{Tag}
+use Rattle.aat_bytes.specs.declared.tags.TheConstants.{CMAP, GDEF, HEAD, HHEA, HMTX, MAXP, NAME}
 use Rattle.aat_read_sfnt.specs.Characters.{cmap_of}
 use Rattle.aat_read_sfnt.specs.Directory.{Directory, table_of}
 use Rattle.aat_read_sfnt.specs.GlyphClasses.{glyph_classes_of}
@@ -13,7 +14,6 @@ use Rattle.aat_read_sfnt.specs.Metrics.{LongMetrics, long_metric_count, metrics_
 use Rattle.aat_read_sfnt.specs.Names.{names_of}
 use Rattle.aat_read_sfnt.specs.declared.cmap.Cmap.{Cmap}
 use Rattle.aat_read_sfnt.specs.declared.gdef.GlyphClasses.{GlyphClasses}
-use Rattle.aat_read_sfnt.specs.declared.tags.TheConstants.{CMAP, GDEF, HEAD, HHEA, HMTX, MAXP, NAME}
 
 -- nothing where the fault is that a table is missing
 abbrev pub none_if_missing : {X : Type 0} → FaultKind → Fault → Result (Option X) Fault

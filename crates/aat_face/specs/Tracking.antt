@@ -1,10 +1,10 @@
 -- The tracking of a font file. Apple's TrueType Reference Manual, "The 'trak' table".
 use Rattle.std.specs.Prelude.{Option, Result}
 use Rattle.aat_bytes.specs.declared.error.Fault.{Fault}
+use Rattle.aat_bytes.specs.declared.tags.TheConstants.{TRAK}
 use Rattle.aat_read_sfnt.specs.Directory.{Directory}
-use Rattle.aat_tracking.specs.Tracks.{TrackingTable}
+use Rattle.aat_placement.specs.Tracks.{TrackingTable}
 use Rattle.aat_read_trak.specs.Trak.{trak_of}
-use Rattle.aat_read_trak.specs.declared.fault.TheConstants.{TRAK}
 use Rattle.aat_face.specs.Tables.{table_in}
 
 -- the tracking of a file

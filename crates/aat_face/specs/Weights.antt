@@ -4,21 +4,20 @@ use Rattle.std.specs.Prelude.{ℕ, ◌+◌, ◌*◌, List, [], length, Option, O
 use Rattle.std.specs.Option.{option_map_or}
 use Rattle.aat_bytes.specs.Faults.{after}
 use Rattle.aat_bytes.specs.declared.tag.Tag.{Tag}
+use Rattle.aat_bytes.specs.declared.tags.TheConstants.{KERX, MORX}
 use Rattle.aat_font.specs.AnchorPoints.{Points}
 use Rattle.aat_font.specs.declared.feat.FeatureName.{FeatureName}
 use Rattle.aat_font.specs.declared.kern.KernSubtable.{KernSubtable}
 use Rattle.aat_font.specs.declared.kerx.KerxSubtable.{KerxSubtable}
 use Rattle.aat_read_kern.specs.Weights.{kern_weight}
-use Rattle.aat_read_kern.specs.declared.subtables.LeftOutSubtable.{LeftOutSubtable}
+use Rattle.aat_read_pairs.specs.declared.left_out.LeftOutSubtable.{LeftOutSubtable}
 use Rattle.aat_read_kerx.specs.AnchorLaws.{points_weight}
 use Rattle.aat_read_kerx.specs.Weights.{kerx_weight}
 use Rattle.aat_read_lookup.specs.Sizes.{pairs_size}
-use Rattle.aat_read_machine.specs.declared.kinds.TheConstants.{MORX}
-use Rattle.aat_read_pairs.specs.declared.values.TheConstants.{KERX}
 use Rattle.aat_read_morx.specs.Chains.{ChainValue}
 use Rattle.aat_read_morx.specs.Weights.{morx_weight}
 use Rattle.aat_read_sfnt.specs.Directory.{directory_of, table_of}
-use Rattle.aat_tracking.specs.Tracks.{TrackingTable}
+use Rattle.aat_placement.specs.Tracks.{TrackingTable}
 use Rattle.aat_read_trak.specs.TrakLaws.{table_size}
 use Rattle.aat_face.specs.Faces.{FaceValue}
 use Rattle.aat_face.specs.declared.weights.TheConstants.{FACE_SIZE, FAULT_SIZE, FEATURE_NAME_SIZE}

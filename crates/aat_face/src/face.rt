@@ -18,10 +18,10 @@ use crate::text::{NameText, english_text};
 use crate::tracking::trak_in;
 use aat_bytes::{Fault, ReadError};
 use aat_font::{GlyphId, Lookup, hb_font_t};
-use aat_read_kerx::LeftOutSubtable;
+use aat_placement::Tracking;
 use aat_read_lookup::{feature_name_id, setting_name_id};
+use aat_read_pairs::LeftOutSubtable;
 use aat_read_sfnt::{Cmap, FontFile, Names};
-use aat_tracking::Tracking;
 use std::alloc::{AllocError, Global};
 use std::marker::Model;
 
@@ -40,7 +40,7 @@ pub struct Face<'a> {
     has_gpos: bool,
     faults: Vec<Fault>,
     left_out: Vec<LeftOutSubtable>,
-    left_out_of_kern: Vec<aat_read_kern::LeftOutSubtable>,
+    left_out_of_kern: Vec<LeftOutSubtable>,
 }
 
 impl<'a> Model for Face<'a> {
@@ -310,7 +310,7 @@ impl<'a> Face<'a> {
 
     /// The subtables of `kern` that are left out, in their order, since their format is none that is read, or they are
     /// of variations.
-    pub fn left_out_of_kern(&self) -> &[aat_read_kern::LeftOutSubtable]
+    pub fn left_out_of_kern(&self) -> &[LeftOutSubtable]
         ensures { result.now ≡ self.now.left_out_of_kern }
     {
         &self.left_out_of_kern

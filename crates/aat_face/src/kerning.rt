@@ -5,16 +5,14 @@ ghost use Rattle.aat_face.specs.Kerning.{ankr_in, ankr_values_of, has_gpos_in, k
 ghost use Rattle.aat_face.specs.Tables.{found_in, read_if_found};
 
 use crate::tables::{found_in, optional_table};
-use aat_bytes::{Fault, ReadError, Tag};
+use aat_bytes::tags::GPOS;
+use aat_bytes::{Fault, ReadError};
 use aat_font::{Ankr, FaceTables, Kern, Kerx};
 use aat_read_kern::{KernRead, read_kern};
-use aat_read_kerx::{ANKR, KerxRead, LeftOutSubtable, read_ankr, read_kerx};
-use aat_read_pairs::{KERN, KERX};
+use aat_read_kerx::{ANKR, KerxRead, read_ankr, read_kerx};
+use aat_read_pairs::{KERN, KERX, LeftOutSubtable};
 use aat_read_sfnt::FontFile;
 use std::alloc::{AllocError, Global};
-
-/// Glyph positioning, which is another layer's.
-pub const GPOS: Tag = Tag(0x4750_4F53);
 
 /// What is read of the bytes of the table `kerx` of a font of so many glyphs.
 fn read_extended(
@@ -126,7 +124,7 @@ pub fn kerx_parts(
 pub fn kern_parts(
     alloc: Global,
     reading: Result<Option<KernRead>, Fault>,
-) -> (Option<Kern>, Vec<aat_read_kern::LeftOutSubtable>)
+) -> (Option<Kern>, Vec<LeftOutSubtable>)
     ensures table { result.0 ≡ option_map (λ read. read.subtables) (found_in reading) }
     ensures left_out { result.1.items ≡ left_out_of_kern reading }
 {

@@ -1,4 +1,9 @@
-//! A font from the bytes of its file, with the list of its faults.
+//! A font from the bytes of its file, with the list of its faults. Its `font()` is what `Shaper::new` of `aat_shaper`
+//! takes.
+//!
+//! ```
+//! let face = Face::read(alloc, &file, 0)?;
+//! ```
 #![tactic(auto)]
 
 mod chains;

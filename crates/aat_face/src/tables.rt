@@ -7,11 +7,11 @@ use crate::chains::Chains;
 use crate::features::Features;
 use aat_bytes::{Fault, FaultKind, Tag};
 use aat_font::Ankr;
+use aat_placement::Tracking;
 use aat_read_kern::KernRead;
 use aat_read_kerx::KerxRead;
 use aat_read_sfnt::tags::{CMAP, GDEF, HEAD, HHEA, HMTX, MAXP, NAME};
 use aat_read_sfnt::{Cmap, FontFile, GlyphClasses, Metrics, Names};
-use aat_tracking::Tracking;
 
 /// The bytes of a table, or nothing where the table is missing.
 pub fn optional_table<'a>(file: &FontFile<'a>, tag: Tag) -> Result<Option<&'a [u8]>, Fault>

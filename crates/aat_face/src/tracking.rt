@@ -6,9 +6,9 @@ ghost use Rattle.aat_face.specs.Tracking.{trak_in};
 
 use crate::tables::optional_table;
 use aat_bytes::{Fault, ReadError};
+use aat_placement::Tracking;
 use aat_read_sfnt::FontFile;
 use aat_read_trak::{TRAK, read_trak};
-use aat_tracking::Tracking;
 use std::alloc::{AllocError, Global};
 
 /// What is read of the bytes of the table `trak`.

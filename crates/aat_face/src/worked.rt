@@ -1,5 +1,6 @@
 //! Worked examples of faces as theorems. These calls do nothing: what is proved is their contracts.
 ghost use Rattle.aat_face.specs.Examples.{ChainsAreOfTheFont, FacesHaveTracks, FaultsAreListed, FeaturesHaveTexts, GlyphsHaveValues, LeftOutsAreTold, WindowsGoesFirst};
+ghost use Rattle.aat_face.specs.SizeExamples.{SizesAreKnown};
 
 /// The definition of a face computes to the examples.
 #[tactic(auto, unfolding(aat_bytes::specs::Numbers::slice, aat_read_sfnt::specs::Directory::place_in_collection, aat_read_sfnt::specs::Directory::directory_place, aat_read_sfnt::specs::Directory::directory_at, aat_read_sfnt::specs::Header::glyph_count, aat_read_sfnt::specs::Header::units_per_em))]
@@ -36,4 +37,9 @@ pub fn lists()
 #[tactic(auto, unfolding(aat_bytes::specs::Numbers::slice, aat_bytes::specs::Numbers::u16_at, aat_read_lookup::specs::Features::feature_count, aat_read_sfnt::specs::Names::has_pair, aat_read_sfnt::specs::Names::has_key))]
 pub fn features()
     ensures { FeaturesHaveTexts }
+{}
+
+/// The types by which memory is counted have their sizes.
+pub fn sizes()
+    ensures { SizesAreKnown }
 {}

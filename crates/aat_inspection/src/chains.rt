@@ -38,7 +38,7 @@ fn order(coverage: Coverage) -> &'static str {
 }
 
 /// Writes whether a subtable is settled for cuts, or why it is not.
-fn write_settled<W: Write>(alloc: Global, out: &mut W, kind: &SubtableKind) -> io::Result<()> {
+fn write_reason<W: Write>(alloc: Global, out: &mut W, kind: &SubtableKind) -> io::Result<()> {
     match find_unsettled(alloc, kind)? {
         Some(reason) => writeln!(out, "not settled for cuts: {reason}"),
         None => writeln!(out, "settled for cuts"),
@@ -63,7 +63,7 @@ fn write_subtable<W: Write>(
     };
     write!(out, "{kind}, {directions}, {order}, flags {flags:#010x}, ")?;
     write!(out, "{state} by default, ")?;
-    write_settled(alloc, out, &subtable.kind)
+    write_reason(alloc, out, &subtable.kind)
 }
 
 /// Writes the subtables of a chain in their order.
@@ -92,4 +92,30 @@ pub(crate) fn write_chains<W: Write>(
         write_subtables(alloc, out, chain)?;
     }
     Ok(())
+}
+
+/// Writes of each subtable of a chain of a number whether it is settled for cuts, or why it is not.
+fn write_settled_chain<W: Write>(
+    alloc: Global,
+    out: &mut W,
+    number: usize,
+    chain: &Chain,
+) -> io::Result<()> {
+    for (place, subtable) in chain.subtables.iter().enumerate() {
+        let kind = kind_name(&subtable.kind);
+        write!(out, "chain {number} subtable {place} {kind}, ")?;
+        write_reason(alloc, out, &subtable.kind)?;
+    }
+    Ok(())
+}
+
+/// Writes of each subtable of chains whether it is settled for cuts, or why it is not, a line each in their order, and
+/// answers whether there are any.
+///
+/// An error is that of the writer, or `OutOfMemory`. A part of the text may be written then.
+pub fn write_settled<W: Write>(alloc: Global, out: &mut W, chains: &[Chain]) -> io::Result<bool> {
+    for (number, chain) in chains.iter().enumerate() {
+        write_settled_chain(alloc, out, number, chain)?;
+    }
+    Ok(chains.iter().any(|chain| !chain.subtables.is_empty()))
 }

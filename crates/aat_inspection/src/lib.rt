@@ -1,23 +1,31 @@
-//! What a person reads of a font: the tables of its file, its features, its chains and its kerning, a line for each fact.
+//! What a person reads of a font: the tables of its file, its features, its chains and its kerning, a line for each
+//! fact; all that its tables have ([`write_face`]); and which flags each chain has over which clusters for a font and
+//! requests, and which of its subtables are on there ([`inspect`]), also as a table ([`Table`]).
+//!
+//! ```
+//! write_inspection(alloc, &mut out, &file, 0, &face)?;
+//! ```
 #![tactic(auto)]
 
 mod chains;
 mod directory;
 mod features;
 mod kerning;
+mod ranges;
+mod ranges_table;
+mod tables_text;
 
+use aat_bytes::tags::{ANKR, TRAK};
 use aat_bytes::{Tag, tag_at};
 use aat_face::Face;
-use aat_face_text::{write_features, write_summary, write_table};
-pub use chains::kind_name;
+pub use chains::{kind_name, write_settled};
+pub use ranges::{InspectedRange, inspect};
+pub use ranges_table::Table;
 use std::alloc::Global;
 use std::io::{self, Write};
-
-/// The table of anchor points.
-const ANKR: Tag = Tag(0x616E6B72);
-
-/// The table of tracking.
-const TRAK: Tag = Tag(0x7472616B);
+pub use tables_text::{
+    write_characters, write_face, write_faults, write_features, write_summary, write_table,
+};
 
 /// Writes whether a table is there and is read, has a fault, or is missing.
 fn write_presence<W: Write>(
@@ -64,7 +72,7 @@ pub fn write_inspection<W: Write>(
     write_presence(out, face, TRAK, face.tracking().is_some())
 }
 
-/// Writes what a face has of the table that a text names by its tag, as [`write_table`] of `aat_face_text` does, and
+/// Writes what a face has of the table that a text names by its tag, as [`write_table`] does, and
 /// answers whether it is a table that this writes. Where the text is no tag, which is of exactly four characters, and
 /// where the table is none of those, it writes nothing and answers `false`.
 ///

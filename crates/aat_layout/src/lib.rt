@@ -1,4 +1,9 @@
-//! Apple Advanced Typography: extended glyph substitution and kerning over a shaping buffer.
+//! Apple Advanced Typography: extended glyph substitution and kerning over a shaping buffer, the calls one by one. It
+//! hands on what a caller needs of the crates below. A program takes `aat_shaper` for texts.
+//!
+//! ```
+//! let turns = hb_aat_layout_substitute(alloc, &plan, &font, &mut buffer)?;
+//! ```
 #![tactic(auto)]
 
 mod aat_layout;

@@ -1,4 +1,8 @@
-//! Substitution: the subtables of all chains in their order.
+//! Substitution: the subtables of all chains in their order, under a map of what is asked for.
+//!
+//! ```
+//! apply(&mut context, &map)?;
+//! ```
 #![tactic(auto)]
 
 mod applying;
@@ -9,6 +13,7 @@ mod subtable;
 mod waking;
 
 pub use applying::{apply, apply_with, run_table};
+pub use subtable::{is_for, is_reversed, is_skipped};
 
 #[doc(hidden)]
 pub mod worked;

@@ -19,15 +19,17 @@ use aat_run::AatError;
 use std::alloc::Allocator;
 
 /// Whether a subtable is for text of this direction: for all directions, or of the text's orientation.
-fn is_for(direction: Direction, coverage: Coverage) -> bool
+///
+/// Apple's TrueType Reference Manual, "The 'morx' table", the coverage of a subtable.
+pub fn is_for(direction: Direction, coverage: Coverage) -> bool
     ensures { result ≡ is_for direction coverage }
 {
     coverage.is_all_directions() || coverage.is_vertical() == direction.is_vertical()
 }
 
 /// Whether a subtable is left out: its chain has one range alone and it is off there, or it is not for text of this
-/// direction.
-fn is_skipped(run: &SubtableRun, subtable: &Subtable, direction: Direction) -> bool
+/// direction. `run` has the flags of the subtable.
+pub fn is_skipped(run: &SubtableRun, subtable: &Subtable, direction: Direction) -> bool
     requires { run.now.feature_flags ≡ subtable.now.feature_flags }
     ensures skipped { result ≡ is_skipped (switch_for run.now.ranges.now) subtable.now direction }
     ensures on { result ≡ false → length run.now.ranges.now ≡ 1 → is_on_in run.now 0 ≡ true }
@@ -40,7 +42,9 @@ fn is_skipped(run: &SubtableRun, subtable: &Subtable, direction: Direction) -> b
 
 /// Whether a subtable runs on the line in the opposite order. One in logical order says so itself; any other takes the
 /// glyphs as they are drawn, so that a text that runs backward is turned round unless the subtable runs backwards.
-fn is_reversed(coverage: Coverage, direction: Direction) -> bool
+///
+/// Apple's TrueType Reference Manual, "The 'morx' table", the coverage of a subtable.
+pub fn is_reversed(coverage: Coverage, direction: Direction) -> bool
     ensures { result ≡ is_reversed coverage direction }
 {
     if coverage.is_logical() {

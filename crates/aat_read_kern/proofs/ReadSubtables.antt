@@ -8,9 +8,9 @@ use Rattle.aat_bytes.specs.Faults.{after, fault_at}
 use Rattle.aat_bytes.specs.declared.error.Fault.{Fault}
 use Rattle.aat_bytes.specs.declared.error.FaultKind.TheVariants.{PastEnd, ShortLength, UnknownFormat}
 use Rattle.aat_bytes.specs.facts.Parts.{ok_parts, parts, passes}
+use Rattle.aat_bytes.specs.declared.tags.TheConstants.{KERN}
 use Rattle.aat_read_machine.specs.InTurn.{in_turn}
 use Rattle.aat_read_machine.specs.facts.Turns.{counted, turn}
-use Rattle.aat_read_pairs.specs.declared.values.TheConstants.{KERN}
 use Rattle.aat_read_kern.specs.Kern.{KernStart, end_at, first_start, format_at, header_size, kern_kind_at, kern_value, left_out_at, length_at, length_place, list_of, read_up_to, subtable_at, subtable_of, subtables_of, unread_place, value_of_subtables}
 use Rattle.aat_read_kern.specs.KernLaws.{IsReadAs, IsSubtableAt, SubtablesAreThoseOfBytes, end_by_length, subtable_end, subtable_place}
 use Rattle.aat_read_kern.specs.declared.header.KernHeader.{KernHeader}

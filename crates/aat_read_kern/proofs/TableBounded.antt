@@ -1,8 +1,8 @@
 -- What a kerning table weighs that is read.
-use Rattle.std.proofs.Common.{◌≡◌, ℕ, ℤ, zero, suc, ◌+◌, ◌-◌, ◌*◌, ◌/◌, ◌≤◌, List, [], ◌∷◌, length, take, Bool, true, false, not, cond, Option, Some, None, Result, Ok, refl, sym, subst, arith, ◌==◌}
-use Rattle.std.specs.Prelude.{nat_lt, sum_by}
+use Rattle.std.proofs.Common.{◌≡◌, ℕ, ℤ, zero, suc, ◌+◌, ◌-◌, ◌*◌, ◌≤◌, List, [], ◌∷◌, length, take, Bool, true, false, not, cond, Option, Some, None, Result, Ok, refl, sym, subst, arith, ◌==◌}
+use Rattle.std.specs.Prelude.{sum_by}
 use Rattle.std.specs.List.{filter_map}
-use Rattle.std.proofs.lemmas.Bool.{eqb-true, ltb-false}
+use Rattle.std.proofs.lemmas.Bool.{eqb-true}
 use Rattle.std.proofs.lemmas.List.{length-take}
 use Rattle.std.proofs.lemmas.Option.{none-some}
 use Rattle.std.proofs.lemmas.List.Sums.{sum_by-cons}
@@ -13,13 +13,13 @@ use Rattle.aat_font.specs.Classes.{ClassValues}
 use Rattle.aat_font.specs.KerningTables.{KernMachineTables}
 use Rattle.aat_font.specs.declared.kern.KernKind.{KernKind}
 use Rattle.aat_font.specs.declared.kern.KernKind.TheVariants.{Classes, Machine, Pairs}
-use Rattle.aat_font.specs.inside.GlyphSpans.{glyph_span}
-use Rattle.aat_font.specs.inside.Lefts.{left_count, left_glyph}
 use Rattle.aat_read_machine.specs.InTurn.{in_turn}
 use Rattle.aat_read_machine.specs.facts.Turns.{turn}
 use Rattle.aat_read_pairs.specs.KernClasses.{kern_classes_at}
 use Rattle.aat_read_pairs.specs.KernIndexes.{kern_indexes_at}
 use Rattle.aat_read_pairs.specs.ListedPairs.{kern_pairs_at}
+use Rattle.aat_read_pairs.specs.declared.weights.TheConstants.{LEFT_OUT_SIZE}
+use Rattle.aat_read_pairs.specs.facts.Starts.{few_starts}
 use Rattle.aat_read_kern.specs.Kern.{KernStart, KernValue, as_kind, first_start, format_at, header_size, is_read, kern_kind_at, kern_value, kerning_of, left_out_at, list_of, read_up_to, subtable_at, subtable_of, subtables_of, unread_place}
 use Rattle.aat_read_kern.specs.KernLaws.{KernIsBounded}
 use Rattle.aat_read_kern.specs.KernMachines.{kern_machine_at}
@@ -29,22 +29,10 @@ use Rattle.aat_read_kern.specs.declared.header.KernHeader.TheVariants.{Apple, Op
 use Rattle.aat_read_kern.specs.declared.header.KernList.{KernList}
 use Rattle.aat_read_kern.specs.declared.subtables.SubtableRead.{SubtableRead}
 use Rattle.aat_read_kern.specs.declared.subtables.SubtableRead.TheVariants.{Kerns, LeftOut}
-use Rattle.aat_read_kern.specs.declared.weights.TheConstants.{KERN_SUBTABLE_SIZE, LEFT_OUT_SIZE}
+use Rattle.aat_read_kern.specs.declared.weights.TheConstants.{KERN_SUBTABLE_SIZE}
 use Rattle.aat_read_kern.proofs.Counts.{classes_light, indexes_light, pairs_fit}
 use Rattle.aat_read_kern.proofs.MachinesBounded.{machine_inside, machines_bounded}
 use Rattle.aat_read_kern.proofs.ReadSubtables.{ends, subtable_parts}
-
--- pairs have at most 8 starts each, and 7 more
-starts_by : (b c : Bool) (n span : ℕ) → (n == 0) ≡ b → nat_lt n (span / 8) ≡ c
-    → cond b 0 (cond c 0 span) ≤ 8 * n + 7
-starts_by true c n span none many = omega arith
-starts_by false true n span none many = omega arith
-starts_by false false n span none many =
-    let low : span / 8 ≤ n = ltb-false n (span / 8) many in omega (arith, low)
-
-few_starts : (pairs : List (ℕ × ℕ × ℤ)) → left_count pairs ≤ 8 * length pairs + 7
-few_starts pairs =
-    starts_by (length pairs == 0) (nat_lt (length pairs) (glyph_span left_glyph _ pairs / 8)) (length pairs) _ refl refl
 
 -- a header has six bytes or more
 headed : (header : KernHeader) → 6 ≤ header_size header

@@ -5,9 +5,9 @@ use Rattle.aat_bytes.specs.Faults.{fault_at}
 use Rattle.aat_bytes.specs.Numbers.{be16}
 use Rattle.aat_bytes.specs.declared.error.Fault.{Fault}
 use Rattle.aat_bytes.specs.declared.error.FaultKind.TheVariants.{PastEnd, ShortLength}
+use Rattle.aat_bytes.specs.declared.tags.TheConstants.{KERN}
 use Rattle.aat_read_kern.specs.declared.byte_machine.ByteMachine.{ByteMachine}
 use Rattle.aat_read_kern.specs.declared.rows.Rows.{Rows}
-use Rattle.aat_read_pairs.specs.declared.values.TheConstants.{KERN}
 
 -- the machine at a place of the table: the number of classes, which are 4 or more, and from the place on the offsets of
 -- the class table, of the row of the first state, of the entries and of the values

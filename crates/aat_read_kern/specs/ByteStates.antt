@@ -5,13 +5,13 @@ use Rattle.aat_bytes.specs.Faults.{fault_at}
 use Rattle.aat_bytes.specs.Numbers.{be16}
 use Rattle.aat_bytes.specs.declared.error.Fault.{Fault}
 use Rattle.aat_bytes.specs.declared.error.FaultKind.TheVariants.{PastEnd}
+use Rattle.aat_bytes.specs.declared.tags.TheConstants.{KERN}
 use Rattle.aat_font.specs.Table.{Rule}
 use Rattle.aat_font.specs.declared.entries.KernEntryData.{KernEntryData}
 use Rattle.aat_font.specs.declared.state_table.GenericStateEntry.{GenericStateEntry}
 use Rattle.aat_read_kern.specs.ByteMachines.{cell_count, entry_place, has_entry, has_index, row_place, rows_before, rows_behind, state_named}
 use Rattle.aat_read_kern.specs.declared.byte_machine.ByteMachine.{ByteMachine}
 use Rattle.aat_read_kern.specs.declared.rows.Rows.{Rows}
-use Rattle.aat_read_pairs.specs.declared.values.TheConstants.{KERN}
 
 -- the row of the first state alone
 abbrev pub first_row : Rows

@@ -5,6 +5,7 @@ use Rattle.aat_bytes.specs.Faults.{after, fault_at}
 use Rattle.aat_bytes.specs.Numbers.{be16, be32}
 use Rattle.aat_bytes.specs.declared.error.Fault.{Fault}
 use Rattle.aat_bytes.specs.declared.error.FaultKind.TheVariants.{PastEnd, ShortLength, UnknownFormat}
+use Rattle.aat_bytes.specs.declared.tags.TheConstants.{KERN}
 use Rattle.aat_font.specs.declared.kern.KernKind.{KernKind}
 use Rattle.aat_font.specs.declared.kern.KernKind.TheVariants.{Classes, Machine, Pairs}
 use Rattle.aat_font.specs.declared.kern.KernSubtable.{KernSubtable}
@@ -12,14 +13,13 @@ use Rattle.aat_read_kern.specs.KernMachines.{kern_machine_at}
 use Rattle.aat_read_kern.specs.declared.header.KernHeader.{KernHeader}
 use Rattle.aat_read_kern.specs.declared.header.KernList.{KernList}
 use Rattle.aat_read_kern.specs.declared.header.KernHeader.TheVariants.{Apple, OpenType}
-use Rattle.aat_read_kern.specs.declared.subtables.LeftOutSubtable.{LeftOutSubtable}
+use Rattle.aat_read_pairs.specs.declared.left_out.LeftOutSubtable.{LeftOutSubtable}
 use Rattle.aat_read_kern.specs.declared.subtables.SubtableRead.{SubtableRead}
 use Rattle.aat_read_kern.specs.declared.subtables.SubtableRead.TheVariants.{Kerns, LeftOut}
 use Rattle.aat_read_machine.specs.InTurn.{in_turn}
 use Rattle.aat_read_pairs.specs.KernClasses.{kern_classes_at}
 use Rattle.aat_read_pairs.specs.KernIndexes.{kern_indexes_at}
 use Rattle.aat_read_pairs.specs.ListedPairs.{kern_pairs_at}
-use Rattle.aat_read_pairs.specs.declared.values.TheConstants.{KERN}
 
 -- how many bytes the header of a subtable has: Apple's has a length of 32 bits, coverage, format and a number that is
 -- passed, that of OpenType a version, a length of 16 bits, format and coverage

@@ -2,13 +2,13 @@
 use Rattle.std.specs.Prelude.{◌≡◌, ℕ, pos, negsuc, List, [], ◌∷◌, ◌++◌, take, true, false, Ok, Err}
 use Rattle.aat_bytes.specs.Faults.{fault_at}
 use Rattle.aat_bytes.specs.declared.error.FaultKind.TheVariants.{PastEnd, ShortLength, UnknownFormat}
+use Rattle.aat_bytes.specs.declared.tags.TheConstants.{KERN}
 use Rattle.aat_font.specs.Table.{Rule}
 use Rattle.aat_font.specs.declared.entries.KernEntryData.{KernEntryData}
 use Rattle.aat_font.specs.declared.kern.KernKind.TheVariants.{Pairs}
 use Rattle.aat_font.specs.declared.state_table.GenericStateEntry.{GenericStateEntry}
 use Rattle.aat_read_kern.specs.Kern.{kern_of}
 use Rattle.aat_read_kern.specs.KernMachines.{kern_machine_at}
-use Rattle.aat_read_pairs.specs.declared.values.TheConstants.{KERN}
 
 -- a machine of 4 classes: glyph 5 has class 3. The row of the first state stands at 20, and one before it at 16. The
 -- entries stand at 24: one that goes to the first state, one that pushes and goes to the row before it, and one that

@@ -2,6 +2,7 @@
 use Rattle.std.specs.Prelude.{◌≡◌, ℕ, zero, suc, ◌+◌, ◌-◌, ◌*◌, ◌<◌, ◌≤◌, List, length, take, Some, None, Ok, if◌then◌else◌, ◌==◌}
 use Rattle.aat_bytes.specs.Faults.{fault_at}
 use Rattle.aat_bytes.specs.declared.error.FaultKind.TheVariants.{UnknownFormat}
+use Rattle.aat_bytes.specs.declared.tags.TheConstants.{KERN}
 use Rattle.aat_font.specs.KerningTables.{KernMachineTables}
 use Rattle.aat_font.specs.Table.{entry_of, table_value}
 use Rattle.aat_read_kern.specs.ByteMachines.{state_count}
@@ -9,7 +10,6 @@ use Rattle.aat_read_kern.specs.ByteStates.{entry_of_cell, rules_of}
 use Rattle.aat_read_kern.specs.declared.byte_machine.ByteMachine.{ByteMachine}
 use Rattle.aat_read_kern.specs.declared.rows.Rows.{Rows}
 use Rattle.aat_read_machine.specs.InTurn.{AreInOrder}
-use Rattle.aat_read_pairs.specs.declared.values.TheConstants.{KERN}
 use Rattle.aat_read_kern.specs.Kern.{KernValue, format_at, header_size, kern_kind_at, kern_of, kern_value, length_at, list_of, subtable_of, unread_place}
 use Rattle.aat_read_kern.specs.KernMachines.{kern_machine_at}
 use Rattle.aat_read_kern.specs.Weights.{kern_weight, machine_tables_weight}

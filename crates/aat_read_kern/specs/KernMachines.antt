@@ -5,6 +5,7 @@ use Rattle.aat_bytes.specs.Faults.{after, fault_at}
 use Rattle.aat_bytes.specs.Numbers.{be16, signed16}
 use Rattle.aat_bytes.specs.declared.error.Fault.{Fault}
 use Rattle.aat_bytes.specs.declared.error.FaultKind.TheVariants.{PastEnd}
+use Rattle.aat_bytes.specs.declared.tags.TheConstants.{KERN}
 use Rattle.aat_font.specs.KerningTables.{KernMachineTables}
 use Rattle.aat_font.specs.Table.{table_value}
 use Rattle.aat_read_kern.specs.ByteMachines.{byte_machine_at}
@@ -12,7 +13,6 @@ use Rattle.aat_read_kern.specs.ByteStates.{rows_of, rules_of, whole_rows}
 use Rattle.aat_read_kern.specs.declared.byte_classes.ByteClasses.{ByteClasses}
 use Rattle.aat_read_kern.specs.declared.byte_machine.ByteMachine.{ByteMachine}
 use Rattle.aat_read_kern.specs.declared.rows.Rows.{Rows}
-use Rattle.aat_read_pairs.specs.declared.values.TheConstants.{KERN}
 
 -- the class table at a place: the first glyph, the number of glyphs, and a byte for each. Those of glyphs above 0xFFFF
 -- are left out

@@ -4,5 +4,6 @@ pub mod Kern
 pub mod KernExamples
 pub mod KernLaws
 pub mod KernMachines
+pub mod SizeExamples
 pub mod Weights
 pub mod inside

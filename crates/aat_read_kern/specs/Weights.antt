@@ -1,19 +1,16 @@
 -- What a kerning table weighs that is read: the bytes of memory that it takes.
-use Rattle.std.specs.Prelude.{ℕ, ℤ, ◌+◌, ◌*◌, ◌/◌, List, length, sum_by}
+use Rattle.std.specs.Prelude.{ℕ, ◌+◌, ◌*◌, ◌/◌, length, sum_by}
 use Rattle.aat_font.specs.Classes.{ClassValues}
 use Rattle.aat_font.specs.KerningTables.{KernMachineTables}
 use Rattle.aat_font.specs.declared.kern.KernKind.{KernKind}
 use Rattle.aat_font.specs.declared.kern.KernKind.TheVariants.{Classes, Machine, Pairs}
 use Rattle.aat_font.specs.declared.kern.KernSubtable.{KernSubtable}
-use Rattle.aat_font.specs.inside.Lefts.{left_count}
 use Rattle.aat_read_lookup.specs.Sizes.{pairs_size}
 use Rattle.aat_read_machine.specs.Weights.{machine_weight}
+use Rattle.aat_read_pairs.specs.Weights.{pairs_weight}
+use Rattle.aat_read_pairs.specs.declared.weights.TheConstants.{LEFT_OUT_SIZE}
 use Rattle.aat_read_kern.specs.Kern.{KernValue}
-use Rattle.aat_read_kern.specs.declared.weights.TheConstants.{KERN_RULE_SIZE, KERN_SUBTABLE_SIZE, LEFT_OUT_SIZE, PAIR_SIZE, START_SIZE}
-
--- pairs that are listed, and the starts and words beside them
-abbrev pub pairs_weight : List (ℕ × ℕ × ℤ) → ℕ
-pairs_weight pairs = PAIR_SIZE * length pairs + START_SIZE * left_count pairs
+use Rattle.aat_read_kern.specs.declared.weights.TheConstants.{KERN_RULE_SIZE, KERN_SUBTABLE_SIZE}
 
 -- pairs by classes: the classes of left and of right glyphs with the cells beside them, values of two bytes, and a byte
 -- for each left class that they reach

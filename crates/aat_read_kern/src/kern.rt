@@ -5,9 +5,10 @@ ghost use Rattle.aat_read_kern.specs.Kern.{kern_of, kerning_of, left_out_of, val
 ghost use Rattle.aat_read_machine.specs.Within.{GivesAs, GivesWithin};
 
 use crate::header::KernList;
-use crate::subtables::{LeftOutSubtable, SubtableRead, subtable_at};
+use crate::subtables::{SubtableRead, subtable_at};
 use aat_bytes::ReadError;
 use aat_font::{Kern, KernSubtable};
+use aat_read_pairs::LeftOutSubtable;
 use std::alloc::{AllocError, Global};
 use std::marker::Model;
 

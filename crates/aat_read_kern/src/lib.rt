@@ -1,4 +1,8 @@
 //! The kerning table read from bytes, with either header, and its machines, whose classes and indexes are bytes.
+//!
+//! ```
+//! let KernRead { kern, left_out } = read_kern(alloc, &bytes)?;
+//! ```
 #![tactic(auto)]
 
 mod byte_classes;
@@ -15,6 +19,6 @@ pub mod weights;
 #[doc(hidden)]
 pub mod worked;
 
+pub use aat_read_pairs::LeftOutSubtable;
 pub use kern::{KernRead, read_kern};
 pub use kern_machine::read_kern_machine;
-pub use subtables::LeftOutSubtable;

@@ -8,18 +8,10 @@ use crate::header::{KernHeader, KernList};
 use crate::kern_machine::read_kern_machine;
 use aat_bytes::{Fault, FaultKind, ReadError};
 use aat_font::{KernKind, KernSubtable};
-use aat_read_pairs::{KERN, read_kern_classes, read_kern_indexes, read_kern_pairs};
+use aat_read_pairs::{
+    KERN, LeftOutSubtable, read_kern_classes, read_kern_indexes, read_kern_pairs,
+};
 use std::alloc::Global;
-
-/// A subtable that is left out.
-#[derive(Clone, Copy, PartialEq, Eq, Debug)]
-pub struct LeftOutSubtable {
-    /// Its number in the order of the table, from 0 on.
-    pub number: u32,
-    /// Why: 2, `UnknownFormat`, with the place of its format if that is not read, else of its coverage, which is of
-    /// variations.
-    pub fault: Fault,
-}
 
 /// What a subtable is read as.
 #[derive(Drop)]

@@ -1,20 +1,11 @@
 //! What values that are read weigh: the bytes of memory that they take.
 
-use crate::subtables::LeftOutSubtable;
 use aat_font::{GenericStateEntry, JudgedEntry, KernEntryData, KernSubtable};
+pub use aat_read_pairs::weights::{LEFT_OUT_SIZE, PAIR_SIZE, START_SIZE};
 
 /// The bytes of a rule of a machine, and of its cell in the grid beside the rules.
 pub const KERN_RULE_SIZE: usize = size_of::<(u16, u16, GenericStateEntry<KernEntryData>)>()
     + size_of::<JudgedEntry<KernEntryData>>();
 
-/// The bytes of a pair that is listed.
-pub const PAIR_SIZE: usize = size_of::<(u16, u16, i16)>();
-
-/// The bytes of the start of the pairs of a left glyph, and of the word with their bits.
-pub const START_SIZE: usize = size_of::<usize>() + size_of::<u64>();
-
 /// The bytes of a subtable that kerns, besides what it has in lists.
 pub const KERN_SUBTABLE_SIZE: usize = size_of::<KernSubtable>();
-
-/// The bytes of a subtable that is left out.
-pub const LEFT_OUT_SIZE: usize = size_of::<LeftOutSubtable>();

@@ -1,5 +1,6 @@
 //! Worked examples of the kerning table as theorems. These calls do nothing: what is proved is their contracts.
 ghost use Rattle.aat_read_kern.specs.KernExamples.{HeadersHaveTheirBits, LastLengthIsNotBelieved, MachineFaultsHaveTheirPlaces, OthersAreLeftOut, StatesAreNumberedAnew};
+ghost use Rattle.aat_read_kern.specs.SizeExamples.{SizesAreKnown};
 
 /// The definitions of machines of bytes compute to the examples.
 #[tactic(auto, unfolding(crate::specs::KernMachines::kern_machine_at, crate::specs::KernMachines::byte_classes_at, crate::specs::ByteMachines::byte_machine_at, crate::specs::ByteMachines::has_index, crate::specs::ByteMachines::has_entry, crate::specs::ByteStates::rows_of, crate::specs::ByteStates::closed_rows, crate::specs::ByteStates::with_named, crate::specs::ByteStates::whole_rows))]
@@ -14,4 +15,9 @@ pub fn tables()
     ensures lengths { LastLengthIsNotBelieved }
     ensures headers { HeadersHaveTheirBits }
     ensures others { OthersAreLeftOut }
+{}
+
+/// The types by which memory is counted have their sizes.
+pub fn sizes()
+    ensures { SizesAreKnown }
 {}

@@ -6,6 +6,7 @@ use Rattle.std.proofs.lemmas.List.FromFn.{length-map-range_with_len}
 use Rattle.aat_bytes.specs.Numbers.{be16, signed16}
 use Rattle.aat_bytes.specs.declared.error.Fault.{Fault}
 use Rattle.aat_bytes.specs.facts.Parts.{ok_parts, parts, passes}
+use Rattle.aat_bytes.specs.declared.tags.TheConstants.{KERX}
 use Rattle.aat_font.specs.KerningTables.{KerxAnchorTables, KerxStackTables}
 use Rattle.aat_read_lookup.proofs.Extents.{sizes_have_bytes}
 use Rattle.aat_read_lookup.proofs.SizeBounds.{bytes_are_inside, lookups_are_bounded}
@@ -15,7 +16,6 @@ use Rattle.aat_read_machine.specs.Entries.{action_at, stack_action_at}
 use Rattle.aat_read_machine.specs.Kinds.{list_place}
 use Rattle.aat_read_machine.specs.Lists.{count_from}
 use Rattle.aat_read_machine.specs.Machine.{machine_at}
-use Rattle.aat_read_pairs.specs.declared.values.TheConstants.{KERX}
 use Rattle.aat_read_kerx.specs.KerxLaws.{MachinesAreBounded}
 use Rattle.aat_read_kerx.specs.Machines.{anchor_tables_at, pairs_place, point_pairs_from, stack_tables_at, values_from}
 use Rattle.aat_read_kerx.specs.Weights.{anchor_weight, classes_weight, lookup_weight, stack_weight}

@@ -2,27 +2,26 @@
 use Rattle.std.proofs.Common.{◌≡◌, ℕ, ℤ, zero, suc, ◌+◌, ◌-◌, ◌*◌, ◌/◌, ◌≤◌, ◌⊎◌, inl, inr, List, length, take, Bool, true, false, cond, Option, Some, None, Result, Ok, Err, refl, sym, ap, ◌∙◌, subst, arith, ◌==◌}
 use Rattle.std.specs.Prelude.{nat_lt}
 use Rattle.std.proofs.Math.Nat.{div-le_self}
-use Rattle.std.proofs.lemmas.Bool.{ltb-false}
 use Rattle.std.proofs.lemmas.Bool.Decides.{nat_tests}
 use Rattle.std.proofs.lemmas.List.{length-take}
 use Rattle.aat_bytes.specs.Numbers.{be32}
 use Rattle.aat_bytes.specs.declared.error.Fault.{Fault}
 use Rattle.aat_bytes.specs.facts.Parts.{ok_parts, parts, passes}
+use Rattle.aat_bytes.specs.declared.tags.TheConstants.{KERX}
 use Rattle.aat_font.specs.Classes.{ClassValues}
 use Rattle.aat_font.specs.KerningTables.{KerxAnchorTables, KerxStackTables}
 use Rattle.aat_font.specs.declared.kerx.KerxFormat.{KerxFormat}
 use Rattle.aat_font.specs.declared.kerx.KerxFormat.TheVariants.{Format0, Format1, Format2Classes, Format4, Format6Classes}
-use Rattle.aat_font.specs.inside.GlyphSpans.{glyph_span}
-use Rattle.aat_font.specs.inside.Lefts.{left_count, left_glyph}
 use Rattle.aat_read_machine.specs.InTurn.{in_turn, weight_in_turn}
 use Rattle.aat_read_machine.specs.facts.Turns.{turn, weight_more}
 use Rattle.aat_read_pairs.specs.KerxClasses.{kerx_arrays_at, kerx_classes_at}
 use Rattle.aat_read_pairs.specs.ListedPairs.{kerx_pairs_at}
 use Rattle.aat_read_pairs.specs.LongArrays.{kerx_long_arrays_at, wide_value_at}
-use Rattle.aat_read_pairs.specs.declared.values.TheConstants.{KERX}
-use Rattle.aat_read_long_lookup.specs.Sizes.{long_size_at}
-use Rattle.aat_read_long_lookup.proofs.SizeBounds.{rows_are_inside}
+use Rattle.aat_read_lookup.specs.LongSizes.{long_size_at}
+use Rattle.aat_read_lookup.proofs.SizeBounds.{rows_are_inside}
 use Rattle.aat_read_pairs.proofs.Counts.{arrays_fit, classes_fit, long_arrays_fit, pairs_fit}
+use Rattle.aat_read_pairs.specs.declared.weights.TheConstants.{LEFT_OUT_SIZE}
+use Rattle.aat_read_pairs.specs.facts.Starts.{few_starts}
 use Rattle.aat_read_kerx.specs.Formats.{anchor_format_at, arrays_format_at, as_format, format_at, is_long, left_out_at, long_format_at}
 use Rattle.aat_read_kerx.specs.KerxLaws.{KerxIsBounded}
 use Rattle.aat_read_kerx.specs.KerxSubtables.{KerxStart, format_of, format_up_to, is_variable, subtable_at, subtable_read, tuple_count_of, used_bytes}
@@ -32,21 +31,9 @@ use Rattle.aat_read_kerx.specs.Weights.{class_pairs_weight, format_weight, long_
 use Rattle.aat_read_kerx.specs.declared.formats.FormatRead.{FormatRead}
 use Rattle.aat_read_kerx.specs.declared.formats.FormatRead.TheVariants.{Kerns, LeftOut}
 use Rattle.aat_read_kerx.specs.declared.subtables.SubtableRead.{SubtableRead}
-use Rattle.aat_read_kerx.specs.declared.weights.TheConstants.{KERX_SUBTABLE_SIZE, LEFT_OUT_SIZE}
+use Rattle.aat_read_kerx.specs.declared.weights.TheConstants.{KERX_SUBTABLE_SIZE}
 use Rattle.aat_read_kerx.proofs.MachinesBounded.{anchor_light, lookup_light, stack_light}
 use Rattle.aat_read_kerx.proofs.ReadSubtables.{ends, subtable_parts, table_parts}
-
--- pairs have at most 8 starts each, and 7 more
-starts_by : (b c : Bool) (n span : ℕ) → (n == 0) ≡ b → nat_lt n (span / 8) ≡ c
-    → cond b 0 (cond c 0 span) ≤ 8 * n + 7
-starts_by true c n span none many = omega arith
-starts_by false true n span none many = omega arith
-starts_by false false n span none many =
-    let low : span / 8 ≤ n = ltb-false n (span / 8) many in omega (arith, low)
-
-few_starts : (pairs : List (ℕ × ℕ × ℤ)) → left_count pairs ≤ 8 * length pairs + 7
-few_starts pairs =
-    starts_by (length pairs == 0) (nat_lt (length pairs) (glyph_span left_glyph _ pairs / 8)) (length pairs) _ refl refl
 
 -- what comes of the bytes of a subtable weighs so much
 abbrev read_weight : List ℕ → ℕ → ℕ → FormatRead → ℕ

@@ -5,10 +5,10 @@ use Rattle.aat_bytes.specs.Faults.{after, fault_at}
 use Rattle.aat_bytes.specs.Numbers.{be16, be32, signed16}
 use Rattle.aat_bytes.specs.declared.error.Fault.{Fault}
 use Rattle.aat_bytes.specs.declared.error.FaultKind.TheVariants.{PastEnd, UnknownFormat}
+use Rattle.aat_bytes.specs.declared.tags.TheConstants.{ANKR}
 use Rattle.aat_font.specs.AnchorPoints.{Points}
 use Rattle.aat_font.specs.declared.entries.Point.{Point}
 use Rattle.aat_read_lookup.specs.Lookups.{lookup_at}
-use Rattle.aat_read_kerx.specs.declared.ankr.TheConstants.{ANKR}
 
 -- a point: two signed numbers
 abbrev pub point_at : List ℕ → ℕ → Point

@@ -4,6 +4,7 @@ use Rattle.aat_bytes.specs.Faults.{after, fault_at}
 use Rattle.aat_bytes.specs.Numbers.{be32}
 use Rattle.aat_bytes.specs.declared.error.Fault.{Fault}
 use Rattle.aat_bytes.specs.declared.error.FaultKind.TheVariants.{PastEnd, ShortLength}
+use Rattle.aat_bytes.specs.declared.tags.TheConstants.{KERX}
 use Rattle.aat_font.specs.declared.kerx.KerxFormat.{KerxFormat}
 use Rattle.aat_font.specs.declared.kerx.KerxSubtable.{KerxSubtable}
 use Rattle.aat_read_kerx.specs.Formats.{format_at, left_out_at}
@@ -11,7 +12,6 @@ use Rattle.aat_read_kerx.specs.declared.formats.FormatRead.{FormatRead}
 use Rattle.aat_read_kerx.specs.declared.formats.FormatRead.TheVariants as formats
 use Rattle.aat_read_kerx.specs.declared.subtables.SubtableRead.{SubtableRead}
 use Rattle.aat_read_kerx.specs.declared.subtables.SubtableRead.TheVariants.{Kerns, LeftOut}
-use Rattle.aat_read_pairs.specs.declared.values.TheConstants.{KERX}
 
 -- whether a bit of the coverage is set
 abbrev pub has_coverage : List ℕ → ℕ → ℕ → Bool

@@ -5,13 +5,13 @@ use Rattle.aat_bytes.specs.Faults.{after, fault_at}
 use Rattle.aat_bytes.specs.Numbers.{be16, be32}
 use Rattle.aat_bytes.specs.declared.error.Fault.{Fault}
 use Rattle.aat_bytes.specs.declared.error.FaultKind.TheVariants.{PastEnd, UnknownFormat}
+use Rattle.aat_bytes.specs.declared.tags.TheConstants.{KERX}
 use Rattle.aat_font.specs.declared.kerx.KerxSubtable.{KerxSubtable}
 use Rattle.aat_read_machine.specs.InTurn.{in_turn}
 use Rattle.aat_read_kerx.specs.KerxSubtables.{KerxStart, subtable_at}
-use Rattle.aat_read_kerx.specs.declared.subtables.LeftOutSubtable.{LeftOutSubtable}
+use Rattle.aat_read_pairs.specs.declared.left_out.LeftOutSubtable.{LeftOutSubtable}
 use Rattle.aat_read_kerx.specs.declared.subtables.SubtableRead.{SubtableRead}
 use Rattle.aat_read_kerx.specs.declared.subtables.SubtableRead.TheVariants.{Kerns, LeftOut}
-use Rattle.aat_read_pairs.specs.declared.values.TheConstants.{KERX}
 
 -- the subtables of a table that kern, and those that are left out, each in their order
 pub record KerxValue : Type 0 where

@@ -7,4 +7,5 @@ pub mod KerxLaws
 pub mod KerxSubtables
 pub mod KerxTables
 pub mod Machines
+pub mod SizeExamples
 pub mod Weights

@@ -5,12 +5,12 @@ use Rattle.aat_bytes.specs.Faults.{after, fault_at}
 use Rattle.aat_bytes.specs.Numbers.{be16, be32, signed16}
 use Rattle.aat_bytes.specs.declared.error.Fault.{Fault}
 use Rattle.aat_bytes.specs.declared.error.FaultKind.TheVariants.{PastEnd}
+use Rattle.aat_bytes.specs.declared.tags.TheConstants.{KERX}
 use Rattle.aat_font.specs.KerningTables.{KerxAnchorTables, KerxStackTables}
 use Rattle.aat_read_machine.specs.Entries.{action_at, stack_action_at}
 use Rattle.aat_read_machine.specs.Kinds.{list_place}
 use Rattle.aat_read_machine.specs.Lists.{count_from}
 use Rattle.aat_read_machine.specs.Machine.{machine_at}
-use Rattle.aat_read_pairs.specs.declared.values.TheConstants.{KERX}
 
 -- the values from a place on, signed numbers of 16 bits
 abbrev pub values_from : List ℕ → ℕ → List ℤ

@@ -1,23 +1,24 @@
 -- What an extended kerning table weighs that is read: the bytes of memory that it takes.
-use Rattle.std.specs.Prelude.{ℕ, ℤ, ◌+◌, ◌*◌, ◌/◌, List, length, if◌then◌else◌, Ok, Err}
+use Rattle.std.specs.Prelude.{ℕ, ◌+◌, ◌*◌, ◌/◌, List, length, if◌then◌else◌, Ok, Err}
 use Rattle.aat_bytes.specs.Numbers.{be32}
+use Rattle.aat_bytes.specs.declared.tags.TheConstants.{KERX}
 use Rattle.aat_font.specs.Classes.{ClassValues}
 use Rattle.aat_font.specs.KerningTables.{KerxAnchorTables, KerxStackTables}
 use Rattle.aat_font.specs.declared.kerx.KerxFormat.{KerxFormat}
 use Rattle.aat_font.specs.declared.kerx.KerxFormat.TheVariants.{Format0, Format1, Format2, Format2Classes, Format4, Format6, Format6Classes}
-use Rattle.aat_font.specs.inside.Lefts.{left_count}
-use Rattle.aat_read_long_lookup.specs.Sizes.{long_size_at}
+use Rattle.aat_read_lookup.specs.LongSizes.{long_size_at}
 use Rattle.aat_read_lookup.specs.Sizes.{lookup_size_at}
 use Rattle.aat_read_machine.specs.InTurn.{weight_in_turn}
 use Rattle.aat_read_machine.specs.Kinds.{list_place}
 use Rattle.aat_read_machine.specs.Weights.{machine_weight}
-use Rattle.aat_read_pairs.specs.declared.values.TheConstants.{KERX}
+use Rattle.aat_read_pairs.specs.Weights.{pairs_weight}
+use Rattle.aat_read_pairs.specs.declared.weights.TheConstants.{LEFT_OUT_SIZE}
 use Rattle.aat_read_kerx.specs.Formats.{is_long}
 use Rattle.aat_read_kerx.specs.KerxSubtables.{KerxStart, subtable_at, used_bytes}
 use Rattle.aat_read_kerx.specs.KerxTables.{first_subtable}
 use Rattle.aat_read_kerx.specs.declared.subtables.SubtableRead.{SubtableRead}
 use Rattle.aat_read_kerx.specs.declared.subtables.SubtableRead.TheVariants.{Kerns, LeftOut}
-use Rattle.aat_read_kerx.specs.declared.weights.TheConstants.{KERX_RULE_SIZE, KERX_SUBTABLE_SIZE, LEFT_OUT_SIZE, PAIR_SIZE, START_SIZE}
+use Rattle.aat_read_kerx.specs.declared.weights.TheConstants.{KERX_RULE_SIZE, KERX_SUBTABLE_SIZE}
 
 -- the values of the lookup at a place, as pairs or segments, with the cells beside them: none where it has a fault
 abbrev pub lookup_weight : List ℕ → ℕ → ℕ → ℕ
@@ -39,10 +40,6 @@ stack_weight bytes place glyph_count t =
 abbrev pub anchor_weight : List ℕ → ℕ → ℕ → KerxAnchorTables → ℕ
 anchor_weight bytes place glyph_count t =
     machine_weight KERX_RULE_SIZE t.state_table + 4 * length t.anchor_points + classes_weight bytes place glyph_count
-
--- pairs that are listed, and the starts and words beside them
-abbrev pub pairs_weight : List (ℕ × ℕ × ℤ) → ℕ
-pairs_weight pairs = PAIR_SIZE * length pairs + START_SIZE * left_count pairs
 
 -- pairs by classes: the lookups of left and of right glyphs at two places, values of two bytes, and a byte for each left
 -- class that they reach

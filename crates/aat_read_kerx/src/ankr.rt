@@ -6,13 +6,11 @@ ghost use Rattle.aat_font.specs.Keys.{first, first_fall};
 ghost use Rattle.aat_read_machine.specs.Within.{GivesWithin, RefusesWithin};
 ghost use Rattle.aat_read_kerx.specs.Anchors.{ankr_of, point_at, points_at, points_within, row_size, rows_within};
 
-use aat_bytes::{Fault, FaultKind, ReadError, Tag, be16, be32};
+use aat_bytes::tags::ANKR;
+use aat_bytes::{Fault, FaultKind, ReadError, be16, be32};
 use aat_font::{Ankr, Point};
 use aat_read_lookup::read_pairs;
 use std::alloc::{AllocError, Global};
-
-/// The tag of the anchor point table.
-pub const ANKR: Tag = Tag(0x616E_6B72);
 
 /// How many bytes of memory the glyphs and their points may take for each byte of the table.
 const MEMORY_A_BYTE: usize = 24;

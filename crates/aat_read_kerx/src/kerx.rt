@@ -4,10 +4,10 @@ ghost use Rattle.std.specs.List.{filter_map};
 ghost use Rattle.aat_read_machine.specs.Within.{GivesAs, GivesWithin};
 ghost use Rattle.aat_read_kerx.specs.KerxTables.{kerning_of, kerx_of, left_out_of, value_of_parts, value_of_subtables};
 
-use crate::subtables::{LeftOutSubtable, SubtableRead, subtable_at};
+use crate::subtables::{SubtableRead, subtable_at};
 use aat_bytes::{Fault, FaultKind, ReadError, be16, be32};
 use aat_font::{Kerx, KerxSubtable};
-use aat_read_pairs::KERX;
+use aat_read_pairs::{KERX, LeftOutSubtable};
 use std::alloc::{AllocError, Global};
 use std::marker::Model;
 

@@ -1,4 +1,8 @@
 //! The extended kerning table and its anchor points, read from bytes.
+//!
+//! ```
+//! let KerxRead { kerx, left_out } = read_kerx(alloc, &bytes, glyph_count)?;
+//! ```
 #![tactic(auto)]
 
 mod ankr;
@@ -12,6 +16,7 @@ pub mod weights;
 #[doc(hidden)]
 pub mod worked;
 
-pub use ankr::{ANKR, read_ankr};
+pub use aat_bytes::tags::ANKR;
+pub use aat_read_pairs::LeftOutSubtable;
+pub use ankr::read_ankr;
 pub use kerx::{KerxRead, read_kerx};
-pub use subtables::LeftOutSubtable;

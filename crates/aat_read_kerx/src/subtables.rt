@@ -6,18 +6,8 @@ ghost use Rattle.aat_read_kerx.specs.KerxSubtables.{KerxStart, end_at, format_of
 use crate::formats::{FormatRead, format_at, left_out};
 use aat_bytes::{Fault, FaultKind, ReadError, be32};
 use aat_font::{KerxFormat, KerxSubtable};
-use aat_read_pairs::KERX;
+use aat_read_pairs::{KERX, LeftOutSubtable};
 use std::alloc::Global;
-
-/// A subtable that is left out.
-#[derive(Clone, Copy, PartialEq, Eq, Debug)]
-pub struct LeftOutSubtable {
-    /// Its number in the order of the table, from 0 on.
-    pub number: u32,
-    /// Why: 2, `UnknownFormat`, with the place of what is not known. For an unknown format, and for variations, that is
-    /// the place of the coverage, of which the format is the lowest byte.
-    pub fault: Fault,
-}
 
 /// What a subtable is read as.
 #[derive(Drop)]

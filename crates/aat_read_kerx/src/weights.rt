@@ -1,7 +1,7 @@
 //! What values that are read weigh: the bytes of memory that they take.
 
-use crate::subtables::LeftOutSubtable;
 use aat_font::{EntryData, GenericStateEntry, JudgedEntry, KerxSubtable, Point};
+pub use aat_read_pairs::weights::{LEFT_OUT_SIZE, PAIR_SIZE, START_SIZE};
 
 /// The bytes of a glyph with anchor points, besides these.
 pub const ANCHOR_ROW_SIZE: usize = size_of::<(u16, Vec<Point>)>();
@@ -13,14 +13,5 @@ pub const POINT_SIZE: usize = size_of::<Point>();
 pub const KERX_RULE_SIZE: usize = size_of::<(u16, u16, GenericStateEntry<EntryData>)>()
     + size_of::<JudgedEntry<EntryData>>();
 
-/// The bytes of a pair that is listed.
-pub const PAIR_SIZE: usize = size_of::<(u16, u16, i16)>();
-
-/// The bytes of the start of the pairs of a left glyph, and of the word with their bits.
-pub const START_SIZE: usize = size_of::<usize>() + size_of::<u64>();
-
 /// The bytes of a subtable that kerns, besides what it has in lists.
 pub const KERX_SUBTABLE_SIZE: usize = size_of::<KerxSubtable>();
-
-/// The bytes of a subtable that is left out.
-pub const LEFT_OUT_SIZE: usize = size_of::<LeftOutSubtable>();

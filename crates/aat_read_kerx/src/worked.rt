@@ -2,6 +2,7 @@
 //! contracts.
 ghost use Rattle.aat_read_kerx.specs.AnchorExamples.{AnkrFaultsHaveTheirPlaces, GlyphsHaveTheirPoints, SharedPointsHaveRoom};
 ghost use Rattle.aat_read_kerx.specs.KerxExamples.{AnchorMachineHasItsPairs, KerxFaultsHaveTheirPlaces, LastListReachesToTheEnd, LongValuesAreRead, OthersAreLeftOut, PairsHaveTheirValues, StackMachineHasItsValues};
+ghost use Rattle.aat_read_kerx.specs.SizeExamples.{SizesAreKnown};
 
 /// The definitions of anchor points compute to the examples.
 #[tactic(auto, unfolding(crate::specs::Anchors::ankr_of, crate::specs::Anchors::points_within, aat_read_lookup::specs::Layouts::units_at, aat_read_lookup::specs::Layouts::checked_units, aat_read_lookup::specs::Layouts::searched_at, aat_read_lookup::specs::Layouts::array_of, aat_read_lookup::specs::Layouts::trimmed_array_at, aat_read_lookup::specs::Layouts::layout_at))]
@@ -12,7 +13,7 @@ pub fn anchors()
 {}
 
 /// The definitions of the extended kerning table compute to the examples.
-#[tactic(auto, unfolding(crate::specs::KerxTables::kerx_of, crate::specs::KerxSubtables::subtable_at, crate::specs::KerxSubtables::end_at, crate::specs::Formats::format_at, crate::specs::Formats::anchor_format_at, crate::specs::Formats::arrays_format_at, crate::specs::Formats::long_format_at, aat_read_pairs::specs::LongArrays::long_grid_at, aat_read_pairs::specs::LongArrays::long_grid_pairs, aat_read_long_lookup::specs::Layouts::layout_at, aat_read_long_lookup::specs::Layouts::trimmed_array_at, aat_read_long_lookup::specs::Layouts::array_of, crate::specs::Machines::stack_tables_at, aat_read_pairs::specs::ListedPairs::kerx_pairs_at, aat_read_pairs::specs::ListedPairs::listed_pairs, aat_read_machine::specs::Machine::machine_at, aat_read_machine::specs::Machine::with_classes, aat_read_machine::specs::StateArray::state_array_at, aat_read_machine::specs::StateArray::header_at, aat_read_machine::specs::StateArray::cells_of, aat_read_machine::specs::StateArray::states_of, aat_read_machine::specs::StateArray::least, aat_read_machine::specs::StateArray::states_named, aat_read_machine::specs::StateArray::has_index, aat_read_machine::specs::StateArray::has_entry, aat_read_lookup::specs::Layouts::layout_at, aat_read_lookup::specs::Layouts::searched_at, aat_read_lookup::specs::Layouts::checked_units, aat_read_lookup::specs::Layouts::units_at))]
+#[tactic(auto, unfolding(crate::specs::KerxTables::kerx_of, crate::specs::KerxSubtables::subtable_at, crate::specs::KerxSubtables::end_at, crate::specs::Formats::format_at, crate::specs::Formats::anchor_format_at, crate::specs::Formats::arrays_format_at, crate::specs::Formats::long_format_at, aat_read_pairs::specs::LongArrays::long_grid_at, aat_read_pairs::specs::LongArrays::long_grid_pairs, aat_read_lookup::specs::Layouts::layout_at, aat_read_lookup::specs::Layouts::trimmed_array_at, aat_read_lookup::specs::Layouts::array_of, crate::specs::Machines::stack_tables_at, aat_read_pairs::specs::ListedPairs::kerx_pairs_at, aat_read_pairs::specs::ListedPairs::listed_pairs, aat_read_machine::specs::Machine::machine_at, aat_read_machine::specs::Machine::with_classes, aat_read_machine::specs::StateArray::state_array_at, aat_read_machine::specs::StateArray::header_at, aat_read_machine::specs::StateArray::cells_of, aat_read_machine::specs::StateArray::states_of, aat_read_machine::specs::StateArray::least, aat_read_machine::specs::StateArray::states_named, aat_read_machine::specs::StateArray::has_index, aat_read_machine::specs::StateArray::has_entry, aat_read_lookup::specs::Layouts::searched_at, aat_read_lookup::specs::Layouts::checked_units, aat_read_lookup::specs::Layouts::units_at))]
 pub fn tables()
     ensures stack { StackMachineHasItsValues }
     ensures anchors { AnchorMachineHasItsPairs }
@@ -21,4 +22,9 @@ pub fn tables()
     ensures others { OthersAreLeftOut }
     ensures last { LastListReachesToTheEnd }
     ensures faults { KerxFaultsHaveTheirPlaces }
+{}
+
+/// The types by which memory is counted have their sizes.
+pub fn sizes()
+    ensures { SizesAreKnown }
 {}

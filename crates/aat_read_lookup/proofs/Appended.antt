@@ -39,18 +39,3 @@ list_more h f before now after k x same so_far pushed =
 -- pairs of a glyph and the same value
 pub same_glyph : (glyph v w : ℕ) → v ≡ w → ◌≡◌ {A = ℕ × ℕ} (glyph, v) (glyph, w)
 same_glyph glyph v w same = let pair : ℕ → ℕ × ℕ = λ x. (glyph, x) in ap pair same
-
--- one element more of a list of elements
-pub kept_more :
-    {X Y : Type 0} (g : X → Y) (f : ℕ → X) (before now after : List Y) (k : ℕ) (y : Y)
-    → y ≡ g (f k)
-    → now ≡ before ++ map g (map f (range_with_len 0 k))
-    → after ≡ now ++ y ∷ []
-    → after ≡ before ++ map g (map f (range_with_len 0 (k + 1)))
-kept_more g f before now after k y same so_far pushed =
-    pushed
-    ∙ ap (λ z. now ++ z ∷ []) same
-    ∙ ap (λ ys. ys ++ g (f k) ∷ []) so_far
-    ∙ append_assoc before (map g (map f (range_with_len 0 k))) (g (f k) ∷ [])
-    ∙ ap (λ ys. before ++ ys) (sym (map-append g (map f (range_with_len 0 k)) (f k ∷ [])))
-    ∙ ap (λ xs. before ++ map g xs) (sym (map-range_with_len_more f 0 k k (zero-add k)))

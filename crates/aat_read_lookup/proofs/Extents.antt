@@ -14,13 +14,15 @@ use Rattle.aat_bytes.specs.declared.tag.Tag.{Tag}
 use Rattle.aat_bytes.specs.facts.Parts.{ok_parts, parts, passes}
 use Rattle.aat_bytes.specs.facts.Ranges.{sum_more}
 use Rattle.aat_read_lookup.specs.Layouts.{are_crowded, array_of, checked_units, glyphs_of, is_terminator, layout_at, record_size, searched_at, segment_of, sized_array_at, trimmed_array_at, unit_place, units_at, units_fault, unless_fault, without_terminator}
-use Rattle.aat_read_lookup.specs.Segments.{values_end, values_size}
+use Rattle.aat_read_lookup.specs.Segments.{numbers_size, values_end, values_size}
 use Rattle.aat_read_lookup.specs.Sizes.{bytes_of, lookup_bytes_at, lookup_size_at}
 use Rattle.aat_read_lookup.specs.declared.layout.Layout.{Layout}
 use Rattle.aat_read_lookup.specs.declared.layout.Layout.TheVariants.{Array, Searched}
 use Rattle.aat_read_lookup.specs.declared.segment.Segment.{Segment}
 use Rattle.aat_read_lookup.specs.declared.segment.Values.{Values}
-use Rattle.aat_read_lookup.specs.declared.segment.Values.TheVariants.{Shared, Words, Bytes}
+use Rattle.aat_read_lookup.specs.declared.segment.ValueKind.{ValueKind}
+use Rattle.aat_read_lookup.specs.declared.segment.ValueKind.TheVariants.{Word, Long}
+use Rattle.aat_read_lookup.specs.declared.segment.Values.TheVariants.{Shared, Each, Bytes}
 use Rattle.aat_read_lookup.specs.declared.units.UnitKind.{UnitKind}
 use Rattle.aat_read_lookup.specs.declared.units.UnitKind.TheVariants.{SegmentSingle, SegmentArray, Single}
 use Rattle.aat_read_lookup.specs.declared.units.Units.{Units}
@@ -82,8 +84,9 @@ same_number a b same = grind (arith, nat_tests)
 module _ (table : Tag) (bytes : List ℕ) where
   -- fewer values are no more bytes
   fewer : (values : Values) (count n : ℕ) → values_size values (min count n) ≤ 2 + values_size values count
-  fewer (Shared at) count n = omega arith
-  fewer (Words at) count n = omega arith
+  fewer (Shared kind at) count n = omega arith
+  fewer (Each Word at) count n = omega arith
+  fewer (Each Long at) count n = omega arith
   fewer (Bytes at) count n = omega arith
 
   array_bytes : (segment : Segment) (layout : Layout) → array_of table bytes segment ≡ Ok layout
@@ -106,21 +109,21 @@ module _ (table : Tag) (bytes : List ℕ) where
   -- units that are read
   record Read (place : ℕ) (kind : UnitKind) (units : Units) : Type 0 where
     count : ℕ
-    is : units ≡ record { kind = kind; start = place; size = be16 bytes (place + 2); count = count }
+    is : units ≡ record { kind = kind; values = Word; start = place; size = be16 bytes (place + 2); count = count }
     few : count ≤ be16 bytes (place + 4)
     header : place + 12 ≤ length bytes
     inside : place + 12 + be16 bytes (place + 2) * be16 bytes (place + 4) ≤ length bytes
-    wide : record_size kind ≤ be16 bytes (place + 2)
+    wide : record_size kind Word ≤ be16 bytes (place + 2)
 
-  units_read : (place : ℕ) (kind : UnitKind) (units : Units) → units_at table bytes place kind ≡ Ok units → Read place kind units
+  units_read : (place : ℕ) (kind : UnitKind) (units : Units) → units_at table bytes place kind Word ≡ Ok units → Read place kind units
   unfolding units_at
   units_read place kind units is =
       let size = be16 bytes (place + 2) in
       let count = be16 bytes (place + 4) in
       let header = passes (nat_lt (length bytes) (place + 12)) _ _ units is in
-      let wide = passes (nat_lt size (record_size kind)) _ _ units header.1 in
+      let wide = passes (nat_lt size (record_size kind Word)) _ _ units header.1 in
       let inside = passes (nat_lt (length bytes) (place + 12 + size * count)) _ _ units wide.1 in
-      let raw : Units = record { kind = kind; start = place; size = size; count = count } in
+      let raw : Units = record { kind = kind; values = Word; start = place; size = size; count = count } in
       let cut = cut_by raw (raw.count == 0) (is_terminator bytes raw.kind (unit_place raw (raw.count - 1))) in
       let same : without_terminator bytes raw ≡ units = ok_parts (without_terminator bytes raw) units inside.1 in
       record {
@@ -129,15 +132,15 @@ module _ (table : Tag) (bytes : List ℕ) where
         few = cut.1;
         header = ltb-false (length bytes) (place + 12) header.0;
         inside = ltb-false (length bytes) (place + 12 + size * count) inside.0;
-        wide = ltb-false size (record_size kind) wide.0;
+        wide = ltb-false size (record_size kind Word) wide.0;
       }
 
-  searched_read : (place : ℕ) (kind : UnitKind) (layout : Layout) → searched_at table bytes place kind ≡ Ok layout
+  searched_read : (place : ℕ) (kind : UnitKind) (layout : Layout) → searched_at table bytes place kind Word ≡ Ok layout
       → (units : Units) × (Searched units ≡ layout) × Read place kind units
   unfolding searched_at checked_units
   searched_read place kind layout is =
-      let checked = parts (checked_units table bytes place kind) _ layout is in
-      let read = parts (units_at table bytes place kind) _ checked.0 checked.1 in
+      let checked = parts (checked_units table bytes place kind Word) _ layout is in
+      let read = parts (units_at table bytes place kind Word) _ checked.0 checked.1 in
       let same = unless_ok (units_fault table bytes read.0) read.0 checked.0 read.2 in
       let roomy = passes (are_crowded bytes checked.0) _ _ layout checked.2 in (
         checked.0,
@@ -145,7 +148,7 @@ module _ (table : Tag) (bytes : List ℕ) where
         subst (Read place kind) same (units_read place kind read.0 read.1),
       )
 
-  single_bytes : (place : ℕ) (layout : Layout) → searched_at table bytes place SegmentSingle ≡ Ok layout
+  single_bytes : (place : ℕ) (layout : Layout) → searched_at table bytes place SegmentSingle Word ≡ Ok layout
       → bytes_of bytes layout ≤ 12 + 6 * be16 bytes (place + 4)
   single_bytes place layout is =
       let read = searched_read place SegmentSingle layout is in
@@ -153,7 +156,7 @@ module _ (table : Tag) (bytes : List ℕ) where
       let few = read.2.few in
       subst (λ (l : Layout). bytes_of bytes l ≤ 12 + 6 * be16 bytes (place + 4)) (sym whole ∙ read.1) (omega (arith, few))
 
-  glyph_bytes : (place : ℕ) (layout : Layout) → searched_at table bytes place Single ≡ Ok layout
+  glyph_bytes : (place : ℕ) (layout : Layout) → searched_at table bytes place Single Word ≡ Ok layout
       → bytes_of bytes layout ≤ 12 + 4 * be16 bytes (place + 4)
   glyph_bytes place layout is =
       let read = searched_read place Single layout is in
@@ -164,7 +167,7 @@ module _ (table : Tag) (bytes : List ℕ) where
   -- units of format 4 are read from no more than they ask for
   module _ (place size count : ℕ) (wide : 6 ≤ size) (inside : place + 12 + size * count ≤ length bytes) where
     abbrev units : ℕ → Units
-    units c = record { kind = SegmentArray; start = place; size = size; count = c }
+    units c = record { kind = SegmentArray; values = Word; start = place; size = size; count = c }
 
     unit_bytes : (i : ℕ) → i < count
         → 6 + 2 * (segment_of bytes (units count) i).count ≡ unit_extent bytes (place + 12 + size * i)
@@ -217,7 +220,7 @@ module _ (table : Tag) (bytes : List ℕ) where
         let read = units_bytes c few in
         omega (arith, read, whole)
 
-  values_bytes : (place : ℕ) (layout : Layout) → searched_at table bytes place SegmentArray ≡ Ok layout
+  values_bytes : (place : ℕ) (layout : Layout) → searched_at table bytes place SegmentArray Word ≡ Ok layout
       → bytes_of bytes layout
       ≤ 12 + sum_by (λ i. unit_extent bytes (place + 12 + be16 bytes (place + 2) * i)) (range_with_len 0 (be16 bytes (place + 4)))
   values_bytes place layout is =
@@ -230,16 +233,16 @@ module _ (table : Tag) (bytes : List ℕ) where
       let all = sum_by (λ i. unit_extent bytes (place + 12 + size * i)) (range_with_len 0 count) in
       subst (λ (l : Layout). bytes_of bytes l ≤ 12 + all) (sym whole ∙ read.1) (omega (arith, within))
 
-  trimmed_bytes : (place : ℕ) (layout : Layout) → trimmed_array_at table bytes place ≡ Ok layout
+  trimmed_bytes : (place : ℕ) (layout : Layout) → trimmed_array_at table bytes place Word ≡ Ok layout
       → bytes_of bytes layout ≤ 6 + 2 * be16 bytes (place + 4)
   unfolding trimmed_array_at
   trimmed_bytes place layout is =
       let header = passes (nat_lt (length bytes) (place + 6)) _ _ layout is in
-      let segment : Segment = record { first = be16 bytes (place + 2); count = be16 bytes (place + 4); values = Words (place + 6) } in
+      let segment : Segment = record { first = be16 bytes (place + 2); count = be16 bytes (place + 4); values = Each Word (place + 6) } in
       let read = array_bytes segment layout header.1 in
       omega (arith, read)
 
-  sized_bytes : (place : ℕ) (layout : Layout) → sized_array_at table bytes place ≡ Ok layout
+  sized_bytes : (place : ℕ) (layout : Layout) → sized_array_at table bytes place Word ≡ Ok layout
       → (place + 8 ≤ length bytes) × (bytes_of bytes layout ≤ 2 + be16 bytes (place + 2) * be16 bytes (place + 6))
   unfolding sized_array_at
   sized_bytes place layout is =
@@ -256,7 +259,7 @@ module _ (table : Tag) (bytes : List ℕ) where
               omega (arith, read, product)
           | inr other ↦ elim (one_of (size == 2) _ _ layout other.1) [
             | inl two ↦
-                let read = array_bytes (record { first = first; count = count; values = Words (place + 8) }) layout two.1 in
+                let read = array_bytes (record { first = first; count = count; values = Each Word (place + 8) }) layout two.1 in
                 let is_two : size ≡ 2 = same_number size 2 two.0 in
                 let product : size * count ≡ 2 * count = ap (λ k. k * count) is_two in
                 omega (arith, read, product)
@@ -266,7 +269,7 @@ module _ (table : Tag) (bytes : List ℕ) where
       )
 
   -- in the numbers of what is asked for
-  single_asked : (place : ℕ) (layout : Layout) → searched_at table bytes place SegmentSingle ≡ Ok layout
+  single_asked : (place : ℕ) (layout : Layout) → searched_at table bytes place SegmentSingle Word ≡ Ok layout
       → bytes_of bytes layout ≤ 12 + 6 * number_at bytes (place + 4)
   single_asked place layout is =
       let read = single_bytes place layout is in
@@ -274,7 +277,7 @@ module _ (table : Tag) (bytes : List ℕ) where
       let count = number_is bytes (place + 4) (omega (arith, header)) in
       omega (arith, read, count)
 
-  glyph_asked : (place : ℕ) (layout : Layout) → searched_at table bytes place Single ≡ Ok layout
+  glyph_asked : (place : ℕ) (layout : Layout) → searched_at table bytes place Single Word ≡ Ok layout
       → bytes_of bytes layout ≤ 12 + 4 * number_at bytes (place + 4)
   glyph_asked place layout is =
       let read = glyph_bytes place layout is in
@@ -282,7 +285,7 @@ module _ (table : Tag) (bytes : List ℕ) where
       let count = number_is bytes (place + 4) (omega (arith, header)) in
       omega (arith, read, count)
 
-  values_asked : (place : ℕ) (layout : Layout) → searched_at table bytes place SegmentArray ≡ Ok layout
+  values_asked : (place : ℕ) (layout : Layout) → searched_at table bytes place SegmentArray Word ≡ Ok layout
       → bytes_of bytes layout
       ≤ 12 + sum_by (λ i. unit_extent bytes (place + 12 + number_at bytes (place + 2) * i)) (range_with_len 0 (number_at bytes (place + 4)))
   values_asked place layout is =
@@ -295,7 +298,7 @@ module _ (table : Tag) (bytes : List ℕ) where
       (subst (λ (n : ℕ). bytes_of bytes layout
       ≤ 12 + sum_by (λ i. unit_extent bytes (place + 12 + be16 bytes (place + 2) * i)) (range_with_len 0 n)) (sym count) read)
 
-  trimmed_asked : (place : ℕ) (layout : Layout) → trimmed_array_at table bytes place ≡ Ok layout
+  trimmed_asked : (place : ℕ) (layout : Layout) → trimmed_array_at table bytes place Word ≡ Ok layout
       → bytes_of bytes layout ≤ 6 + 2 * number_at bytes (place + 4)
   unfolding trimmed_array_at
   trimmed_asked place layout is =
@@ -306,7 +309,7 @@ module _ (table : Tag) (bytes : List ℕ) where
       omega (arith, read, count)
 
   sized_asked : (place : ℕ) (layout : Layout) (format : ℕ)
-      → cond (format == 10) (sized_array_at table bytes place) (Err (fault_at table UnknownFormat place)) ≡ Ok layout
+      → cond (format == 10) (sized_array_at table bytes place Word) (Err (fault_at table UnknownFormat place)) ≡ Ok layout
       → bytes_of bytes layout ≤ 8 + number_at bytes (place + 2) * number_at bytes (place + 6)
   sized_asked place layout format is = elim (one_of (format == 10) _ _ layout is) [
     | inl ten ↦
@@ -322,7 +325,7 @@ module _ (table : Tag) (bytes : List ℕ) where
   ]
 
   -- a layout is read from no more than it asks for
-  layout_bytes : (place glyph_count : ℕ) (layout : Layout) → layout_at table bytes place glyph_count ≡ Ok layout
+  layout_bytes : (place glyph_count : ℕ) (layout : Layout) → layout_at table bytes place glyph_count Word ≡ Ok layout
       → bytes_of bytes layout ≤ extent bytes place glyph_count
   unfolding layout_at
   layout_bytes place glyph_count layout is =
@@ -339,7 +342,7 @@ module _ (table : Tag) (bytes : List ℕ) where
       (cond (format == 6) (12 + 4 * count)
       (cond (format == 8) (6 + 2 * count) (8 + sized))))) =
       chosen bytes (format == 0) _ _ _ _ layout
-      (λ read. array_bytes (record { first = 0; count = glyph_count; values = Words (place + 2) }) layout read)
+      (λ read. array_bytes (record { first = 0; count = glyph_count; values = Each Word (place + 2) }) layout read)
       (chosen bytes (format == 2) _ _ _ _ layout (λ read. single_asked place layout read)
       (chosen bytes (format == 4) _ _ _ _ layout (λ read. values_asked place layout read)
       (chosen bytes (format == 6) _ _ _ _ layout (λ read. glyph_asked place layout read)
@@ -358,7 +361,7 @@ module _ (table : Tag) (bytes : List ℕ) where
 pub bytes_within : (table : Tag) (bytes : List ℕ) (place glyph_count n : ℕ)
     → lookup_bytes_at table bytes place glyph_count ≡ Ok n → n ≤ extent bytes place glyph_count
 bytes_within table bytes place glyph_count n is =
-    let layout = parts (layout_at table bytes place glyph_count) _ n is in
+    let layout = parts (layout_at table bytes place glyph_count Word) _ n is in
     let same : bytes_of bytes layout.0 ≡ n = ok_parts (bytes_of bytes layout.0) n layout.2 in
     let within = layout_bytes table bytes place glyph_count layout.0 layout.1 in
     omega (arith, same, within)
@@ -368,7 +371,7 @@ pub sizes_have_bytes : (table : Tag) (bytes : List ℕ) (place glyph_count size 
     → lookup_size_at table bytes place glyph_count ≡ Ok size
     → (n : ℕ) × (lookup_bytes_at table bytes place glyph_count ≡ Ok n)
 sizes_have_bytes table bytes place glyph_count size is =
-    let layout = parts (layout_at table bytes place glyph_count) _ size is in
+    let layout = parts (layout_at table bytes place glyph_count Word) _ size is in
     let read : lookup_bytes_at table bytes place glyph_count ≡ Ok (bytes_of bytes layout.0) =
     ap (λ (r : Result Layout Fault). after r (λ l. Ok (bytes_of bytes l))) layout.1
     in
@@ -376,10 +379,10 @@ sizes_have_bytes table bytes place glyph_count size is =
 
 -- a lookup of format 0 is read from bytes behind its format
 first_array : (table : Tag) (bytes : List ℕ) (place glyph_count : ℕ) (layout : Layout) → be16 bytes place ≡ 0
-    → layout_at table bytes place glyph_count ≡ Ok layout → bytes_of bytes layout ≤ length bytes - place - 2
+    → layout_at table bytes place glyph_count Word ≡ Ok layout → bytes_of bytes layout ≤ length bytes - place - 2
 unfolding layout_at array_of
 first_array table bytes place glyph_count layout format is =
-    let segment : Segment = record { first = 0; count = glyph_count; values = Words (place + 2) } in
+    let segment : Segment = record { first = 0; count = glyph_count; values = Each Word (place + 2) } in
     let header = passes (nat_lt (length bytes) (place + 2)) _ _ layout is in
     elim (one_of (be16 bytes place == 0) _ _ layout header.1) [
       | inl zero_format ↦
@@ -394,7 +397,7 @@ first_array table bytes place glyph_count layout format is =
 pub array_within : (table : Tag) (bytes : List ℕ) (place glyph_count n : ℕ) → be16 bytes place ≡ 0
     → lookup_bytes_at table bytes place glyph_count ≡ Ok n → n ≤ length bytes - place - 2
 array_within table bytes place glyph_count n format is =
-    let layout = parts (layout_at table bytes place glyph_count) _ n is in
+    let layout = parts (layout_at table bytes place glyph_count Word) _ n is in
     let same : bytes_of bytes layout.0 ≡ n = ok_parts (bytes_of bytes layout.0) n layout.2 in
     let within = first_array table bytes place glyph_count layout.0 format layout.1 in
     omega (arith, same, within)

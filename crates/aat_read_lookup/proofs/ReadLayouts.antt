@@ -9,11 +9,13 @@ use Rattle.aat_bytes.specs.declared.error.Fault.{Fault}
 use Rattle.aat_bytes.specs.declared.tag.Tag.{Tag}
 use Rattle.aat_font.specs.Keys.{first}
 use Rattle.aat_read_lookup.specs.Layouts.{are_crowded, array_of, checked_units, has_offset, is_terminator, layout_at, record_size, searched_at, sized_array_at, trimmed_array_at, unit_bytes, unit_place, units_at, units_fault, unless_fault, without_terminator}
-use Rattle.aat_read_lookup.specs.Segments.{values_end, values_place, values_size}
+use Rattle.aat_read_lookup.specs.Segments.{is_long, numbers_size, values_end, values_place, values_size}
 use Rattle.aat_read_lookup.specs.declared.layout.Layout.{Layout}
 use Rattle.aat_read_lookup.specs.declared.layout.Layout.TheVariants.{Array, Searched}
 use Rattle.aat_read_lookup.specs.declared.segment.Segment.{Segment}
-use Rattle.aat_read_lookup.specs.declared.segment.Values.TheVariants.{Words, Bytes}
+use Rattle.aat_read_lookup.specs.declared.segment.ValueKind.{ValueKind}
+use Rattle.aat_read_lookup.specs.declared.segment.ValueKind.TheVariants.{Word, Long}
+use Rattle.aat_read_lookup.specs.declared.segment.Values.TheVariants.{Each, Bytes}
 use Rattle.aat_read_lookup.specs.declared.units.UnitKind.{UnitKind}
 use Rattle.aat_read_lookup.specs.declared.units.UnitKind.TheVariants.{SegmentSingle, SegmentArray, Single}
 use Rattle.aat_read_lookup.specs.declared.units.Units.{Units}
@@ -61,11 +63,22 @@ not_below a b fails = elim (cases_lt a b) [
   | inr ge ↦ ge
 ]
 
-module _ (table : Tag) (bytes : List ℕ) (place : ℕ) where
+-- each value has a byte
+pub sized_by : (kind : ValueKind) (n : ℕ) → n ≤ numbers_size kind n
+sized_by Word n = omega arith
+sized_by Long n = omega arith
+
+-- more values are no fewer bytes
+more_by : (kind : ValueKind) (m n : ℕ) → m ≤ n → numbers_size kind m ≤ numbers_size kind n
+more_by Word m n le = omega (arith, le)
+more_by Long m n le = omega (arith, le)
+
+module _ (table : Tag) (bytes : List ℕ) (place : ℕ) (values : ValueKind) where
   -- units that stand inside
   pub record Stand (kind : UnitKind) (units : Units) : Type 0 where
     pub starts : units.start ≡ place
     pub kinds : units.kind ≡ kind
+    pub sizes : units.values ≡ values
     pub inside : AreInside bytes units
 
   fewer : (kind : UnitKind) (units : Units) → Stand kind units → Stand kind (record units { count = units.count - 1 })
@@ -75,6 +88,7 @@ module _ (table : Tag) (bytes : List ℕ) (place : ℕ) where
       record {
         starts = stand.starts;
         kinds = stand.kinds;
+        sizes = stand.sizes;
         inside = record { wide = stand.inside.wide; inside = omega (arith, smaller, stand.inside.inside) };
       }
 
@@ -87,41 +101,42 @@ module _ (table : Tag) (bytes : List ℕ) (place : ℕ) where
       one_of kind (nat_eq units.count 0) units _ stand
       (one_of kind (is_terminator bytes units.kind (unit_place units (units.count - 1))) _ units (fewer kind units stand) stand)
 
-  units_stand : (kind : UnitKind) → Holds (Stand kind) (units_at table bytes place kind)
+  units_stand : (kind : UnitKind) → Holds (Stand kind) (units_at table bytes place kind values)
   unfolding units_at
   units_stand kind =
       let size : ℕ = be16 bytes (place + 2) in
       let count : ℕ = be16 bytes (place + 4) in
       choice (Stand kind) (nat_lt (length bytes) (place + 12)) _ _ (λ past. tt) (λ header.
-      choice (Stand kind) (nat_lt size (record_size kind)) _ _ (λ short. tt) (λ wide.
+      choice (Stand kind) (nat_lt size (record_size kind values)) _ _ (λ short. tt) (λ wide.
       choice (Stand kind) (nat_lt (length bytes) (place + 12 + size * count)) _ _ (λ past. tt) (λ inside.
-      without kind (record { kind = kind; start = place; size = size; count = count })
-      (record { starts = refl; kinds = refl; inside = record { wide = not_below size (record_size kind) wide; inside = not_below (length bytes) (place + 12 + size * count) inside } }))))
+      without kind (record { kind = kind; values = values; start = place; size = size; count = count })
+      (record { starts = refl; kinds = refl; sizes = refl; inside = record { wide = not_below size (record_size kind values) wide; inside = not_below (length bytes) (place + 12 + size * count) inside } }))))
 
   -- units that are sound
   pub record AreRead (kind : UnitKind) (units : Units) : Type 0 where
     pub stand : Stand kind units
     pub sound : AreSound bytes units
 
-  units_read : (kind : UnitKind) → Holds (AreRead kind) (checked_units table bytes place kind)
+  units_read : (kind : UnitKind) → Holds (AreRead kind) (checked_units table bytes place kind values)
   unfolding checked_units
   units_read kind =
-      followed (Stand kind) (AreRead kind) (units_at table bytes place kind) _ (units_stand kind) (λ units stand.
+      followed (Stand kind) (AreRead kind) (units_at table bytes place kind values) _ (units_stand kind) (λ units stand.
       unless (AreRead kind) (units_fault table bytes units) units (λ none.
       record { stand = stand; sound = sound_units table bytes units stand.inside none }))
 
   -- the records of units stand inside
-  room : (kind : UnitKind) (units : Units) → AreRead kind units → place + 12 + record_size kind * units.count ≤ length bytes
+  room :
+      (kind : UnitKind) (units : Units) → AreRead kind units
+      → place + 12 + record_size units.kind units.values * units.count ≤ length bytes
   room kind units read =
-      let wide : record_size kind ≤ units.size = subst (λ (k : UnitKind). record_size k ≤ units.size) read.stand.kinds read.stand.inside.wide in
-      let smaller : record_size kind * units.count ≤ units.size * units.count = mul-le-mul_right units.count wide in
+      let smaller : record_size units.kind units.values * units.count ≤ units.size * units.count =
+      mul-le-mul_right units.count read.stand.inside.wide in
       omega (arith, smaller, read.stand.inside.inside, read.stand.starts)
 
   -- units without offsets are read from their records
   one_value_inside : (kind : UnitKind) (units : Units) → AreRead kind units → has_offset units.kind ≡ false → unit_bytes bytes units ≤ length bytes - place
   one_value_inside kind units read one =
-      let fit : place + 12 + record_size units.kind * units.count ≤ length bytes =
-      subst (λ (k : UnitKind). place + 12 + record_size k * units.count ≤ length bytes) (sym read.stand.kinds) (room kind units read) in
+      let fit = room kind units read in
       rw one (omega (arith, fit))
 
   -- the bytes of units stand behind their place
@@ -158,19 +173,19 @@ module _ (table : Tag) (bytes : List ℕ) (place : ℕ) where
       more (min segment.count (65536 - segment.first)) segment.count (min-le_left segment.count (65536 - segment.first)) in
       (sized (min segment.count (65536 - segment.first)), omega (arith, inside, fewer, behind)))
 
-  searched_read : (kind : UnitKind) → Holds IsRead (searched_at table bytes place kind)
+  searched_read : (kind : UnitKind) → Holds IsRead (searched_at table bytes place kind values)
   unfolding searched_at
   searched_read kind =
-      followed (AreRead kind) IsRead (checked_units table bytes place kind) _ (units_read kind) (λ units read.
+      followed (AreRead kind) IsRead (checked_units table bytes place kind values) _ (units_read kind) (λ units read.
       choice IsRead (are_crowded bytes units) _ _ (λ crowded. tt) (λ roomy. (read.sound, bytes_inside kind units read roomy)))
 
-  trimmed_read : Holds IsRead (trimmed_array_at table bytes place)
+  trimmed_read : Holds IsRead (trimmed_array_at table bytes place values)
   unfolding trimmed_array_at
   trimmed_read =
       choice IsRead (nat_lt (length bytes) (place + 6)) _ _ (λ past. tt) (λ header.
-      array_read (record { first = be16 bytes (place + 2); count = be16 bytes (place + 4); values = Words (place + 6) }) (omega arith) (λ n. omega arith) (λ m n le. omega (arith, le)))
+      array_read (record { first = be16 bytes (place + 2); count = be16 bytes (place + 4); values = Each values (place + 6) }) (omega arith) (sized_by values) (more_by values))
 
-  sized_read : Holds IsRead (sized_array_at table bytes place)
+  sized_read : Holds IsRead (sized_array_at table bytes place values)
   unfolding sized_array_at
   sized_read =
       let size : ℕ = be16 bytes (place + 2) in
@@ -180,15 +195,17 @@ module _ (table : Tag) (bytes : List ℕ) (place : ℕ) where
       choice IsRead (nat_eq size 1) _ _
       (λ one. array_read (record { first = start; count = count; values = Bytes (place + 8) }) (omega arith) (λ n. omega arith) (λ m n le. omega (arith, le))) (λ more.
       choice IsRead (nat_eq size 2) _ _
-      (λ two. array_read (record { first = start; count = count; values = Words (place + 8) }) (omega arith) (λ n. omega arith) (λ m n le. omega (arith, le))) (λ other. tt)))
+      (λ two. array_read (record { first = start; count = count; values = Each Word (place + 8) }) (omega arith) (sized_by Word) (more_by Word)) (λ not_2.
+      choice IsRead (is_long values && nat_eq size 4) _ _
+      (λ four. array_read (record { first = start; count = count; values = Each Long (place + 8) }) (omega arith) (sized_by Long) (more_by Long)) (λ other. tt))))
 
-  pub layout_read : (glyph_count : ℕ) → Holds IsRead (layout_at table bytes place glyph_count)
+  pub layout_read : (glyph_count : ℕ) → Holds IsRead (layout_at table bytes place glyph_count values)
   unfolding layout_at
   layout_read glyph_count =
       let format : ℕ = be16 bytes place in
       choice IsRead (nat_lt (length bytes) (place + 2)) _ _ (λ past. tt) (λ header.
       choice IsRead (nat_eq format 0) _ _
-      (λ here. array_read (record { first = 0; count = glyph_count; values = Words (place + 2) }) (omega arith) (λ n. omega arith) (λ m n le. omega (arith, le))) (λ not_0.
+      (λ here. array_read (record { first = 0; count = glyph_count; values = Each values (place + 2) }) (omega arith) (sized_by values) (more_by values)) (λ not_0.
       choice IsRead (nat_eq format 2) _ _ (λ here. searched_read SegmentSingle) (λ not_2.
       choice IsRead (nat_eq format 4) _ _ (λ here. searched_read SegmentArray) (λ not_4.
       choice IsRead (nat_eq format 6) _ _ (λ here. searched_read Single) (λ not_6.

@@ -14,6 +14,7 @@ use Rattle.aat_read_lookup.specs.Lookups.{pairs_of}
 use Rattle.aat_read_lookup.specs.Segments.{end_of, has_glyph, segment_pairs, value_at, value_in_segments}
 use Rattle.aat_read_lookup.specs.declared.layout.Layout.{Layout}
 use Rattle.aat_read_lookup.specs.declared.segment.Segment.{Segment}
+use Rattle.aat_read_lookup.specs.declared.segment.ValueKind.TheVariants.{Word}
 
 -- the pairs of glyphs from one on
 numbered : ℕ → (ℕ → ℕ) → ℕ → ℕ → List (ℕ × ℕ)
@@ -109,4 +110,4 @@ values_read bytes (Ok layout) pairs glyph is =
 -- the law
 pub values_are_those_of_segments : ValuesAreThoseOfSegments
 values_are_those_of_segments table bytes place glyph_count pairs glyph is =
-    values_read bytes (layout_at table bytes place glyph_count) pairs glyph is
+    values_read bytes (layout_at table bytes place glyph_count Word) pairs glyph is

@@ -2,8 +2,8 @@
 use Rattle.std.specs.Prelude.{◌≡◌, ℕ, List, [], ◌∷◌, ◌++◌, true, false, Some, None, Ok, Err}
 use Rattle.aat_bytes.specs.Faults.{fault_at}
 use Rattle.aat_bytes.specs.declared.error.FaultKind.TheVariants.{PastEnd, UnknownFormat, NotRising}
+use Rattle.aat_bytes.specs.declared.tags.TheConstants.{FEAT}
 use Rattle.aat_read_lookup.specs.Features.{feat_of, feature_name_id, setting_name_id}
-use Rattle.aat_read_lookup.specs.declared.feat.TheConstants.{FEAT}
 
 -- the header of so many features
 abbrev pub feat_header : ℕ → List ℕ

@@ -1,4 +1,4 @@
--- How the values of a lookup stand in the table, and its first fault. Apple's TrueType Reference Manual, "Font Tables",
+-- How the values of a lookup stand in the table, and its first fault. Values have 16 bits or 32. Apple's TrueType Reference Manual, "Font Tables",
 -- section on lookup tables.
 use Rattle.std.specs.Prelude.{ℕ, ◌+◌, ◌*◌, ◌-◌, ◌/◌, List, [], ◌∷◌, length, map, Bool, true, false, Option, Some, None, Result, Ok, Err, if◌then◌else◌, nat_lt, ◌==◌, ◌||◌, ◌&&◌, min}
 use Rattle.std.specs.List.{range_with_len, sum_by}
@@ -7,32 +7,37 @@ use Rattle.aat_bytes.specs.Numbers.{be16}
 use Rattle.aat_bytes.specs.declared.error.Fault.{Fault}
 use Rattle.aat_bytes.specs.declared.error.FaultKind.TheVariants.{PastEnd, UnknownFormat, ShortLength, NotRising}
 use Rattle.aat_bytes.specs.declared.tag.Tag.{Tag}
-use Rattle.aat_read_lookup.specs.Segments.{end_of, values_end, values_place}
+use Rattle.aat_read_lookup.specs.Segments.{end_of, is_long, numbers_size, values_end, values_place}
 use Rattle.aat_read_lookup.specs.declared.layout.Layout.{Layout}
 use Rattle.aat_read_lookup.specs.declared.layout.Layout.TheVariants.{Array, Searched}
 use Rattle.aat_read_lookup.specs.declared.segment.Segment.{Segment}
-use Rattle.aat_read_lookup.specs.declared.segment.Values.TheVariants.{Shared, Words, Bytes}
+use Rattle.aat_read_lookup.specs.declared.segment.ValueKind.{ValueKind}
+use Rattle.aat_read_lookup.specs.declared.segment.ValueKind.TheVariants.{Word, Long}
+use Rattle.aat_read_lookup.specs.declared.segment.Values.TheVariants.{Shared, Each, Bytes}
 use Rattle.aat_read_lookup.specs.declared.units.UnitKind.{UnitKind}
 use Rattle.aat_read_lookup.specs.declared.units.UnitKind.TheVariants.{SegmentSingle, SegmentArray, Single}
 use Rattle.aat_read_lookup.specs.declared.units.Units.{Units}
 
 -- how many bytes the record of a unit has; a unit may be wider
-abbrev pub record_size : UnitKind → ℕ
-record_size SegmentSingle = 6
-record_size SegmentArray = 6
-record_size Single = 4
+abbrev pub record_size : UnitKind → ValueKind → ℕ
+record_size SegmentSingle kind = 4 + numbers_size kind 1
+record_size SegmentArray kind = 6
+record_size Single kind = 2 + numbers_size kind 1
 
 -- the segment of the unit at a place: formats 2 and 4 have the last glyph, the first glyph, and the value or the offset
 -- of the values from the start of the lookup; format 6 has a glyph and its value
-abbrev pub segment_at : List ℕ → UnitKind → ℕ → ℕ → Segment
-segment_at bytes SegmentSingle start at =
-    record { first = be16 bytes (at + 2); count = be16 bytes at + 1 - be16 bytes (at + 2); values = Shared (at + 4) }
-segment_at bytes SegmentArray start at = record {
+abbrev pub segment_at : List ℕ → UnitKind → ValueKind → ℕ → ℕ → Segment
+segment_at bytes SegmentSingle kind start at = record {
   first = be16 bytes (at + 2);
   count = be16 bytes at + 1 - be16 bytes (at + 2);
-  values = Words (start + be16 bytes (at + 4));
+  values = Shared kind (at + 4);
 }
-segment_at bytes Single start at = record { first = be16 bytes at; count = 1; values = Shared (at + 2) }
+segment_at bytes SegmentArray kind start at = record {
+  first = be16 bytes (at + 2);
+  count = be16 bytes at + 1 - be16 bytes (at + 2);
+  values = Each kind (start + be16 bytes (at + 4));
+}
+segment_at bytes Single kind start at = record { first = be16 bytes at; count = 1; values = Shared kind (at + 2) }
 
 -- the place of a unit: they stand behind a header of 12 bytes
 abbrev pub unit_place : Units → ℕ → ℕ
@@ -40,7 +45,7 @@ unit_place units i = units.start + 12 + units.size * i
 
 -- the segment of a unit
 abbrev pub segment_of : List ℕ → Units → ℕ → Segment
-segment_of bytes units i = segment_at bytes units.kind units.start (unit_place units i)
+segment_of bytes units i = segment_at bytes units.kind units.values units.start (unit_place units i)
 
 -- the segments of units, in the order of the file
 abbrev pub unit_segments : List ℕ → Units → List Segment
@@ -65,15 +70,15 @@ without_terminator bytes units =
     units
 
 -- the units of a header: the size of a unit and the number of units; three numbers behind them are not believed
-unfoldable pub units_at : Tag → List ℕ → ℕ → UnitKind → Result Units Fault
-units_at table bytes place kind =
+unfoldable pub units_at : Tag → List ℕ → ℕ → UnitKind → ValueKind → Result Units Fault
+units_at table bytes place unit kind =
     let size = be16 bytes (place + 2) in
     let count = be16 bytes (place + 4) in
     if nat_lt (length bytes) (place + 12) then Err (fault_at table PastEnd place) else
-    if nat_lt size (record_size kind) then Err (fault_at table ShortLength (place + 2)) else
+    if nat_lt size (record_size unit kind) then Err (fault_at table ShortLength (place + 2)) else
     if nat_lt (length bytes) (place + 12 + size * count) then
     Err (fault_at table PastEnd (place + 12 + size * ((length bytes - (place + 12)) / size))) else
-    Ok (without_terminator bytes (record { kind = kind; start = place; size = size; count = count }))
+    Ok (without_terminator bytes (record { kind = unit; values = kind; start = place; size = size; count = count }))
 
 -- the glyph behind the last one of the unit before, or 0 where there is none
 abbrev pub end_before : List ℕ → Units → ℕ → ℕ
@@ -108,9 +113,9 @@ unless_fault None x = Ok x
 unless_fault (Some fault) x = Err fault
 
 -- the units of a lookup that have no fault
-unfoldable pub checked_units : Tag → List ℕ → ℕ → UnitKind → Result Units Fault
-checked_units table bytes place kind =
-    after (units_at table bytes place kind) (λ units. unless_fault (units_fault table bytes units) units)
+unfoldable pub checked_units : Tag → List ℕ → ℕ → UnitKind → ValueKind → Result Units Fault
+checked_units table bytes place unit kind =
+    after (units_at table bytes place unit kind) (λ units. unless_fault (units_fault table bytes units) units)
 
 -- whether a unit has the offset of its values, which other units may have too: in format 4
 abbrev pub has_offset : UnitKind → Bool
@@ -122,7 +127,8 @@ has_offset Single = false
 -- units share count for each unit
 abbrev pub unit_bytes : List ℕ → Units → ℕ
 unit_bytes bytes units =
-    record_size units.kind * units.count + (if has_offset units.kind then 2 * glyphs_of bytes units else 0)
+    record_size units.kind units.values * units.count
+    + (if has_offset units.kind then numbers_size units.values (glyphs_of bytes units) else 0)
 
 -- whether units of format 4 share so many values that their bytes are more than those from the start of the lookup to
 -- the end of the table
@@ -130,9 +136,9 @@ abbrev pub are_crowded : List ℕ → Units → Bool
 are_crowded bytes units = has_offset units.kind && nat_lt (length bytes - units.start) (unit_bytes bytes units)
 
 -- a lookup of format 2, 4 or 6. HarfBuzz takes units that share values as often as they like; here too many are a fault
-unfoldable pub searched_at : Tag → List ℕ → ℕ → UnitKind → Result Layout Fault
-searched_at table bytes place kind =
-    after (checked_units table bytes place kind) (λ units.
+unfoldable pub searched_at : Tag → List ℕ → ℕ → UnitKind → ValueKind → Result Layout Fault
+searched_at table bytes place unit kind =
+    after (checked_units table bytes place unit kind) (λ units.
     if are_crowded bytes units then Err (fault_at table PastEnd place) else Ok (Searched units))
 
 -- an array whose values stand inside. HarfBuzz finds no glyph above 0xFFFF, and values of such glyphs are left out
@@ -142,35 +148,37 @@ array_of table bytes segment =
     Ok (Array (record segment { count = min segment.count (65536 - segment.first) }))
 
 -- a lookup of format 8: the first glyph, the number of glyphs, and a value for each
-unfoldable pub trimmed_array_at : Tag → List ℕ → ℕ → Result Layout Fault
-trimmed_array_at table bytes place =
+unfoldable pub trimmed_array_at : Tag → List ℕ → ℕ → ValueKind → Result Layout Fault
+trimmed_array_at table bytes place kind =
     if nat_lt (length bytes) (place + 6) then Err (fault_at table PastEnd place) else
     array_of table bytes
-    (record { first = be16 bytes (place + 2); count = be16 bytes (place + 4); values = Words (place + 6) })
+    (record { first = be16 bytes (place + 2); count = be16 bytes (place + 4); values = Each kind (place + 6) })
 
--- a lookup of format 10: the size of a value, the first glyph, the number of glyphs, and a value for each. Values have
--- 16 bits here, so that of the sizes 1, 2, 4 and 8 the first two are read
-unfoldable pub sized_array_at : Tag → List ℕ → ℕ → Result Layout Fault
-sized_array_at table bytes place =
+-- a lookup of format 10: the size of a value, the first glyph, the number of glyphs, and a value for each. Of the sizes
+-- 1, 2, 4 and 8 the first two are read, and the third where values have 32 bits
+unfoldable pub sized_array_at : Tag → List ℕ → ℕ → ValueKind → Result Layout Fault
+sized_array_at table bytes place kind =
     let size = be16 bytes (place + 2) in
     let first = be16 bytes (place + 4) in
     let count = be16 bytes (place + 6) in
     if nat_lt (length bytes) (place + 8) then Err (fault_at table PastEnd place) else
     if size == 1 then array_of table bytes (record { first = first; count = count; values = Bytes (place + 8) }) else
-    if size == 2 then array_of table bytes (record { first = first; count = count; values = Words (place + 8) }) else
+    if size == 2 then array_of table bytes (record { first = first; count = count; values = Each Word (place + 8) }) else
+    if is_long kind && (size == 4) then
+    array_of table bytes (record { first = first; count = count; values = Each Long (place + 8) }) else
     Err (fault_at table UnknownFormat (place + 2))
 
 -- the layout of a lookup at a place, by its format, or its first fault
-unfoldable pub layout_at : Tag → List ℕ → ℕ → ℕ → Result Layout Fault
-layout_at table bytes place glyph_count =
+unfoldable pub layout_at : Tag → List ℕ → ℕ → ℕ → ValueKind → Result Layout Fault
+layout_at table bytes place glyph_count kind =
     if nat_lt (length bytes) (place + 2) then Err (fault_at table PastEnd place) else
     if be16 bytes place == 0 then
-    array_of table bytes (record { first = 0; count = glyph_count; values = Words (place + 2) }) else
-    if be16 bytes place == 2 then searched_at table bytes place SegmentSingle else
-    if be16 bytes place == 4 then searched_at table bytes place SegmentArray else
-    if be16 bytes place == 6 then searched_at table bytes place Single else
-    if be16 bytes place == 8 then trimmed_array_at table bytes place else
-    if be16 bytes place == 10 then sized_array_at table bytes place else
+    array_of table bytes (record { first = 0; count = glyph_count; values = Each kind (place + 2) }) else
+    if be16 bytes place == 2 then searched_at table bytes place SegmentSingle kind else
+    if be16 bytes place == 4 then searched_at table bytes place SegmentArray kind else
+    if be16 bytes place == 6 then searched_at table bytes place Single kind else
+    if be16 bytes place == 8 then trimmed_array_at table bytes place kind else
+    if be16 bytes place == 10 then sized_array_at table bytes place kind else
     Err (fault_at table UnknownFormat place)
 
 -- the segments of a lookup

@@ -4,6 +4,10 @@ pub mod Kept
 pub mod Layouts
 pub mod LookupExamples
 pub mod LookupLaws
+pub mod LongExamples
+pub mod LongLaws
+pub mod LongLookups
+pub mod LongSizes
 pub mod Lookups
 pub mod Rows
 pub mod Segments

@@ -9,6 +9,7 @@ use Rattle.aat_bytes.specs.declared.tag.Tag.{Tag}
 use Rattle.aat_read_lookup.specs.Layouts.{layout_at, segments_of}
 use Rattle.aat_read_lookup.specs.Segments.{segment_pairs, value_in_segments}
 use Rattle.aat_read_lookup.specs.declared.layout.Layout.{Layout}
+use Rattle.aat_read_lookup.specs.declared.segment.ValueKind.TheVariants.{Word}
 
 -- the pairs of a layout, in the order of the file
 abbrev pub pairs_of : List ℕ → Layout → List (ℕ × ℕ)
@@ -17,11 +18,11 @@ pairs_of bytes layout = flat_map (segment_pairs bytes) (segments_of bytes layout
 -- the pairs of the lookup at a place of a table, for a font of so many glyphs, or its first fault
 abbrev pub lookup_at : Tag → List ℕ → ℕ → ℕ → Result (List (ℕ × ℕ)) Fault
 lookup_at table bytes place glyph_count =
-    after (layout_at table bytes place glyph_count) (λ layout. Ok (pairs_of bytes layout))
+    after (layout_at table bytes place glyph_count Word) (λ layout. Ok (pairs_of bytes layout))
 
 -- the value of a glyph in a lookup at a place: that of the segment that has the glyph
 abbrev pub value_of_glyph : Tag → List ℕ → ℕ → ℕ → ℕ → Option ℕ
-value_of_glyph table bytes place glyph_count glyph = elim (layout_at table bytes place glyph_count) [
+value_of_glyph table bytes place glyph_count glyph = elim (layout_at table bytes place glyph_count Word) [
   | Err fault ↦ None
   | Ok layout ↦ value_in_segments bytes (segments_of bytes layout) glyph
 ]

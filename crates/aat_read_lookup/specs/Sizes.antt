@@ -5,12 +5,14 @@ use Rattle.aat_bytes.specs.declared.error.Fault.{Fault}
 use Rattle.aat_bytes.specs.declared.tag.Tag.{Tag}
 use Rattle.aat_font.specs.Keys.{first}
 use Rattle.aat_font.specs.inside.GlyphSpans.{glyph_span}
-use Rattle.aat_read_lookup.specs.Kept.{lookup_segments}
+use Rattle.aat_read_lookup.specs.Kept.{layout_segments}
 use Rattle.aat_read_lookup.specs.Layouts.{layout_at, unit_bytes}
 use Rattle.aat_read_lookup.specs.Lookups.{pairs_of}
 use Rattle.aat_read_lookup.specs.Segments.{values_size}
+use Rattle.aat_read_lookup.specs.declared.kept.Keep.TheVariants.{Value}
 use Rattle.aat_read_lookup.specs.declared.layout.Layout.{Layout}
 use Rattle.aat_read_lookup.specs.declared.layout.Layout.TheVariants.{Array, Searched}
+use Rattle.aat_read_lookup.specs.declared.segment.ValueKind.TheVariants.{Word}
 
 -- how many bytes of the table a layout is read from, behind its header: its values, and the records of its units
 abbrev pub bytes_of : List ℕ → Layout → ℕ
@@ -36,14 +38,14 @@ is_spread bytes layout = nat_lt (7 * bytes_of bytes layout) (pairs_size (pairs_o
 -- how many bytes the lookup of a layout takes: 6 for each segment, or those of its pairs
 abbrev pub layout_size : List ℕ → Layout → ℕ
 layout_size bytes layout =
-    if is_spread bytes layout then 6 * length (lookup_segments bytes layout) else pairs_size (pairs_of bytes layout)
+    if is_spread bytes layout then 6 * length (layout_segments bytes Value layout) else pairs_size (pairs_of bytes layout)
 
 -- how many bytes the lookup at a place is read from, or its first fault
 abbrev pub lookup_bytes_at : Tag → List ℕ → ℕ → ℕ → Result ℕ Fault
 lookup_bytes_at table bytes place glyph_count =
-    after (layout_at table bytes place glyph_count) (λ layout. Ok (bytes_of bytes layout))
+    after (layout_at table bytes place glyph_count Word) (λ layout. Ok (bytes_of bytes layout))
 
 -- how many bytes the lookup at a place takes, or its first fault
 abbrev pub lookup_size_at : Tag → List ℕ → ℕ → ℕ → Result ℕ Fault
 lookup_size_at table bytes place glyph_count =
-    after (layout_at table bytes place glyph_count) (λ layout. Ok (layout_size bytes layout))
+    after (layout_at table bytes place glyph_count Word) (λ layout. Ok (layout_size bytes layout))

@@ -7,12 +7,10 @@ ghost use Rattle.aat_font.specs.Keys.{first_fall};
 ghost use Rattle.aat_read_lookup.specs.Features.{feat_of, feature_count, feature_name, feature_name_id, feature_names, feature_place, feature_record, has_number, setting_name_id, setting_name_in};
 ghost use Rattle.aat_read_lookup.specs.Lookups.{Gives};
 
-use aat_bytes::{Fault, FaultKind, ReadError, Tag, be16, be32, u16_at};
+use aat_bytes::tags::FEAT;
+use aat_bytes::{Fault, FaultKind, ReadError, be16, be32, u16_at};
 use aat_font::{Feat, FeatureName};
 use std::alloc::{AllocError, Allocator};
-
-/// The tag of the feature name table.
-pub const FEAT: Tag = Tag(0x6665_6174);
 
 /// The number of features.
 #[tactic(auto, unfolding(crate::specs::Features::feature_count))]

@@ -38,11 +38,11 @@ impl Units {
     pub(crate) fn bytes(self, bytes: &[u8]) -> usize
         requires { AreInside bytes.now self }
         ensures is { result ≡ unit_bytes bytes.now self }
-        ensures few { result < 2 ^ 34 }
+        ensures few { result < 2 ^ 35 }
     {
-        let records = self.kind.record_size() as usize * self.count as usize;
+        let records = self.kind.record_size(self.values) as usize * self.count as usize;
         if self.kind.has_offset() {
-            return records + 2 * self.glyphs(bytes);
+            return records + self.values.size(self.glyphs(bytes));
         }
         records
     }

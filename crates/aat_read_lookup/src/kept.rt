@@ -1,9 +1,11 @@
-//! Lookups that are kept as segments.
-ghost use Rattle.std.specs.Prelude.{◌≡◌, ◌++◌, ◌<◌, ◌^◌, length, map, IfOk, OnOk};
-ghost use Rattle.std.specs.List.{flat_map};
-ghost use Rattle.aat_read_lookup.specs.Kept.{lookup_segment, lookup_segments, single_segments};
+//! What is kept of the values of a lookup, and lookups that are kept as segments.
+ghost use Rattle.std.specs.Prelude.{◌≡◌, ◌++◌, ◌<◌, ◌≤◌, ◌^◌, length, map, IfOk, OnOk};
+ghost use Rattle.std.specs.List.{flat_map, range_with_len};
+ghost use Rattle.aat_read_lookup.specs.Kept.{kept_count, kept_segments, kept_value, layout_segments, row_of, single_segment, whole_segment};
 ghost use Rattle.aat_read_lookup.specs.Layouts.{unit_segments};
-ghost use Rattle.aat_read_lookup.specs.inside.Sound.{AreSound, Fits, IsSound};
+ghost use Rattle.aat_read_lookup.specs.Segments.{pairs_by};
+ghost use Rattle.aat_read_lookup.specs.inside.Sound.{AreSound, CanKeep, Fits, IsSound};
+ghost use Rattle.aat_read_lookup.specs.declared.kept.Keep.TheVariants.{Value};
 
 use crate::layout::Layout;
 use crate::segment::Segment;
@@ -11,67 +13,148 @@ use crate::units::Units;
 use aat_font::LookupSegment;
 use std::alloc::{AllocError, Allocator};
 
+/// What is kept of a value.
+#[derive(Clone, Copy)]
+pub(crate) enum Keep {
+    /// A value of 16 bits.
+    Value,
+    /// The row of a value of 16 bits, where rows have so many values.
+    Row(u16),
+    /// The row of a value of up to 32 bits, where rows have so many values, or the last row of 16 bits.
+    LongRow(u16),
+}
+
+/// The row of a value, where rows have so many values: the last one of 16 bits where it is further.
+fn row_of(width: u16, value: u32) -> u16
+    requires { 0 < width }
+    ensures { result ≡ row_of width value }
+{
+    (value / width as u32).min(65535) as u16
+}
+
 impl Segment {
+    /// What is kept of the value of the glyph that stands so many glyphs behind the first.
+    fn kept(self, bytes: &[u8], k: usize, keep: Keep) -> u16
+        requires can { CanKeep keep }
+        requires fits { Fits bytes.now self }
+        requires below { k < self.count }
+        ensures { result ≡ kept_value bytes.now keep self.values k }
+    {
+        match keep {
+            Keep::Value => self.value(bytes, k),
+            Keep::Row(width) => self.value(bytes, k) / width,
+            Keep::LongRow(width) => row_of(width, self.long_value(bytes, k)),
+        }
+    }
+
+    /// Appends the pairs of the segment.
+    pub(crate) fn append<A: Allocator>(
+        self,
+        bytes: &[u8],
+        keep: Keep,
+        pairs: &mut Vec<(u16, u16), A>,
+    ) -> Result<(), AllocError>
+        requires can { CanKeep keep }
+        requires fits { Fits bytes.now self }
+        ensures { OnOk result (pairs.new.items ≡ pairs.old.items ++ pairs_by (kept_value bytes.now keep) self) }
+    {
+        for k in 0..self.count {
+            pairs.push((self.first + k as u16, self.kept(bytes, k, keep)))?;
+        }
+        Ok(())
+    }
+
+    /// The segment as it is kept, if its glyphs have one value.
+    fn whole(self, bytes: &[u8], keep: Keep) -> LookupSegment
+        requires can { CanKeep keep }
+        requires fits { Fits bytes.now self }
+        requires some { 0 < self.count }
+        ensures { result ≡ whole_segment bytes.now keep self }
+    {
+        let last = self.first as usize + self.count - 1;
+        LookupSegment::new(self.first, last as u16, self.kept(bytes, 0, keep))
+    }
+
     /// Appends a segment for each glyph.
     fn append_singles<A: Allocator>(
         self,
         bytes: &[u8],
+        keep: Keep,
         segments: &mut Vec<LookupSegment, A>,
     ) -> Result<(), AllocError>
-        requires { Fits bytes.now self }
-        ensures { OnOk result (segments.new.items ≡ segments.old.items ++ single_segments bytes.now self) }
+        requires can { CanKeep keep }
+        requires fits { Fits bytes.now self }
+        ensures { OnOk result (segments.new.items
+            ≡ segments.old.items ++ map (single_segment bytes.now keep self) (range_with_len 0 self.count)) }
     {
         for k in 0..self.count {
             let glyph = self.first + k as u16;
-            segments.push(LookupSegment::new(glyph, glyph, self.value(bytes, k)))?;
+            segments.push(LookupSegment::new(glyph, glyph, self.kept(bytes, k, keep)))?;
         }
         Ok(())
+    }
+
+    /// Appends what the segment is kept as.
+    fn append_kept<A: Allocator>(
+        self,
+        bytes: &[u8],
+        keep: Keep,
+        segments: &mut Vec<LookupSegment, A>,
+    ) -> Result<(), AllocError>
+        requires can { CanKeep keep }
+        requires fits { Fits bytes.now self }
+        ensures { OnOk result (segments.new.items ≡ segments.old.items ++ kept_segments bytes.now keep self) }
+    {
+        if !self.values.is_shared() {
+            return self.append_singles(bytes, keep, segments);
+        }
+        if self.count > 0 {
+            segments.push(self.whole(bytes, keep))?;
+        }
+        Ok(())
+    }
+
+    /// How many segments the segment is kept as.
+    fn kept_count(self) -> usize
+        ensures is { result ≡ kept_count self }
+        ensures few { result ≤ self.count }
+    {
+        if !self.values.is_shared() {
+            return self.count;
+        }
+        self.count.min(1)
     }
 }
 
 impl Units {
-    /// Appends a segment for each glyph of the units.
-    fn append_singles<A: Allocator>(
+    /// Appends what the segments of the units are kept as.
+    fn append_kept<A: Allocator>(
         self,
         bytes: &[u8],
+        keep: Keep,
         segments: &mut Vec<LookupSegment, A>,
     ) -> Result<(), AllocError>
-        requires { AreSound bytes.now self }
+        requires can { CanKeep keep }
+        requires sound { AreSound bytes.now self }
         ensures { OnOk result (segments.new.items
-            ≡ segments.old.items ++ flat_map (single_segments bytes.now) (unit_segments bytes.now self)) }
+            ≡ segments.old.items ++ flat_map (kept_segments bytes.now keep) (unit_segments bytes.now self)) }
     {
         for i in 0..self.count {
-            self.segment(i, bytes).append_singles(bytes, segments)?;
-        }
-        Ok(())
-    }
-
-    /// Appends a segment for each unit.
-    fn append_whole<A: Allocator>(
-        self,
-        bytes: &[u8],
-        segments: &mut Vec<LookupSegment, A>,
-    ) -> Result<(), AllocError>
-        requires { AreSound bytes.now self }
-        ensures { OnOk result (segments.new.items
-            ≡ segments.old.items ++ map (lookup_segment bytes.now) (unit_segments bytes.now self)) }
-    {
-        for i in 0..self.count {
-            segments.push(self.segment(i, bytes).lookup_segment(bytes))?;
+            self.segment(i, bytes).append_kept(bytes, keep, segments)?;
         }
         Ok(())
     }
 }
 
 impl Layout {
-    /// The number of segments of the layout.
+    /// The number of segments that the layout is kept as.
     pub(crate) fn segment_count(self, bytes: &[u8]) -> usize
         requires { IsSound bytes.now self }
-        ensures is { result ≡ length (lookup_segments bytes.now self) }
+        ensures is { result ≡ length (layout_segments bytes.now Value self) }
         ensures few { result < 2 ^ 32 }
     {
         match self {
-            Layout::Array(segment) => segment.count,
+            Layout::Array(segment) => segment.kept_count(),
             Layout::Searched(units) => {
                 if units.kind.has_offset() {
                     return units.glyphs(bytes);
@@ -81,25 +164,21 @@ impl Layout {
         }
     }
 
-    /// The segments of the layout.
-    pub(crate) fn lookup_segments<A: Allocator>(
+    /// The segments that the layout is kept as.
+    pub(crate) fn segments<A: Allocator>(
         self,
         alloc: A,
         bytes: &[u8],
+        keep: Keep,
     ) -> Result<Vec<LookupSegment, A>, AllocError>
-        requires { IsSound bytes.now self }
-        ensures { IfOk result (λ segments. segments.items ≡ lookup_segments bytes.now self) }
+        requires can { CanKeep keep }
+        requires sound { IsSound bytes.now self }
+        ensures { IfOk result (λ segments. segments.items ≡ layout_segments bytes.now keep self) }
     {
         let mut segments = Vec::with_capacity(alloc, self.segment_count(bytes))?;
         match self {
-            Layout::Array(segment) => segment.append_singles(bytes, &mut segments)?,
-            Layout::Searched(units) => {
-                if units.kind.has_offset() {
-                    units.append_singles(bytes, &mut segments)?;
-                } else {
-                    units.append_whole(bytes, &mut segments)?;
-                }
-            }
+            Layout::Array(segment) => segment.append_kept(bytes, keep, &mut segments)?,
+            Layout::Searched(units) => units.append_kept(bytes, keep, &mut segments)?,
         }
         Ok(segments)
     }

@@ -4,7 +4,7 @@ ghost use Rattle.aat_read_lookup.specs.Layouts.{array_of, layout_at, searched_at
 ghost use Rattle.aat_read_lookup.specs.Segments.{values_place};
 ghost use Rattle.aat_read_lookup.specs.inside.Sound.{IsSound};
 
-use crate::segment::{Segment, Values};
+use crate::segment::{Segment, ValueKind, Values};
 use crate::units::{UnitKind, Units};
 use aat_bytes::{Fault, FaultKind, Tag, be16};
 
@@ -37,9 +37,14 @@ fn array_of(table: Tag, bytes: &[u8], segment: Segment) -> Result<Layout, Fault>
 
 /// A lookup of format 8.
 #[tactic(auto, unfolding(crate::specs::Layouts::trimmed_array_at))]
-fn trimmed_array_at(table: Tag, bytes: &[u8], place: usize) -> Result<Layout, Fault>
+fn trimmed_array_at(
+    table: Tag,
+    bytes: &[u8],
+    place: usize,
+    kind: ValueKind,
+) -> Result<Layout, Fault>
     requires { place + 2 ≤ length bytes.now }
-    ensures is { result ≡ trimmed_array_at table bytes.now place }
+    ensures is { result ≡ trimmed_array_at table bytes.now place kind }
     ensures sound { IfOk result (λ layout. IsSound bytes.now layout) }
 {
     if bytes.len() < place + 6 {
@@ -48,16 +53,16 @@ fn trimmed_array_at(table: Tag, bytes: &[u8], place: usize) -> Result<Layout, Fa
     let segment = Segment {
         first: be16(bytes, place + 2),
         count: be16(bytes, place + 4) as usize,
-        values: Values::Words(place + 6),
+        values: Values::Each(kind, place + 6),
     };
     array_of(table, bytes, segment)
 }
 
 /// A lookup of format 10.
 #[tactic(auto, unfolding(crate::specs::Layouts::sized_array_at))]
-fn sized_array_at(table: Tag, bytes: &[u8], place: usize) -> Result<Layout, Fault>
+fn sized_array_at(table: Tag, bytes: &[u8], place: usize, kind: ValueKind) -> Result<Layout, Fault>
     requires { place + 2 ≤ length bytes.now }
-    ensures is { result ≡ sized_array_at table bytes.now place }
+    ensures is { result ≡ sized_array_at table bytes.now place kind }
     ensures sound { IfOk result (λ layout. IsSound bytes.now layout) }
 {
     if bytes.len() < place + 8 {
@@ -65,37 +70,37 @@ fn sized_array_at(table: Tag, bytes: &[u8], place: usize) -> Result<Layout, Faul
     }
     let first = be16(bytes, place + 4);
     let count = be16(bytes, place + 6) as usize;
-    match be16(bytes, place + 2) {
-        1 => array_of(
-            table,
-            bytes,
-            Segment {
-                first,
-                count,
-                values: Values::Bytes(place + 8),
-            },
-        ),
-        2 => array_of(
-            table,
-            bytes,
-            Segment {
-                first,
-                count,
-                values: Values::Words(place + 8),
-            },
-        ),
-        _ => Err(Fault::new(table, FaultKind::UnknownFormat, place + 2)),
-    }
+    let values = match be16(bytes, place + 2) {
+        1 => Values::Bytes(place + 8),
+        2 => Values::Each(ValueKind::Word, place + 8),
+        4 if kind.is_long() => Values::Each(ValueKind::Long, place + 8),
+        _ => return Err(Fault::new(table, FaultKind::UnknownFormat, place + 2)),
+    };
+    array_of(
+        table,
+        bytes,
+        Segment {
+            first,
+            count,
+            values,
+        },
+    )
 }
 
 /// A lookup of format 2, 4 or 6.
 #[tactic(auto, unfolding(crate::specs::Layouts::searched_at))]
-fn searched_at(table: Tag, bytes: &[u8], place: usize, kind: UnitKind) -> Result<Layout, Fault>
+fn searched_at(
+    table: Tag,
+    bytes: &[u8],
+    place: usize,
+    unit: UnitKind,
+    kind: ValueKind,
+) -> Result<Layout, Fault>
     requires { place + 2 ≤ length bytes.now }
-    ensures is { result ≡ searched_at table bytes.now place kind }
+    ensures is { result ≡ searched_at table bytes.now place unit kind }
     ensures sound { IfOk result (λ layout. IsSound bytes.now layout) }
 {
-    let units = Units::checked(table, bytes, place, kind)?;
+    let units = Units::checked(table, bytes, place, unit, kind)?;
     if units.are_crowded(bytes) {
         return Err(Fault::new(table, FaultKind::PastEnd, place));
     }
@@ -103,15 +108,16 @@ fn searched_at(table: Tag, bytes: &[u8], place: usize, kind: UnitKind) -> Result
 }
 
 impl Layout {
-    /// The layout of the lookup at a place, by its format.
+    /// The layout of the lookup at a place, by its format, whose values are of a kind.
     #[tactic(auto, unfolding(crate::specs::Layouts::layout_at))]
     pub(crate) fn read(
         table: Tag,
         bytes: &[u8],
         place: usize,
         glyph_count: u16,
+        kind: ValueKind,
     ) -> Result<Layout, Fault>
-        ensures is { result ≡ layout_at table bytes.now place glyph_count }
+        ensures is { result ≡ layout_at table bytes.now place glyph_count kind }
         ensures sound { IfOk result (λ layout. IsSound bytes.now layout) }
     {
         if bytes.len() < 2 || place > bytes.len() - 2 {
@@ -124,14 +130,14 @@ impl Layout {
                 Segment {
                     first: 0,
                     count: glyph_count as usize,
-                    values: Values::Words(place + 2),
+                    values: Values::Each(kind, place + 2),
                 },
             ),
-            2 => searched_at(table, bytes, place, UnitKind::SegmentSingle),
-            4 => searched_at(table, bytes, place, UnitKind::SegmentArray),
-            6 => searched_at(table, bytes, place, UnitKind::Single),
-            8 => trimmed_array_at(table, bytes, place),
-            10 => sized_array_at(table, bytes, place),
+            2 => searched_at(table, bytes, place, UnitKind::SegmentSingle, kind),
+            4 => searched_at(table, bytes, place, UnitKind::SegmentArray, kind),
+            6 => searched_at(table, bytes, place, UnitKind::Single, kind),
+            8 => trimmed_array_at(table, bytes, place, kind),
+            10 => sized_array_at(table, bytes, place, kind),
             _ => Err(Fault::new(table, FaultKind::UnknownFormat, place)),
         }
     }

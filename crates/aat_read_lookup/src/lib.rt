@@ -1,7 +1,8 @@
 //! Readers of lookups and of the feature name table.
 //!
 //! A lookup is checked before any memory is asked for. Whatever its bytes say, it has at most 65,536 glyphs, and takes
-//! at most 7 bytes of memory for each byte that it is read from.
+//! at most 7 bytes of memory for each byte that it is read from. Values have 16 bits, or 32 in the calls whose names say
+//! `long`.
 #![tactic(auto)]
 
 mod feat;
@@ -18,7 +19,8 @@ mod units;
 #[doc(hidden)]
 pub mod worked;
 
-pub use feat::{FEAT, feature_name_id, read_feat, setting_name_id};
+pub use aat_bytes::tags::FEAT;
+pub use feat::{feature_name_id, read_feat, setting_name_id};
 pub use lookup::{read_lookup, read_pairs};
-pub use rows::read_rows;
-pub use size::{lookup_bytes, lookup_size};
+pub use rows::{read_long_rows, read_rows};
+pub use size::{long_lookup_bytes, lookup_bytes, lookup_size};

@@ -3,11 +3,14 @@ ghost use Rattle.std.specs.Prelude.{◌≡◌, ◌++◌, None, Ok, IfOk, OnOk, M
 ghost use Rattle.std.specs.List.{flat_map};
 ghost use Rattle.aat_font.specs.Keys.{first, first_fall};
 ghost use Rattle.aat_font.specs.Segments.{first_segment_fall, pairs_of_segments};
-ghost use Rattle.aat_read_lookup.specs.Lookups.{Gives, Refuses, lookup_at, pairs_of};
-ghost use Rattle.aat_read_lookup.specs.inside.Sound.{AreSound, IsSound};
+ghost use Rattle.aat_read_lookup.specs.Kept.{kept_pairs};
+ghost use Rattle.aat_read_lookup.specs.Lookups.{Gives, Refuses, lookup_at};
+ghost use Rattle.aat_read_lookup.specs.inside.Sound.{AreSound, CanKeep, IsSound};
 ghost use Rattle.aat_read_lookup.specs.declared.layout.Layout.TheVariants.{Searched};
 
+use crate::kept::Keep;
 use crate::layout::Layout;
+use crate::segment::ValueKind;
 use crate::units::Units;
 use aat_bytes::{ReadError, Tag};
 use aat_font::{Lookup, LookupSegment, TableError};
@@ -17,51 +20,40 @@ use std::alloc::{AllocError, Allocator};
 fn append_units<A: Allocator>(
     units: Units,
     bytes: &[u8],
+    keep: Keep,
     pairs: &mut Vec<(u16, u16), A>,
 ) -> Result<(), AllocError>
-    requires { AreSound bytes.now units }
-    ensures { OnOk result (pairs.new.items ≡ pairs.old.items ++ pairs_of bytes.now (Searched units)) }
+    requires can { CanKeep keep }
+    requires sound { AreSound bytes.now units }
+    ensures { OnOk result (pairs.new.items ≡ pairs.old.items ++ kept_pairs bytes.now keep (Searched units)) }
 {
     for i in 0..units.count {
-        units.segment(i, bytes).append(bytes, pairs)?;
+        units.segment(i, bytes).append(bytes, keep, pairs)?;
     }
     Ok(())
 }
 
 /// The pairs of a layout, in memory of their own size.
-pub(crate) fn pairs_of<A: Allocator>(
+fn pairs_of<A: Allocator>(
     alloc: A,
     layout: Layout,
     bytes: &[u8],
+    keep: Keep,
 ) -> Result<Vec<(u16, u16), A>, AllocError>
-    requires { IsSound bytes.now layout }
-    ensures { IfOk result (λ pairs. pairs.items ≡ pairs_of bytes.now layout) }
+    requires can { CanKeep keep }
+    requires sound { IsSound bytes.now layout }
+    ensures { IfOk result (λ pairs. pairs.items ≡ kept_pairs bytes.now keep layout) }
 {
     let mut pairs = Vec::with_capacity(alloc, layout.glyphs(bytes))?;
     match layout {
-        Layout::Array(segment) => segment.append(bytes, &mut pairs)?,
-        Layout::Searched(units) => append_units(units, bytes, &mut pairs)?,
+        Layout::Array(segment) => segment.append(bytes, keep, &mut pairs)?,
+        Layout::Searched(units) => append_units(units, bytes, keep, &mut pairs)?,
     }
     Ok(pairs)
 }
 
-/// Reads the pairs of the lookup that starts at a place of a table, as `read_lookup` does, with the same faults.
-pub fn read_pairs<A: Allocator>(
-    alloc: A,
-    table: Tag,
-    bytes: &[u8],
-    place: usize,
-    glyph_count: u16,
-) -> Result<Vec<(u16, u16), A>, ReadError>
-    ensures { let read = lookup_at table bytes.now place glyph_count in
-        MatchResult result (λ pairs. read ≡ Ok pairs.items) (Refuses read) }
-{
-    let layout = Layout::read(table, bytes, place, glyph_count)?;
-    Ok(pairs_of(alloc, layout, bytes)?)
-}
-
 /// The lookup of pairs. Fails only where it gets no memory.
-pub(crate) fn lookup_of_pairs<A: Allocator + Copy>(
+fn lookup_of_pairs<A: Allocator + Copy>(
     alloc: A,
     pairs: &[(u16, u16)],
 ) -> Result<Lookup<A>, AllocError>
@@ -76,7 +68,7 @@ pub(crate) fn lookup_of_pairs<A: Allocator + Copy>(
 }
 
 /// The lookup of segments. Fails only where it gets no memory.
-pub(crate) fn lookup_of_segments<A: Allocator + Copy>(
+fn lookup_of_segments<A: Allocator + Copy>(
     alloc: A,
     segments: &[LookupSegment],
 ) -> Result<Lookup<A>, AllocError>
@@ -95,40 +87,61 @@ fn listed_lookup<A: Allocator + Copy>(
     alloc: A,
     layout: Layout,
     bytes: &[u8],
+    keep: Keep,
 ) -> Result<Lookup<A>, AllocError>
-    requires { IsSound bytes.now layout }
-    ensures { IfOk result (λ lookup. lookup ≡ pairs_of bytes.now layout) }
+    requires can { CanKeep keep }
+    requires sound { IsSound bytes.now layout }
+    ensures { IfOk result (λ lookup. lookup ≡ kept_pairs bytes.now keep layout) }
 {
-    let pairs = pairs_of(alloc, layout, bytes)?;
+    let pairs = pairs_of(alloc, layout, bytes, keep)?;
     lookup_of_pairs(alloc, &pairs)
 }
 
 /// The lookup of a layout that is kept as segments. Fails only where it gets no memory.
-fn spread_lookup<A: Allocator + Copy>(
+pub(crate) fn spread_lookup<A: Allocator + Copy>(
     alloc: A,
     layout: Layout,
     bytes: &[u8],
+    keep: Keep,
 ) -> Result<Lookup<A>, AllocError>
-    requires { IsSound bytes.now layout }
-    ensures { IfOk result (λ lookup. lookup ≡ pairs_of bytes.now layout) }
+    requires can { CanKeep keep }
+    requires sound { IsSound bytes.now layout }
+    ensures { IfOk result (λ lookup. lookup ≡ kept_pairs bytes.now keep layout) }
 {
-    let segments = layout.lookup_segments(alloc, bytes)?;
+    let segments = layout.segments(alloc, bytes, keep)?;
     lookup_of_segments(alloc, &segments)
 }
 
 /// The lookup of a layout. Fails only where it gets no memory.
-fn lookup_of<A: Allocator + Copy>(
+pub(crate) fn lookup_of<A: Allocator + Copy>(
     alloc: A,
     layout: Layout,
     bytes: &[u8],
+    keep: Keep,
 ) -> Result<Lookup<A>, AllocError>
-    requires { IsSound bytes.now layout }
-    ensures { IfOk result (λ lookup. lookup ≡ pairs_of bytes.now layout) }
+    requires can { CanKeep keep }
+    requires sound { IsSound bytes.now layout }
+    ensures { IfOk result (λ lookup. lookup ≡ kept_pairs bytes.now keep layout) }
 {
     if layout.is_spread(bytes) {
-        return spread_lookup(alloc, layout, bytes);
+        return spread_lookup(alloc, layout, bytes, keep);
     }
-    listed_lookup(alloc, layout, bytes)
+    listed_lookup(alloc, layout, bytes, keep)
+}
+
+/// Reads the pairs of the lookup that starts at a place of a table, as `read_lookup` does, with the same faults.
+pub fn read_pairs<A: Allocator>(
+    alloc: A,
+    table: Tag,
+    bytes: &[u8],
+    place: usize,
+    glyph_count: u16,
+) -> Result<Vec<(u16, u16), A>, ReadError>
+    ensures { let read = lookup_at table bytes.now place glyph_count in
+        MatchResult result (λ pairs. read ≡ Ok pairs.items) (Refuses read) }
+{
+    let layout = Layout::read(table, bytes, place, glyph_count, ValueKind::Word)?;
+    Ok(pairs_of(alloc, layout, bytes, Keep::Value)?)
 }
 
 /// Reads the lookup that starts at a place of a table, in bytes from the start of the table. `bytes` is the whole
@@ -162,6 +175,6 @@ pub fn read_lookup<A: Allocator + Copy>(
 ) -> Result<Lookup<A>, ReadError>
     ensures { Gives result (lookup_at table bytes.now place glyph_count) }
 {
-    let layout = Layout::read(table, bytes, place, glyph_count)?;
-    Ok(lookup_of(alloc, layout, bytes)?)
+    let layout = Layout::read(table, bytes, place, glyph_count, ValueKind::Word)?;
+    Ok(lookup_of(alloc, layout, bytes, Keep::Value)?)
 }

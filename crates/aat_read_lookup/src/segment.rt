@@ -1,20 +1,61 @@
 //! Segments: glyphs that follow one another, with their values.
-ghost use Rattle.std.specs.Prelude.{◌≡◌, ◌+◌, ◌<◌, ◌≤◌, ◌++◌, ◌^◌, length, nat_lt, OnOk};
-ghost use Rattle.aat_read_lookup.specs.Segments.{segment_pairs, value_at, values_end, values_place, values_size};
-ghost use Rattle.aat_read_lookup.specs.Kept.{lookup_segment};
+ghost use Rattle.std.specs.Prelude.{◌≡◌, ◌+◌, ◌*◌, ◌<◌, ◌≤◌, ◌^◌, length, nat_lt};
+ghost use Rattle.aat_read_lookup.specs.Segments.{is_long, is_shared, long_value_at, number_at, numbers_size, value_at, values_end, values_place, values_size};
 ghost use Rattle.aat_read_lookup.specs.inside.Sound.{Fits};
 
-use aat_bytes::be16;
-use aat_font::LookupSegment;
-use std::alloc::{AllocError, Allocator};
+use aat_bytes::{be16, be32};
+
+/// How many bits a value has.
+#[derive(Clone, Copy, PartialEq, Eq)]
+pub(crate) enum ValueKind {
+    /// 16.
+    Word,
+    /// 32.
+    Long,
+}
+
+impl ValueKind {
+    /// Whether a value has 32 bits.
+    pub(crate) fn is_long(self) -> bool
+        ensures { result ≡ is_long self }
+    {
+        match self {
+            ValueKind::Word => false,
+            ValueKind::Long => true,
+        }
+    }
+
+    /// How many bytes so many values take.
+    pub(crate) fn size(self, count: usize) -> usize
+        requires { count < 2 ^ 32 }
+        ensures is { result ≡ numbers_size self count }
+        ensures few { result ≤ 4 * count }
+    {
+        match self {
+            ValueKind::Word => 2 * count,
+            ValueKind::Long => 4 * count,
+        }
+    }
+
+    /// The value at a place.
+    fn number(self, bytes: &[u8], at: usize) -> u32
+        requires { at + numbers_size self 1 ≤ length bytes.now }
+        ensures { result ≡ number_at bytes.now self at }
+    {
+        match self {
+            ValueKind::Word => be16(bytes, at) as u32,
+            ValueKind::Long => be32(bytes, at),
+        }
+    }
+}
 
 /// Where the values of a segment stand in the table.
 #[derive(Clone, Copy)]
 pub(crate) enum Values {
-    /// One number of 16 bits, the value of each glyph.
-    Shared(usize),
-    /// A number of 16 bits for each glyph.
-    Words(usize),
+    /// One number, the value of each glyph.
+    Shared(ValueKind, usize),
+    /// A number for each glyph.
+    Each(ValueKind, usize),
     /// A byte for each glyph.
     Bytes(usize),
 }
@@ -25,8 +66,8 @@ impl Values {
         ensures { result ≡ values_place self }
     {
         match self {
-            Values::Shared(at) => at,
-            Values::Words(at) => at,
+            Values::Shared(_, at) => at,
+            Values::Each(_, at) => at,
             Values::Bytes(at) => at,
         }
     }
@@ -34,12 +75,24 @@ impl Values {
     /// How many bytes the values of so many glyphs take.
     pub(crate) fn size(self, count: usize) -> usize
         requires { count ≤ 65536 }
-        ensures { result ≡ values_size self count }
+        ensures is { result ≡ values_size self count }
+        ensures few { result < 2 ^ 20 }
     {
         match self {
-            Values::Shared(_) => 2,
-            Values::Words(_) => 2 * count,
+            Values::Shared(kind, _) => kind.size(1),
+            Values::Each(kind, _) => kind.size(count),
             Values::Bytes(_) => count,
+        }
+    }
+
+    /// Whether all glyphs have one value.
+    pub(crate) fn is_shared(self) -> bool
+        ensures { result ≡ is_shared self }
+    {
+        match self {
+            Values::Shared(_, _) => true,
+            Values::Each(_, _) => false,
+            Values::Bytes(_) => false,
         }
     }
 }
@@ -62,48 +115,32 @@ impl Segment {
         requires few { self.count ≤ 65536 }
         ensures { result ≡ nat_lt (length bytes.now) (values_end self) }
     {
-        match self.values {
-            Values::Shared(at) => bytes.len() < at + 2,
-            Values::Words(at) => bytes.len() < at + 2 * self.count,
-            Values::Bytes(at) => bytes.len() < at + self.count,
-        }
+        bytes.len() < self.values.place() + self.values.size(self.count)
     }
 
-    /// The value of the glyph that stands so many glyphs behind the first.
+    /// The value of 16 bits of the glyph that stands so many glyphs behind the first.
     pub(crate) fn value(self, bytes: &[u8], k: usize) -> u16
         requires fits { Fits bytes.now self }
         requires below { k < self.count }
         ensures { result ≡ value_at bytes.now self.values k }
     {
         match self.values {
-            Values::Shared(at) => be16(bytes, at),
-            Values::Words(at) => be16(bytes, at + 2 * k),
+            Values::Shared(_, at) => be16(bytes, at),
+            Values::Each(kind, at) => be16(bytes, at + kind.size(k)),
             Values::Bytes(at) => bytes[at + k] as u16,
         }
     }
 
-    /// The segment as a lookup keeps it, if its glyphs have one value.
-    pub(crate) fn lookup_segment(self, bytes: &[u8]) -> LookupSegment
+    /// The value of up to 32 bits of the glyph that stands so many glyphs behind the first.
+    pub(crate) fn long_value(self, bytes: &[u8], k: usize) -> u32
         requires fits { Fits bytes.now self }
-        requires some { 0 < self.count }
-        ensures { result ≡ lookup_segment bytes.now self }
+        requires below { k < self.count }
+        ensures { result ≡ long_value_at bytes.now self.values k }
     {
-        let last = self.first as usize + self.count - 1;
-        LookupSegment::new(self.first, last as u16, self.value(bytes, 0))
-    }
-
-    /// Appends the pairs of the segment.
-    pub(crate) fn append<A: Allocator>(
-        self,
-        bytes: &[u8],
-        pairs: &mut Vec<(u16, u16), A>,
-    ) -> Result<(), AllocError>
-        requires { Fits bytes.now self }
-        ensures { OnOk result (pairs.new.items ≡ pairs.old.items ++ segment_pairs bytes.now self) }
-    {
-        for k in 0..self.count {
-            pairs.push((self.first + k as u16, self.value(bytes, k)))?;
+        match self.values {
+            Values::Shared(kind, at) => kind.number(bytes, at),
+            Values::Each(kind, at) => kind.number(bytes, at + kind.size(k)),
+            Values::Bytes(at) => bytes[at + k] as u32,
         }
-        Ok(())
     }
 }

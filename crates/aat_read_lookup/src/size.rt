@@ -2,12 +2,14 @@
 ghost use Rattle.std.specs.Prelude.{◌≡◌, ◌+◌, ◌*◌, ◌^◌, ◌≤◌, ◌<◌};
 ghost use Rattle.aat_font.specs.Keys.{first};
 ghost use Rattle.aat_font.specs.inside.GlyphSpans.{glyph_span};
+ghost use Rattle.aat_read_lookup.specs.LongSizes.{long_bytes_at};
 ghost use Rattle.aat_read_lookup.specs.Lookups.{pairs_of};
 ghost use Rattle.aat_read_lookup.specs.Sizes.{bytes_of, cells_beside, is_spread, layout_size, lookup_bytes_at, lookup_size_at, pairs_size};
 ghost use Rattle.aat_read_lookup.specs.inside.Sound.{AreSound, IsSound};
 ghost use Rattle.aat_read_lookup.specs.declared.layout.Layout.TheVariants.{Searched};
 
 use crate::layout::Layout;
+use crate::segment::ValueKind;
 use crate::units::Units;
 use aat_bytes::{Fault, Tag};
 use aat_font::LookupSegment;
@@ -71,7 +73,7 @@ impl Layout {
     fn bytes(self, bytes: &[u8]) -> usize
         requires { IsSound bytes.now self }
         ensures is { result ≡ bytes_of bytes.now self }
-        ensures few { result < 2 ^ 34 }
+        ensures few { result < 2 ^ 35 }
     {
         match self {
             Layout::Array(segment) => segment.values.size(segment.count),
@@ -120,7 +122,7 @@ impl Layout {
 pub fn lookup_size(table: Tag, bytes: &[u8], place: usize, glyph_count: u16) -> Result<usize, Fault>
     ensures { result ≡ lookup_size_at table bytes.now place glyph_count }
 {
-    let layout = Layout::read(table, bytes, place, glyph_count)?;
+    let layout = Layout::read(table, bytes, place, glyph_count, ValueKind::Word)?;
     Ok(layout.size(bytes))
 }
 
@@ -136,6 +138,24 @@ pub fn lookup_bytes(
 ) -> Result<usize, Fault>
     ensures { result ≡ lookup_bytes_at table bytes.now place glyph_count }
 {
-    let layout = Layout::read(table, bytes, place, glyph_count)?;
+    let layout = Layout::read(table, bytes, place, glyph_count, ValueKind::Word)?;
+    Ok(layout.bytes(bytes))
+}
+
+/// How many bytes of the table the lookup of the same arguments is read from, behind its header, with the faults of
+/// `read_long_rows`: the records of its units, without what fills them up, and its values. Values that units of format 4
+/// share count for each unit. They are no more than the bytes from `place` to the end of the table. It takes no memory,
+/// and time linear in the units.
+///
+/// Apple's TrueType Reference Manual, "Font Tables", section on lookup tables.
+pub fn long_lookup_bytes(
+    table: Tag,
+    bytes: &[u8],
+    place: usize,
+    glyph_count: u16,
+) -> Result<usize, Fault>
+    ensures { result ≡ long_bytes_at table bytes.now place glyph_count }
+{
+    let layout = Layout::read(table, bytes, place, glyph_count, ValueKind::Long)?;
     Ok(layout.bytes(bytes))
 }

@@ -4,7 +4,7 @@ ghost use Rattle.aat_read_lookup.specs.Layouts.{checked_units, end_before, is_te
 ghost use Rattle.aat_read_lookup.specs.Segments.{values_place};
 ghost use Rattle.aat_read_lookup.specs.inside.Sound.{AreInside, AreSound};
 
-use crate::segment::{Segment, Values};
+use crate::segment::{Segment, ValueKind, Values};
 use aat_bytes::{Fault, FaultKind, Tag, be16};
 
 /// What a unit says.
@@ -19,21 +19,21 @@ pub(crate) enum UnitKind {
 }
 
 impl UnitKind {
-    /// How many bytes the record of a unit has.
-    pub(crate) fn record_size(self) -> u16
-        ensures { result ≡ record_size self }
+    /// How many bytes the record of a unit has whose values are of a kind.
+    pub(crate) fn record_size(self, values: ValueKind) -> u16
+        ensures { result ≡ record_size self values }
     {
         match self {
-            UnitKind::SegmentSingle => 6,
+            UnitKind::SegmentSingle => 4 + values.size(1) as u16,
             UnitKind::SegmentArray => 6,
-            UnitKind::Single => 4,
+            UnitKind::Single => 2 + values.size(1) as u16,
         }
     }
 }
 
 /// Whether the terminator stands at a place.
-fn is_terminator(bytes: &[u8], kind: UnitKind, at: usize) -> bool
-    requires { at + record_size kind ≤ length bytes.now }
+fn is_terminator(bytes: &[u8], kind: UnitKind, values: ValueKind, at: usize) -> bool
+    requires { at + record_size kind values ≤ length bytes.now }
     ensures { result ≡ is_terminator bytes.now kind at }
 {
     match kind {
@@ -51,10 +51,10 @@ fn glyphs_between(first: u16, last: u16) -> usize
 }
 
 /// The segment of the unit at a place.
-fn segment_at(bytes: &[u8], kind: UnitKind, start: usize, at: usize) -> Segment
+fn segment_at(bytes: &[u8], kind: UnitKind, values: ValueKind, start: usize, at: usize) -> Segment
     requires starts { start ≤ at }
-    requires inside { at + record_size kind ≤ length bytes.now }
-    ensures is { result ≡ segment_at bytes.now kind start at }
+    requires inside { at + record_size kind values ≤ length bytes.now }
+    ensures is { result ≡ segment_at bytes.now kind values start at }
     ensures glyphs { result.first + result.count ≤ 65536 }
     ensures near { values_place result.values ≤ length bytes.now + 65536 }
 {
@@ -62,17 +62,17 @@ fn segment_at(bytes: &[u8], kind: UnitKind, start: usize, at: usize) -> Segment
         UnitKind::SegmentSingle => Segment {
             first: be16(bytes, at + 2),
             count: glyphs_between(be16(bytes, at + 2), be16(bytes, at)),
-            values: Values::Shared(at + 4),
+            values: Values::Shared(values, at + 4),
         },
         UnitKind::SegmentArray => Segment {
             first: be16(bytes, at + 2),
             count: glyphs_between(be16(bytes, at + 2), be16(bytes, at)),
-            values: Values::Words(start + be16(bytes, at + 4) as usize),
+            values: Values::Each(values, start + be16(bytes, at + 4) as usize),
         },
         UnitKind::Single => Segment {
             first: be16(bytes, at),
             count: 1,
-            values: Values::Shared(at + 2),
+            values: Values::Shared(values, at + 2),
         },
     }
 }
@@ -82,6 +82,8 @@ fn segment_at(bytes: &[u8], kind: UnitKind, start: usize, at: usize) -> Segment
 pub(crate) struct Units {
     /// What a unit says.
     pub(crate) kind: UnitKind,
+    /// The kind of its values.
+    pub(crate) values: ValueKind,
     /// Where the lookup starts.
     pub(crate) start: usize,
     /// How many bytes a unit has.
@@ -96,7 +98,7 @@ impl Units {
         requires inside { AreInside bytes.now self }
         requires below { i < self.count }
         ensures is { result ≡ unit_place self i }
-        ensures inside { result + record_size self.kind ≤ length bytes.now }
+        ensures inside { result + record_size self.kind self.values ≤ length bytes.now }
     {
         self.start + 12 + self.size as usize * i as usize
     }
@@ -109,7 +111,13 @@ impl Units {
         ensures glyphs { result.first + result.count ≤ 65536 }
         ensures near { values_place result.values ≤ length bytes.now + 65536 }
     {
-        segment_at(bytes, self.kind, self.start, self.place(i, bytes))
+        segment_at(
+            bytes,
+            self.kind,
+            self.values,
+            self.start,
+            self.place(i, bytes),
+        )
     }
 
     /// The units without the terminator.
@@ -121,9 +129,11 @@ impl Units {
         if self.count == 0 {
             return self;
         }
-        if is_terminator(bytes, self.kind, self.place(self.count - 1, bytes)) {
+        let last = self.place(self.count - 1, bytes);
+        if is_terminator(bytes, self.kind, self.values, last) {
             return Units {
                 kind: self.kind,
+                values: self.values,
                 start: self.start,
                 size: self.size,
                 count: self.count - 1,
@@ -134,9 +144,15 @@ impl Units {
 
     /// The units of the header at a place.
     #[tactic(auto, unfolding(crate::specs::Layouts::units_at))]
-    fn read(table: Tag, bytes: &[u8], place: usize, kind: UnitKind) -> Result<Units, Fault>
+    fn read(
+        table: Tag,
+        bytes: &[u8],
+        place: usize,
+        kind: UnitKind,
+        values: ValueKind,
+    ) -> Result<Units, Fault>
         requires { place + 2 ≤ length bytes.now }
-        ensures is { result ≡ units_at table bytes.now place kind }
+        ensures is { result ≡ units_at table bytes.now place kind values }
         ensures inside { IfOk result (λ units. AreInside bytes.now units) }
     {
         if bytes.len() < place + 12 {
@@ -144,7 +160,7 @@ impl Units {
         }
         let size = be16(bytes, place + 2);
         let count = be16(bytes, place + 4);
-        if size < kind.record_size() {
+        if size < kind.record_size(values) {
             return Err(Fault::new(table, FaultKind::ShortLength, place + 2));
         }
         let first = place + 12;
@@ -154,6 +170,7 @@ impl Units {
         }
         let units = Units {
             kind,
+            values,
             start: place,
             size,
             count,
@@ -210,12 +227,13 @@ impl Units {
         bytes: &[u8],
         place: usize,
         kind: UnitKind,
+        values: ValueKind,
     ) -> Result<Units, Fault>
         requires { place + 2 ≤ length bytes.now }
-        ensures is { result ≡ checked_units table bytes.now place kind }
+        ensures is { result ≡ checked_units table bytes.now place kind values }
         ensures sound { IfOk result (λ units. AreSound bytes.now units) }
     {
-        let units = Units::read(table, bytes, place, kind)?;
+        let units = Units::read(table, bytes, place, kind, values)?;
         match units.fault(table, bytes) {
             Some(fault) => Err(fault),
             None => Ok(units),

@@ -30,12 +30,12 @@ use Rattle.aat_read_machine.specs.StateArray.{StateArray, cells_of, class_place,
 use Rattle.aat_read_machine.specs.SubtableKinds.{as_kind, subtable_kind_at}
 use Rattle.aat_read_machine.specs.Weights.{all_listed_weight, classes_weight, contextual_weight, insertion_weight, kind_weight, ligature_weight, listed_weight, machine_weight, values_weight}
 use Rattle.aat_read_machine.specs.declared.weights.TheConstants.{PLAIN_RULE_SIZE}
-use Rattle.aat_read_machine.specs.declared.kinds.TheConstants.{MORX}
 use Rattle.aat_read_machine.proofs.Counting.{none_missing_index}
 use Rattle.aat_read_machine.proofs.Headers.{header_parts}
 use Rattle.aat_bytes.specs.facts.Parts.{none_of, ok_parts, parts, passes}
 use Rattle.aat_bytes.specs.facts.Ranges.{none_each, sum_more}
 use Rattle.aat_bytes.specs.facts.Longs.{long_is}
+use Rattle.aat_bytes.specs.declared.tags.TheConstants.{MORX}
 
 -- cells whose indexes are there stand in the bytes
 indexed_fit : (m : StateArray) (n : ℕ) → missing_index m n ≡ None → 2 * n ≤ length m.bytes

@@ -5,6 +5,7 @@ use Rattle.aat_bytes.specs.Faults.{after, fault_at}
 use Rattle.aat_bytes.specs.Numbers.{be32}
 use Rattle.aat_bytes.specs.declared.error.Fault.{Fault}
 use Rattle.aat_bytes.specs.declared.error.FaultKind.TheVariants.{PastEnd}
+use Rattle.aat_bytes.specs.declared.tags.TheConstants.{MORX}
 use Rattle.aat_font.specs.Subtables.{ContextualTables}
 use Rattle.aat_read_lookup.specs.Lookups.{lookup_at}
 use Rattle.aat_read_machine.specs.Entries.{contextual_at}
@@ -13,7 +14,6 @@ use Rattle.aat_read_machine.specs.Lookups.{lookup_count}
 use Rattle.aat_read_machine.specs.Machine.{with_classes}
 use Rattle.aat_read_machine.specs.Room.{lookup_past_room, room_left}
 use Rattle.aat_read_machine.specs.StateArray.{StateArray, cells_of, class_place, state_array_at}
-use Rattle.aat_read_machine.specs.declared.kinds.TheConstants.{MORX}
 
 -- each of some results, or the first fault
 abbrev pub each_of : {X : Type 0} → List (Result X Fault) → Result (List X) Fault

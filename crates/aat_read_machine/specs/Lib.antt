@@ -10,6 +10,7 @@ pub mod MachineLaws
 pub mod MachinesOfBytes
 pub mod Room
 pub mod RoomExamples
+pub mod SizeExamples
 pub mod StateArray
 pub mod SubtableKinds
 pub mod Weights

@@ -3,13 +3,13 @@ use Rattle.std.specs.Prelude.{◌≡◌, ℕ, List, [], ◌∷◌, ◌++◌, Ok,
 use Rattle.aat_bytes.specs.Faults.{fault_at}
 use Rattle.aat_bytes.specs.declared.error.Fault.{Fault}
 use Rattle.aat_bytes.specs.declared.error.FaultKind.TheVariants.{PastEnd}
+use Rattle.aat_bytes.specs.declared.tags.TheConstants.{MORX}
 use Rattle.aat_font.specs.Subtables.{ContextualTables}
 use Rattle.aat_font.specs.Table.{Rule}
 use Rattle.aat_font.specs.declared.entries.ContextualEntryData.{ContextualEntryData}
 use Rattle.aat_font.specs.declared.state_table.GenericStateEntry.{GenericStateEntry}
 use Rattle.aat_read_machine.specs.Contextual.{contextual_tables_at}
 use Rattle.aat_read_machine.specs.MachineExamples.{example_classes}
-use Rattle.aat_read_machine.specs.declared.kinds.TheConstants.{MORX}
 
 -- a contextual subtable of 52 bytes, and behind it its list of lookups: the class table at 20, one row at 36 and one
 -- entry at 44, which names a lookup for the current glyph and none for the marked one

@@ -2,13 +2,13 @@
 use Rattle.std.specs.Prelude.{ℕ, List, [], Result, Ok, if◌then◌else◌, ◌==◌}
 use Rattle.aat_bytes.specs.Faults.{after}
 use Rattle.aat_bytes.specs.declared.error.Fault.{Fault}
+use Rattle.aat_bytes.specs.declared.tags.TheConstants.{MORX}
 use Rattle.aat_font.specs.declared.morx.SubtableKind.{SubtableKind}
 use Rattle.aat_font.specs.declared.morx.SubtableKind.TheVariants.{Rearrangement, Contextual, Ligature, NonContextual, Insertion}
 use Rattle.aat_read_lookup.specs.Lookups.{lookup_at}
 use Rattle.aat_read_machine.specs.Contextual.{contextual_tables_at}
 use Rattle.aat_read_machine.specs.Kinds.{insertion_tables_at, ligature_at}
 use Rattle.aat_read_machine.specs.Machine.{machine_at}
-use Rattle.aat_read_machine.specs.declared.kinds.TheConstants.{MORX}
 
 -- what comes of the tables of a kind
 abbrev pub as_kind : {X : Type 0} → (X → SubtableKind) → Result X Fault → Result SubtableKind Fault

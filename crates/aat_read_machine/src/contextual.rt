@@ -5,10 +5,11 @@ ghost use Rattle.aat_read_machine.specs.Contextual.{contextual_tables, contextua
 ghost use Rattle.aat_read_machine.specs.StateArray.{AreIndexed, AreWhole};
 ghost use Rattle.aat_read_machine.specs.Within.{GivesWithin, RefusesWithin};
 
-use crate::kinds::{MORX, list_place};
+use crate::kinds::list_place;
 use crate::machine::with_classes;
 use crate::room::lookup_past_room;
 use crate::state_array::StateArray;
+use aat_bytes::tags::MORX;
 use aat_bytes::{Fault, FaultKind, ReadError, be32};
 use aat_font::{ContextualEntryData, ContextualSubtable, Lookup};
 use aat_read_lookup::read_lookup;

@@ -5,12 +5,10 @@ ghost use Rattle.aat_read_machine.specs.Kinds.{insertion_tables_at, ligature_at,
 
 use crate::lists::{glyphs_from, numbers16, numbers32};
 use crate::machine::read_machine;
-use aat_bytes::{Fault, FaultKind, ReadError, Tag, be32};
+use aat_bytes::tags::MORX;
+use aat_bytes::{Fault, FaultKind, ReadError, be32};
 use aat_font::{InsertionEntryData, InsertionSubtable, LigatureSubtable};
 use std::alloc::Global;
-
-/// The tag of the extended glyph metamorphosis table.
-pub const MORX: Tag = Tag(0x6D6F_7278);
 
 /// Where a list starts whose offset, from the subtable's place, stands so many bytes behind that place.
 pub(crate) fn list_place(bytes: &[u8], place: usize, at: u8) -> usize

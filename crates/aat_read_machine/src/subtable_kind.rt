@@ -6,9 +6,10 @@ ghost use Rattle.aat_read_machine.specs.SubtableKinds.{subtable_kind_at};
 ghost use Rattle.aat_read_machine.specs.Within.{GivesWithin};
 
 use crate::contextual::read_contextual;
-use crate::kinds::{MORX, read_insertion, read_ligature};
+use crate::kinds::{read_insertion, read_ligature};
 use crate::machine::read_machine;
 use aat_bytes::ReadError;
+use aat_bytes::tags::MORX;
 use aat_font::{Lookup, SubtableKind};
 use aat_read_lookup::read_lookup;
 use std::alloc::Global;

@@ -1,6 +1,7 @@
 //! Worked examples of state tables as theorems. These calls do nothing: what is proved is their contracts.
 ghost use Rattle.aat_read_machine.specs.MachineExamples.{MachineFaultsHaveTheirPlaces, StateOneIsNotAsked, StatesAreNamed};
 ghost use Rattle.aat_read_machine.specs.RoomExamples.{FourthLookupHasNoRoom, ThreeLookupsHaveRoom};
+ghost use Rattle.aat_read_machine.specs.SizeExamples.{SizesAreKnown};
 
 /// The definitions of state tables compute to the examples.
 #[tactic(auto, unfolding(crate::specs::Machine::machine_at, crate::specs::Machine::with_classes, crate::specs::StateArray::state_array_at, crate::specs::StateArray::header_at, crate::specs::StateArray::cells_of, crate::specs::StateArray::states_of, crate::specs::StateArray::least, crate::specs::StateArray::states_named, crate::specs::StateArray::has_index, crate::specs::StateArray::has_entry, aat_read_lookup::specs::Layouts::layout_at, aat_read_lookup::specs::Layouts::searched_at, aat_read_lookup::specs::Layouts::checked_units, aat_read_lookup::specs::Layouts::units_at))]
@@ -15,4 +16,9 @@ pub fn machines()
 pub fn room()
     ensures three { ThreeLookupsHaveRoom }
     ensures fourth { FourthLookupHasNoRoom }
+{}
+
+/// The types by which memory is counted have their sizes.
+pub fn sizes()
+    ensures { SizesAreKnown }
 {}

@@ -5,7 +5,7 @@ use Rattle.aat_bytes.specs.Faults.{fault_at}
 use Rattle.aat_bytes.specs.Numbers.{be32}
 use Rattle.aat_bytes.specs.declared.error.Fault.{Fault}
 use Rattle.aat_bytes.specs.declared.error.FaultKind.TheVariants.{PastEnd, ShortLength}
-use Rattle.aat_read_machine.specs.declared.kinds.TheConstants.{MORX}
+use Rattle.aat_bytes.specs.declared.tags.TheConstants.{MORX}
 
 -- where a record ends that starts at a place: its header has so many bytes, and its length, which counts the header,
 -- stands so many bytes behind the place

@@ -6,4 +6,5 @@ pub mod InTurn
 pub mod MorxExamples
 pub mod MorxLaws
 pub mod Reaches
+pub mod SizeExamples
 pub mod Weights

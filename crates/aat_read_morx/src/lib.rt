@@ -1,4 +1,8 @@
-//! Whole tables of the layer, read from bytes: the chains of `morx`.
+//! The chains of the extended glyph metamorphosis table, `morx`, read from bytes.
+//!
+//! ```
+//! let morx = read_morx(alloc, &bytes, glyph_count)?;
+//! ```
 #![tactic(auto)]
 
 mod chain_features;

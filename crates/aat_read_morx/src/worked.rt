@@ -1,5 +1,6 @@
-//! Worked examples of the chains of `morx` as theorems. This call does nothing: what is proved is its contract.
+//! Worked examples of the chains of `morx` as theorems. These calls do nothing: what is proved is their contracts.
 ghost use Rattle.aat_read_morx.specs.MorxExamples.{ChainHasItsParts, ChainsStartWhereLengthsEnd, MorxFaultsHaveTheirPlaces, PartsAreInOrder, SubtableMayReachBehindItsEnd, UnknownKindDoesNothing};
+ghost use Rattle.aat_read_morx.specs.SizeExamples.{SizesAreKnown};
 
 /// The definitions of chains compute to the examples.
 #[tactic(auto, unfolding(crate::specs::Chains::morx_of, crate::specs::Chains::chain_at, crate::specs::Chains::chain_value_at, crate::specs::ChainFeatures::whole_features, crate::specs::ChainSubtables::subtable_at, crate::specs::InTurn::end_at, crate::specs::Reaches::allowance, aat_read_machine::specs::SubtableKinds::subtable_kind_at, aat_read_lookup::specs::Layouts::layout_at, aat_read_lookup::specs::Layouts::searched_at, aat_read_lookup::specs::Layouts::checked_units, aat_read_lookup::specs::Layouts::units_at))]
@@ -10,4 +11,9 @@ pub fn chains()
     ensures lengths { ChainsStartWhereLengthsEnd }
     ensures reach { SubtableMayReachBehindItsEnd }
     ensures faults { MorxFaultsHaveTheirPlaces }
+{}
+
+/// The types by which memory is counted have their sizes.
+pub fn sizes()
+    ensures { SizesAreKnown }
 {}

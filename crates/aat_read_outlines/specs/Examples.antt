@@ -2,7 +2,7 @@
 use Rattle.std.specs.Prelude.{◌≡◌, ℕ, ℤ, List, [], ◌∷◌, ◌++◌, pos, negsuc, Bool, true, false, Some, None, Ok, Err}
 use Rattle.aat_bytes.specs.Faults.{fault_at}
 use Rattle.aat_bytes.specs.declared.error.FaultKind.TheVariants.{PastEnd, UnknownFormat, Missing, NotRising}
-use Rattle.aat_read_sfnt.specs.declared.tags.TheConstants.{HEAD}
+use Rattle.aat_bytes.specs.declared.tags.TheConstants.{GLYF, HEAD, LOCA}
 use Rattle.aat_read_outlines.specs.Components.{placed, scales}
 use Rattle.aat_read_outlines.specs.Composites.{outline_of}
 use Rattle.aat_read_outlines.specs.Flags.{FlagList, flags_from, run_at}
@@ -15,7 +15,6 @@ use Rattle.aat_read_outlines.specs.declared.components.Component.{Component}
 use Rattle.aat_read_outlines.specs.declared.curves.HalfPoint.{HalfPoint}
 use Rattle.aat_read_outlines.specs.declared.curves.Segment.TheVariants.{MoveTo, LineTo, QuadraticTo, Close}
 use Rattle.aat_read_outlines.specs.declared.outline.OutlinePoint.{OutlinePoint}
-use Rattle.aat_read_outlines.specs.declared.tags.TheConstants.{GLYF, LOCA}
 
 -- a point on the curve, one off it, and a point in half units
 abbrev pub on : ℤ → ℤ → OutlinePoint

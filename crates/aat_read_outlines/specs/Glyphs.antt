@@ -4,7 +4,7 @@ use Rattle.aat_bytes.specs.Faults.{fault_at}
 use Rattle.aat_bytes.specs.declared.error.Fault.{Fault}
 use Rattle.aat_bytes.specs.declared.error.FaultKind.{FaultKind}
 use Rattle.aat_bytes.specs.declared.error.FaultKind.TheVariants.{PastEnd}
-use Rattle.aat_read_outlines.specs.declared.tags.TheConstants.{GLYF}
+use Rattle.aat_bytes.specs.declared.tags.TheConstants.{GLYF}
 
 -- the bytes, and where they begin in the table
 pub record GlyphBytes : Type 0 where

@@ -1,6 +1,7 @@
 pub mod Components
 pub mod Composites
 pub mod Examples
+pub mod FlagExamples
 pub mod Flags
 pub mod Glyphs
 pub mod Offsets

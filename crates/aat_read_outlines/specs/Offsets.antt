@@ -5,11 +5,10 @@ use Rattle.aat_bytes.specs.Numbers.{be16, u16_at, u32_at}
 use Rattle.aat_bytes.specs.declared.error.Fault.{Fault}
 use Rattle.aat_bytes.specs.declared.error.FaultKind.{FaultKind}
 use Rattle.aat_bytes.specs.declared.error.FaultKind.TheVariants.{PastEnd, UnknownFormat, ShortLength, Missing, NotRising}
+use Rattle.aat_bytes.specs.declared.tags.TheConstants.{GLYF, HEAD, LOCA, MAXP}
 use Rattle.aat_read_sfnt.specs.Directory.{Directory, table_of}
 use Rattle.aat_read_sfnt.specs.Header.{glyph_count}
-use Rattle.aat_read_sfnt.specs.declared.tags.TheConstants.{HEAD, MAXP}
 use Rattle.aat_read_outlines.specs.Glyphs.{GlyphBytes}
-use Rattle.aat_read_outlines.specs.declared.tags.TheConstants.{GLYF, LOCA}
 
 -- whether offsets have 32 bits: the format behind a header, which is 0 or 1, where 54 bytes are there
 unfoldable pub long_offsets : List ℕ → Result Bool Fault

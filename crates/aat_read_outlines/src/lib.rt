@@ -1,4 +1,8 @@
-//! Outlines of glyphs, from the tables `glyf` and `loca`.
+//! Outlines of glyphs, from the tables `glyf` and `loca`, also of a composite glyph, and their curves.
+//!
+//! ```
+//! let outline = Outlines::new(glyf, loca, is_long, glyph_count).outline(alloc, glyph)?;
+//! ```
 #![tactic(auto)]
 
 mod components;

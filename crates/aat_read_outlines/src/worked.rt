@@ -1,5 +1,6 @@
 //! Worked examples of outlines as theorems. These calls do nothing: what is proved is their contracts.
 ghost use Rattle.aat_read_outlines.specs.Examples.{ComponentsAreDrawn, ContoursAreCurves, FlagsAreRepeated, OffsetFaultsHaveTheirPlaces, PointsArePlaced, PointsAreSums, SimpleFaultsHaveTheirPlaces};
+ghost use Rattle.aat_read_outlines.specs.FlagExamples.{ComponentFlagsAreBits, PointFlagsAreBits};
 
 /// The definitions of simple glyphs compute to the examples.
 pub fn simple_glyphs()
@@ -19,4 +20,10 @@ pub fn composite_glyphs()
     ensures placed { PointsArePlaced }
     ensures drawn { ComponentsAreDrawn }
     ensures faults { OffsetFaultsHaveTheirPlaces }
+{}
+
+/// The flags are the bits that the manual numbers.
+pub fn flags()
+    ensures points { PointFlagsAreBits }
+    ensures components { ComponentFlagsAreBits }
 {}

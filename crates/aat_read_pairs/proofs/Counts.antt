@@ -8,19 +8,19 @@ use Rattle.aat_bytes.specs.Faults.{fault_at}
 use Rattle.aat_bytes.specs.Numbers.{be16, be32}
 use Rattle.aat_bytes.specs.declared.error.FaultKind.TheVariants.{UnknownFormat}
 use Rattle.aat_bytes.specs.facts.Parts.{none_of, ok_parts, parts, passes}
+use Rattle.aat_bytes.specs.declared.tags.TheConstants.{KERX}
 use Rattle.aat_font.specs.Classes.{ClassValues}
 use Rattle.aat_font.specs.Keys.{first_fall}
 use Rattle.aat_font.specs.Pairs.{key_of_pair}
 use Rattle.aat_read_lookup.specs.Lookups.{lookup_at}
 use Rattle.aat_read_lookup.specs.Rows.{rows_at}
-use Rattle.aat_read_long_lookup.specs.Lookups.{long_rows_at}
+use Rattle.aat_read_lookup.specs.LongLookups.{long_rows_at}
 use Rattle.aat_read_pairs.specs.KerxClasses.{array_grid_at, array_value, array_values, class_grid_at, column_count_at, grid_pairs, kerx_arrays_at, kerx_classes_at}
 use Rattle.aat_read_pairs.specs.ListedPairs.{kerx_pairs_at, listed_pairs, pair_at, pairs_at}
 use Rattle.aat_read_pairs.specs.LongArrays as long
 use Rattle.aat_read_pairs.specs.LongArrays.{kerx_long_arrays_at, long_grid_at, long_grid_pairs, short_grid, value_count, wide_place}
 use Rattle.aat_read_pairs.specs.declared.kerx_classes.KerxGrid.{KerxGrid}
 use Rattle.aat_read_pairs.specs.declared.long_arrays.LongGrid.{LongGrid}
-use Rattle.aat_read_pairs.specs.declared.values.TheConstants.{KERX}
 use Rattle.aat_read_pairs.specs.declared.values.Tuples.{Tuples}
 
 -- pairs that are listed stand in the bytes

@@ -9,6 +9,7 @@ use Rattle.aat_bytes.specs.Numbers.{be16}
 use Rattle.aat_bytes.specs.declared.error.FaultKind.TheVariants.{PastEnd, UnknownFormat}
 use Rattle.aat_bytes.specs.facts.Parts.{none_of, ok_parts, parts, passes}
 use Rattle.aat_bytes.specs.facts.Ranges.{none_each}
+use Rattle.aat_bytes.specs.declared.tags.TheConstants.{KERN}
 use Rattle.aat_font.specs.Classes.{class_in}
 use Rattle.aat_font.specs.Keys.{at_key, first}
 use Rattle.aat_read_pairs.specs.ClassTables.{class_table_at, offset_of, offset_place}
@@ -17,7 +18,6 @@ use Rattle.aat_read_pairs.specs.PairLaws.{offset_in}
 use Rattle.aat_read_pairs.specs.declared.class_table.ClassTable.{ClassTable}
 use Rattle.aat_read_pairs.specs.declared.kern_classes.KernGrid.{KernGrid}
 use Rattle.aat_read_pairs.specs.declared.kern_classes.Side.{Side}
-use Rattle.aat_read_pairs.specs.declared.values.TheConstants.{KERN}
 
 -- the pairs of glyphs from one on
 numbered : ℕ → (ℕ → ℕ) → ℕ → ℕ → List (ℕ × ℕ)

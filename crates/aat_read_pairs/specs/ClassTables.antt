@@ -4,8 +4,8 @@ use Rattle.aat_bytes.specs.Faults.{fault_at}
 use Rattle.aat_bytes.specs.Numbers.{be16}
 use Rattle.aat_bytes.specs.declared.error.Fault.{Fault}
 use Rattle.aat_bytes.specs.declared.error.FaultKind.TheVariants.{PastEnd}
+use Rattle.aat_bytes.specs.declared.tags.TheConstants.{KERN}
 use Rattle.aat_read_pairs.specs.declared.class_table.ClassTable.{ClassTable}
-use Rattle.aat_read_pairs.specs.declared.values.TheConstants.{KERN}
 
 -- the class table at a place: the first glyph, the number of glyphs, and an offset of 16 bits for each. Offsets of
 -- glyphs above 0xFFFF are left out

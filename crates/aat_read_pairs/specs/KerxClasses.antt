@@ -6,12 +6,12 @@ use Rattle.aat_bytes.specs.Faults.{after, fault_at}
 use Rattle.aat_bytes.specs.Numbers.{be16, be32}
 use Rattle.aat_bytes.specs.declared.error.Fault.{Fault}
 use Rattle.aat_bytes.specs.declared.error.FaultKind.TheVariants.{PastEnd, ShortLength, UnknownFormat}
+use Rattle.aat_bytes.specs.declared.tags.TheConstants.{KERX}
 use Rattle.aat_font.specs.Classes.{ClassValues}
 use Rattle.aat_read_lookup.specs.Lookups.{lookup_at}
 use Rattle.aat_read_lookup.specs.Rows.{rows_at}
 use Rattle.aat_read_pairs.specs.KerningValues.{kerning_value}
 use Rattle.aat_read_pairs.specs.declared.kerx_classes.KerxGrid.{KerxGrid}
-use Rattle.aat_read_pairs.specs.declared.values.TheConstants.{KERX}
 
 -- a number of values in a row, if a row has one or more and a class of 16 bits can name them all
 abbrev pub column_count_at : ℕ → ℕ → Result ℕ Fault

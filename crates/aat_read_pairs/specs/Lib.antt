@@ -7,4 +7,6 @@ pub mod ListedPairs
 pub mod LongArrays
 pub mod PairExamples
 pub mod PairLaws
+pub mod Weights
+pub mod facts
 pub mod inside

@@ -7,11 +7,11 @@ use Rattle.aat_bytes.specs.Faults.{after, fault_at}
 use Rattle.aat_bytes.specs.Numbers.{be16, be32, signed16}
 use Rattle.aat_bytes.specs.declared.error.Fault.{Fault}
 use Rattle.aat_bytes.specs.declared.error.FaultKind.TheVariants.{PastEnd, UnknownFormat}
+use Rattle.aat_bytes.specs.declared.tags.TheConstants.{KERX}
 use Rattle.aat_font.specs.Classes.{ClassValues}
-use Rattle.aat_read_long_lookup.specs.Lookups.{long_rows_at}
+use Rattle.aat_read_lookup.specs.LongLookups.{long_rows_at}
 use Rattle.aat_read_pairs.specs.KerxClasses.{column_count_at}
 use Rattle.aat_read_pairs.specs.declared.long_arrays.LongGrid.{LongGrid}
-use Rattle.aat_read_pairs.specs.declared.values.TheConstants.{KERX}
 use Rattle.aat_read_pairs.specs.declared.values.Tuples.{Tuples}
 
 -- behind a header of 12 bytes the flags, the numbers of rows and columns, and the offsets of the two lookups, of the

@@ -2,12 +2,12 @@
 use Rattle.std.specs.Prelude.{◌≡◌, ℕ, ℤ, pos, negsuc, List, [], ◌∷◌, take, Some, None, Ok, Err}
 use Rattle.aat_bytes.specs.Faults.{fault_at}
 use Rattle.aat_bytes.specs.declared.error.FaultKind.TheVariants.{PastEnd, ShortLength, UnknownFormat, NotRising}
+use Rattle.aat_bytes.specs.declared.tags.TheConstants.{KERN, KERX}
 use Rattle.aat_read_pairs.specs.KernClasses.{kern_classes_at}
 use Rattle.aat_read_pairs.specs.KernIndexes.{kern_indexes_at}
 use Rattle.aat_read_pairs.specs.KerxClasses.{kerx_arrays_at}
 use Rattle.aat_read_pairs.specs.ListedPairs.{kern_pairs_at, kerx_pairs_at}
 use Rattle.aat_read_pairs.specs.LongArrays.{kerx_long_arrays_at, wide_value_at}
-use Rattle.aat_read_pairs.specs.declared.values.TheConstants.{KERN, KERX}
 
 -- the pairs of the glyphs 1 and 2 with -1 and of two glyphs with 5, as `kern` has them
 abbrev pub example_pairs : ℕ → ℕ → List ℕ

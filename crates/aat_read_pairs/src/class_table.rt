@@ -3,7 +3,7 @@ ghost use Rattle.std.specs.Prelude.{◌≡◌, ◌+◌, ◌*◌, ◌^◌, ◌<�
 ghost use Rattle.aat_read_pairs.specs.ClassTables.{class_table_at, offset_of, offset_place};
 ghost use Rattle.aat_read_pairs.specs.inside.Inside.{HasOffsets};
 
-use crate::values::KERN;
+use aat_bytes::tags::KERN;
 use aat_bytes::{Fault, FaultKind, be16};
 
 /// A class table.

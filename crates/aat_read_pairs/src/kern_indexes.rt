@@ -5,7 +5,7 @@ ghost use Rattle.aat_read_pairs.specs.KernIndexes.{byte_classes, index_count, in
 ghost use Rattle.aat_read_pairs.specs.inside.Inside.{HasIndexes};
 
 use crate::made::class_pairs;
-use crate::values::KERN;
+use aat_bytes::tags::KERN;
 use aat_bytes::{Fault, FaultKind, ReadError, be16};
 use aat_font::ClassPairs;
 use std::alloc::{AllocError, Allocator};

@@ -4,7 +4,8 @@ ghost use Rattle.aat_read_lookup.specs.Lookups.{Gives};
 ghost use Rattle.aat_read_pairs.specs.KerxClasses.{array_grid_at, array_value, array_values, class_grid_at, column_count_at, grid_pairs, kerx_arrays_at, kerx_classes_at};
 ghost use Rattle.aat_read_pairs.specs.inside.Inside.{IsNear};
 
-use crate::values::{KERX, Tuples};
+use crate::values::Tuples;
+use aat_bytes::tags::KERX;
 use aat_bytes::{Fault, FaultKind, ReadError, be16, be32};
 use aat_font::ClassPairs;
 use aat_read_lookup::{lookup_bytes, read_lookup, read_rows};

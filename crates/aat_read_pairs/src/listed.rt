@@ -6,7 +6,8 @@ ghost use Rattle.aat_font.specs.Pairs.{key_of_pair, pair_key};
 ghost use Rattle.aat_read_lookup.specs.Lookups.{Gives};
 ghost use Rattle.aat_read_pairs.specs.ListedPairs.{kern_pairs_at, kerx_pairs_at, listed_pairs, pair_at, pair_place, pairs_at};
 
-use crate::values::{KERN, KERX, Tuples};
+use crate::values::Tuples;
+use aat_bytes::tags::{KERN, KERX};
 use aat_bytes::{Fault, FaultKind, ReadError, Tag, be16, be32};
 use aat_font::Pairs;
 use std::alloc::{AllocError, Allocator};

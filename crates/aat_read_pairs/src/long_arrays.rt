@@ -6,10 +6,11 @@ ghost use Rattle.aat_read_pairs.specs.LongArrays.{array_value, array_values, ker
 ghost use Rattle.aat_read_pairs.specs.inside.Inside.{IsNearLong};
 
 use crate::kerx_classes::column_count_at;
-use crate::values::{KERX, Tuples};
+use crate::values::Tuples;
+use aat_bytes::tags::KERX;
 use aat_bytes::{Fault, FaultKind, ReadError, be16, be32};
 use aat_font::ClassPairs;
-use aat_read_long_lookup::{long_lookup_bytes, read_long_rows};
+use aat_read_lookup::{long_lookup_bytes, read_long_rows};
 use std::alloc::{AllocError, Allocator};
 
 /// A number of 32 bits in two's complement, if 16 bits have it.

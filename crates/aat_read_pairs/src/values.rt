@@ -2,13 +2,7 @@
 ghost use Rattle.std.specs.Prelude.{◌≡◌, ◌+◌, ◌<◌, ◌^◌};
 ghost use Rattle.aat_read_pairs.specs.KerningValues.{kerning_value, no_tuples};
 
-use aat_bytes::{Tag, be16};
-
-/// The tag of the kerning table.
-pub const KERN: Tag = Tag(0x6B65_726E);
-
-/// The tag of the extended kerning table.
-pub const KERX: Tag = Tag(0x6B65_7278);
+use aat_bytes::be16;
 
 /// The tuples of a subtable, if it has some: then a number that stands for a value is the offset of its tuple.
 #[derive(Clone, Copy)]

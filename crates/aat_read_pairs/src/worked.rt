@@ -17,7 +17,7 @@ pub fn classes()
 {}
 
 /// The definitions of pairs by rows and columns with values of 32 bits compute to the examples.
-#[tactic(auto, unfolding(crate::specs::LongArrays::long_grid_at, crate::specs::LongArrays::long_grid_pairs, aat_read_long_lookup::specs::Layouts::layout_at, aat_read_long_lookup::specs::Layouts::trimmed_array_at, aat_read_long_lookup::specs::Layouts::array_of))]
+#[tactic(auto, unfolding(crate::specs::LongArrays::long_grid_at, crate::specs::LongArrays::long_grid_pairs, aat_read_lookup::specs::Layouts::layout_at, aat_read_lookup::specs::Layouts::trimmed_array_at, aat_read_lookup::specs::Layouts::array_of))]
 pub fn long_arrays()
     ensures { LongArraysHaveRowsAndColumns }
 {}

@@ -5,12 +5,12 @@ use Rattle.aat_bytes.specs.Faults.{after, fault_at}
 use Rattle.aat_bytes.specs.Numbers.{be16, be32, slice_from}
 use Rattle.aat_bytes.specs.declared.error.Fault.{Fault}
 use Rattle.aat_bytes.specs.declared.error.FaultKind.TheVariants.{PastEnd, UnknownFormat, Missing}
+use Rattle.aat_bytes.specs.declared.tags.TheConstants.{CMAP}
 use Rattle.aat_read_sfnt.specs.SegmentMapping.{segment_glyph, segments_at}
 use Rattle.aat_read_sfnt.specs.SegmentedCoverage.{group_glyph, groups_at}
 use Rattle.aat_read_sfnt.specs.ShortTables.{byte_encoding_at, byte_glyph, trimmed_glyph, trimmed_table_at}
 use Rattle.aat_read_sfnt.specs.declared.cmap.Cmap.{Cmap}
 use Rattle.aat_read_sfnt.specs.declared.cmap.Cmap.TheVariants.{ByteEncoding, SegmentMapping, TrimmedTable, SegmentedCoverage}
-use Rattle.aat_read_sfnt.specs.declared.tags.TheConstants.{CMAP}
 
 -- a record has 8 bytes: platform and encoding, which are read as one number, and the offset of the subtable
 abbrev pub record_place : ℕ → ℕ

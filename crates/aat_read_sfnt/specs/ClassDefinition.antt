@@ -6,10 +6,10 @@ use Rattle.aat_bytes.specs.Faults.{after, fault_at}
 use Rattle.aat_bytes.specs.Numbers.{be16, slice_from}
 use Rattle.aat_bytes.specs.declared.error.Fault.{Fault}
 use Rattle.aat_bytes.specs.declared.error.FaultKind.TheVariants.{PastEnd, UnknownFormat, NotRising}
+use Rattle.aat_bytes.specs.declared.tags.TheConstants.{GDEF}
 use Rattle.aat_read_sfnt.specs.RisingRanges.{falling_range}
 use Rattle.aat_read_sfnt.specs.declared.class_definition.ClassDefinition.{ClassDefinition}
 use Rattle.aat_read_sfnt.specs.declared.class_definition.ClassDefinition.TheVariants.{Empty, Array, Ranges}
-use Rattle.aat_read_sfnt.specs.declared.tags.TheConstants.{GDEF}
 
 -- format 1: a header of 6 bytes with the first glyph and the number of glyphs, and 16 bits for each of them
 unfoldable pub class_array_at : List ℕ → ℕ → Result (List ℕ) Fault

@@ -6,7 +6,7 @@ use Rattle.aat_bytes.specs.Numbers.{be16, be32, slice}
 use Rattle.aat_bytes.specs.declared.error.Fault.{Fault}
 use Rattle.aat_bytes.specs.declared.error.FaultKind.TheVariants.{PastEnd, UnknownFormat, Missing}
 use Rattle.aat_bytes.specs.declared.tag.Tag.{Tag}
-use Rattle.aat_read_sfnt.specs.declared.tags.TheConstants.{SFNT, TTCF}
+use Rattle.aat_bytes.specs.declared.tags.TheConstants.{SFNT, TTCF}
 
 -- a font of a file: the bytes of the file, and the place of the font's directory
 pub record Directory : Type 0 where

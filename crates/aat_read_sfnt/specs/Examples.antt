@@ -2,13 +2,13 @@
 use Rattle.std.specs.Prelude.{◌≡◌, ℕ, List, [], ◌∷◌, Some, None, Ok, Err, replicate}
 use Rattle.aat_bytes.specs.Faults.{fault_at}
 use Rattle.aat_bytes.specs.declared.error.FaultKind.TheVariants.{PastEnd, ShortLength, Missing, NotRising}
+use Rattle.aat_bytes.specs.declared.tags.TheConstants.{CMAP, GDEF, HEAD, MAXP, SFNT, TTCF}
 use Rattle.aat_read_sfnt.specs.ClassDefinition.{class_in_ranges, class_ranges_at}
 use Rattle.aat_read_sfnt.specs.Directory.{Directory, directory_of, table_of}
 use Rattle.aat_read_sfnt.specs.Header.{glyph_count}
 use Rattle.aat_read_sfnt.specs.Metrics.{advance_of, metrics_of}
 use Rattle.aat_read_sfnt.specs.SegmentMapping.{segment_glyph, segments_at}
 use Rattle.aat_read_sfnt.specs.SegmentedCoverage.{group_glyph, groups_at}
-use Rattle.aat_read_sfnt.specs.declared.tags.TheConstants.{CMAP, GDEF, HEAD, MAXP, SFNT, TTCF}
 
 -- a profile of version 0.5 and 7 glyphs
 abbrev pub example_profile : List ℕ

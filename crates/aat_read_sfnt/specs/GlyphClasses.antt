@@ -4,9 +4,9 @@ use Rattle.aat_bytes.specs.Faults.{after, fault_at}
 use Rattle.aat_bytes.specs.Numbers.{be16}
 use Rattle.aat_bytes.specs.declared.error.Fault.{Fault}
 use Rattle.aat_bytes.specs.declared.error.FaultKind.TheVariants.{PastEnd, UnknownFormat}
+use Rattle.aat_bytes.specs.declared.tags.TheConstants.{GDEF}
 use Rattle.aat_read_sfnt.specs.ClassDefinition.{class_of, definition_of}
 use Rattle.aat_read_sfnt.specs.declared.gdef.GlyphClasses.{GlyphClasses}
-use Rattle.aat_read_sfnt.specs.declared.tags.TheConstants.{GDEF}
 
 -- the classes of a table: a header of 12 bytes, of version 1, with the offset of the classes at 4, and that of the
 -- classes of marks at 10

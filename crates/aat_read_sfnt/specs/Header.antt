@@ -4,7 +4,7 @@ use Rattle.aat_bytes.specs.Faults.{fault_at}
 use Rattle.aat_bytes.specs.Numbers.{be16, be32}
 use Rattle.aat_bytes.specs.declared.error.Fault.{Fault}
 use Rattle.aat_bytes.specs.declared.error.FaultKind.TheVariants.{PastEnd, UnknownFormat}
-use Rattle.aat_read_sfnt.specs.declared.tags.TheConstants.{HEAD, MAXP}
+use Rattle.aat_bytes.specs.declared.tags.TheConstants.{HEAD, MAXP}
 
 -- the number of glyphs: version 0.5 has 6 bytes, and 1.0 has 32, which HarfBuzz wants to be there
 unfoldable pub glyph_count : List ℕ → Result ℕ Fault

@@ -4,7 +4,7 @@ use Rattle.aat_bytes.specs.Faults.{fault_at}
 use Rattle.aat_bytes.specs.Numbers.{be16}
 use Rattle.aat_bytes.specs.declared.error.Fault.{Fault}
 use Rattle.aat_bytes.specs.declared.error.FaultKind.TheVariants.{PastEnd, UnknownFormat}
-use Rattle.aat_read_sfnt.specs.declared.tags.TheConstants.{HHEA}
+use Rattle.aat_bytes.specs.declared.tags.TheConstants.{HHEA}
 
 -- the number of long metrics: a header of 36 bytes, of version 1
 unfoldable pub long_metric_count : List ℕ → Result ℕ Fault

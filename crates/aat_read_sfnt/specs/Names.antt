@@ -5,8 +5,8 @@ use Rattle.aat_bytes.specs.Faults.{fault_at}
 use Rattle.aat_bytes.specs.Numbers.{be16, slice}
 use Rattle.aat_bytes.specs.declared.error.Fault.{Fault}
 use Rattle.aat_bytes.specs.declared.error.FaultKind.TheVariants.{PastEnd, UnknownFormat}
+use Rattle.aat_bytes.specs.declared.tags.TheConstants.{NAME}
 use Rattle.aat_read_sfnt.specs.declared.name.NameKey.{NameKey}
-use Rattle.aat_read_sfnt.specs.declared.tags.TheConstants.{NAME}
 
 -- the table: a header of 6 bytes, of version 0 or 1, with the number of records and the place of the texts, and 12
 -- bytes for each record

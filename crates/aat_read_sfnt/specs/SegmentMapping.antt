@@ -5,8 +5,8 @@ use Rattle.aat_bytes.specs.Faults.{fault_at}
 use Rattle.aat_bytes.specs.Numbers.{be16, u16_at}
 use Rattle.aat_bytes.specs.declared.error.Fault.{Fault}
 use Rattle.aat_bytes.specs.declared.error.FaultKind.TheVariants.{PastEnd, ShortLength, NotRising}
+use Rattle.aat_bytes.specs.declared.tags.TheConstants.{CMAP}
 use Rattle.aat_read_sfnt.specs.RisingEnds.{first_fall}
-use Rattle.aat_read_sfnt.specs.declared.tags.TheConstants.{CMAP}
 
 -- the number of segments, of which the subtable has twice the number
 abbrev pub segment_count : List ℕ → ℕ

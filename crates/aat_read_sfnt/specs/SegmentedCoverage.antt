@@ -5,8 +5,8 @@ use Rattle.aat_bytes.specs.Faults.{fault_at}
 use Rattle.aat_bytes.specs.Numbers.{be32}
 use Rattle.aat_bytes.specs.declared.error.Fault.{Fault}
 use Rattle.aat_bytes.specs.declared.error.FaultKind.TheVariants.{PastEnd, NotRising}
+use Rattle.aat_bytes.specs.declared.tags.TheConstants.{CMAP}
 use Rattle.aat_read_sfnt.specs.RisingEnds.{first_fall}
-use Rattle.aat_read_sfnt.specs.declared.tags.TheConstants.{CMAP}
 
 -- a group has 12 bytes: its first character, its last one, and the glyph of the first one
 abbrev pub start_char : List ℕ → ℕ → ℕ

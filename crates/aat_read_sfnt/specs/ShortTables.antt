@@ -4,8 +4,8 @@ use Rattle.aat_bytes.specs.Faults.{fault_at}
 use Rattle.aat_bytes.specs.Numbers.{be16}
 use Rattle.aat_bytes.specs.declared.error.Fault.{Fault}
 use Rattle.aat_bytes.specs.declared.error.FaultKind.TheVariants.{PastEnd}
+use Rattle.aat_bytes.specs.declared.tags.TheConstants.{CMAP}
 use Rattle.aat_read_sfnt.specs.SegmentMapping.{present}
-use Rattle.aat_read_sfnt.specs.declared.tags.TheConstants.{CMAP}
 
 -- format 0: a header of 6 bytes, and one byte for each of 256 characters
 unfoldable pub byte_encoding_at : List ℕ → ℕ → Result (List ℕ) Fault

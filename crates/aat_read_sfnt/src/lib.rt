@@ -1,6 +1,9 @@
-//! A font file: its directory, the tables of characters, metrics and classes, and the names.
+//! A font file: its directory, the tables of characters, metrics and classes, and the names. A table is a slice of the
+//! file, and each answer is read from its bytes when it is asked for: no call takes memory.
 //!
-//! A table is a slice of the file, and each answer is read from its bytes when it is asked for: no call takes memory.
+//! ```
+//! let morx: &[u8] = FontFile::read(&file, 0)?.table(MORX)?;
+//! ```
 #![tactic(auto)]
 
 mod class_definition;

@@ -2,8 +2,8 @@
 use Rattle.std.specs.Prelude.{◌≡◌, ℕ, List, [], ◌∷◌, ◌++◌, pos, negsuc, Some, None, Ok, Err}
 use Rattle.aat_bytes.specs.Faults.{fault_at}
 use Rattle.aat_bytes.specs.declared.error.FaultKind.TheVariants.{UnknownFormat}
+use Rattle.aat_bytes.specs.declared.tags.TheConstants.{TRAK}
 use Rattle.aat_read_trak.specs.Trak.{past, trak_of}
-use Rattle.aat_read_trak.specs.declared.fault.TheConstants.{TRAK}
 
 -- the header of a table whose tracks for rows stand at 12
 abbrev pub trak_header : List ℕ

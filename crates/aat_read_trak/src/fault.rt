@@ -4,10 +4,8 @@ ghost use Rattle.aat_bytes.specs.Numbers.{be16};
 ghost use Rattle.aat_read_trak.specs.Trak.{data_fault, entry_place, first_outside, header_fault, lists_fault, part_fault, past, reaches, sizes_place, trak_fault, values_place};
 ghost use Rattle.aat_read_trak.specs.inside.Whole.{HaveValues, IsWhole};
 
-use aat_bytes::{Fault, FaultKind, Tag, be16, be32};
-
-/// The tag of the tracking table.
-pub const TRAK: Tag = Tag(0x7472_616B);
+use aat_bytes::tags::TRAK;
+use aat_bytes::{Fault, FaultKind, be16, be32};
 
 /// The fault of what is not there as a whole at a place.
 fn past(place: usize) -> Fault

@@ -1,6 +1,9 @@
-//! The tracking table from bytes.
+//! The tracking table read from bytes, for `aat_placement`. The table is checked before any memory is asked for, and
+//! takes at most 4 bytes of memory for each of its bytes.
 //!
-//! The table is checked before any memory is asked for, and takes at most 4 bytes of memory for each of its bytes.
+//! ```
+//! let tracking = read_trak(alloc, &bytes)?;
+//! ```
 #![tactic(auto)]
 
 mod fault;
@@ -12,5 +15,5 @@ mod trak;
 #[doc(hidden)]
 pub mod worked;
 
-pub use fault::TRAK;
+pub use aat_bytes::tags::TRAK;
 pub use trak::read_trak;

@@ -1,8 +1,8 @@
 //! The fonts of the parts of rows.
 
+use crate::described::{FontData, font_of};
 use crate::rows::{FROM_7, FROM_13, FROM_19, FROM_25, FROM_31, Part, Row, Shown, TO_6};
 use crate::stop::Stop;
-use aat_described_fonts::{FontData, font_of};
 use aat_layout::font::hb_font_t;
 use std::alloc::Global;
 

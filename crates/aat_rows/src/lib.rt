@@ -1,7 +1,13 @@
-//! The worked rows of Apple Advanced Typography: what each shapes, the printing of what comes out, and their fonts.
+//! The worked rows of Apple Advanced Typography: what each shapes, the printing of what comes out, and their fonts,
+//! which are described as data ([`described`]).
+//!
+//! ```
+//! let is_known = print_chosen(alloc, &words, &mut out)?;
+//! ```
 #![tactic(auto)]
 
 mod build;
+pub mod described;
 mod fonts;
 mod kerned;
 mod made;

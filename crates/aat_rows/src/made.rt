@@ -2,6 +2,7 @@
 ghost use Rattle.aat_layout.specs.Clusters.{IsSmall};
 
 use crate::build::{buffer_of, builder_of, feature_of, plan_of, set_advances};
+use crate::described::{drop_font, font_of};
 use crate::fonts::font_in;
 use crate::kerned::{asking_buffer_of, kerning_plan_of, placed_buffer_of, shaping_plan_of};
 use crate::rows::{
@@ -9,7 +10,6 @@ use crate::rows::{
     Substitution, Zeroing,
 };
 use crate::stop::Stop;
-use aat_described_fonts::{drop_font, font_of};
 use aat_layout::buffer::{glyph_flag, hb_buffer_t};
 use aat_layout::font::{hb_font_t, hb_ot_shape_plan_t};
 use aat_layout::{

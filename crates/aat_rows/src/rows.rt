@@ -1,6 +1,6 @@
 //! The worked rows, as descriptions of what is shaped.
 
-use aat_described_fonts::{
+use crate::described::{
     ChainData, FontData, KernData, KerxData, KindData, LigatureData, MachineData, NO_TABLES,
     SubtableData,
 };

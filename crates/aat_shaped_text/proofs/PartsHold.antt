@@ -6,10 +6,10 @@ use Rattle.aat_glyph.specs.Directions.{is_backward}
 use Rattle.aat_glyph.specs.declared.glyph.Direction.{Direction}
 use Rattle.aat_font.specs.declared.face.hb_font_t.{hb_font_t}
 use Rattle.aat_font.specs.declared.plan.Feature.{Feature}
-use Rattle.aat_attachment.specs.AttachmentLaws.{UnattachedLinesStay}
+use Rattle.aat_placement.specs.AttachmentLaws.{UnattachedLinesStay}
 use Rattle.aat_kerning.specs.Cut.{PartsAreKernedApart}
 use Rattle.aat_kerning.specs.KerningLawful.{KerningChangesLittle}
-use Rattle.aat_tracking.specs.TrackingLaws.{PartsAreTrackedApart}
+use Rattle.aat_placement.specs.TrackingLaws.{PartsAreTrackedApart}
 use Rattle.aat_shaped_text.specs.Breaks.{is_rising, kerns_apart, may_break_at, shapes_apart, skips_of, substitutes_apart}
 use Rattle.aat_shaped_text.specs.Parts.{IsDrawnInParts, LooksAsParts, TextsAreDrawnInParts, cut_before, text_before, text_from}
 use Rattle.aat_shaped_text.specs.ShapedText.{drawn_text, may_break_text, shaped_text}

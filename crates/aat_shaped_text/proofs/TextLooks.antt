@@ -11,13 +11,13 @@ use Rattle.aat_font.specs.Face.{advance_of}
 use Rattle.aat_font.specs.declared.face.hb_font_t.{hb_font_t}
 use Rattle.aat_font.specs.declared.plan.Feature.{Feature}
 use Rattle.aat_kerning_machines.specs.KerningLaws.{IsKernedFrom}
-use Rattle.aat_attachment.specs.AttachmentLaws.{UnattachedLinesStay}
-use Rattle.aat_attachment.specs.Attachments.{added_up}
+use Rattle.aat_placement.specs.AttachmentLaws.{UnattachedLinesStay}
+use Rattle.aat_placement.specs.Attachments.{added_up}
 use Rattle.aat_kerning.specs.Cut.{ordered_line, ordered_positions}
 use Rattle.aat_kerning.specs.KerningLawful.{KerningChangesLittle}
 use Rattle.aat_kerning.specs.Zeroing.{zeroed, zeroed_positions}
 use Rattle.aat_shaping.specs.Shaping.{advanced, with_advances}
-use Rattle.aat_tracking.specs.TrackingLaws.{PartsAreTrackedApart}
+use Rattle.aat_placement.specs.TrackingLaws.{PartsAreTrackedApart}
 use Rattle.aat_shaped_text.specs.Breaks.{kerns_apart}
 use Rattle.aat_shaped_text.specs.Parts.{looks}
 use Rattle.aat_shaped_text.specs.ShapedText.{drawn_clusters, drawn_text, line_glyph, may_break_text, shaped_text, text_buffer, text_kerning, text_substitution, tracked_by, tracked_line}

@@ -5,7 +5,7 @@ use Rattle.std.specs.Prelude.{◌≡◌, ◌⊎◌, ℕ, ℤ, is_some, option_ma
 use Rattle.std.specs.Bool.{MatchBool}
 use Rattle.std.specs.List.{range_with_len}
 use Rattle.std.specs.Ordering.{int_eq}
-use Rattle.aat_attachment.specs.Attachments.{added_up, parent}
+use Rattle.aat_placement.specs.Attachments.{added_up, parent}
 use Rattle.aat_buffer.specs.Buffer.{Buffer, empty_buffer, glyph_at, position_list, with_direction, with_line, zero_position}
 use Rattle.aat_buffer.specs.Marks.{cluster_at}
 use Rattle.aat_buffer.specs.Removal.{is_deleted, removed}
@@ -28,7 +28,7 @@ use Rattle.aat_kinds.specs.Kinds.{sizes_for}
 use Rattle.aat_kerning.specs.Positioning.{in_processing_order, kern_positioning, kerx_positioning}
 use Rattle.aat_kerning.specs.Zeroing.{zeroed}
 use Rattle.aat_shaping.specs.Shaping.{with_advances}
-use Rattle.aat_tracking.specs.TrackedLines.{tracked}
+use Rattle.aat_placement.specs.TrackedLines.{tracked}
 use Rattle.aat_shaped_text.specs.Breaks.{is_rising, kept_before, may_break_at, shapes_apart, skips_of}
 use Rattle.aat_shaped_text.specs.TextFeatures.{is_kerned_at, requests_kerning}
 use Rattle.aat_shaped_text.specs.declared.text.ShapedGlyph.{ShapedGlyph}

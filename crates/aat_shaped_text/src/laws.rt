@@ -4,9 +4,8 @@
 ghost use Rattle.aat_shaped_text.specs.Parts.{TextsAreDrawnInParts};
 ghost use Rattle.aat_shaped_text.specs.ShapedText.{UntrackedLinesStay};
 
-use aat_attachment::laws::unattached_lines_stay;
 use aat_kerning::laws::{kerning_changes_little, parts_are_kerned_apart};
-use aat_tracking::laws::parts_are_tracked_apart;
+use aat_placement::laws::{parts_are_tracked_apart, unattached_lines_stay};
 
 /// A line that is tracked by 0 stays as it is.
 #[tactic(auto, using(crate::proofs::Tracked::untracked))]

@@ -1,5 +1,9 @@
 //! What a text is that is shaped, and what is handed out of it: the types, and the definitions that the shaper's
 //! contracts cite. A program takes `aat_shaper`.
+//!
+//! ```
+//! let glyph = TextGlyph::new(glyph_id, cluster);
+//! ```
 #![tactic(auto)]
 
 /// The laws of tracked lines and of the breaks of a text, as theorems.

@@ -1,10 +1,13 @@
+pub mod Advanced
 pub mod DrawnPlaces
 pub mod DrawnText
 pub mod Exposed
 pub mod Kept
 pub mod KernsApart
+pub mod Lasts
 pub mod LineMade
 pub mod Ordered
+pub mod Parts
 pub mod Planned
 pub mod Rising
 pub mod Runs

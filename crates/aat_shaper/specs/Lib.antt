@@ -1,4 +1,6 @@
 pub mod Examples
+pub mod LineBreak
+pub mod LineCut
 pub mod Named
 pub mod Shaper
 pub mod inside

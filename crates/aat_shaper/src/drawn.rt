@@ -1,7 +1,7 @@
 //! What is drawn of a line.
 ghost use Rattle.std.specs.Prelude.{◌≡◌, ◌<◌, ◌≤◌, [], IfErr, IfOk, IfSome, OnOk, length, map, not};
 ghost use Rattle.std.specs.List.{range_with_len};
-ghost use Rattle.aat_attachment.specs.Attachments.{added_up};
+ghost use Rattle.aat_placement.specs.Attachments.{added_up};
 ghost use Rattle.aat_buffer.specs.Buffer.{Buffer, position_list};
 ghost use Rattle.aat_buffer.specs.Clusters.{IsSmall, KeepsOrder};
 ghost use Rattle.aat_buffer.specs.Removal.{deleted_glyph, is_deleted, removed};
@@ -12,10 +12,10 @@ ghost use Rattle.aat_shaper.specs.inside.Drawing.{IsDrawn, clusters_of, may_brea
 ghost use Rattle.aat_shaped_text.specs.ShapedText.{drawn_glyph, drawn_glyphs, kept_place, kept_places, with_clusters_of};
 
 use crate::breaks::may_break_at;
-use aat_attachment::{add_up_attachments, parent_of};
 use aat_layout::buffer::{DELETED_GLYPH, GlyphPosition, hb_buffer_t, hb_glyph_info_t};
 use aat_layout::font::Feature;
 use aat_layout::{AatError, hb_aat_layout_remove_deleted_glyphs};
+use aat_placement::{add_up_attachments, parent_of};
 use aat_shaped_text::ShapedGlyph;
 use std::alloc::{AllocError, Allocator};
 

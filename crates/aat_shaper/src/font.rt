@@ -2,16 +2,15 @@
 ghost use Rattle.std.specs.Prelude.{◌≡◌, None};
 ghost use Rattle.std.specs.List.{list_all};
 ghost use Rattle.aat_font.specs.Face.{kern_in, kerx_in, tables_of};
-ghost use Rattle.aat_kinds.specs.Kinds.{is_for};
 ghost use Rattle.aat_kerning.specs.Positioning.{kerning_of_kern_subtable, kerning_of_kerx_subtable};
 ghost use Rattle.aat_shaped_text.specs.Breaks.{is_noncontextual, keeps_apart, kerns_apart, kerns_pairs_along, possible_flags, shapes_apart, skips_of, substitutes_apart};
 
 use aat_layout::buffer::{Direction, hb_mask_t};
 use aat_layout::font::{
-    Chain, Coverage, KernKind, KernSubtable, KerxFormat, KerxSubtable, Subtable, SubtableKind,
-    hb_font_t,
+    Chain, KernKind, KernSubtable, KerxFormat, KerxSubtable, Subtable, SubtableKind, hb_font_t,
 };
 use aat_layout::{KERN_SKIPS, KERX_SKIPS};
+use aat_morx::is_for;
 
 /// All flags that a chain can come to have.
 fn possible_flags(chain: &Chain) -> hb_mask_t
@@ -22,13 +21,6 @@ fn possible_flags(chain: &Chain) -> hb_mask_t
         flags |= feature.enable_flags;
     }
     flags
-}
-
-/// Whether a subtable is for texts of a direction.
-fn is_for(direction: Direction, coverage: Coverage) -> bool
-    ensures { result ≡ is_for direction coverage }
-{
-    coverage.is_all_directions() || coverage.is_vertical() == direction.is_vertical()
 }
 
 /// Whether a subtable substitutes each glyph by itself.

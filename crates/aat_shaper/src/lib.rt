@@ -1,6 +1,12 @@
-//! A shaper, which is what a program takes for texts: a text of glyphs with clusters goes in, with features over ranges
-//! of clusters, and the glyphs to be drawn come out, with their positions, and with where the text may be broken. A
-//! program that makes the calls one by one takes `aat_layout`.
+//! A shaper, which is what a program takes for texts: glyphs with clusters go in, with features over ranges of
+//! clusters, and the glyphs to be drawn come out, with their positions, and with where the text may be broken. A
+//! program that makes the calls one by one takes `aat_layout`, and [`line_breaker`] for where a line that it kerned may
+//! be cut.
+//!
+//! ```
+//! shaper.shape(Direction::LeftToRight, &text, &features)?;
+//! let glyphs = shaper.glyphs();
+//! ```
 #![tactic(auto)]
 
 mod breaks;
@@ -8,6 +14,7 @@ mod drawn;
 mod features;
 mod font;
 mod line;
+pub mod line_breaker;
 mod names;
 mod shaper;
 mod tracking;
@@ -15,6 +22,6 @@ mod tracking;
 #[doc(hidden)]
 pub mod worked;
 
+pub use aat_placement::{Track, TrackData, Tracking, TrackingError};
 pub use aat_shaped_text::{ShapedGlyph, TextGlyph};
-pub use aat_tracking::{Track, TrackData, Tracking, TrackingError};
 pub use shaper::Shaper;

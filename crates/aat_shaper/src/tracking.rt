@@ -6,8 +6,8 @@ ghost use Rattle.aat_shaped_text.specs.ShapedText.{drawn_cluster, drawn_clusters
 
 use crate::drawn::is_kept;
 use aat_layout::buffer::{hb_buffer_t, hb_glyph_info_t};
+use aat_placement::track;
 use aat_shaped_text::laws::untracked_lines_stay;
-use aat_tracking::track;
 use std::alloc::{AllocError, Allocator};
 
 /// The cluster that a glyph is drawn for.

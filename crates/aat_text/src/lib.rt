@@ -1,7 +1,10 @@
 //! From a `&str` and a face to the text that a `Shaper` takes: its glyphs with clusters, its direction, the characters
-//! that the font lacks, the places where a line may end, and what is drawn of ignorable characters.
+//! that the font lacks, the places where a line may end, and what is drawn of ignorable characters. No character is
+//! normalized: each has the glyph that the font gives it.
 //!
-//! No character is normalized: each has the glyph that the font gives it.
+//! ```
+//! let text = text_of(alloc, &face, ClusterUnit::Characters, "fila")?;
+//! ```
 #![tactic(auto)]
 
 mod direction;

@@ -1,7 +1,9 @@
 -- What is told of one subtable more, and of one chain more.
-use Rattle.std.proofs.Common.{◌≡◌, ◌∙◌, ap, sym, refl, ℕ, ◌+◌, ◌<◌, ◌≤◌, List, [], ◌∷◌, ◌++◌, take, length, get_or, false, append_assoc, add-zero, arith, Option, Some, None}
-use Rattle.std.specs.Prelude.{Bool, IfSome, IsSomeAnd, fold, map, not}
-use Rattle.std.proofs.lemmas.List.{append-nil, length-take-le, map-append, take_all, take_more}
+use Rattle.std.proofs.Common.{◌≡◌, ◌⊎◌, inl, inr, ◌∙◌, ap, sym, refl, subst, ℕ, ◌+◌, ◌<◌, ◌≤◌, List, [], ◌∷◌, ◌++◌, take, length, length-append, get_or, append_assoc, add-zero, arith, Option, Some, None}
+use Rattle.std.specs.Prelude.{All, Bool, IfSome, fold, map, not}
+use Rattle.std.proofs.lemmas.Bool.{false≢true}
+use Rattle.std.proofs.lemmas.List.{append-nil, length-map, length-take-le, map-append, take_all, take_more}
+use Rattle.std.proofs.lemmas.List.Elements.{All-push}
 use Rattle.aat_buffer.specs.Buffer.{Buffer}
 use Rattle.aat_font.specs.declared.morx.Chain.{Chain}
 use Rattle.aat_font.specs.declared.morx.Subtable.{Subtable}
@@ -16,39 +18,86 @@ use Rattle.aat_run.specs.Outcome.{IsOutcome, Outcome, in_order, then_run, untouc
 use Rattle.aat_run.specs.Ranges.{switch_for}
 use Rattle.aat_run.specs.Switches.{Switch}
 use Rattle.aat_run.specs.declared.ranges.range_flags_t.{range_flags_t}
-use Rattle.aat_trace.specs.Told.{AreReplayed, IsReplayed, Told, tells, told_in, told_of, told_of_chains, told_of_subtables}
+use Rattle.aat_trace.specs.Told.{IsPart, Told, tells, told_in, told_of, told_of_chains, told_of_subtables}
 use Rattle.aat_trace.specs.declared.traced.Trace.{Trace}
 use Rattle.aat_trace.specs.declared.traced.TracedSubtable.{TracedSubtable}
 use Rattle.aat_run.specs.facts.InOrder.{in_order_more}
 use Rattle.aat_run.specs.facts.Settings.{settings_then}
-use Rattle.aat_trace.specs.inside.Telling.{TellsMore, told_by}
+use Rattle.aat_trace.specs.inside.Telling.{AreActed, IsActed, IsAdded, IsLeftOut, IsTaken, TellsMore, TellsOf, told_by}
+
+module _ {X : Type 0} where
+  -- a part of a list is a part of a longer one
+  pub part_of_more : (xs ys : List X) (y : X) → IsPart xs ys → IsPart xs (ys ++ (y ∷ []))
+  part_of_more [] ys y part = tt
+  part_of_more (x ∷ xs) [] y part = absurd part
+  part_of_more (x ∷ xs) (z ∷ ys) y (inl found) = inl (found.0, part_of_more xs ys y found.1)
+  part_of_more (x ∷ xs) (z ∷ ys) y (inr later) = inr (part_of_more (x ∷ xs) ys y later)
+
+  -- and with the same element behind both
+  pub more_of_more : (xs ys : List X) (y : X) → IsPart xs ys → IsPart (xs ++ (y ∷ [])) (ys ++ (y ∷ []))
+  more_of_more [] [] y part = inl (refl, tt)
+  more_of_more [] (z ∷ ys) y part = inr (more_of_more [] ys y tt)
+  more_of_more (x ∷ xs) [] y part = absurd part
+  more_of_more (x ∷ xs) (z ∷ ys) y (inl found) = inl (found.0, more_of_more xs ys y found.1)
+  more_of_more (x ∷ xs) (z ∷ ys) y (inr later) = inr (more_of_more (x ∷ xs) ys y later)
+
+  -- it is no longer than the list
+  pub part_short : (xs ys : List X) → IsPart xs ys → length xs ≤ length ys
+  part_short [] ys part = omega arith
+  part_short (x ∷ xs) [] part = absurd part
+  part_short (x ∷ xs) (z ∷ ys) (inl found) = omega (arith, part_short xs ys found.1)
+  part_short (x ∷ xs) (z ∷ ys) (inr later) = omega (arith, part_short (x ∷ xs) ys later)
 
 -- nothing more
 pub tells_nothing : (a : Trace) → TellsMore a a []
 tells_nothing a = record {
-  whole = λ h. h;
-  told = λ h. sym (append-nil (tells a));
+  told = λ all h. subst (TellsOf a) (sym (append-nil all)) h;
   acts = λ h. h;
 }
 
 -- some more, and then more
 pub tells_then : (a b c : Trace) (xs ys : List Told) → TellsMore a b xs → TellsMore b c ys → TellsMore a c (xs ++ ys)
 tells_then a b c xs ys first next = record {
-  whole = λ h. first.whole (next.whole h);
-  told = λ h. next.told h ∙ ap (λ (ts : List Told). ts ++ ys) (first.told (next.whole h)) ∙ append_assoc (tells a) xs ys;
+  told = λ all h. subst (TellsOf c) (append_assoc all xs ys) (next.told (all ++ xs) (first.told all h));
   acts = λ h. next.acts (first.acts h);
 }
 
--- one subtable more, where the trace took it in
-pub tells_added : (a b : Trace) (t : Option TracedSubtable) (x y : Told) → (b.is_incomplete ≡ false → a.is_incomplete ≡ false)
-    → (b.is_incomplete ≡ false → IsSomeAnd t (λ s. b.subtables.items ≡ a.subtables.items ++ s ∷ []))
-    → (IfSome t IsReplayed → AreReplayed a → AreReplayed b) → IfSome t (λ s. told_in s ≡ y) → y ≡ x → IfSome t IsReplayed → TellsMore a b (x ∷ [])
-tells_added a b None x y whole added acts is same replayed = record { whole = whole; told = λ h. absurd (added h); acts = acts replayed }
-tells_added a b (Some s) x y whole added acts is same replayed = record {
-  whole = whole;
-  told = λ h. ap (λ (ss : List TracedSubtable). map told_in ss) (added h) ∙ map-append told_in a.subtables.items (s ∷ []) ∙ ap (λ (w : Told). tells a ++ (w ∷ [])) (is ∙ same);
-  acts = acts replayed;
+-- one subtable more that is left out
+left_out : (a b : Trace) (x : Told) (all : List Told) → IsLeftOut a b → TellsOf a all → TellsOf b (all ++ (x ∷ []))
+left_out a b x all out h =
+    let same : tells b ≡ tells a = ap (λ (ss : List TracedSubtable). map told_in ss) out.same in
+    let short : length a.subtables.items ≤ length all = omega (arith, length-map a.subtables.items told_in, part_short (tells a) all h.part) in
+    let kept : length b.subtables.items ≡ length a.subtables.items = ap (λ (ss : List TracedSubtable). length ss) out.same in
+    record {
+      whole = λ said. absurd (false≢true (sym said ∙ out.said));
+      part = subst (λ (ts : List Told). IsPart ts (all ++ (x ∷ []))) (sym same) (part_of_more (tells a) all x h.part);
+      missing = λ _. omega (arith, length-append all (x ∷ []), short, kept);
+    }
+
+-- one subtable more that is taken in
+taken_in : (a b : Trace) (s : TracedSubtable) (x : Told) (all : List Told) → IsTaken a b s → told_in s ≡ x → TellsOf a all → TellsOf b (all ++ (x ∷ []))
+taken_in a b s x all taken is h =
+    let more : tells b ≡ tells a ++ (x ∷ []) =
+    ap (λ (ss : List TracedSubtable). map told_in ss) taken.added ∙ map-append told_in a.subtables.items (s ∷ []) ∙ ap (λ (w : Told). tells a ++ (w ∷ [])) is in
+    let longer : length b.subtables.items ≡ length a.subtables.items + 1 =
+    ap (λ (ss : List TracedSubtable). length ss) taken.added ∙ length-append a.subtables.items (s ∷ []) in
+    record {
+      whole = λ said. more ∙ ap (λ (ts : List Told). ts ++ (x ∷ [])) (h.whole (sym taken.said ∙ said));
+      part = subst (λ (ts : List Told). IsPart ts (all ++ (x ∷ []))) (sym more) (more_of_more (tells a) all x h.part);
+      missing = λ said. omega (arith, length-append all (x ∷ []), longer, h.missing (sym taken.said ∙ said));
+    }
+
+-- one subtable more, where the trace took it in or not
+pub tells_added : (a b : Trace) (t : Option TracedSubtable) (x y : Told) → IsAdded a b t → IfSome t (λ s. told_in s ≡ y) → y ≡ x → IfSome t IsActed → TellsMore a b (x ∷ [])
+tells_added a b t x y (inl out) is same acted = record {
+  told = λ all h. left_out a b x all out h;
+  acts = subst (λ (ss : List TracedSubtable). All IsActed ss) (sym out.same);
 }
+tells_added a b (Some s) x y (inr taken) is same acted = record {
+  told = λ all h. taken_in a b s x all taken (is ∙ same) h;
+  acts = λ h. subst (λ (ss : List TracedSubtable). All IsActed ss) (sym taken.added) (All-push IsActed a.subtables.items s h acted);
+}
+tells_added a b None x y (inr taken) is same acted = absurd taken
 
 -- what a run of a subtable tells
 pub told_is : (z : Sizes) (switch : Switch) (i k : ℕ) (s : Subtable) (b d : Buffer) (turns : ℕ) (direction : Direction) (skips turned : Bool) → IsOutcome (subtable_run z switch s b) d turns

@@ -1,5 +1,5 @@
 -- What is told of the subtables of a substitution. (No chapter of the manual.)
-use Rattle.std.specs.Prelude.{◌≡◌, ℕ, ◌+◌, ◌==◌, ◌&&◌, ◌++◌, not, All, Bool, List, [], ◌∷◌, Some, bit_and, filter, map}
+use Rattle.std.specs.Prelude.{◌≡◌, ◌⊎◌, ℕ, ◌+◌, ◌==◌, ◌&&◌, ◌++◌, not, All, Bool, List, [], ◌∷◌, Some, bit_and, filter, length, map}
 use Rattle.std.specs.List.{enumerate_from}
 use Rattle.aat_buffer.specs.Buffer.{Buffer, glyph_at}
 use Rattle.aat_buffer.specs.Clusters.{ids}
@@ -12,6 +12,7 @@ use Rattle.aat_kinds.specs.Kinds.{Sizes, is_reversed, sizes_for}
 use Rattle.aat_map.specs.SwitchedChains.{SwitchedChain, plan_requests, switched}
 use Rattle.aat_morx.specs.Substitution.{chain_run, is_skipped, prepared, subtable_run}
 use Rattle.aat_run.specs.Switches.{Switch}
+use Rattle.aat_trace.specs.Acts.{AreOfTurns}
 use Rattle.aat_trace.specs.Replay.{in_run_order, replayed}
 use Rattle.aat_trace.specs.declared.traced.Trace.{Trace}
 use Rattle.aat_trace.specs.declared.traced.TracedSubtable.{TracedSubtable}
@@ -62,6 +63,21 @@ tells t = map told_in t.subtables.items
 -- and its acts are as they have to be
 abbrev pub AreReplayed : Trace → Type 0
 AreReplayed t = All IsReplayed t.subtables.items
+
+-- the acts that are told of a subtable are of its turns, one behind another. Their cursors lie on the line that it
+-- left, since no line gets shorter
+abbrev pub IsInTurn : TracedSubtable → Type 0
+IsInTurn t = AreOfTurns t.turns (length t.after.items) t.acts.items
+
+-- what a trace tells of each subtable is so
+abbrev pub AreInTurn : Trace → Type 0
+AreInTurn t = All IsInTurn t.subtables.items
+
+-- a list is another one without some of its elements, or with all of them
+abbrev pub IsPart : {X : Type 0} → List X → List X → Type 0
+IsPart [] ys = Unit {0}
+IsPart (x ∷ xs) [] = ⊥
+IsPart (x ∷ xs) (y ∷ ys) = ((x ≡ y) × IsPart xs ys) ⊎ IsPart (x ∷ xs) ys
 
 -- what is to be told of subtable k of chain i over a buffer
 abbrev pub told_of : Sizes → Switch → ℕ → ℕ → Subtable → Buffer → Told

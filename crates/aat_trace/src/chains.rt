@@ -15,13 +15,14 @@ ghost use Rattle.aat_trace.specs.Told.{told_of, told_of_chains, told_of_subtable
 ghost use Rattle.aat_trace.specs.inside.Telling.{TellsMore};
 
 use crate::log::Log;
-use crate::subtable::{is_reversed, is_skipped, run_subtable};
+use crate::subtable::run_subtable;
 use crate::telling::{SubtableTurns, glyphs_of, tell};
 use crate::traced::Trace;
 use aat_buffer::hb_buffer_t;
 use aat_font::{Chain, Subtable, hb_font_t};
 use aat_kinds::SubtableRun;
 use aat_map::{default_range, hb_aat_map_t, ranges_of};
+use aat_morx::{is_reversed, is_skipped};
 use aat_run::{AatError, range_flags_t};
 use std::alloc::{Allocator, Global};
 

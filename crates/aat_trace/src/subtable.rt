@@ -1,52 +1,21 @@
 //! A subtable in its chain: whether it runs, and in which order of the line, with what its acts change noted.
 ghost use Rattle.std.specs.Prelude.{◌≡◌, ◌^◌, ◌<◌, ◌≤◌, IfOk, IfErr, OnErr, IsTrue, false, length, true};
 ghost use Rattle.aat_buffer.specs.Clusters.{IsSmall};
-ghost use Rattle.aat_kinds.specs.Kinds.{is_for, is_reversed, kind_run, reversed_run, sizes_of};
+ghost use Rattle.aat_kinds.specs.Kinds.{kind_run, reversed_run, sizes_of};
 ghost use Rattle.aat_kinds.specs.Runs.{is_on_in};
-ghost use Rattle.aat_morx.specs.Substitution.{is_skipped, subtable_run};
+ghost use Rattle.aat_morx.specs.Substitution.{subtable_run};
 ghost use Rattle.aat_run.specs.Driven.{IsRefusal, IsRefused, StaysWithin};
 ghost use Rattle.aat_run.specs.Outcome.{IsOutcome};
 ghost use Rattle.aat_run.specs.Ranges.{IsGapless, is_whole_list, switch_for};
 
 use crate::log::Log;
 use crate::machines::run_noted;
-use aat_buffer::{Direction, hb_buffer_t};
-use aat_font::{Coverage, Subtable};
+use aat_buffer::hb_buffer_t;
+use aat_font::Subtable;
 use aat_kinds::SubtableRun;
+use aat_morx::{is_reversed, is_skipped};
 use aat_run::AatError;
 use std::alloc::Allocator;
-
-/// Whether a subtable is for text of this direction: for all directions, or of the text's orientation.
-fn is_for(direction: Direction, coverage: Coverage) -> bool
-    ensures { result ≡ is_for direction coverage }
-{
-    coverage.is_all_directions() || coverage.is_vertical() == direction.is_vertical()
-}
-
-/// Whether a subtable is left out: its chain has one range alone and it is off there, or it is not for text of this
-/// direction.
-pub(crate) fn is_skipped(run: &SubtableRun, subtable: &Subtable, direction: Direction) -> bool
-    requires { run.now.feature_flags ≡ subtable.now.feature_flags }
-    ensures skipped { result ≡ is_skipped (switch_for run.now.ranges.now) subtable.now direction }
-    ensures on { result ≡ false → length run.now.ranges.now ≡ 1 → is_on_in run.now 0 ≡ true }
-{
-    if run.ranges.len() == 1 && !run.is_on(0) {
-        return true;
-    }
-    !is_for(direction, subtable.coverage)
-}
-
-/// Whether a subtable runs on the line in the opposite order. One in logical order says so itself; any other takes the
-/// glyphs as they are drawn, so that a text that runs backward is turned round unless the subtable runs backwards.
-pub(crate) fn is_reversed(coverage: Coverage, direction: Direction) -> bool
-    ensures { result ≡ is_reversed coverage direction }
-{
-    if coverage.is_logical() {
-        coverage.is_backwards()
-    } else {
-        coverage.is_backwards() != direction.is_backward()
-    }
-}
 
 /// Runs a subtable on the line in the opposite order, and turns the line back.
 #[tactic(auto, using(aat_morx::proofs::Refused::refusal_turned, aat_run::specs::facts::Settings::refused_behind))]

@@ -2,12 +2,13 @@
 ghost use Rattle.std.specs.Prelude.{◌≡◌, List, IfOk, IfSome};
 ghost use Rattle.aat_buffer.specs.Buffer.{glyph_at};
 ghost use Rattle.aat_glyph.specs.declared.glyph.hb_glyph_info_t.{hb_glyph_info_t};
-ghost use Rattle.aat_trace.specs.Told.{IsReplayed, is_unsafe, newly_marked, told_in};
-ghost use Rattle.aat_trace.specs.inside.Telling.{told_by};
+ghost use Rattle.aat_trace.specs.Told.{is_unsafe, newly_marked, told_in};
+ghost use Rattle.aat_trace.specs.inside.Telling.{IsActed, told_by};
 
 use crate::log::Log;
 use crate::replay::{ids_of, leads};
 use crate::traced::{TracedAct, TracedSubtable};
+use crate::turns::are_of_turns;
 use aat_buffer::{glyph_flag, hb_buffer_t, hb_glyph_info_t};
 use std::alloc::{AllocError, Allocator, Global};
 
@@ -69,7 +70,7 @@ fn newly_marked(
 }
 
 /// What is told of a subtable that found these glyphs and left those, by these acts; nothing where the acts do not lead
-/// from the ones to the others.
+/// from the ones to the others, or are not of its turns, one behind another.
 fn told_of(
     alloc: Global,
     run: SubtableTurns,
@@ -78,11 +79,11 @@ fn told_of(
     after: Vec<hb_glyph_info_t>,
 ) -> Result<Option<TracedSubtable>, AllocError>
     ensures told { IfOk result (λ answer. IfSome answer (λ t. told_in t ≡ told_by run before.items after.items)) }
-    ensures acts { IfOk result (λ answer. IfSome answer IsReplayed) }
+    ensures acts { IfOk result (λ answer. IfSome answer IsActed) }
 {
     let first = ids_of(alloc, &before, run.is_reversed)?;
     let last = ids_of(alloc, &after, run.is_reversed)?;
-    if !leads(alloc, &acts, first, &last)? {
+    if !leads(alloc, &acts, first, &last)? || !are_of_turns(&acts, run.turns, after.len()) {
         return Ok(None);
     }
     let marks = newly_marked(alloc, &before, &after)?;
@@ -110,7 +111,7 @@ pub(crate) fn tell<A: Allocator + Copy>(
 ) -> Option<TracedSubtable>
     ensures told { (line : List hb_glyph_info_t) → IfSome before (λ v. v.items ≡ line)
         → IfSome result (λ t. told_in t ≡ told_by run line buffer.now.line) }
-    ensures acts { IfSome result IsReplayed }
+    ensures acts { IfSome result IsActed }
 {
     let before = before?;
     let acts = log.into_acts()?;

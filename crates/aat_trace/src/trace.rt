@@ -1,5 +1,5 @@
 //! A substitution that is told.
-ghost use Rattle.std.specs.Prelude.{◌≡◌, ◌^◌, ◌<◌, ◌≤◌, ◌↔◌, IfOk, IfErr, IfSome, IsErrOf, IsTrue, OnErr, OnOk, None, false};
+ghost use Rattle.std.specs.Prelude.{◌≡◌, ◌^◌, ◌<◌, ◌≤◌, ◌↔◌, IfOk, IfErr, IfSome, IsErrOf, IsTrue, OnErr, OnOk, None, false, length, true};
 ghost use Rattle.std.specs.List.{list_all};
 ghost use Rattle.std.specs.Option.{option_copied};
 ghost use Rattle.aat_buffer.specs.Clusters.{IsSmall};
@@ -14,7 +14,8 @@ ghost use Rattle.aat_morx.specs.Substitution.{prepared};
 ghost use Rattle.aat_run.specs.Driven.{IsRefusal, IsRefused};
 ghost use Rattle.aat_run.specs.Outcome.{IsOutcome};
 ghost use Rattle.aat_run.specs.Ranges.{is_whole_list};
-ghost use Rattle.aat_trace.specs.Told.{AreReplayed, tells, told_of_chains, told_of_substitution};
+ghost use Rattle.aat_trace.specs.Told.{AreInTurn, AreReplayed, IsPart, tells, told_of_chains, told_of_substitution};
+ghost use Rattle.aat_trace.specs.inside.Telling.{AreActed, TellsOf};
 
 use crate::chains::trace_chains;
 use crate::traced::Trace;
@@ -33,10 +34,12 @@ use std::alloc::{Allocator, Global};
 /// order, also where it is left out: whether it ran, and on the reversed line, its turns, the glyphs that it found,
 /// which are those that the one before it left, its acts, the glyphs that it left, and the places of new marks. Without
 /// the table nothing is told. The acts of a subtable, done one behind another on the ids that it found, in the order in
-/// which it takes them, lead to those that it left: each finds the ids that it takes at its place. Which transition an
-/// act was, and where the cursor stood before it, is only tested.
+/// which it takes them, lead to those that it left: each finds the ids that it takes at its place, and changes ids at
+/// both ends of its span. Their transitions rise, and are no more than the turns. That an act is told of each
+/// transition that changes ids, and of no two at once, and where the cursor stood before it, is only tested.
 ///
-/// Where memory is wanting to tell of a subtable, it is left out, `is_incomplete` is set, and the run goes on.
+/// Where memory is wanting to tell of a subtable, it is left out, and the run goes on. The others are told as ever, and
+/// `is_incomplete` is set exactly where one is missing.
 ///
 /// Each glyph id has to be at most 0xFFFF, which [`all_glyphs_16`](hb_buffer_t::all_glyphs_16) tells.
 ///
@@ -66,7 +69,11 @@ pub fn trace_substitution<A: Allocator + Copy>(
         IsOutcome (substitution plan.now face.now buffer.old) buffer.new trace.turns) }
     ensures told { IfOk result (λ trace. trace.is_incomplete ≡ false
         → tells trace ≡ told_of_substitution plan.now face.now buffer.old) }
+    ensures part { IfOk result (λ trace. IsPart (tells trace) (told_of_substitution plan.now face.now buffer.old)) }
+    ensures missing { IfOk result (λ trace. trace.is_incomplete ≡ true
+        → length trace.subtables.items < length (told_of_substitution plan.now face.now buffer.old)) }
     ensures acts { IfOk result (λ trace. AreReplayed trace) }
+    ensures turns { IfOk result (λ trace. AreInTurn trace) }
 {
     if !buffer.is_successful() {
         return Err(AatError::BufferFailed);
@@ -98,11 +105,10 @@ fn trace_table<const SLOTS: usize, const LONGEST: usize, A: Allocator + Copy>(
     ensures run { IfOk result (λ trace. IsOutcome
         (applied_by (sizes_of SLOTS LONGEST face.now) face.now (option_copied map.entry) buffer.old)
         buffer.new trace.turns) }
-    ensures told { IfOk result (λ trace. trace.is_incomplete ≡ false
-        → tells trace ≡ told_of_chains (sizes_of SLOTS LONGEST face.now) 0
+    ensures told { IfOk result (λ trace. TellsOf trace (told_of_chains (sizes_of SLOTS LONGEST face.now) 0
         (switched_by (chains_in (tables_of face.now).morx)
-        (lists_for (option_copied map.entry) (chains_in (tables_of face.now).morx))) (prepared buffer.old)) }
-    ensures acts { IfOk result (λ trace. AreReplayed trace) }
+        (lists_for (option_copied map.entry) (chains_in (tables_of face.now).morx))) (prepared buffer.old))) }
+    ensures acts { IfOk result (λ trace. AreActed trace) }
     ensures reason { IfErr result (IsRefusal buffer.old
         (applied_by (sizes_of SLOTS LONGEST face.now) face.now (option_copied map.entry) buffer.old).buffer) }
     ensures refused { OnErr result (IsRefused buffer.old buffer.new) }

@@ -62,12 +62,13 @@ pub struct Trace {
 }
 
 impl Trace {
-    ghost use Rattle.std.specs.Prelude.{◌≡◌, ◌++◌, ◌∷◌, [], All, IfSome, IsSomeAnd, false};
-    ghost use Rattle.aat_trace.specs.Told.{IsReplayed};
+    ghost use Rattle.std.specs.Prelude.{◌≡◌, [], false};
+    ghost use Rattle.aat_trace.specs.inside.Telling.{IsAdded};
 
     /// Nothing told.
     pub(crate) fn new(alloc: Global) -> Trace
         ensures told { result.subtables.items ≡ [] }
+        ensures whole { result.is_incomplete ≡ false }
     {
         Trace {
             turns: 0,
@@ -78,11 +79,7 @@ impl Trace {
 
     /// Adds what is told of a subtable, if there is memory.
     pub(crate) fn add(&mut self, told: Option<TracedSubtable>)
-        ensures whole { self.new.is_incomplete ≡ false → self.old.is_incomplete ≡ false }
-        ensures added { self.new.is_incomplete ≡ false
-            → IsSomeAnd told (λ t. self.new.subtables.items ≡ self.old.subtables.items ++ t ∷ []) }
-        ensures acts { IfSome told IsReplayed
-            → All IsReplayed self.old.subtables.items → All IsReplayed self.new.subtables.items }
+        ensures { IsAdded self.old self.new told }
     {
         match told {
             Some(told) => {

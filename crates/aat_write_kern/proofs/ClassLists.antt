@@ -11,9 +11,9 @@ use Rattle.aat_bytes.specs.Numbers.{be16}
 use Rattle.aat_bytes.specs.declared.error.Fault.{Fault}
 use Rattle.aat_bytes.specs.declared.error.FaultKind.TheVariants.{UnknownFormat}
 use Rattle.aat_bytes.specs.facts.Ranges.{none_found}
+use Rattle.aat_bytes.specs.declared.tags.TheConstants.{KERN}
 use Rattle.aat_read_pairs.specs.ClassTables.{class_table_at, offset_of, offset_place}
 use Rattle.aat_read_pairs.specs.KernClasses.{checked_table_at, class_of, classes_of, first_odd}
-use Rattle.aat_read_pairs.specs.declared.values.TheConstants.{KERN}
 use Rattle.aat_write_kern.specs.ClassBytes.{left_word, right_word}
 use Rattle.aat_write_kern.specs.DenseClasses.{class_gap, first_glyph}
 use Rattle.aat_write_kern.proofs.DenseFacts.{below_limit, glyph_is}

@@ -8,9 +8,9 @@ use Rattle.std.proofs.lemmas.List.FromFn.{fill_by_all}
 use Rattle.aat_bytes.specs.Faults.{fault_at}
 use Rattle.aat_bytes.specs.Numbers.{be16, signed16}
 use Rattle.aat_bytes.specs.declared.error.FaultKind.TheVariants.{NotRising}
+use Rattle.aat_bytes.specs.declared.tags.TheConstants.{KERN}
 use Rattle.aat_read_pairs.specs.KerningValues.{no_tuples}
 use Rattle.aat_read_pairs.specs.ListedPairs.{kern_pairs_at, listed_pairs, pair_at, pair_place, pairs_at, rising_pairs}
-use Rattle.aat_read_pairs.specs.declared.values.TheConstants.{KERN}
 use Rattle.aat_write_lookup.specs.Words.{word_bytes}
 use Rattle.aat_write_lookup.specs.facts.WordPlaces.{AreWords, length_words, word_at}
 use Rattle.aat_write_kern.specs.KernLaws.{ArePairs}

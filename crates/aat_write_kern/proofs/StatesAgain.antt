@@ -9,9 +9,9 @@ use Rattle.aat_bytes.specs.Faults.{fault_at}
 use Rattle.aat_bytes.specs.Numbers.{be16}
 use Rattle.aat_bytes.specs.declared.error.FaultKind.TheVariants.{PastEnd}
 use Rattle.aat_bytes.specs.facts.Ranges.{none_found}
+use Rattle.aat_bytes.specs.declared.tags.TheConstants.{KERN}
 use Rattle.aat_read_kern.specs.ByteMachines.{cell_count, entry_place, has_entry, has_index, index_place, row_place, rows_before, rows_behind, state_named}
 use Rattle.aat_read_kern.specs.ByteStates.{are_closed, closed_rows, missing_entry, missing_index, rows_of, whole_rows, with_all_named, with_named}
-use Rattle.aat_read_pairs.specs.declared.values.TheConstants.{KERN}
 use Rattle.aat_write_kern.proofs.Readers.{ByteMachine, Rows}
 
 -- so many rows from the first state on

@@ -1,4 +1,8 @@
 //! A writer of the kerning table, `kern`, which the reader reads again.
+//!
+//! ```
+//! let bytes = write_kern(alloc, &kern)?;
+//! ```
 #![tactic(auto)]
 
 mod classes;

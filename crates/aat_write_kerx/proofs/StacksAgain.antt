@@ -8,6 +8,7 @@ use Rattle.std.proofs.lemmas.List.{append-nil, length-append}
 use Rattle.aat_bytes.specs.Faults.{after}
 use Rattle.aat_bytes.specs.Numbers.{be16, be32}
 use Rattle.aat_bytes.specs.declared.error.Fault.{Fault}
+use Rattle.aat_bytes.specs.declared.tags.TheConstants.{KERX}
 use Rattle.aat_font.specs.KerningTables.{KerxAnchorTables, KerxStackTables}
 use Rattle.aat_font.specs.Table.{Rule}
 use Rattle.aat_font.specs.declared.entries.EntryData.{EntryData}
@@ -15,7 +16,6 @@ use Rattle.aat_font.specs.declared.state_table.GenericStateEntry.{GenericStateEn
 use Rattle.aat_read_machine.specs.Entries.{action_at, stack_action_at, value_index}
 use Rattle.aat_read_machine.specs.Kinds.{list_place}
 use Rattle.aat_read_machine.specs.Machine.{machine_at}
-use Rattle.aat_read_pairs.specs.declared.values.TheConstants.{KERX}
 use Rattle.aat_read_kerx.specs.Formats.{anchor_format_at, as_format}
 use Rattle.aat_read_kerx.specs.Machines.{action_type, pairs_place, point_pairs_from, stack_tables_at, values_from}
 use Rattle.aat_font.specs.declared.kerx.KerxFormat.TheVariants.{Format4}

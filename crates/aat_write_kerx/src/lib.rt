@@ -1,5 +1,9 @@
 //! Writers of the extended kerning table, `kerx`, and of the table of anchor points, `ankr`, which the readers read
 //! again.
+//!
+//! ```
+//! let bytes = write_kerx(alloc, &kerx)?;
+//! ```
 #![tactic(auto)]
 
 mod ankr;

@@ -1,4 +1,8 @@
-//! Writers of the tables of an Apple font, which the readers read again.
+//! Writers of lookups and of the table of features, which the readers read again, and of words.
+//!
+//! ```
+//! let bytes = write_lookup(alloc, &[(4, 1), (7, 2)])?;
+//! ```
 #![tactic(auto)]
 
 mod error;

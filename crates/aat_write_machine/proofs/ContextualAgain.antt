@@ -11,6 +11,7 @@ use Rattle.aat_bytes.specs.declared.error.Fault.{Fault}
 use Rattle.aat_bytes.specs.facts.Ranges.{none_found}
 use Rattle.aat_bytes.specs.declared.error.FaultKind.TheVariants.{PastEnd, ShortLength}
 use Rattle.aat_bytes.specs.declared.tag.Tag.{Tag}
+use Rattle.aat_bytes.specs.declared.tags.TheConstants.{MORX}
 use Rattle.aat_font.specs.Subtables.{ContextualTables}
 use Rattle.aat_font.specs.Table.{Rule, TableValue, table_value}
 use Rattle.aat_font.specs.declared.entries.ContextualEntryData.{ContextualEntryData}
@@ -24,7 +25,6 @@ use Rattle.aat_read_machine.specs.Lookups.{lookup_count, lookups_to}
 use Rattle.aat_read_machine.specs.Machine.{machine_at, with_classes}
 use Rattle.aat_read_machine.specs.Room.{lookup_cost, lookup_past_room, lookup_size, lookups_cost, number_at, room_left}
 use Rattle.aat_read_machine.specs.StateArray.{StateArray, cells_of, class_place, entry_place, header_at, rule_of, rules_of, state_array_at}
-use Rattle.aat_read_machine.specs.declared.kinds.TheConstants.{MORX}
 use Rattle.aat_write_lookup.specs.LookupLaws.{WrittenLookupsAreRead}
 use Rattle.aat_write_lookup.specs.Lookups.{lookup_words, lookup_written}
 use Rattle.aat_write_lookup.specs.Words.{long_bytes, word_bytes}

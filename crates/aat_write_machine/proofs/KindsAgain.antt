@@ -1,6 +1,7 @@
 -- What a subtable does is read again.
 use Rattle.std.proofs.Common.{◌≡◌, ℕ, List, [], ◌++◌, length, All, Result, Ok, refl, ap, arith}
 use Rattle.aat_bytes.specs.declared.error.Fault.{Fault}
+use Rattle.aat_bytes.specs.declared.tags.TheConstants.{MORX}
 use Rattle.aat_font.specs.Subtables.{ContextualTables, InsertionTables, LigatureTables}
 use Rattle.aat_font.specs.Table.{TableValue}
 use Rattle.aat_font.specs.declared.morx.SubtableKind.TheVariants.{Rearrangement, Contextual, Ligature, NonContextual, Insertion}
@@ -10,7 +11,6 @@ use Rattle.aat_read_machine.specs.Contextual.{contextual_tables_at}
 use Rattle.aat_read_machine.specs.Kinds.{insertion_tables_at, ligature_at}
 use Rattle.aat_read_machine.specs.Machine.{machine_at}
 use Rattle.aat_read_machine.specs.SubtableKinds.{as_kind, subtable_kind_at}
-use Rattle.aat_read_machine.specs.declared.kinds.TheConstants.{MORX}
 use Rattle.aat_write_lookup.specs.LookupLaws.{WrittenLookupsAreRead}
 use Rattle.aat_write_lookup.specs.Lookups.{lookup_written}
 use Rattle.aat_write_machine.specs.EntryWords.{no_words}

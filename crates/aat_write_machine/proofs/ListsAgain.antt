@@ -5,6 +5,7 @@ use Rattle.std.proofs.lemmas.List.{length-append}
 use Rattle.aat_bytes.specs.Faults.{after}
 use Rattle.aat_bytes.specs.Numbers.{be16}
 use Rattle.aat_bytes.specs.declared.error.Fault.{Fault}
+use Rattle.aat_bytes.specs.declared.tags.TheConstants.{MORX}
 use Rattle.aat_font.specs.Subtables.{InsertionTables, LigatureTables}
 use Rattle.aat_font.specs.Table.{TableValue}
 use Rattle.aat_font.specs.declared.entries.InsertionEntryData.{InsertionEntryData}
@@ -13,7 +14,6 @@ use Rattle.aat_read_machine.specs.Entries.{insertion_at}
 use Rattle.aat_read_machine.specs.Kinds.{insertion_tables_at, ligature_at, list_place}
 use Rattle.aat_read_machine.specs.Lists.{glyphs_from, numbers16, numbers32}
 use Rattle.aat_read_machine.specs.Machine.{machine_at}
-use Rattle.aat_read_machine.specs.declared.kinds.TheConstants.{MORX}
 use Rattle.aat_write_lookup.specs.Words.{long_bytes, word_bytes}
 use Rattle.aat_write_machine.specs.EntryWords.{insertion_words, one_word}
 use Rattle.aat_write_machine.specs.KindLaws.{BeginsWith, InsertionsAreRead, IsInsertion, IsLigature, IsSameInsertion, IsSameLigature, LigaturesAreRead, ReadsSame}

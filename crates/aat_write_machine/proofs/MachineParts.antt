@@ -5,6 +5,7 @@ use Rattle.std.proofs.Math.Nat.{mul-le-mul_right}
 use Rattle.std.proofs.lemmas.List.{length-append}
 use Rattle.std.proofs.lemmas.List.FromFn.{length-range_with_len}
 use Rattle.aat_bytes.specs.Numbers.{be32}
+use Rattle.aat_bytes.specs.declared.tags.TheConstants.{MORX}
 use Rattle.aat_font.specs.Table.{TableValue}
 use Rattle.aat_font.specs.declared.state_table.GenericStateEntry.{GenericStateEntry}
 use Rattle.aat_write_lookup.specs.Words.{long_bytes, word_bytes}
@@ -12,7 +13,6 @@ use Rattle.aat_write_machine.specs.EntryLaws.{HasSize, ReadsAgain}
 use Rattle.aat_write_machine.specs.EntryWords.{rule_words}
 use Rattle.aat_write_machine.specs.Kinds.{machine_end}
 use Rattle.aat_read_machine.specs.Machine.{machine_at}
-use Rattle.aat_read_machine.specs.declared.kinds.TheConstants.{MORX}
 use Rattle.aat_write_machine.specs.MachineLaws.{IsLong, IsMachine, MachinesAreRead}
 use Rattle.aat_write_machine.specs.Machines.{class_table_written, header_longs, machine_bytes, machine_written}
 use Rattle.aat_write_machine.specs.MorxWriteErrors.{after_written}

@@ -1,4 +1,8 @@
 //! Writers of state tables and of the kinds of subtables of `morx`, which the readers read again.
+//!
+//! ```
+//! let bytes = write_subtable_kind(alloc, &subtable.kind)?;
+//! ```
 #![tactic(auto)]
 
 mod contextual;

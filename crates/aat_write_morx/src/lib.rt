@@ -1,4 +1,8 @@
 //! Writers of the extended glyph metamorphosis table, `morx`, which the reader reads again.
+//!
+//! ```
+//! let bytes = write_morx(alloc, &morx)?;
+//! ```
 #![tactic(auto)]
 
 mod chain;

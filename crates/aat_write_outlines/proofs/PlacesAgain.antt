@@ -11,10 +11,10 @@ use Rattle.aat_bytes.specs.Faults.{after, fault_at}
 use Rattle.aat_bytes.specs.Numbers.{be32, u32_at}
 use Rattle.aat_bytes.specs.declared.error.Fault.{Fault}
 use Rattle.aat_bytes.specs.declared.error.FaultKind.TheVariants.{Missing}
+use Rattle.aat_bytes.specs.declared.tags.TheConstants.{LOCA}
 use Rattle.aat_read_outlines.specs.Glyphs.{GlyphBytes}
 use Rattle.aat_read_outlines.specs.Offsets.{OutlineTables, bytes_between, entry_fault, entry_place, glyph_bytes, offset_at}
 use Rattle.aat_read_outlines.specs.Outlines.{PointLists}
-use Rattle.aat_read_outlines.specs.declared.tags.TheConstants.{LOCA}
 use Rattle.aat_write_lookup.specs.facts.LongPlaces.{length_longs, long_at}
 use Rattle.aat_write_outlines.specs.GlyphData.{glyph_data}
 use Rattle.aat_write_outlines.specs.OutlineLaws.{tables_over}

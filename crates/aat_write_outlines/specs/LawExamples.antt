@@ -3,9 +3,9 @@ use Rattle.std.specs.Prelude.{◌≡◌, ℕ, List, [], ◌∷◌, length, pos, 
 use Rattle.aat_bytes.specs.Faults.{fault_at}
 use Rattle.aat_bytes.specs.declared.error.Fault.{Fault}
 use Rattle.aat_bytes.specs.declared.error.FaultKind.TheVariants.{Missing}
+use Rattle.aat_bytes.specs.declared.tags.TheConstants.{LOCA}
 use Rattle.aat_read_outlines.specs.Composites.{outline_of}
 use Rattle.aat_read_outlines.specs.Outlines.{PointLists, no_points}
-use Rattle.aat_read_outlines.specs.declared.tags.TheConstants.{LOCA}
 use Rattle.aat_write_outlines.specs.Examples.{corner, off, on}
 use Rattle.aat_write_outlines.specs.OutlineLaws.{tables_over}
 use Rattle.aat_write_outlines.specs.Tables.{outlines_written}

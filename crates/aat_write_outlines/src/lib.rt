@@ -1,4 +1,8 @@
 //! Writer of the tables `glyf` and `loca`, whose simple glyphs the reader reads again.
+//!
+//! ```
+//! let tables = write_outlines(alloc, &outlines)?;
+//! ```
 #![tactic(auto)]
 
 mod bounds;

@@ -17,7 +17,6 @@ use Rattle.aat_read_sfnt.specs.RisingEnds.{end_falls}
 use Rattle.aat_read_sfnt.specs.SegmentedCoverage.{end_char, glyph_in_group, group_glyph, groups_at, known_glyph, start_char, start_glyph}
 use Rattle.aat_read_sfnt.specs.declared.cmap.Cmap.{Cmap}
 use Rattle.aat_read_sfnt.specs.declared.cmap.Cmap.TheVariants.{SegmentedCoverage}
-use Rattle.aat_read_sfnt.specs.declared.tags.TheConstants.{CMAP}
 use Rattle.aat_bytes.specs.facts.Ranges.{none_found}
 use Rattle.aat_write_sfnt.specs.CharacterLaws.{IsMapping, WrittenCharactersAreRead}
 use Rattle.aat_write_sfnt.specs.CharacterMaps.{character_of, cmap_words, group_words, subtable_words}
@@ -25,6 +24,7 @@ use Rattle.aat_write_sfnt.specs.declared.cmap.Mapping.{Mapping}
 use Rattle.aat_write_sfnt.proofs.TablesAgain.{word_of}
 use Rattle.aat_write_lookup.specs.Words.{word_bytes}
 use Rattle.aat_bytes.specs.facts.Longs.{long_is}
+use Rattle.aat_bytes.specs.declared.tags.TheConstants.{CMAP}
 use Rattle.aat_write_lookup.specs.facts.WordPlaces.{AreWords, length_words, long_again}
 use Rattle.aat_write_lookup.specs.facts.Written.{written_is}
 

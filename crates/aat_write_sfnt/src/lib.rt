@@ -1,6 +1,9 @@
 //! Writers of a font file: its directory, and the tables of characters, metrics, classes, names and named features.
-//!
 //! `aat_read_sfnt` reads each of them again, and `aat_read_lookup` the features.
+//!
+//! ```
+//! let file = write_font(alloc, &[FontTable { tag: MORX, bytes: &morx }])?;
+//! ```
 #![tactic(auto)]
 
 mod cmap;

@@ -1,8 +1,8 @@
 -- A tracking table that is written is read again.
 use Rattle.std.specs.Prelude.{◌≡◌, ℕ, ◌<◌, List, All, FitsSigned, Option, Some, None, Ok}
 use Rattle.std.specs.Int.{w16, w32}
-use Rattle.aat_tracking.specs.Tracks.{TrackTable, TrackingTable, fault_of}
-use Rattle.aat_tracking.specs.declared.track_data.Track.{Track}
+use Rattle.aat_placement.specs.Tracks.{TrackTable, TrackingTable, fault_of}
+use Rattle.aat_placement.specs.declared.track_data.Track.{Track}
 use Rattle.aat_read_trak.specs.Trak.{trak_of}
 use Rattle.aat_write_trak.specs.TrakBytes.{trak_written}
 

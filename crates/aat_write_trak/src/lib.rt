@@ -1,4 +1,8 @@
 //! Writer of the tracking table, `trak`, which the reader reads again.
+//!
+//! ```
+//! let bytes = write_trak(alloc, &tracking)?;
+//! ```
 #![tactic(auto)]
 
 mod error;

@@ -1,7 +1,7 @@
 //! The tracking table to bytes.
 ghost use Rattle.std.specs.Prelude.{◌≡◌, ◌++◌, ◌+◌, ◌<◌, false, None, OnOk, length, map, option_copied};
 ghost use Rattle.std.specs.List.{flat_map};
-ghost use Rattle.aat_tracking.specs.Tracks.{track_at};
+ghost use Rattle.aat_placement.specs.Tracks.{track_at};
 ghost use Rattle.aat_write_trak.specs.TrakBytes.{are_too_many, data_words, entries, entry_words, first_far, fixed_words, part_bytes, part_far, part_too_many, trak_written, value_word};
 ghost use Rattle.aat_write_trak.specs.TrakWriteErrors.{Writes};
 ghost use Rattle.aat_write_lookup.specs.Words.{word_bytes};
@@ -11,7 +11,7 @@ use crate::places::{
     LAST_PLACE, offset_of, part_far, part_size, part_too_many, place_of_sizes, place_of_values,
     size_count, track_count,
 };
-use aat_tracking::{Track, TrackData, Tracking};
+use aat_placement::{Track, TrackData, Tracking};
 use aat_write_lookup::append_words;
 use std::alloc::{AllocError, Allocator};
 

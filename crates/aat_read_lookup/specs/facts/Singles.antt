@@ -14,6 +14,7 @@ use Rattle.aat_read_lookup.specs.Lookups.{lookup_at, pairs_of}
 use Rattle.aat_read_lookup.specs.Segments.{segment_pairs}
 use Rattle.aat_read_lookup.specs.declared.layout.Layout.{Layout}
 use Rattle.aat_read_lookup.specs.declared.layout.Layout.TheVariants.{Searched}
+use Rattle.aat_read_lookup.specs.declared.segment.ValueKind.TheVariants.{Word}
 use Rattle.aat_read_lookup.specs.declared.units.UnitKind.TheVariants.{Single}
 use Rattle.aat_read_lookup.specs.declared.units.Units.{Units}
 
@@ -50,9 +51,9 @@ pub record HasSingles (bytes : List ℕ) (start : ℕ) (pairs : List (ℕ × ℕ
 
 module _ (table : Tag) (bytes : List ℕ) (start : ℕ) (pairs : List (ℕ × ℕ)) (has : HasSingles bytes start pairs) where
   abbrev units : Units
-  units = record { kind = Single; start = start; size = 4; count = length pairs }
+  units = record { kind = Single; values = Word; start = start; size = 4; count = length pairs }
 
-  units_are : units_at table bytes start Single ≡ Ok units
+  units_are : units_at table bytes start Single Word ≡ Ok units
   unfolding units_at
   units_are =
       let header : nat_lt (length bytes) (start + 12) ≡ false = le-ltb (length bytes) (start + 12) (omega (arith, has.long)) in
@@ -80,19 +81,19 @@ module _ (table : Tag) (bytes : List ℕ) (start : ℕ) (pairs : List (ℕ × �
       le-ltb (length bytes) (start + 12 + 4 * i + 2 + 2) (omega (arith, has.long)) in
       rw (above, inside) refl
 
-  checked : checked_units table bytes start Single ≡ Ok units
+  checked : checked_units table bytes start Single Word ≡ Ok units
   unfolding checked_units
   checked =
       ap (λ (r : Result Units Fault). after r (λ u. unless_fault (units_fault table bytes u) u)) units_are
       ∙ ap (λ (o : Option Fault). unless_fault o units)
       (all_none (unit_fault table bytes units) 0 (length pairs) (λ k low high. no_fault k (omega arith)))
 
-  searched : searched_at table bytes start Single ≡ Ok (Searched units)
+  searched : searched_at table bytes start Single Word ≡ Ok (Searched units)
   unfolding searched_at
   searched =
       ap (λ (r : Result Units Fault). after r (λ u. if are_crowded bytes u then Err (fault_at table PastEnd start) else Ok (Searched u))) checked
 
-  layout : (glyph_count : ℕ) → layout_at table bytes start glyph_count ≡ Ok (Searched units)
+  layout : (glyph_count : ℕ) → layout_at table bytes start glyph_count Word ≡ Ok (Searched units)
   unfolding layout_at
   layout glyph_count =
       let inside : nat_lt (length bytes) (start + 2) ≡ false = le-ltb (length bytes) (start + 2) (omega (arith, has.long)) in

@@ -2,6 +2,8 @@
 use Rattle.std.specs.Prelude.{ℕ, ◌+◌, ◌*◌, ◌<◌, ◌≤◌, List, length}
 use Rattle.aat_read_lookup.specs.Segments.{values_end}
 use Rattle.aat_read_lookup.specs.Layouts.{end_before, record_size, segment_of}
+use Rattle.aat_read_lookup.specs.declared.kept.Keep.{Keep}
+use Rattle.aat_read_lookup.specs.declared.kept.Keep.TheVariants.{Value, Row, LongRow}
 use Rattle.aat_read_lookup.specs.declared.layout.Layout.{Layout}
 use Rattle.aat_read_lookup.specs.declared.layout.Layout.TheVariants.{Array, Searched}
 use Rattle.aat_read_lookup.specs.declared.segment.Segment.{Segment}
@@ -14,7 +16,7 @@ pub record Fits (bytes : List ℕ) (segment : Segment) : Type 0 where
 
 -- units are as wide as their records, and stand inside
 pub record AreInside (bytes : List ℕ) (units : Units) : Type 0 where
-  pub wide : record_size units.kind ≤ units.size
+  pub wide : record_size units.kind units.values ≤ units.size
   pub inside : units.start + 12 + units.size * units.count ≤ length bytes
 
 -- the values of each unit stand inside, and it has a glyph and begins behind the unit before
@@ -28,3 +30,9 @@ pub record AreSound (bytes : List ℕ) (units : Units) : Type 0 where
 abbrev pub IsSound : List ℕ → Layout → Type 0
 IsSound bytes (Array segment) = Fits bytes segment
 IsSound bytes (Searched units) = AreSound bytes units
+
+-- rows have values
+abbrev pub CanKeep : Keep → Type 0
+CanKeep Value = Unit
+CanKeep (Row width) = 0 < width
+CanKeep (LongRow width) = 0 < width

@@ -1,5 +1,5 @@
 use Rattle.aat_read_lookup.proofs.SizeBounds.{read_pairs_rise}
-use Rattle.aat_read_kerx.specs.declared.ankr.TheConstants.{ANKR}
+use Rattle.aat_bytes.specs.declared.tags.TheConstants.{ANKR}
 use Rattle.aat_read_kerx.proofs.ankr.read_ankr.Goals as goal
 
 pub rows-requires-clause-rising : goal.rows-requires-clause-rising

@@ -22,4 +22,4 @@ returns-clause-told g c =
     c.is_reversed-is_reversed.ensures in
     tells_added c.args.trace.now c.add.new.self c.tell.result (told_of z switch place.0 place.1 s b)
     (told_by (record { chain = place.0; subtable = place.1; is_run = not skips; is_reversed = turned; turns = c.in_ok-turns.turns }) b.line d.line)
-    c.add.ensures.whole c.add.ensures.added c.add.ensures.acts (c.tell.ensures.told b.line known) same c.tell.ensures.acts
+    c.add.ensures (c.tell.ensures.told b.line known) same c.tell.ensures.acts

@@ -5,5 +5,6 @@ use Rattle.aat_read_lookup.proofs.segment.Segment.append_singles.Goals as goal
 
 pub loop-k-preserved : goal.loop-k-preserved
 loop-k-preserved g c =
-    let made = single_made c.args.bytes.now c.args.self c.loop-k.k c.value.result c.new.result c.new.ensures c.value.ensures in
-    one_more (single_segment c.args.bytes.now c.args.self) c.args.segments.now.items c.loop-k.segments.items c.push.new.self.items c.loop-k.k c.new.result made c.loop-k.invariant c.in_ok-push.ensures.items
+    let bytes = c.args.bytes.now in
+    let made = single_made bytes c.args.keep c.args.self c.loop-k.k c.kept.result c.new.result c.new.ensures c.kept.ensures in
+    one_more (single_segment bytes c.args.keep c.args.self) c.args.segments.now.items c.loop-k.segments.items c.push.new.self.items c.loop-k.k c.new.result made c.loop-k.invariant c.in_ok-push.ensures.items

@@ -1,4 +1,0 @@
-pub mod AttachmentExamples
-pub mod AttachmentLaws
-pub mod Attachments
-pub mod inside

@@ -1,3 +1,0 @@
-pub mod Renaming
-pub mod RenamingCuts
-pub mod facts

@@ -1,0 +1,5 @@
+use Rattle.aat_cut_kinds.proofs.Bridge.{any_settled_insertion_leaves_parts_at_fall}
+use Rattle.aat_cut_kinds.proofs.laws.any_settled_falling_insertion_cut.Goals as goal
+
+pub returns : goal.returns
+returns c = any_settled_insertion_leaves_parts_at_fall

@@ -1,2 +1,0 @@
-pub mod CountingHolds
-pub mod PuttingHolds

@@ -1,0 +1,44 @@
+//! Pairs that kern.
+use crate::tables_text::lookups::write_lookup;
+use aat_font::{ClassPairs, Pairs};
+use std::alloc::Global;
+use std::io::{self, Write};
+
+/// The most pairs, or values, that are written.
+const MOST_PAIRS: usize = 1000;
+
+/// Writes pairs with their values, up to 1,000 of them.
+pub(crate) fn write_pairs<W: Write>(out: &mut W, pairs: &Pairs) -> io::Result<()> {
+    let pairs = pairs.pairs();
+    for (left, right, value) in pairs.iter().take(MOST_PAIRS) {
+        writeln!(out, "  pair {left} {right} value {value}")?;
+    }
+    if pairs.len() > MOST_PAIRS {
+        writeln!(out, "  and {} pairs more", pairs.len() - MOST_PAIRS)?;
+    }
+    Ok(())
+}
+
+/// Writes pairs by classes: the classes of glyphs on the left and on the right, how many right ones there are, and the
+/// values in their order.
+pub(crate) fn write_classes<W: Write>(
+    alloc: Global,
+    out: &mut W,
+    pairs: &ClassPairs,
+) -> io::Result<()> {
+    write_lookup(alloc, out, pairs.left(), "left class")?;
+    write_lookup(alloc, out, pairs.right(), "right class")?;
+    writeln!(out, "  right classes {}", pairs.right_count())?;
+    write_values(out, pairs.values())
+}
+
+/// Writes values in their order, up to 1,000 of them.
+pub(crate) fn write_values<W: Write>(out: &mut W, values: &[i16]) -> io::Result<()> {
+    for (place, value) in values.iter().take(MOST_PAIRS).enumerate() {
+        writeln!(out, "  value {place} {value}")?;
+    }
+    if values.len() > MOST_PAIRS {
+        writeln!(out, "  and {} values more", values.len() - MOST_PAIRS)?;
+    }
+    Ok(())
+}

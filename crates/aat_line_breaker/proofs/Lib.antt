@@ -1,3 +1,0 @@
-pub mod Advanced
-pub mod Lasts
-pub mod Parts

@@ -1,2 +1,0 @@
-pub mod LineBreak
-pub mod LineCut

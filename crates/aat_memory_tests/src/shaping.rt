@@ -1,0 +1,157 @@
+//! Shaping, with a heap for the map or for the line, and the shaper over a heap.
+
+use crate::calls::{Outcome, done_if, refused_if};
+use crate::fonts::{INSERTED, inserting, row_font};
+use crate::hoard::{Hoard, new_heap};
+use crate::requests::liga;
+use aat_layout::AatError;
+use aat_layout::buffer::{BufferError, Direction, hb_buffer_t, hb_glyph_info_t};
+use aat_layout::font::{hb_font_t, hb_ot_shape_plan_t};
+use aat_shaper::{Shaper, TextGlyph};
+use aat_shaping::shape;
+use linked_list_allocator::LocalHeap;
+use std::alloc::{AllocError, Allocator, Global};
+use std::test::Fail;
+
+/// The line of row 38a, whose glyphs ask for kerning by the bit 8.
+fn line_of<A: Allocator + Copy>(memory: A) -> Result<hb_buffer_t<A>, BufferError> {
+    let mut buffer = hb_buffer_t::new(memory, 100, 16384);
+    for id in 10..13u32 {
+        buffer.add(hb_glyph_info_t {
+            mask: 8,
+            ..hb_glyph_info_t::new(id, id - 10)
+        })?;
+    }
+    Ok(buffer)
+}
+
+/// The plan of row 38a, with a request.
+fn plan_of(alloc: Global) -> Result<hb_ot_shape_plan_t, AllocError> {
+    Ok(hb_ot_shape_plan_t {
+        requested_kerning: true,
+        kern_mask: 8,
+        ..hb_ot_shape_plan_t::new(vec![in alloc; liga(1, 7, 9)]?)
+    })
+}
+
+/// Shapes the line, with this memory for the map. A line with a glyph of more than 16 bits is refused as failed.
+fn shaped<H: Allocator + Copy, A: Allocator + Copy>(
+    memory: H,
+    plan: &hb_ot_shape_plan_t,
+    font: &hb_font_t,
+    buffer: &mut hb_buffer_t<A>,
+) -> Result<u64, AatError> {
+    if buffer.all_glyphs_16() {
+        shape(memory, plan, font, buffer)
+    } else {
+        Err(AatError::BufferFailed)
+    }
+}
+
+/// Whether a line begins with a glyph, has so many, and has positions or has not.
+fn is_line<A: Allocator + Copy>(
+    buffer: &hb_buffer_t<A>,
+    first: u32,
+    len: usize,
+    has_positions: bool,
+) -> bool {
+    if buffer.is_empty() || buffer.has_positions() != has_positions {
+        return false;
+    }
+    let is_placed = !has_positions || buffer.pos(0).x_advance == 575;
+    buffer.info(0).glyph_id == first && buffer.len() == len && is_placed
+}
+
+/// What comes of shaping row 38a while so many blocks are left of the heap of the map. A refusal leaves the line as it
+/// was.
+pub(crate) fn outcome_beside(alloc: Global, blocks: usize) -> Result<Outcome, Fail> {
+    let font = row_font(alloc, "38a")?;
+    let plan = plan_of(alloc)?;
+    let mut buffer = line_of(alloc)?;
+    let heap = new_heap(alloc)?;
+    let hoard = Hoard::but(alloc, &heap, blocks)?;
+    let answer = shaped(&heap, &plan, &font, &mut buffer);
+    drop(hoard);
+    if answer != Err(AatError::OutOfMemory) {
+        return Ok(done_if(answer == Ok(4) && is_line(&buffer, 20, 2, true)));
+    }
+    let is_left = buffer.is_successful() && is_line(&buffer, 10, 3, false);
+    let again = shaped(&heap, &plan, &font, &mut buffer);
+    Ok(refused_if(is_left && again == Ok(4) && is_line(&buffer, 20, 2, true)))
+}
+
+/// What comes of shaping row 38a while so many blocks are left of the heap of the line. A refusal of its positions leaves
+/// it substituted, failed and without them, and it is refused from then on.
+pub(crate) fn outcome_within(alloc: Global, blocks: usize) -> Result<Outcome, Fail> {
+    let font = row_font(alloc, "38a")?;
+    let plan = plan_of(alloc)?;
+    let heap = new_heap(alloc)?;
+    let mut buffer = line_of(&heap)?;
+    let hoard = Hoard::but(alloc, &heap, blocks)?;
+    let answer = shaped(alloc, &plan, &font, &mut buffer);
+    drop(hoard);
+    if answer != Err(AatError::OutOfMemory) {
+        return Ok(done_if(answer == Ok(4) && is_line(&buffer, 20, 2, true)));
+    }
+    let is_left = !buffer.is_successful() && is_line(&buffer, 20, 3, false);
+    let again = shaped(alloc, &plan, &font, &mut buffer);
+    Ok(refused_if(is_left && again == Err(AatError::BufferFailed)))
+}
+
+/// A text of so many glyphs 6, of a cluster each.
+pub(crate) fn text_of_sixes(alloc: Global, count: u32) -> Result<Vec<TextGlyph>, AllocError> {
+    let mut text = Vec::new(alloc);
+    for cluster in 0..count {
+        text.push(TextGlyph::new(6, cluster))?;
+    }
+    Ok(text)
+}
+
+/// Whether the glyphs of a text were drawn last, each with those that go in behind it, and attached to the one before.
+fn is_drawn(shaper: &Shaper<&LocalHeap>, count: usize) -> bool {
+    let each = INSERTED + 1;
+    let glyphs = shaper.glyphs();
+    for (place, glyph) in glyphs.iter().enumerate() {
+        let id = if place % each == 0 { 6 } else { 5 };
+        let is_here = glyph.cluster as usize == place / each && glyph.x_advance == 100;
+        let parent = if place == 0 { None } else { Some(place - 1) };
+        if glyph.glyph_id != id || !is_here || glyph.attached_to != parent {
+            return false;
+        }
+    }
+    glyphs.len() == count.saturating_mul(each)
+}
+
+/// Shapes a text, and answers whether that was not refused: nothing where what is drawn is wrong, or the refusal is for
+/// something else than want of memory, or leaves glyphs.
+fn draws(shaper: &mut Shaper<&LocalHeap>, text: &[TextGlyph]) -> Option<bool> {
+    match shaper.shape(Direction::LeftToRight, text, &[]) {
+        Ok(()) if is_drawn(shaper, text.len()) => Some(true),
+        Err(AatError::OutOfMemory) if shaper.glyphs().is_empty() => Some(false),
+        _ => None,
+    }
+}
+
+/// What comes of a text while so many blocks are left of the heap of a shaper, which has shaped the text before or none.
+/// Where the text is refused, the one before is shaped over the full heap, and the text with the memory back.
+pub(crate) fn outcome_of_text(
+    alloc: Global,
+    before: u32,
+    count: u32,
+    blocks: usize,
+) -> Result<Outcome, Fail> {
+    let font = inserting(alloc)?;
+    let heap = new_heap(alloc)?;
+    let mut shaper = Shaper::new_in(alloc, &heap, &font);
+    let (shorter, text) = (text_of_sixes(alloc, before)?, text_of_sixes(alloc, count)?);
+    let is_first = before == 0 || draws(&mut shaper, &shorter) == Some(true);
+    let hoard = Hoard::but(alloc, &heap, blocks)?;
+    let answer = draws(&mut shaper, &text);
+    let is_shorter = before == 0 || draws(&mut shaper, &shorter) == Some(true);
+    drop(hoard);
+    if answer == Some(true) {
+        return Ok(done_if(is_first && is_shorter));
+    }
+    let is_done = answer == Some(false) && draws(&mut shaper, &text) == Some(true);
+    Ok(refused_if(is_done && is_first && is_shorter))
+}

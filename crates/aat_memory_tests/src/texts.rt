@@ -1,0 +1,55 @@
+//! The calls for characters, over a heap.
+
+use aat_face::Face;
+use aat_shaped_text::{ShapedGlyph, TextGlyph};
+use aat_text::{ClusterUnit, TextError, hide_ignorables, line_ends, missing_characters, text_of};
+use linked_list_allocator::LocalHeap;
+
+/// The file of a font: a directory of 44 bytes; `cmap` at 44, of one subtable of format 12, where U+0020 is the glyph 1,
+/// U+0061 to U+0063 are those from 2 on, and U+0065 is 5; and `maxp` at 108, with eight glyphs.
+pub(crate) const FILE: [u8; 114] = [
+    0, 1, 0, 0, 0, 2, 0, 0, 0, 0, 0, 0, 0x63, 0x6D, 0x61, 0x70, 0, 0, 0, 0, 0, 0, 0, 44, 0, 0, 0,
+    64, 0x6D, 0x61, 0x78, 0x70, 0, 0, 0, 0, 0, 0, 0, 108, 0, 0, 0, 6, 0, 0, 0, 1, 0, 0, 0, 4, 0, 0,
+    0, 12, 0, 12, 0, 0, 0, 0, 0, 52, 0, 0, 0, 0, 0, 0, 0, 3, 0, 0, 0, 0x20, 0, 0, 0, 0x20, 0, 0, 0,
+    1, 0, 0, 0, 0x61, 0, 0, 0, 0x63, 0, 0, 0, 2, 0, 0, 0, 0x65, 0, 0, 0, 0x65, 0, 0, 0, 5, 0, 0,
+    0x50, 0, 0, 8,
+];
+
+/// A text of three lines. The font lacks six of its letters, and the two line feeds.
+const TEXT: &str = "u v\nw x\ny z a b";
+
+/// A call for characters.
+#[derive(Clone, Copy)]
+pub(crate) enum Text {
+    Glyphs,
+    Missing,
+    LineEnds,
+    Hidden,
+}
+
+/// Whether what is left of two glyphs, of which the second is hidden, are two.
+fn is_hidden(heap: &LocalHeap, face: &Face) -> Result<bool, TextError> {
+    let text = [TextGlyph::new(2, 0), TextGlyph::ignorable(7, 1)];
+    let glyphs = text.map(|glyph| ShapedGlyph {
+        glyph_id: glyph.glyph_id,
+        cluster: glyph.cluster,
+        x_advance: 500,
+        y_advance: 0,
+        x_offset: 0,
+        y_offset: 0,
+        attached_to: None,
+        may_break_before: false,
+    });
+    Ok(hide_ignorables(heap, face.glyph_of(' '), &text, &glyphs)?.len() == 2)
+}
+
+/// Whether a call answers as many as there are, over a heap.
+pub(crate) fn is_answered(heap: &LocalHeap, face: &Face, text: Text) -> Result<bool, TextError> {
+    let unit = ClusterUnit::Bytes;
+    match text {
+        Text::Glyphs => Ok(text_of(heap, face, unit, TEXT)?.len() == TEXT.len()),
+        Text::Missing => Ok(missing_characters(heap, face, unit, TEXT)?.len() == 8),
+        Text::LineEnds => Ok(line_ends(heap, unit, TEXT)?.len() == 7),
+        Text::Hidden => is_hidden(heap, face),
+    }
+}

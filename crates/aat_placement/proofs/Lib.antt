@@ -1,0 +1,10 @@
+pub mod AttachmentExamplesHold
+pub mod AttachmentLawsHold
+pub mod Besides
+pub mod Bounds
+pub mod Descents
+pub mod Interpolated
+pub mod PenSteps
+pub mod TrackedApart
+pub mod TrackedSteps
+pub mod Wraps

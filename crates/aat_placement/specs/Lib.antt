@@ -1,0 +1,11 @@
+pub mod AttachmentExamples
+pub mod AttachmentLaws
+pub mod Attachments
+pub mod Interpolation
+pub mod LineExamples
+pub mod TrackExamples
+pub mod TrackedLines
+pub mod TrackingErrors
+pub mod TrackingLaws
+pub mod Tracks
+pub mod inside

@@ -1,0 +1,3 @@
+pub mod Beside
+pub mod Pens
+pub mod Within

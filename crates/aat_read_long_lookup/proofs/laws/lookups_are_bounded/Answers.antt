@@ -1,8 +1,0 @@
-use Rattle.aat_read_long_lookup.proofs.SizeBounds.{bytes_are_inside, lookups_are_bounded}
-use Rattle.aat_read_long_lookup.proofs.laws.lookups_are_bounded.Goals as goal
-
-pub returns-clause-memory : goal.returns-clause-memory
-returns-clause-memory c = lookups_are_bounded
-
-pub returns-clause-bytes : goal.returns-clause-bytes
-returns-clause-bytes c = bytes_are_inside

@@ -1,0 +1,15 @@
+//! Fonts that are described as data, for tests and worked rows: the descriptions, and the making of the fonts.
+
+mod build;
+mod data;
+mod kerning;
+mod kinds;
+mod tables;
+
+pub use build::{drop_font, font_of};
+pub use data::{
+    ChainData, FontData, KernData, KerxData, KindData, LigatureData, MachineData, NO_TABLES, Pair,
+    Rule, SubtableData, Value,
+};
+pub use kinds::machine_of;
+pub use tables::{kerning_in, name_in, states_in, value_in};

@@ -1,3 +1,0 @@
-pub mod Bridge
-pub mod Labelled
-pub mod Unsettled

@@ -1,5 +1,0 @@
-use Rattle.aat_settled_cuts.proofs.Bridge.{any_settled_insertion_leaves_parts_at_fall}
-use Rattle.aat_settled_cuts.proofs.laws.any_settled_falling_insertion_cut.Goals as goal
-
-pub returns : goal.returns
-returns c = any_settled_insertion_leaves_parts_at_fall

@@ -1,5 +1,0 @@
-use Rattle.aat_settled_cuts.proofs.Bridge.{settled_insertion_leaves_parts_at_fall}
-use Rattle.aat_settled_cuts.proofs.laws.settled_falling_insertion_cut.Goals as goal
-
-pub returns : goal.returns
-returns c = settled_insertion_leaves_parts_at_fall

@@ -1,2 +1,0 @@
-pub mod SettledCuts
-pub mod UnsettledExamples

@@ -1,4 +1,0 @@
-pub mod Bounds
-pub mod Interpolated
-pub mod TrackedApart
-pub mod TrackedSteps

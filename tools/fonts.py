@@ -1,0 +1,300 @@
+#!/usr/bin/env python3
+"""Makes the fonts of the tests anew, from their descriptions.
+
+    python3 tools/fonts.py PROGRAM            writes crates/aat/data/*.ttf
+    python3 tools/fonts.py PROGRAM --check    tells which of them are not what would be written
+
+PROGRAM is what runs `aat`, as crates/aat/out/aat; spaces part its words. Each description of crates/aat/descriptions
+becomes a font of its name. Then come variants of these with tables in formats that the writers do not write: the table's
+bytes are built here, and stand in the place of those that were written.
+
+- noncontextual_N.ttf: the lookup of the subtable in the format N, of 0, 2, 4, 6, 8 and 10.
+- kern_old_0.ttf, kern_old_2.ttf: the pairs and the classes of `kern` behind the header of version 0. kern_3.ttf: the
+  classes in format 3.
+- cmap_N.ttf: the characters of noncontextual.ttf in format N, of 0, 4, 6 and 12.
+- kerx_4_points.ttf, kerx_4_coordinates.ttf: the machine of kerx_4.ttf with the two other types of actions.
+"""
+import os
+import shlex
+import struct
+import subprocess
+import sys
+
+TOP = os.path.dirname(os.path.dirname(os.path.abspath(__file__)))
+DESCRIPTIONS = os.path.join(TOP, "crates/aat/descriptions")
+DATA = os.path.join(TOP, "crates/aat/data")
+
+
+def words(*numbers):
+    """Numbers of 16 bits."""
+    return b"".join(struct.pack(">H", number & 0xFFFF) for number in numbers)
+
+
+def longs(*numbers):
+    """Numbers of 32 bits."""
+    return b"".join(struct.pack(">I", number & 0xFFFFFFFF) for number in numbers)
+
+
+def word_at(table, place):
+    return struct.unpack_from(">H", table, place)[0]
+
+
+def long_at(table, place):
+    return struct.unpack_from(">I", table, place)[0]
+
+
+# Files
+
+def tables_of(font):
+    """The tables of a font, by their tags."""
+    found = {}
+    for record in range(word_at(font, 4)):
+        tag, _, offset, length = struct.unpack_from(">4sIII", font, 12 + 16 * record)
+        found[tag] = font[offset:offset + length]
+    return found
+
+
+def font_of(tables):
+    """The font of tables. The sums of the directory stay 0, as the writers leave them."""
+    place = 12 + 16 * len(tables)
+    head, body = longs(0x00010000) + words(len(tables), 0, 0, 0), b""
+    for tag, table in sorted(tables.items()):
+        head += tag + longs(0, place + len(body), len(table))
+        body += table + bytes(-len(table) % 4)
+    return head + body
+
+
+def with_table(font, tag, table):
+    """A font with another table in the place of one."""
+    return font_of({**tables_of(font), tag: table})
+
+
+# Lookups
+
+def search_header(size, count):
+    """The header of a binary search over so many units of a size."""
+    power = 1 << max(count, 1).bit_length() - 1
+    return words(size, count, size * power, power.bit_length() - 1, size * (count - power))
+
+
+def segments_of(pairs):
+    """Runs of neighbouring glyphs, each with its first and its last glyph and the values."""
+    runs = []
+    for glyph, value in sorted(pairs.items()):
+        if runs and runs[-1][1] + 1 == glyph:
+            runs[-1][1] = glyph
+            runs[-1][2].append(value)
+        else:
+            runs.append([glyph, glyph, [value]])
+    return runs
+
+
+def lookup(number, pairs, count):
+    """A lookup in a format, for a font of so many glyphs. In formats 0, 8 and 10 a glyph without a value has itself."""
+    low, high = min(pairs), max(pairs)
+    dense = [pairs.get(glyph, glyph) for glyph in range(low, high + 1)]
+    if number == 0:
+        return words(0, *[pairs.get(glyph, glyph) for glyph in range(count)])
+    if number == 2:
+        units = [(glyph, glyph, value) for glyph, value in sorted(pairs.items())]
+        body = b"".join(words(last, first, value) for first, last, value in units)
+        return words(2) + search_header(6, len(units)) + body + words(0xFFFF, 0xFFFF, 0)
+    if number == 4:
+        runs, body, tail = segments_of(pairs), b"", b""
+        start = 12 + 6 * (len(runs) + 1)
+        for first, last, values in runs:
+            body += words(last, first, start + len(tail))
+            tail += words(*values)
+        return words(4) + search_header(6, len(runs)) + body + words(0xFFFF, 0xFFFF, 0) + tail
+    if number == 6:
+        body = b"".join(words(glyph, value) for glyph, value in sorted(pairs.items()))
+        return words(6) + search_header(4, len(pairs)) + body + words(0xFFFF, 0xFFFF)
+    if number == 8:
+        return words(8, low, len(dense), *dense)
+    return words(10, 2, low, len(dense), *dense)
+
+
+def pairs_of_lookup(table):
+    """The pairs of a lookup as the writers write it, in format 6."""
+    assert word_at(table, 0) == 6, "the writers write format 6"
+    found = {}
+    for unit in range(word_at(table, 4)):
+        glyph, value = struct.unpack_from(">HH", table, 12 + 4 * unit)
+        if glyph != 0xFFFF:
+            found[glyph] = value
+    return found
+
+
+def with_lookup(font, number):
+    """A font whose one subtable of `morx` is noncontextual, with its lookup in a format."""
+    tables = tables_of(font)
+    morx = tables[b"morx"]
+    start = 8 + 16 + 12 * long_at(morx, 16)
+    pairs = pairs_of_lookup(morx[start + 12:])
+    body = lookup(number, pairs, word_at(tables[b"maxp"], 4))
+    body += bytes(-len(body) % 4)
+    head = longs(12 + len(body)) + morx[start + 4:start + 12]
+    chain = morx[8:12] + longs(start - 8 + len(head) + len(body)) + morx[16:start]
+    return with_table(font, b"morx", morx[:8] + chain + head + body)
+
+
+# Kerning
+
+def kern_subtables(kern):
+    """The bodies of the subtables of `kern` as the writers write them, behind headers of 8 bytes."""
+    place, bodies = 8, []
+    for _ in range(long_at(kern, 4)):
+        length = long_at(kern, place)
+        bodies.append(kern[place + 8:place + length])
+        place += length
+    return bodies
+
+
+def old_kern(body, number):
+    """The table of version 0 with one subtable, whose header has 6 bytes. Offsets in a body count from its header."""
+    if number == 2:
+        width, left, right, array = struct.unpack_from(">4H", body)
+        body = words(width, left - 2, right - 2, array - 2) + moved_classes(body, left - 8, array)
+    return words(0, 1) + words(0, 6 + len(body), number << 8 | 1) + body
+
+
+def moved_classes(body, left, array):
+    """What stands behind the header of pairs by classes, with left offsets from a header of 6 bytes."""
+    first, count = word_at(body, left), word_at(body, left + 2)
+    offsets = [word_at(body, left + 4 + 2 * glyph) for glyph in range(count)]
+    moved = [offset - 2 if offset >= array else offset for offset in offsets]
+    return body[8:left] + words(first, count, *moved) + body[left + 4 + 2 * count:]
+
+
+def class_lists(body):
+    """The pairs by classes of a body: the class of each left and of each right glyph, and the rows of values."""
+    width, left, right, array = struct.unpack_from(">4H", body)
+    columns, lefts, rights = width // 2, {}, {}
+    for glyph in range(word_at(body, left - 6)):
+        offset = word_at(body, left - 4 + 2 * glyph)
+        lefts[word_at(body, left - 8) + glyph] = (offset - array) // width + 1 if offset >= array else 0
+    for glyph in range(word_at(body, right - 6)):
+        rights[word_at(body, right - 8) + glyph] = word_at(body, right - 4 + 2 * glyph) // 2
+    values = [number for (number,) in struct.iter_unpack(">h", body[array - 8:])]
+    rows = [values[row:row + columns] for row in range(0, len(values), columns)]
+    return lefts, rights, [[0] * columns, *rows]
+
+
+def kern_3(body, count):
+    """The table of version 1 with pairs by classes in format 3."""
+    lefts, rights, rows = class_lists(body)
+    values = sorted({value for row in rows for value in row})
+    table = words(count) + bytes([len(values), len(rows), len(rows[0]), 0]) + words(*values)
+    table += bytes(lefts.get(glyph, 0) for glyph in range(count))
+    table += bytes(rights.get(glyph, 0) for glyph in range(count))
+    table += bytes(values.index(value) for row in rows for value in row)
+    table += bytes(len(table) % 2)
+    return words(1, 0) + longs(1, 8 + len(table)) + words(3, 0) + table
+
+
+def with_action_type(font, number):
+    """A font whose one subtable of `kerx` has the format 4, with another type of actions."""
+    kerx = bytearray(tables_of(font)[b"kerx"])
+    flags = 8 + 12 + 16
+    kerx[flags] = kerx[flags] & 0x3F | number << 6
+    return with_table(font, b"kerx", bytes(kerx))
+
+
+# Characters
+
+def characters_of(cmap):
+    """The characters of a table as the writers write it, with one subtable of format 12."""
+    assert word_at(cmap, 12) == 12, "the writers write format 12"
+    groups = (struct.unpack_from(">III", cmap, 28 + 12 * group) for group in range(long_at(cmap, 24)))
+    return {first: glyph for first, _, glyph in groups}
+
+
+def cmap(number, characters):
+    """The table of one subtable in a format."""
+    low, high = min(characters), max(characters)
+    if number == 0:
+        body = words(0, 262, 0) + bytes(characters.get(character, 0) for character in range(256))
+    elif number == 4:
+        runs = segments_of(characters) + [[0xFFFF, 0xFFFF, [0]]]
+        ends, starts = [run[1] for run in runs], [run[0] for run in runs]
+        offsets, glyphs = [], []
+        for place, run in enumerate(runs):
+            offsets.append(2 * (len(runs) - place + len(glyphs)))
+            glyphs += run[2]
+        header = search_header(2, len(runs))[2:]
+        body = words(2 * len(runs)) + header[2:] + words(*ends, 0, *starts) + words(*[0] * len(runs))
+        body += words(*offsets, *glyphs)
+        body = words(4, 6 + len(body), 0) + body
+    elif number == 6:
+        glyphs = [characters.get(character, 0) for character in range(low, high + 1)]
+        body = words(6, 10 + 2 * len(glyphs), 0, low, len(glyphs), *glyphs)
+    else:
+        groups = b"".join(longs(first, last, values[0]) for first, last, values in in_steps(characters))
+        body = words(12, 0) + longs(16 + len(groups), 0, len(groups) // 12) + groups
+    platform = (3, 10) if number == 12 else (0, 3) if number == 0 else (3, 1)
+    return words(0, 1, *platform) + longs(12) + body
+
+
+def in_steps(characters):
+    """Runs of neighbouring characters whose glyphs are neighbours too."""
+    runs = []
+    for character, glyph in sorted(characters.items()):
+        if runs and runs[-1][1] + 1 == character and runs[-1][2][-1] + 1 == glyph:
+            runs[-1][1] = character
+            runs[-1][2].append(glyph)
+        else:
+            runs.append([character, character, [glyph]])
+    return runs
+
+
+def variants(fonts):
+    """The fonts with tables in other formats, by their names."""
+    made, plain = {}, fonts["noncontextual"]
+    for number in (0, 2, 4, 6, 8, 10):
+        made[f"noncontextual_{number}"] = with_lookup(plain, number)
+    for number in (0, 4, 6, 12):
+        found = characters_of(tables_of(plain)[b"cmap"])
+        made[f"cmap_{number}"] = with_table(plain, b"cmap", cmap(number, found))
+    pairs, classes = (fonts[name] for name in ("kern_pairs", "kern_classes"))
+    listed = kern_subtables(tables_of(pairs)[b"kern"])[0]
+    made["kern_old_0"] = with_table(pairs, b"kern", old_kern(listed, 0))
+    arrays = kern_subtables(tables_of(classes)[b"kern"])[0]
+    count = word_at(tables_of(classes)[b"maxp"], 4)
+    made["kern_old_2"] = with_table(classes, b"kern", old_kern(arrays, 2))
+    made["kern_3"] = with_table(classes, b"kern", kern_3(arrays, count))
+    made["kerx_4_points"] = with_action_type(fonts["kerx_4"], 0)
+    made["kerx_4_coordinates"] = with_action_type(fonts["kerx_4"], 2)
+    return made
+
+
+def described(program):
+    """The fonts of the descriptions, by their names."""
+    fonts = {}
+    for name in sorted(os.listdir(DESCRIPTIONS)):
+        path = os.path.join(DESCRIPTIONS, name)
+        run = subprocess.run([*shlex.split(program), "make", path], stdout=subprocess.PIPE, check=False)
+        if run.returncode != 0:
+            sys.exit(f"{path} is not made")
+        fonts[name.removesuffix(".json")] = run.stdout
+    return fonts
+
+
+def main():
+    if len(sys.argv) not in (2, 3):
+        sys.exit(__doc__)
+    fonts = described(sys.argv[1])
+    different = 0
+    for name, font in {**fonts, **variants(fonts)}.items():
+        path = os.path.join(DATA, name + ".ttf")
+        if "--check" not in sys.argv:
+            with open(path, "wb") as file:
+                file.write(font)
+            continue
+        if not os.path.exists(path) or open(path, "rb").read() != font:
+            different += 1
+            print(f"{path} is not what is made")
+    sys.exit(1 if different else 0)
+
+
+if __name__ == "__main__":
+    main()
