@@ -4,7 +4,7 @@
     python3 tools/fonts.py PROGRAM            writes crates/aat/data/*.ttf
     python3 tools/fonts.py PROGRAM --check    tells which of them are not what would be written
 
-PROGRAM is what runs `aat`, as crates/aat/out/aat; spaces part its words. Each description of crates/aat/descriptions
+PROGRAM is what runs `aat`, as crates/aat/out/aat; spaces part its words. Each description of crates/aat/data
 becomes a font of its name. Then come variants of these with tables in formats that the writers do not write: the table's
 bytes are built here, and stand in the place of those that were written.
 
@@ -21,7 +21,7 @@ import subprocess
 import sys
 
 TOP = os.path.dirname(os.path.dirname(os.path.abspath(__file__)))
-DESCRIPTIONS = os.path.join(TOP, "crates/aat/descriptions")
+DESCRIPTIONS = os.path.join(TOP, "crates/aat/data")
 DATA = os.path.join(TOP, "crates/aat/data")
 
 

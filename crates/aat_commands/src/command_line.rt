@@ -6,7 +6,6 @@ use crate::dump::dump;
 use crate::example::write_example;
 use crate::faults::faults;
 use crate::inspect::inspect;
-use crate::make::make;
 use crate::output::OUTPUT;
 use crate::session::Session;
 use crate::settled::settled;
@@ -42,7 +41,6 @@ pub(crate) fn run_command<W: Write>(
         "faults" => faults(rt, out, session, matches),
         "settled" => settled(rt, out, session, matches),
         "bench" => bench(rt, out, session, matches),
-        "make" => make(rt, out, session, matches),
         "example" => write_example(rt.alloc(), out),
         _ => bail!("no request asks for {name}"),
     }

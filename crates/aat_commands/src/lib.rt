@@ -18,7 +18,6 @@ mod filling;
 mod fonts;
 mod inspect;
 mod line;
-mod make;
 mod names;
 mod output;
 mod paragraph;

@@ -231,26 +231,6 @@ fn bench_command<'a>(alloc: Global) -> Result<Command<'a>, AllocError> {
     file_arguments(alloc, command.arg(rounds)?.arg(length)?)
 }
 
-/// The command that makes a font of a description, for tests.
-fn make_command<'a>(alloc: Global) -> Result<Command<'a>, AllocError> {
-    let description = Arg::new(alloc, "description")
-        .value_name("DESCRIPTION")
-        .required(true)
-        .action(ArgAction::Set)
-        .help("The file of a description in JSON, or - for the standard input");
-    let compare = Arg::new(alloc, "compare")
-        .long("compare")
-        .value_name("FONT")
-        .action(ArgAction::Set)
-        .help("Tells whether this file has the bytes of the font, in place of writing them");
-    Command::new(alloc, "make")
-        .about("Writes the font that a description tells of, for tests")
-        .after_help("Example: aat make font.json > font.ttf")
-        .hide(true)
-        .arg(description)?
-        .arg(compare)
-}
-
 /// The program's command.
 pub(crate) fn command<'a>(alloc: Global) -> Result<Command<'a>, AllocError> {
     Command::new(alloc, "aat")
@@ -263,6 +243,5 @@ pub(crate) fn command<'a>(alloc: Global) -> Result<Command<'a>, AllocError> {
         .subcommand(settled_command(alloc)?)?
         .subcommand(bench_command(alloc)?)?
         .subcommand(batch_command(alloc))?
-        .subcommand(example_command(alloc))?
-        .subcommand(make_command(alloc)?)
+        .subcommand(example_command(alloc))
 }
