@@ -316,8 +316,9 @@ def classed_pairs():
     return header + left + right + words(*values)
 
 
-# Two lists of two values, of which an odd one is the last.
-VALUES = (20, 11, -12, 7)
+# Two lists of two values, of which an odd one is the last. HarfBuzz uses a list only where as many numbers follow as the
+# stack has glyphs, of which there are up to eight, so there are more.
+VALUES = (20, 11, -12, 7, *[0] * 8)
 
 
 def pushes(column):
