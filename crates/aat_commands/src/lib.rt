@@ -7,7 +7,6 @@
 #![tactic(auto)]
 
 mod batch;
-mod bench;
 mod buffer;
 mod change;
 mod command_line;
