@@ -33,7 +33,7 @@ USE = re.compile(r"\buse Rattle\.([\w.]+?)(?:\.\{([^}]*)\}| as (\w+))?\s*;?\s*$"
 HANDED_ON = re.compile(r"^pub use Rattle\.([\w.]+?)(?:\.\{([^}]*)\})?\s*$", re.M)
 START = re.compile(r"^(?:abbrev |unfoldable )?(?:pub )?(?:abbrev |unfoldable )?(record |data )?([^\s:]+)")
 WORDS_OF_ANTT = {"use", "pub", "mod", "module", "where", "abbrev", "unfoldable", "record", "data"}
-NOT_COUNTED = re.compile(r"_tests$|^aat_(make_font|rows|shape)$")
+NOT_COUNTED = re.compile(r"_tests$|^aat_(make_font|shape)$")
 FUNCTION = re.compile(r"^( *)(pub )?(?:const )?(?:unsafe )?fn (\w+)")
 
 

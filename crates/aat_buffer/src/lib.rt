@@ -1,7 +1,9 @@
 //! The shaping buffer: a line of glyphs with a cursor, their positions, and the rules by which a text shaper
-//! edits them.
+//! edits them. In how many steps a call is done is told in comments and not proved.
 //!
-//! In how many steps a call is done is told in comments and not proved.
+//! ```
+//! buffer.merge_clusters(0, 2);
+//! ```
 #![tactic(auto)]
 
 mod buffer;

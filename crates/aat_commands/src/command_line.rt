@@ -1,6 +1,7 @@
 //! A command line is run.
 
 use crate::batch::batch;
+use crate::bench::bench;
 use crate::dump::dump;
 use crate::example::write_example;
 use crate::faults::faults;
@@ -40,6 +41,7 @@ pub(crate) fn run_command<W: Write>(
         "dump" => dump(rt, out, session, matches),
         "faults" => faults(rt, out, session, matches),
         "settled" => settled(rt, out, session, matches),
+        "bench" => bench(rt, out, session, matches),
         "make" => make(rt, out, session, matches),
         "example" => write_example(rt.alloc(), out),
         _ => bail!("no request asks for {name}"),

@@ -7,7 +7,7 @@
 #![tactic(auto)]
 
 mod batch;
-mod buffer;
+mod bench;
 mod change;
 mod command_line;
 mod dump;
@@ -18,7 +18,6 @@ mod fonts;
 mod inspect;
 mod line;
 mod make;
-mod names;
 mod output;
 mod paragraph;
 mod progress;
@@ -28,7 +27,6 @@ mod session;
 mod settled;
 mod shape;
 mod source;
-mod tracing;
 mod words;
 
 pub use command_line::{Answer, run};

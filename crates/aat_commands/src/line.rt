@@ -2,7 +2,7 @@
 
 use crate::request::{Output, Request};
 use crate::session::Speaker;
-use crate::tracing::trace_of;
+use aat_calls::trace_of;
 use aat_drawing::{DrawnGlyph, DrawnLine, LineBreak, drawn_changes};
 use aat_face::Face;
 use aat_layout::buffer::Direction;

@@ -2,7 +2,7 @@
 
 use crate::line::{Context, ShapedLine};
 use crate::request::Output;
-use crate::tracing::write_trace;
+use aat_calls::write_trace;
 use aat_drawing::{
     DrawError, DrawnLine, LineMetrics, Picture, write_flagged_glyphs, write_glyphs, write_json,
     write_svg,

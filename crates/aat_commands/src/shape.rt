@@ -3,13 +3,13 @@
 use crate::filling::{Filling, part};
 use crate::fonts::Font;
 use crate::line::{Context, shape_line};
-use crate::names::subtable_names;
 use crate::output::{OUTPUT, write_line, write_picture};
 use crate::paragraph::{Paragraph, tell_missing};
 use crate::progress::Progress;
 use crate::request::Request;
 use crate::session::Session;
 use crate::source::{FontSource, text_of_file};
+use aat_calls::subtable_names;
 use aat_drawing::DrawnLine;
 use aat_face::Face;
 use aat_shaper::Shaper;

@@ -202,6 +202,35 @@ fn example_command<'a>(alloc: Global) -> Command<'a> {
     )
 }
 
+/// The command that times the shaping of a text.
+fn bench_command<'a>(alloc: Global) -> Result<Command<'a>, AllocError> {
+    let rounds = Arg::new(alloc, "rounds")
+        .long("rounds")
+        .value_name("N")
+        .value_parser(value_parser!(u32))
+        .default_value("9")
+        .help("How often each step is timed. With 0 only what comes out is told");
+    let length = Arg::new(alloc, "length")
+        .long("glyphs-per-line")
+        .value_name("N")
+        .value_parser(value_parser!(u32))
+        .help("Cuts each line of the text into lines of N characters, of which each is a glyph");
+    let command = Command::new(alloc, "bench")
+        .about(
+            "Times reading a font and shaping a text, in nanoseconds, as the least and the median of N rounds",
+        )
+        .after_help("Example: aat bench font.ttf --file text.txt --features smcp")
+        .arg(font_argument(alloc))?;
+    let file = Arg::new(alloc, "file")
+        .long("file")
+        .value_name("PATH")
+        .required(true)
+        .action(ArgAction::Set)
+        .help("The file of the text. Each of its lines is shaped by itself");
+    let command = shaping_arguments(alloc, command.arg(file)?)?;
+    file_arguments(alloc, command.arg(rounds)?.arg(length)?)
+}
+
 /// The command that makes a font of a description, for tests.
 fn make_command<'a>(alloc: Global) -> Result<Command<'a>, AllocError> {
     let description = Arg::new(alloc, "description")
@@ -232,6 +261,7 @@ pub(crate) fn command<'a>(alloc: Global) -> Result<Command<'a>, AllocError> {
         .subcommand(dump_command(alloc)?)?
         .subcommand(faults_command(alloc)?)?
         .subcommand(settled_command(alloc)?)?
+        .subcommand(bench_command(alloc)?)?
         .subcommand(batch_command(alloc))?
         .subcommand(example_command(alloc))?
         .subcommand(make_command(alloc)?)

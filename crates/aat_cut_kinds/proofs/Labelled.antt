@@ -2,10 +2,10 @@
 use Rattle.std.proofs.Common.{◌≡◌, ℕ, zero, suc, ◌+◌, ◌*◌, ◌<◌, ◌≤◌, ◌==◌, ◌&&◌, ◌||◌, not, cond, Bool, true, false, nat_le, nat_lt, List, if◌then◌else◌, Option, Some, None, option_map, refl, sym, ap, ◌∙◌, arith}
 use Rattle.std.proofs.lemmas.Bool.{eq-eqb}
 use Rattle.std.proofs.lemmas.Bool.Decides.{Decides-below_and, nat_tests}
-use Rattle.aat_font.specs.Entries.{goes_on, has_flag}
-use Rattle.aat_font.specs.Keys.{at_key}
-use Rattle.aat_font.specs.Table.{Rule, TableValue, entry_of, known_class, rule_key}
-use Rattle.aat_font.specs.declared.state_table.GenericStateEntry.{GenericStateEntry}
+use Rattle.aat_machine_tables.specs.Entries.{goes_on, has_flag}
+use Rattle.aat_lookup.specs.Keys.{at_key}
+use Rattle.aat_machine_tables.specs.Table.{Rule, TableValue, entry_of, known_class, rule_key}
+use Rattle.aat_machine_tables.specs.declared.state_table.GenericStateEntry.{GenericStateEntry}
 use Rattle.aat_cuts.specs.Held.{IsSufficient, held_behind_push, taken_by}
 use Rattle.aat_cuts.specs.Kinds.{IsQuietAtEnd, moves_and_ends}
 use Rattle.aat_cuts.specs.Reached.{IsComplete}

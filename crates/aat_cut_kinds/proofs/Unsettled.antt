@@ -2,8 +2,8 @@
 use Rattle.std.proofs.Common.{◌≡◌, ℕ, ◌≤◌, ◌<◌, ◌⊎◌, inl, inr, Bool, true, false, cond, if◌then◌else◌, nat_lt, Some, None, [], ◌∷◌, subst, sym, ◌∙◌, refl, arith, lit<}
 use Rattle.std.specs.Prelude.{◌==◌}
 use Rattle.std.proofs.lemmas.Bool.{cases_lt}
-use Rattle.aat_font.specs.Table.{TableValue, entry_of}
-use Rattle.aat_font.specs.declared.state_table.GenericStateEntry.{GenericStateEntry}
+use Rattle.aat_machine_tables.specs.Table.{TableValue, entry_of}
+use Rattle.aat_machine_tables.specs.declared.state_table.GenericStateEntry.{GenericStateEntry}
 use Rattle.aat_kinds.specs.Contextual.{Entry}
 use Rattle.aat_cut_kinds.specs.CutExamples.{entry_to, idle_to, marked_till_end, marking_apart, marks_to, missing_a_lookup, replaces_current, replaces_marked, replacing_at_end, replacing_before_five, replacing_with_a_gap}
 use Rattle.aat_cut_kinds.specs.EmptyRunExamples.{naming_a_run, puts_none_at_mark}

@@ -3,7 +3,7 @@
 use Rattle.std.specs.Prelude.{◌≡◌, ◌==◌, ℕ, ℤ, Bool, true, pos, List, [], ◌∷◌, ◌++◌, map, None}
 use Rattle.aat_buffer.specs.Buffer.{Buffer, no_glyph}
 use Rattle.aat_buffer.specs.Examples.{buffer_at}
-use Rattle.aat_font.specs.Table.{Rule, TableValue}
+use Rattle.aat_machine_tables.specs.Table.{Rule, TableValue}
 use Rattle.aat_kinds.specs.Contextual.{Entry}
 use Rattle.aat_kinds.specs.Kinds.{contextual_run}
 use Rattle.aat_cut_laws.specs.Parts.{back_part, front_part}

@@ -3,8 +3,8 @@
 use Rattle.std.specs.Prelude.{◌≡◌, ◌≢◌, ℕ, ◌-◌, ◌<◌, ◌≤◌, Bool, true, nat_le, List, length, map, take, drop, reverse, find, All, Option, Some}
 use Rattle.aat_buffer.specs.Buffer.{Buffer, glyph_at, reversed, with_line}
 use Rattle.aat_buffer.specs.Marks.{cluster_at}
-use Rattle.aat_font.specs.Table.{TableValue}
-use Rattle.aat_font.specs.declared.plan.GlyphId.{GlyphId}
+use Rattle.aat_machine_tables.specs.Table.{TableValue}
+use Rattle.aat_lookup.specs.declared.glyph_id.GlyphId.{GlyphId}
 use Rattle.aat_glyph.specs.declared.glyph.hb_glyph_info_t.{hb_glyph_info_t}
 use Rattle.aat_run.specs.Budget.{operations_left}
 use Rattle.aat_run.specs.Outcome.{Outcome}

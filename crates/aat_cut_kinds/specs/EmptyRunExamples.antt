@@ -2,7 +2,7 @@
 -- the clusters of the whole line, and not its marks.
 use Rattle.std.specs.Prelude.{[], ◌∷◌}
 use Rattle.aat_buffer.specs.Buffer.{Buffer, reversed}
-use Rattle.aat_font.specs.Table.{TableValue}
+use Rattle.aat_machine_tables.specs.Table.{TableValue}
 use Rattle.aat_kinds.specs.Insertion as insertion
 use Rattle.aat_cut_kinds.specs.CutExamples.{Leaves, everywhere, line_of, table_with}
 use Rattle.aat_cut_kinds.specs.FallExamples.{sets_the_mark}

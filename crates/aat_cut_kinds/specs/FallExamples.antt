@@ -1,7 +1,7 @@
 -- Lines of an insertion subtable whose clusters fall as it takes them: two that are cut, and one that is not.
 use Rattle.std.specs.Prelude.{[], ◌∷◌}
 use Rattle.aat_buffer.specs.Buffer.{Buffer, reversed}
-use Rattle.aat_font.specs.Table.{TableValue}
+use Rattle.aat_machine_tables.specs.Table.{TableValue}
 use Rattle.aat_kinds.specs.Insertion as insertion
 use Rattle.aat_cut_kinds.specs.CutExamples.{Leaves, everywhere, line_of, table_with}
 use Rattle.aat_cut_kinds.specs.OtherCutExamples.{entry_with, put_in_by, puts_none}

@@ -2,8 +2,8 @@
 -- line's run leaves, and what those of its parts leave.
 use Rattle.std.specs.Prelude.{◌==◌, ℕ, Bool, List, [], ◌∷◌}
 use Rattle.aat_buffer.specs.Buffer.{Buffer}
-use Rattle.aat_font.specs.Table.{Rule, TableValue}
-use Rattle.aat_font.specs.declared.state_table.GenericStateEntry.{GenericStateEntry}
+use Rattle.aat_machine_tables.specs.Table.{Rule, TableValue}
+use Rattle.aat_machine_tables.specs.declared.state_table.GenericStateEntry.{GenericStateEntry}
 use Rattle.aat_kinds.specs.Insertion as insertion
 use Rattle.aat_kinds.specs.Kinds.{insertion_run, ligature_run, rearrangement_run, reversed_run}
 use Rattle.aat_cut_kinds.specs.CutExamples.{Leaves, everywhere, line_of, table_with}

@@ -2,7 +2,7 @@
 -- clusters or on what is left fails, and no other one, or since an entry is missing. The other subtables are settled.
 use Rattle.std.specs.Prelude.{◌≡◌, ◌==◌, ℕ, Bool, pos, [], ◌∷◌}
 use Rattle.aat_buffer.specs.Buffer.{Buffer, reversed}
-use Rattle.aat_font.specs.Table.{TableValue}
+use Rattle.aat_machine_tables.specs.Table.{TableValue}
 use Rattle.aat_kinds.specs.Contextual.{Entry}
 use Rattle.aat_kinds.specs.Insertion as insertion
 use Rattle.aat_run.specs.Budget.{operations_left}

@@ -2,9 +2,9 @@
 -- in state 0. Which insertion subtables are plain. TrueType Reference Manual: The 'morx' table, contextual substitution
 -- and glyph insertion, and State tables.
 use Rattle.std.specs.Prelude.{◌≡◌, ℕ, ◌&&◌, ◌||◌, Bool, true, false, not, nat_lt, List, length, Some, unwrap_or}
-use Rattle.aat_font.specs.Entries.{goes_on, has_flag, is_present}
-use Rattle.aat_font.specs.Table.{TableValue, class_of, entry_of}
-use Rattle.aat_font.specs.declared.state_table.GenericStateEntry.{GenericStateEntry}
+use Rattle.aat_machine_tables.specs.Entries.{goes_on, has_flag, is_present}
+use Rattle.aat_machine_tables.specs.Table.{TableValue, class_of, entry_of}
+use Rattle.aat_machine_tables.specs.declared.state_table.GenericStateEntry.{GenericStateEntry}
 use Rattle.aat_kinds.specs.Contextual.{Entry}
 use Rattle.aat_kinds.specs.Insertion as insertion
 

@@ -2,8 +2,8 @@
 -- manual: the marks that say where a line can be broken are the shaper's own.)
 use Rattle.std.specs.Prelude.{ℕ, Bool}
 use Rattle.aat_buffer.specs.Buffer.{Buffer}
-use Rattle.aat_font.specs.Subtables.{ContextualTables, InsertionTables}
-use Rattle.aat_font.specs.declared.morx.SubtableKind.TheVariants.{Contextual, Insertion}
+use Rattle.aat_machine_tables.specs.Subtables.{ContextualTables, InsertionTables}
+use Rattle.aat_machine_tables.specs.declared.morx.SubtableKind.TheVariants.{Contextual, Insertion}
 use Rattle.aat_kinds.specs.Kinds.{Sizes, kind_run, reversed_run}
 use Rattle.aat_cuts.specs.Kinds.{IsSettled}
 use Rattle.aat_cut_kinds.specs.Cuts.{IsUnmarkedBackwardRise, IsUnmarkedCut, IsUnmarkedFall, IsUnmarkedRise, LeavesParts, LeavesPartsButMasks}

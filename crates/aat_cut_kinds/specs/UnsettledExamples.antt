@@ -1,10 +1,10 @@
 -- The machines whose lines come out differently in two parts, though no mark says so: which of them are settled, and
 -- which premise each of the others fails. Apple's TrueType Reference Manual, "The 'morx' table".
 use Rattle.std.specs.Prelude.{ℕ, Bool, List, [], ◌∷◌, Some}
-use Rattle.aat_font.specs.Table.{TableValue}
-use Rattle.aat_font.specs.declared.morx.SubtableKind.{SubtableKind}
-use Rattle.aat_font.specs.declared.morx.SubtableKind.TheVariants.{Contextual, Insertion, Ligature, Rearrangement}
-use Rattle.aat_font.specs.declared.state_table.GenericStateEntry.{GenericStateEntry}
+use Rattle.aat_machine_tables.specs.Table.{TableValue}
+use Rattle.aat_machine_tables.specs.declared.morx.SubtableKind.{SubtableKind}
+use Rattle.aat_machine_tables.specs.declared.morx.SubtableKind.TheVariants.{Contextual, Insertion, Ligature, Rearrangement}
+use Rattle.aat_machine_tables.specs.declared.state_table.GenericStateEntry.{GenericStateEntry}
 use Rattle.aat_kinds.specs.Contextual.{Entry}
 use Rattle.aat_kinds.specs.Insertion as insertion
 use Rattle.aat_cut_kinds.specs.CutExamples.{marked_till_end, marking_apart, missing_a_lookup, replacing_at_end, replacing_before_five, replacing_with_a_gap}

@@ -2,13 +2,13 @@
 
 ghost use Rattle.std.specs.Prelude.{ℕ, Bool};
 ghost use Rattle.aat_buffer.specs.Buffer.{Buffer};
-ghost use Rattle.aat_font.specs.Table.{TableValue};
-ghost use Rattle.aat_font.specs.declared.state_table.GenericStateEntry.{GenericStateEntry};
+ghost use Rattle.aat_machine_tables.specs.Table.{TableValue};
+ghost use Rattle.aat_machine_tables.specs.declared.state_table.GenericStateEntry.{GenericStateEntry};
 ghost use Rattle.aat_run.specs.Context.{machine_with};
 ghost use Rattle.aat_run.specs.Driven.{context_from};
 ghost use Rattle.aat_cut_laws.specs.Cut.{CutLabels, IsLabelledCut, LeavesItsParts, MeetsCutLaws};
 
-use aat_font::Acting;
+use aat_machine_tables::Acting;
 use aat_run::driver_context_t;
 
 /// Where a machine meets the laws of a cut by labels of its states, which admit the two parts, and its run from fresh

@@ -4,8 +4,8 @@ use Rattle.std.specs.List.{All, sum_by}
 use Rattle.std.proofs.lemmas.Bool.{cases_eq, eqb-true, lt-ltb}
 use Rattle.std.proofs.lemmas.List.Elements.{All-head, All-tail}
 use Rattle.std.proofs.lemmas.List.Sums.{sum_by-cons}
-use Rattle.aat_font.specs.Keys.{at_key, first, value_in}
-use Rattle.aat_font.specs.Table.{TableValue, class_of}
+use Rattle.aat_lookup.specs.Keys.{at_key, first, value_in}
+use Rattle.aat_machine_tables.specs.Table.{TableValue, class_of}
 use Rattle.aat_cuts.specs.Reached.{is_labelled}
 use Rattle.aat_cuts.specs.Settled.{IsClassOfGlyph}
 use Rattle.aat_cuts.specs.inside.Steps.{AreClasses, AreListed, AreOfGlyphs}

@@ -5,9 +5,9 @@ use Rattle.std.proofs.lemmas.Bool.{cases_eq, cases_lt, eq-eqb, eqb-true, lt-ltb,
 use Rattle.std.proofs.lemmas.List.{get_or_past}
 use Rattle.std.proofs.lemmas.Bool.Decides.{nat_tests}
 use Rattle.std.proofs.lemmas.List.Elements.{All-contains, All-map}
-use Rattle.aat_font.specs.Entries.{goes_on, has_flag}
-use Rattle.aat_font.specs.Table.{Rule, TableValue, entry_of}
-use Rattle.aat_font.specs.declared.state_table.GenericStateEntry.{GenericStateEntry}
+use Rattle.aat_machine_tables.specs.Entries.{goes_on, has_flag}
+use Rattle.aat_machine_tables.specs.Table.{Rule, TableValue, entry_of}
+use Rattle.aat_machine_tables.specs.declared.state_table.GenericStateEntry.{GenericStateEntry}
 use Rattle.aat_cuts.specs.Held.{HoldsOver, IsLigatureAgreeing, IsLigatureSettled, IsPushTakenAt, IsSufficient, action_count, held_behind_push, most_held, taken_by}
 use Rattle.aat_cuts.specs.Kinds.{IsVerdictOnLigature, ShowsLigature, state_of}
 use Rattle.aat_cuts.specs.Labels.{AreLeast, IsMet, asked_by, before_action, before_push, label_in}

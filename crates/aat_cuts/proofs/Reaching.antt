@@ -4,8 +4,8 @@ use Rattle.std.specs.List.{All, Contains, filter}
 use Rattle.std.proofs.lemmas.Bool.{cases_lt, ltb-true, lt-ltb}
 use Rattle.std.proofs.lemmas.List.Elements.{All-append, All-cons, All-nil, All-map, All-contains, All-contains_itself, All-head, All-tail, All-weaker, All-filter, Contains-append_left, Contains-append_right, Contains-push, filter_passes}
 use Rattle.std.proofs.lemmas.List.{get_or_past}
-use Rattle.aat_font.specs.Table.{Rule, TableValue, entry_of}
-use Rattle.aat_font.specs.declared.state_table.GenericStateEntry.{GenericStateEntry}
+use Rattle.aat_machine_tables.specs.Table.{Rule, TableValue, entry_of}
+use Rattle.aat_machine_tables.specs.declared.state_table.GenericStateEntry.{GenericStateEntry}
 use Rattle.aat_cuts.specs.Labels.{AreBelow, AreLabels, IsMet, asked_by, label_in}
 use Rattle.aat_cuts.specs.Reached.{AreFollowed, AreGathered, AreReachLabels, AreReached, IsCell, IsClosed, IsComplete, IsReached, IsWhole, follow_edge, is_labelled, start_edge, width}
 use Rattle.aat_cuts.specs.declared.labels.Edge.{Edge}

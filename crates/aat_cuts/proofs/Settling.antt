@@ -3,10 +3,10 @@ use Rattle.std.proofs.Common.{◌≡◌, ◌≢◌, ℕ, ◌+◌, ◌*◌, ◌<�
 use Rattle.std.specs.List.{All, Contains}
 use Rattle.std.proofs.lemmas.Bool.{cases_lt, eq-eqb, eqb-true, ltb-true}
 use Rattle.std.proofs.lemmas.List.Elements.{All-contains, All-map}
-use Rattle.aat_font.specs.Entries.{goes_on}
-use Rattle.aat_font.specs.Keys.{at_key}
-use Rattle.aat_font.specs.Table.{Rule, TableValue, entry_of, known_class, rule_key}
-use Rattle.aat_font.specs.declared.state_table.GenericStateEntry.{GenericStateEntry}
+use Rattle.aat_machine_tables.specs.Entries.{goes_on}
+use Rattle.aat_lookup.specs.Keys.{at_key}
+use Rattle.aat_machine_tables.specs.Table.{Rule, TableValue, entry_of, known_class, rule_key}
+use Rattle.aat_machine_tables.specs.declared.state_table.GenericStateEntry.{GenericStateEntry}
 use Rattle.aat_cuts.specs.Reached.{AreReached, IsCell, IsComplete, IsReached, is_labelled, width}
 use Rattle.aat_cuts.specs.Settled.{AreBeforeUse, AreComeToUnset, IsAgreeing, IsClassOfGlyph, IsRegisterUnsettled, IsTakenAt, IsTidy, IsUsedAt, MayBeUnset, MayBeUsed, Register}
 use Rattle.aat_cuts.specs.declared.steps.Step.{Step}

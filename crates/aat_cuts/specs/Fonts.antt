@@ -1,8 +1,8 @@
 -- Which subtables of a font are settled. Apple's TrueType Reference Manual, "The 'morx' table", chains.
 use Rattle.std.specs.Prelude.{◌≡◌, ℕ, List, Some, slice_get, take}
 use Rattle.std.specs.List.{All}
-use Rattle.aat_font.specs.declared.morx.Chain.{Chain}
-use Rattle.aat_font.specs.declared.morx.Subtable.{Subtable}
+use Rattle.aat_machine_tables.specs.declared.morx.Chain.{Chain}
+use Rattle.aat_machine_tables.specs.declared.morx.Subtable.{Subtable}
 use Rattle.aat_cuts.specs.Kinds.{IsSettled, IsVerdictOn}
 use Rattle.aat_cuts.specs.declared.font.UnsettledSubtable.{UnsettledSubtable}
 use Rattle.aat_cuts.specs.declared.unsettled.Unsettled.{Unsettled}

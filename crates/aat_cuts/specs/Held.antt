@@ -1,9 +1,9 @@
 -- Which ligature subtables are settled: no action takes more components than were surely held since state 0. Apple's
 -- TrueType Reference Manual, "The 'morx' table", ligature substitution.
 use Rattle.std.specs.Prelude.{◌≡◌, ◌≢◌, ℕ, ◌+◌, ◌≤◌, ◌<◌, ◌==◌, ◌||◌, Bool, true, false, max, bit_and, List, [], ◌∷◌, drop, Some, if◌then◌else◌}
-use Rattle.aat_font.specs.Entries.{goes_on, has_flag}
-use Rattle.aat_font.specs.Table.{TableValue, entry_of}
-use Rattle.aat_font.specs.declared.state_table.GenericStateEntry.{GenericStateEntry}
+use Rattle.aat_machine_tables.specs.Entries.{goes_on, has_flag}
+use Rattle.aat_machine_tables.specs.Table.{TableValue, entry_of}
+use Rattle.aat_machine_tables.specs.declared.state_table.GenericStateEntry.{GenericStateEntry}
 use Rattle.aat_cuts.specs.Reached.{AreFollowed, IsComplete}
 use Rattle.aat_cuts.specs.Settled.{IsClassOfGlyph}
 

@@ -1,13 +1,13 @@
 -- Which subtables are settled, by their kinds, and what a reason why one is not says. Apple's TrueType Reference Manual,
 -- "The 'morx' table".
 use Rattle.std.specs.Prelude.{◌≡◌, ℕ, ◌&&◌, Bool, true, false, List, length, Option, Some, None}
-use Rattle.aat_font.specs.Entries.{has_flag}
-use Rattle.aat_font.specs.Table.{TableValue, entry_of}
-use Rattle.aat_font.specs.declared.entries.ContextualEntryData.{ContextualEntryData}
-use Rattle.aat_font.specs.declared.entries.InsertionEntryData.{InsertionEntryData}
-use Rattle.aat_font.specs.declared.morx.SubtableKind.{SubtableKind}
-use Rattle.aat_font.specs.declared.morx.SubtableKind.TheVariants.{Rearrangement, Contextual, Ligature, NonContextual, Insertion}
-use Rattle.aat_font.specs.declared.state_table.GenericStateEntry.{GenericStateEntry}
+use Rattle.aat_machine_tables.specs.Entries.{has_flag}
+use Rattle.aat_machine_tables.specs.Table.{TableValue, entry_of}
+use Rattle.aat_machine_tables.specs.declared.entries.ContextualEntryData.{ContextualEntryData}
+use Rattle.aat_machine_tables.specs.declared.entries.InsertionEntryData.{InsertionEntryData}
+use Rattle.aat_machine_tables.specs.declared.morx.SubtableKind.{SubtableKind}
+use Rattle.aat_machine_tables.specs.declared.morx.SubtableKind.TheVariants.{Rearrangement, Contextual, Ligature, NonContextual, Insertion}
+use Rattle.aat_machine_tables.specs.declared.state_table.GenericStateEntry.{GenericStateEntry}
 use Rattle.aat_cuts.specs.Held.{HoldsOver, IsLigatureSettled, IsPushTakenAt, most_held}
 use Rattle.aat_cuts.specs.Reached.{IsComplete, IsReached}
 use Rattle.aat_cuts.specs.Settled.{IsRegisterSettled, IsTakenAt, IsUsedAt, Register, the_end_set_by, the_mark}

@@ -1,8 +1,8 @@
 -- The states that a run may reach. Apple's TrueType Reference Manual, "Font Tables", section on state tables.
 use Rattle.std.specs.Prelude.{◌≡◌, ◌≢◌, ◌<◌, ℕ, Bool, true, max, nat_lt, List, Some, None}
 use Rattle.std.specs.List.{All, Contains}
-use Rattle.aat_font.specs.Table.{Rule, TableValue, entry_of}
-use Rattle.aat_font.specs.declared.state_table.GenericStateEntry.{GenericStateEntry}
+use Rattle.aat_machine_tables.specs.Table.{Rule, TableValue, entry_of}
+use Rattle.aat_machine_tables.specs.declared.state_table.GenericStateEntry.{GenericStateEntry}
 use Rattle.aat_cuts.specs.Labels.{AreLabels, label_in}
 use Rattle.aat_cuts.specs.declared.labels.Asked.TheVariants.{Same, One}
 use Rattle.aat_cuts.specs.declared.labels.Edge.{Edge}

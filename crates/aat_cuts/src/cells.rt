@@ -1,11 +1,11 @@
 //! The entries of a state table as a list.
 ghost use Rattle.std.specs.Prelude.{◌≡◌, ◌≢◌, ◌≤◌, ◌<◌, ℕ, None, Some, IfOk, IfSome, IfNone, OnOk, max};
 ghost use Rattle.std.specs.List.{All, Contains};
-ghost use Rattle.aat_font.specs.Table.{Rule, entry_of};
+ghost use Rattle.aat_machine_tables.specs.Table.{Rule, entry_of};
 ghost use Rattle.aat_cuts.specs.Reached.{AreGathered, HasRow, IsCell, IsWhole, width};
 
 use crate::labels::STATES;
-use aat_font::{Acting, ExtendedStateTable, GenericStateEntry};
+use aat_machine_tables::{Acting, ExtendedStateTable, GenericStateEntry};
 use std::alloc::{AllocError, Global};
 
 /// A state, a class, and their entry.

@@ -1,15 +1,16 @@
 //! The classes that glyphs have in a state table.
 ghost use Rattle.std.specs.Prelude.{◌≡◌, ◌≤◌, ◌<◌, ℕ, true, Some, IfOk, length};
 ghost use Rattle.std.specs.List.{All};
-ghost use Rattle.aat_font.specs.Table.{class_of};
+ghost use Rattle.aat_machine_tables.specs.Table.{class_of};
 ghost use Rattle.aat_cuts.specs.Labels.{AreLabels, label_in};
 ghost use Rattle.aat_cuts.specs.Reached.{is_labelled};
 ghost use Rattle.aat_cuts.specs.Settled.{IsClassOfGlyph};
 ghost use Rattle.aat_cuts.specs.inside.Steps.{AreClasses, AreListed, AreOfGlyphs};
 
 use crate::labels::{STATES, zeros};
-use aat_font::entry_bits::class;
-use aat_font::{Acting, ExtendedStateTable, GlyphId};
+use aat_lookup::GlyphId;
+use aat_machine_tables::entry_bits::class;
+use aat_machine_tables::{Acting, ExtendedStateTable};
 use std::alloc::{AllocError, Global};
 
 /// Puts the label 1 at the class of a glyph that is listed, if the table gives it one.

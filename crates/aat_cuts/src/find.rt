@@ -5,7 +5,7 @@ ghost use Rattle.aat_cuts.specs.Kinds.{IsVerdictOn};
 use crate::held::find_in_ligature;
 use crate::settled::{find_in_contextual, find_in_insertion, find_in_rearrangement};
 use crate::unsettled::Unsettled;
-use aat_font::SubtableKind;
+use aat_machine_tables::SubtableKind;
 use std::alloc::{AllocError, Global};
 
 /// Finds why a subtable is not settled, if it is not.

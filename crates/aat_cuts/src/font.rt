@@ -5,7 +5,8 @@ ghost use Rattle.aat_cuts.specs.Fonts.{AreAllSettled, AreSettled, IsReasonAt, Is
 
 use crate::find::find_unsettled;
 use crate::unsettled::Unsettled;
-use aat_font::{Chain, Subtable, hb_font_t};
+use aat_font::hb_font_t;
+use aat_machine_tables::{Chain, Subtable};
 use std::alloc::{AllocError, Global};
 
 /// A subtable of a font that is not settled.

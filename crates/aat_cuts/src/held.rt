@@ -1,8 +1,8 @@
 //! Whether a ligature machine takes only components that are surely held.
 ghost use Rattle.std.specs.Prelude.{◌≡◌, ◌≤◌, ◌<◌, ◌==◌, ◌&&◌, ℕ, Bool, true, false, IfOk, IfSome, IfNone, List, Option, None, Some, map, nat_lt, not, min, drop, length};
 ghost use Rattle.std.specs.List.{All, Contains};
-ghost use Rattle.aat_font.specs.Table.{Rule, entry_of};
-ghost use Rattle.aat_font.specs.declared.state_table.GenericStateEntry.{GenericStateEntry};
+ghost use Rattle.aat_machine_tables.specs.Table.{Rule, entry_of};
+ghost use Rattle.aat_machine_tables.specs.declared.state_table.GenericStateEntry.{GenericStateEntry};
 ghost use Rattle.aat_cuts.specs.Held.{action_count, taken_by};
 ghost use Rattle.aat_cuts.specs.Kinds.{IsVerdictOnLigature};
 ghost use Rattle.aat_cuts.specs.Labels.{AreLabels, AreLeast};
@@ -15,8 +15,8 @@ use crate::labels::{Asked, Edge, STATES};
 use crate::least::least_labels;
 use crate::reached::{Reach, Reached, find_reached};
 use crate::unsettled::{Unsettled, UsedRegister};
-use aat_font::entry_bits::ligature;
-use aat_font::{ExtendedStateTable, GenericStateEntry};
+use aat_machine_tables::entry_bits::ligature;
+use aat_machine_tables::{ExtendedStateTable, GenericStateEntry};
 use std::alloc::{AllocError, Global};
 
 /// The number that stands for each number of components that is above 65.

@@ -1,14 +1,14 @@
 //! The states that a run may reach, with their entries.
 ghost use Rattle.std.specs.Prelude.{◌≡◌, ◌≢◌, ◌≤◌, ◌<◌, ◌∷◌, ℕ, None, Some, true, Bool, IfOk, IfSome, IfNone, OnOk, map, filter, nat_lt};
 ghost use Rattle.std.specs.List.{All};
-ghost use Rattle.aat_font.specs.Table.{entry_of};
+ghost use Rattle.aat_machine_tables.specs.Table.{entry_of};
 ghost use Rattle.aat_cuts.specs.Labels.{AreLabels, IsMet, label_in};
 ghost use Rattle.aat_cuts.specs.Reached.{AreGathered, AreReachLabels, IsFound, IsWhole, follow_edge, is_labelled};
 
 use crate::cells::{Cell, cells_of, missing_class};
 use crate::labels::{Asked, Edge, START, STATES};
 use crate::least::least_labels;
-use aat_font::{Acting, ExtendedStateTable};
+use aat_machine_tables::{Acting, ExtendedStateTable};
 use std::alloc::{AllocError, Global};
 
 /// The states that a run may reach, and their entries.

@@ -1,7 +1,7 @@
 //! The registers of machines, and what entries do to them.
 ghost use Rattle.std.specs.Prelude.{◌≡◌, ◌==◌, ◌&&◌, ◌||◌, ℕ, Bool, IfOk, List, Option, Some, None, map, nat_lt, not};
-ghost use Rattle.aat_font.specs.Entries.{goes_on};
-ghost use Rattle.aat_font.specs.Table.{entry_of};
+ghost use Rattle.aat_machine_tables.specs.Entries.{goes_on};
+ghost use Rattle.aat_machine_tables.specs.Table.{entry_of};
 ghost use Rattle.aat_cuts.specs.Labels.{AreLabels};
 ghost use Rattle.aat_cuts.specs.Reached.{AreReached, is_labelled};
 ghost use Rattle.aat_cuts.specs.Settled.{Register, is_answered};
@@ -10,8 +10,8 @@ ghost use Rattle.aat_cuts.specs.inside.Steps.{AreClasses, IsFoundIn, differs, is
 use crate::cells::Cell;
 use crate::reached::Reached;
 use crate::steps::{Step, Trouble, find_trouble};
-use aat_font::entry_bits::{NO_INDEX, rearrangement};
-use aat_font::{Acting, ContextualEntryData, ExtendedStateTable, GenericStateEntry};
+use aat_machine_tables::entry_bits::{NO_INDEX, rearrangement};
+use aat_machine_tables::{Acting, ContextualEntryData, ExtendedStateTable, GenericStateEntry};
 use std::alloc::{AllocError, Global};
 
 /// A register of a machine.

@@ -1,8 +1,8 @@
 //! Whether a subtable is settled.
 ghost use Rattle.std.specs.Prelude.{◌≡◌, ◌==◌, ◌&&◌, ℕ, Bool, true, false, IfOk, IfSome, IfNone, None, length};
 ghost use Rattle.std.specs.List.{All, Contains};
-ghost use Rattle.aat_font.specs.Table.{Rule};
-ghost use Rattle.aat_font.specs.declared.state_table.GenericStateEntry.{GenericStateEntry};
+ghost use Rattle.aat_machine_tables.specs.Table.{Rule};
+ghost use Rattle.aat_machine_tables.specs.declared.state_table.GenericStateEntry.{GenericStateEntry};
 ghost use Rattle.aat_cuts.specs.Labels.{AreLabels};
 ghost use Rattle.aat_cuts.specs.Reached.{AreReached, is_labelled};
 ghost use Rattle.aat_cuts.specs.Settled.{the_mark, the_end_set_by};
@@ -15,8 +15,9 @@ use crate::reached::{Reach, Reached, find_reached};
 use crate::register::{Mark, SpanEnd, find_in_register};
 use crate::steps::Trouble;
 use crate::unsettled::{Unsettled, UsedRegister};
-use aat_font::entry_bits::{class, rearrangement};
-use aat_font::{ContextualEntryData, ExtendedStateTable, InsertionEntryData, Lookup};
+use aat_lookup::Lookup;
+use aat_machine_tables::entry_bits::{class, rearrangement};
+use aat_machine_tables::{ContextualEntryData, ExtendedStateTable, InsertionEntryData};
 use std::alloc::{AllocError, Global};
 
 /// Why a machine is not settled, by what was found of one of its registers.

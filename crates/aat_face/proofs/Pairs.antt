@@ -1,7 +1,7 @@
 -- Pairs over a range of glyphs rise.
 use Rattle.std.proofs.Common.{◌≡◌, ℕ, zero, suc, ◌+◌, ◌<◌, None, map, refl, arith}
 use Rattle.std.specs.List.{range_with_len}
-use Rattle.aat_font.specs.Keys.{first, first_fall, fall_after}
+use Rattle.aat_lookup.specs.Keys.{first, first_fall, fall_after}
 use Rattle.aat_face.specs.Lists.{pairs_over}
 
 -- none falls behind a glyph below them

@@ -15,10 +15,10 @@ use Rattle.aat_bytes.specs.declared.error.FaultKind.TheVariants.{PastEnd, Unknow
 use Rattle.aat_bytes.specs.declared.tag.Tag.{Tag}
 use Rattle.aat_bytes.specs.facts.Parts.{ok_parts, parts, passes}
 use Rattle.aat_bytes.specs.declared.tags.TheConstants.{ANKR, FEAT, KERN, KERX, MORX, TRAK}
-use Rattle.aat_font.specs.FeatureNames.{kind_of}
-use Rattle.aat_font.specs.Keys.{first, first_fall}
-use Rattle.aat_font.specs.declared.feat.FeatureName.{FeatureName}
-use Rattle.aat_font.specs.inside.GlyphSpans.{glyph_span}
+use Rattle.aat_lookup.specs.FeatureNames.{kind_of}
+use Rattle.aat_lookup.specs.Keys.{first, first_fall}
+use Rattle.aat_lookup.specs.declared.feat.FeatureName.{FeatureName}
+use Rattle.aat_lookup.specs.inside.GlyphSpans.{glyph_span}
 use Rattle.aat_read_kern.specs.Kern.{KernValue, kern_of}
 use Rattle.aat_read_kern.specs.Weights.{kern_weight}
 use Rattle.aat_read_kern.proofs.TableBounded.{kern_bounded}

@@ -3,13 +3,13 @@ use Rattle.std.specs.Prelude.{ℕ, List, [], ◌∷◌, Bool, Option, Result, Ok
 use Rattle.std.specs.List.{filter_map}
 use Rattle.aat_bytes.specs.Faults.{after}
 use Rattle.aat_bytes.specs.declared.error.Fault.{Fault}
-use Rattle.aat_font.specs.AnchorPoints.{Points}
+use Rattle.aat_kerning_tables.specs.AnchorPoints.{Points}
 use Rattle.aat_font.specs.Face.{advances_of, glyph_classes_of, tables_of}
 use Rattle.aat_font.specs.declared.face.hb_font_t.{hb_font_t}
-use Rattle.aat_font.specs.declared.feat.FeatureName.{FeatureName}
-use Rattle.aat_font.specs.declared.kern.KernSubtable.{KernSubtable}
-use Rattle.aat_font.specs.declared.kerx.KerxSubtable.{KerxSubtable}
-use Rattle.aat_font.specs.declared.plan.GlyphId.{GlyphId}
+use Rattle.aat_lookup.specs.declared.feat.FeatureName.{FeatureName}
+use Rattle.aat_kerning_tables.specs.declared.kern.KernSubtable.{KernSubtable}
+use Rattle.aat_kerning_tables.specs.declared.kerx.KerxSubtable.{KerxSubtable}
+use Rattle.aat_lookup.specs.declared.glyph_id.GlyphId.{GlyphId}
 use Rattle.aat_read_pairs.specs.declared.left_out.LeftOutSubtable.{LeftOutSubtable}
 use Rattle.aat_read_lookup.specs.Features.{feature_name_id, setting_name_id}
 use Rattle.aat_read_morx.specs.Chains.{ChainValue, values_of_morx}

@@ -4,7 +4,7 @@ use Rattle.aat_bytes.specs.Faults.{after}
 use Rattle.aat_bytes.specs.declared.error.Fault.{Fault}
 use Rattle.aat_bytes.specs.declared.tags.TheConstants.{FEAT}
 use Rattle.aat_font.specs.declared.face.FaceTables.{FaceTables}
-use Rattle.aat_font.specs.declared.feat.FeatureName.{FeatureName}
+use Rattle.aat_lookup.specs.declared.feat.FeatureName.{FeatureName}
 use Rattle.aat_read_lookup.specs.Features.{feat_of}
 use Rattle.aat_read_sfnt.specs.Directory.{Directory}
 use Rattle.aat_face.specs.Tables.{found_in, table_in}

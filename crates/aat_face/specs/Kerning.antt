@@ -4,7 +4,7 @@ use Rattle.std.specs.Prelude.{ℕ, List, [], Option, Bool, Result, is_ok}
 use Rattle.std.specs.Option.{option_map_or}
 use Rattle.aat_bytes.specs.declared.error.Fault.{Fault}
 use Rattle.aat_bytes.specs.declared.tags.TheConstants.{ANKR, GPOS, KERN, KERX}
-use Rattle.aat_font.specs.AnchorPoints.{Points}
+use Rattle.aat_kerning_tables.specs.AnchorPoints.{Points}
 use Rattle.aat_read_kern.specs.Kern.{KernValue, kern_of}
 use Rattle.aat_read_kerx.specs.Anchors.{ankr_of}
 use Rattle.aat_read_kerx.specs.KerxTables.{KerxValue, kerx_of}

@@ -17,7 +17,8 @@ use crate::tables::{
 use crate::text::{NameText, english_text};
 use crate::tracking::trak_in;
 use aat_bytes::{Fault, ReadError};
-use aat_font::{GlyphId, Lookup, hb_font_t};
+use aat_font::hb_font_t;
+use aat_lookup::{GlyphId, Lookup};
 use aat_placement::Tracking;
 use aat_read_lookup::{feature_name_id, setting_name_id};
 use aat_read_pairs::LeftOutSubtable;

@@ -5,7 +5,8 @@ ghost use Rattle.aat_face.specs.Tables.{read_if_found};
 
 use crate::tables::{found_in, optional_table};
 use aat_bytes::{Fault, ReadError};
-use aat_font::{FaceTables, Feat};
+use aat_font::FaceTables;
+use aat_lookup::Feat;
 use aat_read_lookup::{FEAT, read_feat};
 use aat_read_sfnt::FontFile;
 use std::alloc::{AllocError, Global};

@@ -1,11 +1,11 @@
 //! Values of all glyphs of a font.
 ghost use Rattle.std.specs.Prelude.{◌≡◌, IfOk, IfErr, None};
 ghost use Rattle.aat_bytes.specs.declared.error.ReadError.TheVariants as errors;
-ghost use Rattle.aat_font.specs.Keys.{first, first_fall};
+ghost use Rattle.aat_lookup.specs.Keys.{first, first_fall};
 ghost use Rattle.aat_face.specs.Lists.{advance_pairs, property_pairs};
 
 use aat_bytes::ReadError;
-use aat_font::{Lookup, TableError};
+use aat_lookup::{Lookup, TableError};
 use aat_read_sfnt::{GlyphClasses, Metrics};
 use std::alloc::{AllocError, Global};
 

@@ -6,7 +6,7 @@ ghost use Rattle.aat_face.specs.Tables.{characters_in, classes_in, fault_in, fou
 use crate::chains::Chains;
 use crate::features::Features;
 use aat_bytes::{Fault, FaultKind, Tag};
-use aat_font::Ankr;
+use aat_kerning_tables::Ankr;
 use aat_placement::Tracking;
 use aat_read_kern::KernRead;
 use aat_read_kerx::KerxRead;

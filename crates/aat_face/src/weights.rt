@@ -2,7 +2,7 @@
 
 use crate::face::Face;
 use aat_bytes::Fault;
-use aat_font::FeatureName;
+use aat_lookup::FeatureName;
 
 /// The bytes of a face, besides what it has in lists.
 pub const FACE_SIZE: usize = size_of::<Face<'static>>();

@@ -1,4 +1,8 @@
 //! Features and tags as a person writes them: `smcp`, `-liga`, `aalt[3:5]=2`, `"kern" off`.
+//!
+//! ```
+//! let feature = parse_feature("aalt[3:5]=2")?;
+//! ```
 #![tactic(auto)]
 
 mod characters;

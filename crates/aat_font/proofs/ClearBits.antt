@@ -4,7 +4,7 @@ use Rattle.std.specs.Int.{bit_at}
 use Rattle.std.proofs.lemmas.Bool.{cases_eq}
 use Rattle.std.proofs.lemmas.Bool.Decides.{nat_tests}
 use Rattle.std.proofs.lemmas.Option.{none-some}
-use Rattle.aat_font.specs.Keys.{value_in}
+use Rattle.aat_lookup.specs.Keys.{value_in}
 use Rattle.aat_font.specs.Wakers.{word_of}
 use Rattle.aat_font.specs.declared.wakers.GlyphWords.{GlyphWords}
 

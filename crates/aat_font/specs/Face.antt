@@ -1,10 +1,10 @@
 -- What a font holds.
 use Rattle.std.specs.Prelude.{ℕ, List, [], Option, Some, None, is_some, unwrap_or, Bool}
-use Rattle.aat_font.specs.Keys.{value_in}
+use Rattle.aat_lookup.specs.Keys.{value_in}
 use Rattle.aat_font.specs.Morx.{chains_of}
-use Rattle.aat_font.specs.declared.kern.KernSubtable.{KernSubtable}
-use Rattle.aat_font.specs.declared.kerx.KerxSubtable.{KerxSubtable}
-use Rattle.aat_font.specs.declared.morx.Chain.{Chain}
+use Rattle.aat_kerning_tables.specs.declared.kern.KernSubtable.{KernSubtable}
+use Rattle.aat_kerning_tables.specs.declared.kerx.KerxSubtable.{KerxSubtable}
+use Rattle.aat_machine_tables.specs.declared.morx.Chain.{Chain}
 use Rattle.aat_font.specs.declared.morx.Morx.{Morx}
 use Rattle.aat_font.specs.declared.face.FaceTables.{FaceTables}
 use Rattle.aat_font.specs.declared.face.hb_font_t.{hb_font_t}

@@ -1,6 +1,6 @@
 -- What an extended glyph metamorphosis table holds.
 use Rattle.std.specs.Prelude.{List}
-use Rattle.aat_font.specs.declared.morx.Chain.{Chain}
+use Rattle.aat_machine_tables.specs.declared.morx.Chain.{Chain}
 use Rattle.aat_font.specs.declared.morx.Morx.{Morx}
 
 -- the chains in their order

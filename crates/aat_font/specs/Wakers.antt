@@ -2,8 +2,8 @@
 use Rattle.std.specs.Prelude.{◌≡◌, ◌/◌, ◌%◌, ℕ, true, List, Some, slice_get, slice_index_or, Vec, bit_or}
 use Rattle.std.specs.Int.{bit_at}
 use Rattle.aat_font.specs.Idle.{is_idle}
-use Rattle.aat_font.specs.declared.morx.Chain.{Chain}
-use Rattle.aat_font.specs.declared.morx.Subtable.{Subtable}
+use Rattle.aat_machine_tables.specs.declared.morx.Chain.{Chain}
+use Rattle.aat_machine_tables.specs.declared.morx.Subtable.{Subtable}
 use Rattle.aat_font.specs.declared.wakers.GlyphWords.{GlyphWords}
 
 -- the word of a glyph: the bits that each glyph has, and its own

@@ -1,17 +1,14 @@
 //! A font: its optional tables, and the classes and advances of its glyphs.
 ghost use Rattle.std.specs.Prelude.{◌≡◌, ◌≤◌, None, Some, length};
-ghost use Rattle.aat_font.specs.Chains.{subtable_count};
+ghost use Rattle.aat_machine_tables.specs.Chains.{subtable_count};
 ghost use Rattle.aat_font.specs.Face.{chains_in, kerx_in, kern_in};
 ghost use Rattle.aat_font.specs.Face.{tables_of, glyph_classes_of, advances_of, has_classes, props_of, advance_of};
 ghost use Rattle.aat_font.specs.Face.{value_or_zero};
 
-use crate::ankr::Ankr;
-use crate::feat::Feat;
-use crate::kern::{Kern, KernSubtable};
-use crate::kerx::{Kerx, KerxSubtable};
-use crate::lookup::Lookup;
-use crate::morx::{Chain, Morx};
-use crate::plan::GlyphId;
+use crate::morx::Morx;
+use aat_kerning_tables::{Ankr, Kern, KernSubtable, Kerx, KerxSubtable};
+use aat_lookup::{Feat, GlyphId, Lookup};
+use aat_machine_tables::Chain;
 
 /// The tables of a font, each of which may be missing. By default all are.
 #[derive(Drop, Default)]

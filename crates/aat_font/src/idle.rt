@@ -1,19 +1,19 @@
 //! Glyphs over which the machine of a subtable does nothing while it is in state 0.
 ghost use Rattle.std.specs.Prelude.{◌≡◌, ◌<◌, ℕ};
 ghost use Rattle.aat_font.specs.Idle.{contextual_rests, insertion_rests, is_idle_at_end, is_idle_class, ligature_rests, passes, rearrangement_rests};
-ghost use Rattle.aat_font.specs.Table.{entry_of};
+ghost use Rattle.aat_machine_tables.specs.Table.{entry_of};
 
-use crate::entries::{ContextualEntryData, InsertionEntryData};
-use crate::entry_bits::class::END_OF_TEXT;
-use crate::entry_bits::state::START_OF_TEXT;
-use crate::entry_bits::{NO_INDEX, contextual, insertion, ligature, rearrangement};
-use crate::judged::Acting;
-use crate::state_table::{ExtendedStateTable, GenericStateEntry};
+use aat_machine_tables::entry_bits::class::END_OF_TEXT;
+use aat_machine_tables::entry_bits::state::START_OF_TEXT;
+use aat_machine_tables::entry_bits::{NO_INDEX, contextual, insertion, ligature, rearrangement};
+use aat_machine_tables::{
+    Acting, ContextualEntryData, ExtendedStateTable, GenericStateEntry, InsertionEntryData,
+};
 
 /// What the entries of a kind of machine hold, which tells whether one of them ever acts.
 pub(crate) trait Resting: Acting {
     ghost use Rattle.std.specs.Prelude.{◌≡◌, Bool};
-    ghost use Rattle.aat_font.specs.declared.state_table.GenericStateEntry.{GenericStateEntry};
+    ghost use Rattle.aat_machine_tables.specs.declared.state_table.GenericStateEntry.{GenericStateEntry};
 
     ghost rests: { GenericStateEntry Self → Bool };
 

@@ -2,14 +2,8 @@
 ghost use Rattle.std.specs.Prelude.{◌≡◌, false, true};
 
 use crate::tag::hb_tag_t;
+use aat_machine_tables::hb_mask_t;
 use std::ops::Range;
-
-/// The mask of a glyph, the same number that the buffer spells by this name.
-pub type hb_mask_t = u32;
-
-/// The number of a glyph in a font.
-#[derive(Clone, Copy, PartialEq, Eq, Debug, Default)]
-pub struct GlyphId(pub u16);
 
 /// A request of the user: a feature's value over the clusters `start` to `end - 1`, or from `start` on where `end` is
 /// `u32::MAX`, which never comes.

@@ -6,17 +6,15 @@
 ghost use Rattle.std.specs.Prelude.{◌≡◌, ◌+◌, ◌%◌, ◌/◌, ◌<◌, ◌≤◌, ℕ, Some, None, IfOk, OnOk, true, is_none, length, slice_get, slice_index_or};
 ghost use Rattle.std.specs.Int.{bit_at};
 ghost use Rattle.aat_font.specs.Idle.{is_idle_class, is_idle_glyph};
-ghost use Rattle.aat_font.specs.Keys.{value_in};
+ghost use Rattle.aat_lookup.specs.Keys.{value_in};
 ghost use Rattle.aat_font.specs.Wakers.{word_of, IsAwakeIn, AreWakers, AreChainWakers};
 ghost use Rattle.aat_font.specs.inside.MarkedWords.{KeepsBits, SameWords};
-ghost use Rattle.aat_font.specs.declared.morx.Subtable.{Subtable};
+ghost use Rattle.aat_machine_tables.specs.declared.morx.Subtable.{Subtable};
 
-use crate::entry_bits::class::{DELETED_GLYPH, OUT_OF_BOUNDS};
 use crate::idle::{Resting, is_idle_at_end, is_idle_class};
-use crate::lookup::Lookup;
-use crate::morx::{Chain, Subtable, SubtableKind};
-use crate::plan::GlyphId;
-use crate::state_table::ExtendedStateTable;
+use aat_lookup::{GlyphId, Lookup};
+use aat_machine_tables::entry_bits::class::{DELETED_GLYPH, OUT_OF_BOUNDS};
+use aat_machine_tables::{Chain, ExtendedStateTable, Subtable, SubtableKind};
 use std::alloc::{AllocError, Global};
 
 /// By how many glyphs the words get more at least.

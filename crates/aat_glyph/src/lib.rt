@@ -1,5 +1,9 @@
 //! What a line of glyphs is made of: glyph records, positions, directions, named bits, and why a call of the
 //! shaping buffer is refused.
+//!
+//! ```
+//! let glyph = hb_glyph_info_t::new(glyph_id, cluster);
+//! ```
 #![tactic(auto)]
 
 mod error;

@@ -1,7 +1,7 @@
 //! The chains of `morx`.
 
 use aat_cuts::find_unsettled;
-use aat_font::{Chain, Coverage, Subtable, SubtableKind};
+use aat_machine_tables::{Chain, Coverage, Subtable, SubtableKind};
 use std::alloc::Global;
 use std::io::{self, Write};
 

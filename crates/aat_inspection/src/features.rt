@@ -1,6 +1,6 @@
 //! Which settings of features are on by default.
 
-use aat_font::{Chain, ChainFeature};
+use aat_machine_tables::{Chain, ChainFeature};
 use std::alloc::{AllocError, Global};
 use std::collections::BTreeMap;
 use std::io::{self, Write};

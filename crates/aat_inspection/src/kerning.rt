@@ -1,6 +1,7 @@
 //! The subtables of `kerx` and of `kern`.
 
-use aat_font::{KernKind, KernSubtable, KerxFormat, KerxSubtable, hb_font_t};
+use aat_font::hb_font_t;
+use aat_kerning_tables::{KernKind, KernSubtable, KerxFormat, KerxSubtable};
 use std::io::{self, Write};
 
 /// What of a subtable is the same in both tables.

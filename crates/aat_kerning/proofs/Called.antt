@@ -5,10 +5,10 @@ use Rattle.std.proofs.lemmas.Slice.Zip.{AllZip-long}
 use Rattle.std.specs.Prelude.{IsNone, IsSome, is_some}
 use Rattle.aat_buffer.specs.Buffer.{Buffer}
 use Rattle.aat_buffer.specs.Marks.{unsafe_to_concat}
-use Rattle.aat_font.specs.AnchorPoints.{Points}
+use Rattle.aat_kerning_tables.specs.AnchorPoints.{Points}
 use Rattle.aat_font.specs.Face.{kern_in, kerx_in}
-use Rattle.aat_font.specs.declared.kern.KernSubtable.{KernSubtable}
-use Rattle.aat_font.specs.declared.kerx.KerxSubtable.{KerxSubtable}
+use Rattle.aat_kerning_tables.specs.declared.kern.KernSubtable.{KernSubtable}
+use Rattle.aat_kerning_tables.specs.declared.kerx.KerxSubtable.{KerxSubtable}
 use Rattle.aat_run.specs.Outcome.{Outcome, untouched}
 use Rattle.aat_kerning_machines.specs.KerningLaws.{IsKernedFrom, IsMarkedFrom}
 use Rattle.aat_kerning.specs.Positioning.{Kerning, kerning_of_kern_subtable, kern_positioning, kerning_of_kerx_subtable, kerx_positioning, positioning}

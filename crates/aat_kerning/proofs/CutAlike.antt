@@ -11,7 +11,7 @@ use Rattle.aat_buffer.specs.Buffer.{Buffer, no_glyph, glyph_at, reversed}
 use Rattle.aat_buffer.specs.Marks.{on_span, on_long_span, break_marked, concat_marked, with_mask_bits, unsafe_to_break, unsafe_to_concat, produces_concat}
 use Rattle.aat_buffer.specs.facts.Cases.{either}
 use Rattle.aat_buffer.specs.facts.Lines.{length_on_long_span}
-use Rattle.aat_font.specs.AnchorPoints.{Points}
+use Rattle.aat_kerning_tables.specs.AnchorPoints.{Points}
 use Rattle.aat_glyph.specs.Directions.{is_backward}
 use Rattle.aat_glyph.specs.declared.glyph.Direction.{Direction}
 use Rattle.aat_glyph.specs.declared.flags.BufferFlags.{BufferFlags}
@@ -21,8 +21,8 @@ use Rattle.aat_kerning.specs.Cut.{ordered_line, greater_at, AreAlikeParts, Alike
 use Rattle.aat_kerning_machines.specs.KerningLaws.{IsKernedFrom, IsMarkedFrom}
 use Rattle.aat_kerning.specs.PairKerning.{kerned, pair_kerning, in_stream, cross_stream, PairValues}
 use Rattle.aat_kerning.specs.Pairs.{Pair, kerx_skips, kern_skips, is_solid, pairs_of}
-use Rattle.aat_font.specs.declared.kern.KernSubtable.{KernSubtable}
-use Rattle.aat_font.specs.declared.kerx.KerxSubtable.{KerxSubtable}
+use Rattle.aat_kerning_tables.specs.declared.kern.KernSubtable.{KernSubtable}
+use Rattle.aat_kerning_tables.specs.declared.kerx.KerxSubtable.{KerxSubtable}
 use Rattle.aat_kerning.specs.Positioning.{cursively_attached, in_processing_order, line_marked, kerning_of_kerx_subtable, kerning_of_kern_subtable, kerx_positioning, kern_positioning}
 use Rattle.aat_kerning.proofs.Changes.{of_marked, of_pair, of_pairs, of_pair_kerning, of_attachment}
 use Rattle.aat_kerning.proofs.CutHolds.{AreNow, cut_of, marked_parts_now, now_after, now_attached, now_marked, parts_now, short_first}

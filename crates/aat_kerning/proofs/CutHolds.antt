@@ -5,7 +5,7 @@ use Rattle.std.proofs.lemmas.List.{take-map, drop-map, get_or-take, get_or-drop,
 use Rattle.std.proofs.lemmas.Slice.Zip.{AllZip-long}
 use Rattle.aat_buffer.specs.Buffer.{Buffer, no_glyph, glyph_at, position_list, reversed}
 use Rattle.aat_buffer.specs.Marks.{unsafe_to_concat}
-use Rattle.aat_font.specs.AnchorPoints.{Points}
+use Rattle.aat_kerning_tables.specs.AnchorPoints.{Points}
 use Rattle.aat_glyph.specs.Directions.{is_backward}
 use Rattle.aat_glyph.specs.declared.glyph.Direction.{Direction}
 use Rattle.aat_glyph.specs.declared.glyph.GlyphPosition.{GlyphPosition}
@@ -14,8 +14,8 @@ use Rattle.aat_run.specs.Switches.{meets}
 use Rattle.aat_kerning.specs.Cut.{ordered_line, ordered_positions, greater_at, AreParts, PartsAreKernedApart, CanBeCut}
 use Rattle.aat_kerning_machines.specs.KerningLaws.{IsKernedFrom, IsMarkedFrom}
 use Rattle.aat_kerning.specs.Pairs.{kerx_skips, kern_skips, is_solid}
-use Rattle.aat_font.specs.declared.kern.KernSubtable.{KernSubtable}
-use Rattle.aat_font.specs.declared.kerx.KerxSubtable.{KerxSubtable}
+use Rattle.aat_kerning_tables.specs.declared.kern.KernSubtable.{KernSubtable}
+use Rattle.aat_kerning_tables.specs.declared.kerx.KerxSubtable.{KerxSubtable}
 use Rattle.aat_kerning.specs.Positioning.{cursively_attached, in_processing_order, line_marked, kerning_of_kerx_subtable, kerning_of_kern_subtable, kerx_positioning, kern_positioning}
 use Rattle.aat_kerning_machines.specs.Positions.{attached_as}
 use Rattle.aat_kerning.proofs.Changes.{of_concat, of_marked, of_pair_kerning, of_attachment}

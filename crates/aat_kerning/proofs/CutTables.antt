@@ -3,13 +3,13 @@ use Rattle.std.proofs.Common.{◌≡◌, ℕ, ◌-◌, ◌<◌, Bool, true, fals
 use Rattle.std.proofs.lemmas.Slice.Zip.{AllZip-long}
 use Rattle.aat_buffer.specs.Buffer.{Buffer, glyph_at, reversed}
 use Rattle.aat_buffer.specs.Marks.{unsafe_to_concat}
-use Rattle.aat_font.specs.AnchorPoints.{Points}
-use Rattle.aat_font.specs.declared.kern.KernKind.{KernKind}
-use Rattle.aat_font.specs.declared.kern.KernKind.TheVariants as kind
-use Rattle.aat_font.specs.declared.kern.KernSubtable.{KernSubtable}
-use Rattle.aat_font.specs.declared.kerx.KerxFormat.{KerxFormat}
-use Rattle.aat_font.specs.declared.kerx.KerxFormat.TheVariants.{Format0, Format1, Format2, Format2Classes, Format4, Format6, Format6Classes}
-use Rattle.aat_font.specs.declared.kerx.KerxSubtable.{KerxSubtable}
+use Rattle.aat_kerning_tables.specs.AnchorPoints.{Points}
+use Rattle.aat_kerning_tables.specs.declared.kern.KernKind.{KernKind}
+use Rattle.aat_kerning_tables.specs.declared.kern.KernKind.TheVariants as kind
+use Rattle.aat_kerning_tables.specs.declared.kern.KernSubtable.{KernSubtable}
+use Rattle.aat_kerning_tables.specs.declared.kerx.KerxFormat.{KerxFormat}
+use Rattle.aat_kerning_tables.specs.declared.kerx.KerxFormat.TheVariants.{Format0, Format1, Format2, Format2Classes, Format4, Format6, Format6Classes}
+use Rattle.aat_kerning_tables.specs.declared.kerx.KerxSubtable.{KerxSubtable}
 use Rattle.aat_glyph.specs.Directions.{is_backward}
 use Rattle.aat_glyph.specs.declared.glyph.Direction.{Direction}
 use Rattle.aat_glyph.specs.declared.glyph.hb_glyph_info_t.{hb_glyph_info_t}
@@ -24,7 +24,7 @@ use Rattle.aat_kerning.proofs.CutRuns.{greater_of, positioned_apart}
 use Rattle.aat_kerning.proofs.CutStep.{IsGreater, IsMovedApart, clusters_kept}
 use Rattle.aat_kerning.proofs.KerningLawsHold.{kerx_each_paid, kern_each_paid, kerning_changes_little}
 use Rattle.aat_kerning.proofs.Marked.{IsMarkedLine, line_same, line_reversed, marked_at}
-use Rattle.aat_font.specs.Classes.{kerning_by_classes}
+use Rattle.aat_kerning_tables.specs.Classes.{kerning_by_classes}
 
 -- what is kerned of a line, in processing order, is marked from it
 pub ordered_kept : (old left : Buffer) → IsKernedFrom old left → IsMarkedLine (ordered_line old) (ordered_line left)

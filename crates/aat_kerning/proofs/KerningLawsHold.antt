@@ -7,15 +7,15 @@ use Rattle.aat_buffer.specs.Buffer.{Buffer, with_cursor, reversed}
 use Rattle.aat_buffer.specs.Marks.{unsafe_to_concat}
 use Rattle.aat_buffer.specs.facts.Cases.{chosen, either}
 use Rattle.aat_glyph.specs.Directions.{is_backward}
-use Rattle.aat_font.specs.Table.{TableValue}
-use Rattle.aat_font.specs.declared.state_table.GenericStateEntry.{GenericStateEntry}
-use Rattle.aat_font.specs.declared.kern.KernKind.{KernKind}
-use Rattle.aat_font.specs.declared.kern.KernKind.TheVariants as kind
-use Rattle.aat_font.specs.declared.kern.KernSubtable.{KernSubtable}
-use Rattle.aat_font.specs.declared.kerx.KerxFormat.{KerxFormat}
-use Rattle.aat_font.specs.declared.kerx.KerxFormat.TheVariants.{Format0, Format1, Format2, Format2Classes, Format4, Format6, Format6Classes}
-use Rattle.aat_font.specs.declared.kerx.KerxSubtable.{KerxSubtable}
-use Rattle.aat_font.specs.AnchorPoints.{Points}
+use Rattle.aat_machine_tables.specs.Table.{TableValue}
+use Rattle.aat_machine_tables.specs.declared.state_table.GenericStateEntry.{GenericStateEntry}
+use Rattle.aat_kerning_tables.specs.declared.kern.KernKind.{KernKind}
+use Rattle.aat_kerning_tables.specs.declared.kern.KernKind.TheVariants as kind
+use Rattle.aat_kerning_tables.specs.declared.kern.KernSubtable.{KernSubtable}
+use Rattle.aat_kerning_tables.specs.declared.kerx.KerxFormat.{KerxFormat}
+use Rattle.aat_kerning_tables.specs.declared.kerx.KerxFormat.TheVariants.{Format0, Format1, Format2, Format2Classes, Format4, Format6, Format6Classes}
+use Rattle.aat_kerning_tables.specs.declared.kerx.KerxSubtable.{KerxSubtable}
+use Rattle.aat_kerning_tables.specs.AnchorPoints.{Points}
 use Rattle.aat_run.specs.Budget.{operations_left}
 use Rattle.aat_run.specs.Context.{start}
 use Rattle.aat_run.specs.Laws.{FitsAlways}
@@ -33,7 +33,7 @@ use Rattle.aat_kerning.proofs.Changes.{IsKernedInside, inside, inside_twice, ker
 use Rattle.aat_kerning_machines.specs.facts.KerningRuns.{spends, runs_end, buffer_kept}
 use Rattle.aat_kerning.proofs.Positioned.{positioned_so_far}
 use Rattle.aat_kerning.specs.PairKerning.{value_of}
-use Rattle.aat_font.specs.Classes.{kerning_by_classes}
+use Rattle.aat_kerning_tables.specs.Classes.{kerning_by_classes}
 
 pub drivers_are_lawful : DriversAreLawful
 drivers_are_lawful = record { kerx_stack = kerx_is_lawful; kern_stack = kern_is_lawful; anchors = anchors_are_lawful }

@@ -8,7 +8,7 @@ use Rattle.aat_buffer.specs.facts.Cases.{chosen}
 use Rattle.aat_glyph.specs.Directions.{is_backward, is_horizontal}
 use Rattle.aat_glyph.specs.declared.glyph.Direction.{Direction}
 use Rattle.aat_glyph.specs.declared.glyph.GlyphPosition.{GlyphPosition}
-use Rattle.aat_font.specs.Truth.{is_alike}
+use Rattle.aat_lookup.specs.Truth.{is_alike}
 use Rattle.aat_kerning.specs.Positioning.{Kerning, Positioned, cursively_attached, in_processing_order, is_for_text, positioned, positioning, run_turned_round, turned_round}
 use Rattle.aat_run.specs.Outcome.{Outcome, untouched}
 

@@ -2,13 +2,13 @@
 use Rattle.std.proofs.Common.{ℕ, Bool, true, false, List, Option}
 use Rattle.std.specs.Prelude.{All}
 use Rattle.std.specs.List.{slice_index_or}
-use Rattle.aat_font.specs.AnchorPoints.{Points}
-use Rattle.aat_font.specs.declared.kern.KernKind.{KernKind}
-use Rattle.aat_font.specs.declared.kern.KernKind.TheVariants as kind
-use Rattle.aat_font.specs.declared.kern.KernSubtable.{KernSubtable}
-use Rattle.aat_font.specs.declared.kerx.KerxFormat.{KerxFormat}
-use Rattle.aat_font.specs.declared.kerx.KerxFormat.TheVariants.{Format0, Format1, Format2, Format2Classes, Format4, Format6, Format6Classes}
-use Rattle.aat_font.specs.declared.kerx.KerxSubtable.{KerxSubtable}
+use Rattle.aat_kerning_tables.specs.AnchorPoints.{Points}
+use Rattle.aat_kerning_tables.specs.declared.kern.KernKind.{KernKind}
+use Rattle.aat_kerning_tables.specs.declared.kern.KernKind.TheVariants as kind
+use Rattle.aat_kerning_tables.specs.declared.kern.KernSubtable.{KernSubtable}
+use Rattle.aat_kerning_tables.specs.declared.kerx.KerxFormat.{KerxFormat}
+use Rattle.aat_kerning_tables.specs.declared.kerx.KerxFormat.TheVariants.{Format0, Format1, Format2, Format2Classes, Format4, Format6, Format6Classes}
+use Rattle.aat_kerning_tables.specs.declared.kerx.KerxSubtable.{KerxSubtable}
 use Rattle.aat_run.specs.Laws.{FitsAlways}
 use Rattle.aat_kerning.specs.KerningLawful.{KernKindPaysForStaying, KernPaysForStaying, KerxFormatPaysForStaying, KerxPaysForStaying, StayingIsPaid}
 use Rattle.aat_kerning_machines.specs.Anchors.{anchor_driver, IsFit}

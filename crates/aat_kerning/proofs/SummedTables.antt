@@ -10,13 +10,13 @@ use Rattle.std.proofs.lemmas.Slice.Zip.{AllZip-long}
 use Rattle.std.proofs.lemmas.List.Elements.{All-weaker}
 use Rattle.aat_buffer.specs.Buffer.{Buffer, glyph_at, position_list, reversed}
 use Rattle.aat_buffer.specs.Marks.{unsafe_to_concat}
-use Rattle.aat_font.specs.AnchorPoints.{Points}
-use Rattle.aat_font.specs.declared.kern.KernKind.{KernKind}
-use Rattle.aat_font.specs.declared.kern.KernKind.TheVariants as kind
-use Rattle.aat_font.specs.declared.kern.KernSubtable.{KernSubtable}
-use Rattle.aat_font.specs.declared.kerx.KerxFormat.{KerxFormat}
-use Rattle.aat_font.specs.declared.kerx.KerxFormat.TheVariants.{Format0, Format1, Format2, Format2Classes, Format4, Format6, Format6Classes}
-use Rattle.aat_font.specs.declared.kerx.KerxSubtable.{KerxSubtable}
+use Rattle.aat_kerning_tables.specs.AnchorPoints.{Points}
+use Rattle.aat_kerning_tables.specs.declared.kern.KernKind.{KernKind}
+use Rattle.aat_kerning_tables.specs.declared.kern.KernKind.TheVariants as kind
+use Rattle.aat_kerning_tables.specs.declared.kern.KernSubtable.{KernSubtable}
+use Rattle.aat_kerning_tables.specs.declared.kerx.KerxFormat.{KerxFormat}
+use Rattle.aat_kerning_tables.specs.declared.kerx.KerxFormat.TheVariants.{Format0, Format1, Format2, Format2Classes, Format4, Format6, Format6Classes}
+use Rattle.aat_kerning_tables.specs.declared.kerx.KerxSubtable.{KerxSubtable}
 use Rattle.aat_glyph.specs.Directions.{is_backward, is_horizontal}
 use Rattle.aat_glyph.specs.declared.glyph.Direction.{Direction}
 use Rattle.aat_glyph.specs.declared.glyph.GlyphPosition.{GlyphPosition}
@@ -38,8 +38,8 @@ use Rattle.aat_kerning.proofs.CutTables.{ordered_kept}
 use Rattle.aat_kerning.proofs.Marked.{IsMarkedLine, line_same, line_twice, marked_at}
 use Rattle.aat_kerning.proofs.Positioned.{not_for_text}
 use Rattle.aat_kerning.proofs.Summed.{Fits, fits_of_pairs, sum_from, sum_of_pairs}
-use Rattle.aat_font.specs.Classes.{kerning_by_classes}
-use Rattle.aat_font.specs.Truth.{is_alike}
+use Rattle.aat_kerning_tables.specs.Classes.{kerning_by_classes}
+use Rattle.aat_lookup.specs.Truth.{is_alike}
 
 -- a sum and its parts are the same in either order
 sum_of_reversed : (h : Bool) (qs : List GlyphPosition) → all_advances h (reverse qs) ≡ all_advances h qs

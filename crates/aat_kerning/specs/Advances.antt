@@ -2,13 +2,13 @@
 use Rattle.std.specs.Prelude.{◌≡◌, ℕ, Bool, true, false, List, length, ℤ, pos, ◌+ℤ◌, All, None, fold, FitsSigned, if◌then◌else◌}
 use Rattle.std.specs.Int.{int_wrap, w16, w32}
 use Rattle.aat_buffer.specs.Buffer.{Buffer, glyph_at, position_list}
-use Rattle.aat_font.specs.Classes.{kerning_by_classes}
-use Rattle.aat_font.specs.declared.kern.KernKind.{KernKind}
-use Rattle.aat_font.specs.declared.kern.KernKind.TheVariants as kind
-use Rattle.aat_font.specs.declared.kern.KernSubtable.{KernSubtable}
-use Rattle.aat_font.specs.declared.kerx.KerxFormat.{KerxFormat}
-use Rattle.aat_font.specs.declared.kerx.KerxFormat.TheVariants.{Format0, Format1, Format2, Format2Classes, Format4, Format6, Format6Classes}
-use Rattle.aat_font.specs.declared.kerx.KerxSubtable.{KerxSubtable}
+use Rattle.aat_kerning_tables.specs.Classes.{kerning_by_classes}
+use Rattle.aat_kerning_tables.specs.declared.kern.KernKind.{KernKind}
+use Rattle.aat_kerning_tables.specs.declared.kern.KernKind.TheVariants as kind
+use Rattle.aat_kerning_tables.specs.declared.kern.KernSubtable.{KernSubtable}
+use Rattle.aat_kerning_tables.specs.declared.kerx.KerxFormat.{KerxFormat}
+use Rattle.aat_kerning_tables.specs.declared.kerx.KerxFormat.TheVariants.{Format0, Format1, Format2, Format2Classes, Format4, Format6, Format6Classes}
+use Rattle.aat_kerning_tables.specs.declared.kerx.KerxSubtable.{KerxSubtable}
 use Rattle.aat_glyph.specs.Directions.{is_horizontal}
 use Rattle.aat_glyph.specs.declared.glyph.GlyphPosition.{GlyphPosition}
 use Rattle.aat_glyph.specs.declared.glyph.hb_glyph_info_t.{hb_glyph_info_t}

@@ -3,9 +3,9 @@
 use Rattle.std.specs.Prelude.{◌≡◌, ◌≢◌, ℕ, ◌<◌, ◌-◌, Bool, true, nat_lt, bit_and, List, ◌++◌, length, take, drop, map, All, Option, if◌then◌else◌}
 use Rattle.aat_buffer.specs.Buffer.{Buffer, glyph_at, position_list}
 use Rattle.aat_buffer.specs.Marks.{cluster_at}
-use Rattle.aat_font.specs.AnchorPoints.{Points}
-use Rattle.aat_font.specs.declared.kern.KernSubtable.{KernSubtable}
-use Rattle.aat_font.specs.declared.kerx.KerxSubtable.{KerxSubtable}
+use Rattle.aat_kerning_tables.specs.AnchorPoints.{Points}
+use Rattle.aat_kerning_tables.specs.declared.kern.KernSubtable.{KernSubtable}
+use Rattle.aat_kerning_tables.specs.declared.kerx.KerxSubtable.{KerxSubtable}
 use Rattle.aat_glyph.specs.declared.glyph.GlyphPosition.{GlyphPosition}
 use Rattle.aat_glyph.specs.declared.glyph.hb_glyph_info_t.{hb_glyph_info_t}
 use Rattle.aat_run.specs.Outcome.{Outcome}

@@ -5,10 +5,10 @@ use Rattle.aat_glyph.specs.declared.glyph.hb_glyph_info_t.{hb_glyph_info_t}
 use Rattle.aat_glyph.specs.declared.glyph.GlyphPosition.{GlyphPosition}
 use Rattle.aat_glyph.specs.declared.glyph.Direction.{Direction}
 use Rattle.aat_glyph.specs.declared.glyph.Direction.TheVariants.{LeftToRight, RightToLeft, TopToBottom}
-use Rattle.aat_font.specs.Classes.{ClassValues}
-use Rattle.aat_font.specs.declared.entries.EntryData.{EntryData}
-use Rattle.aat_font.specs.declared.entries.KernEntryData.{KernEntryData}
-use Rattle.aat_font.specs.declared.state_table.GenericStateEntry.{GenericStateEntry}
+use Rattle.aat_kerning_tables.specs.Classes.{ClassValues}
+use Rattle.aat_machine_tables.specs.declared.entries.EntryData.{EntryData}
+use Rattle.aat_machine_tables.specs.declared.entries.KernEntryData.{KernEntryData}
+use Rattle.aat_machine_tables.specs.declared.state_table.GenericStateEntry.{GenericStateEntry}
 use Rattle.aat_run.specs.Outcome.{Outcome, untouched}
 use Rattle.aat_run.specs.Rows.{glyph, entry, many}
 use Rattle.aat_kerning.specs.Advances.{all_advances, all_values, kern_values, values_by_all}
@@ -16,10 +16,10 @@ use Rattle.aat_kerning.specs.Cut.{ordered_line, IsCutPlace, AreParts, IsKernedIn
 use Rattle.aat_kerning.specs.KerningRows.{positions_of, skipped_mark, kern_machine, three_values, two_points}
 use Rattle.aat_kerning.specs.PairKerning.{pair_kerning, value_of}
 use Rattle.aat_kerning.specs.Pairs.{kern_skips, pairs_of}
-use Rattle.aat_font.specs.declared.kerx.KerxFormat.TheVariants.{Format0, Format2, Format2Classes, Format6, Format6Classes}
-use Rattle.aat_font.specs.declared.kern.KernKind.TheVariants as kind
-use Rattle.aat_font.specs.declared.kern.KernSubtable.{KernSubtable}
-use Rattle.aat_font.specs.declared.kerx.KerxSubtable.{KerxSubtable}
+use Rattle.aat_kerning_tables.specs.declared.kerx.KerxFormat.TheVariants.{Format0, Format2, Format2Classes, Format6, Format6Classes}
+use Rattle.aat_kerning_tables.specs.declared.kern.KernKind.TheVariants as kind
+use Rattle.aat_kerning_tables.specs.declared.kern.KernSubtable.{KernSubtable}
+use Rattle.aat_kerning_tables.specs.declared.kerx.KerxSubtable.{KerxSubtable}
 use Rattle.aat_kerning.specs.Positioning.{run_of_kerx_subtable, kerning_of_kern_subtable, kern_positioning}
 use Rattle.aat_kerning_machines.specs.Positions.{attached_as}
 use Rattle.aat_kerning.specs.RowWords.{position, untouched_position, along_x, PrintedKerning, printed_kerning, shows_positions, shows_three_turns, asking_from, two_glyphs, two_glyphs_marked, buffer_with_advances, kern_subtable, kerx_subtable, by_kern, by_kerx, values_from, no_values, action_at, no_action, kern_rules, kerx_rules, kern_entries, kerx_entries, anchor_entries, kern_pairs, pairs_of_kern, machine_of_kern, stack_of_kerx, anchors_of_kerx}

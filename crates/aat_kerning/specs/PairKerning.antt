@@ -4,7 +4,7 @@ use Rattle.std.specs.Int.{int_shr}
 use Rattle.std.specs.Ordering.{int_eq}
 use Rattle.aat_buffer.specs.Buffer.{Buffer, glyph_at}
 use Rattle.aat_buffer.specs.Marks.{unsafe_to_break}
-use Rattle.aat_font.specs.Pairs.{kerning_of}
+use Rattle.aat_kerning_tables.specs.Pairs.{kerning_of}
 use Rattle.aat_glyph.specs.Directions.{is_horizontal}
 use Rattle.aat_kerning.specs.Pairs.{Pair, pairs_of}
 use Rattle.aat_kerning_machines.specs.Positions.{on_position, with_advance, with_shift, with_cross_offset, with_attachment_flag}

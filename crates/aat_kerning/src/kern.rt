@@ -21,8 +21,9 @@ use crate::pair_values::PairValues;
 use crate::positioning::{is_for_text, kern_line};
 use crate::solid::KERN_SKIPS;
 use aat_buffer::{Direction, hb_buffer_t};
-use aat_font::{Ankr, KernKind, KernMachine, KernSubtable, hb_font_t, hb_ot_shape_plan_t};
-use aat_kerning_machines::{KerningRun, StateMachineDriver, drive_kern};
+use aat_font::{hb_font_t, hb_ot_shape_plan_t};
+use aat_kerning_machines::{KerningRun, StateMachineDriver, drive_kerning};
+use aat_kerning_tables::{Ankr, KernKind, KernMachine, KernSubtable};
 use aat_run::AatError;
 use std::alloc::Allocator;
 
@@ -50,7 +51,8 @@ fn run_kern_machine<A: Allocator + Copy>(
         plan,
     };
     let mut driver = StateMachineDriver::new();
-    drive_kern(&run, &mut driver, buffer)
+    let pays_first = true;
+    drive_kerning(&run, pays_first, &mut driver, buffer)
 }
 
 /// Kerns by the pairs of a `kern` subtable.
@@ -159,7 +161,7 @@ pub fn has_kern_pairs_alone(face: &hb_font_t) -> bool
 ///
 /// What it does, where a line can be cut, and how the sum of the advances changes is as with `hb_aat_layout_position`,
 /// but the line is marked against joining by each subtable of pairs that kerns, of the glyphs with properties marks
-/// alone are skipped (`KERN_SKIPS`), and machines run as `drive_kern` does, with `StateMachineDriver`.
+/// alone are skipped (`KERN_SKIPS`), and machines run as `drive_kerning` does, with `StateMachineDriver`.
 ///
 /// HarfBuzz marks the whole line against joining for each subtable of the `kern` table, for machines too and where
 /// kerning is not requested. Here a machine does not, nor do pairs where kerning is not requested.

@@ -6,13 +6,14 @@ ghost use Rattle.aat_kerning_machines.specs.Positions.{IsPlaced};
 
 use crate::positioning::{attach_once, is_left_out, reorder};
 use aat_buffer::{Direction, hb_buffer_t};
-use aat_font::{Ankr, hb_ot_shape_plan_t};
+use aat_font::hb_ot_shape_plan_t;
+use aat_kerning_tables::Ankr;
 use std::alloc::Allocator;
 
 /// A subtable of a kerning table: when it is for a text, and what it does to a line.
 pub(crate) trait KerningSubtable {
     ghost use Rattle.std.specs.Prelude.{ℕ, Option};
-    ghost use Rattle.aat_font.specs.AnchorPoints.{Points};
+    ghost use Rattle.aat_kerning_tables.specs.AnchorPoints.{Points};
     ghost use Rattle.aat_kerning.specs.Positioning.{Kerning, is_for_direction};
 
     /// The subtable as kerning sees it, by the kern mask of a plan and the anchor points of a font.

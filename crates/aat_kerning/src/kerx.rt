@@ -20,10 +20,9 @@ use crate::pair_values::PairValues;
 use crate::positioning::{is_for_text, kern_line, mark_line, turn_round};
 use crate::solid::KERX_SKIPS;
 use aat_buffer::{Direction, hb_buffer_t, hb_mask_t};
-use aat_font::{
-    Ankr, KerxFormat, KerxSubtable, Subtable1, Subtable4, hb_font_t, hb_ot_shape_plan_t,
-};
-use aat_kerning_machines::{Driver1, Driver4, KerningRun, drive_kerx};
+use aat_font::{hb_font_t, hb_ot_shape_plan_t};
+use aat_kerning_machines::{Driver1, Driver4, KerningRun, drive_kerning};
+use aat_kerning_tables::{Ankr, KerxFormat, KerxSubtable, Subtable1, Subtable4};
 use aat_run::AatError;
 use std::alloc::Allocator;
 
@@ -71,7 +70,8 @@ fn run_stack<A: Allocator + Copy>(
         plan,
     };
     let mut driver = Driver1::new();
-    drive_kerx(&run, &mut driver, buffer)
+    let pays_first = false;
+    drive_kerning(&run, pays_first, &mut driver, buffer)
 }
 
 /// Runs an anchor machine of the `kerx` table over a line in the order of the machine, and answers its turns.
@@ -99,7 +99,8 @@ fn run_anchors<A: Allocator + Copy>(
         plan,
     };
     let mut driver = Driver4::new(ankr);
-    drive_kerx(&run, &mut driver, buffer)
+    let pays_first = false;
+    drive_kerning(&run, pays_first, &mut driver, buffer)
 }
 
 /// Kerns by a `kerx` subtable, on a line in its order, and answers the turns of a machine, which are 0 of pairs.
@@ -245,7 +246,7 @@ pub fn has_kerx_pairs_alone(face: &hb_font_t) -> bool
 /// subtables follow in their order, on a backward line from its last glyph on: those that are variable, or of the
 /// other orientation, have no effect, and the first of the others with cross-stream attaches every glyph cursively.
 /// Where the plan requests kerning, the pairs of each change positions, in units of the font, and are marked unsafe to
-/// break. Machines run in any case, as `drive_kerx` does, with `Driver1` or, over the font's `ankr` table, `Driver4`:
+/// break. Machines run in any case, as `drive_kerning` does, with `Driver1` or, over the font's `ankr` table, `Driver4`:
 /// they change positions, mark unsafe to break, and may set the scratch flag `HAS_GPOS_ATTACHMENT`. Glyphs, clusters
 /// and their order stay. A machine from last to first (`is_last_to_first`) takes the glyphs in the other order: of a
 /// forward line from its last glyph on, of a backward one from its first. Pairs take no notice of that.

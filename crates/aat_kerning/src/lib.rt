@@ -1,5 +1,9 @@
 //! Kerning by pairs and by machines over both kerning tables, deleted glyphs, and the definitions of kerning with their
 //! laws and worked rows.
+//!
+//! ```
+//! let turns = hb_aat_layout_position(&plan, &font, &mut buffer)?;
+//! ```
 #![tactic(auto)]
 
 mod deleted;

@@ -2,7 +2,8 @@
 ghost use Rattle.std.specs.Prelude.{◌≡◌, ◌≤◌};
 ghost use Rattle.aat_kerning.specs.inside.Values.{values_of};
 
-use aat_font::{ClassPairs, GlyphId, Pairs};
+use aat_kerning_tables::{ClassPairs, Pairs};
+use aat_lookup::GlyphId;
 
 /// The kerning values of pairs of glyphs.
 #[derive(Clone, Copy)]

@@ -2,7 +2,7 @@
 ghost use Rattle.std.specs.Prelude.{◌≡◌, ◌&&◌, ◌||◌, if◌then◌else◌, negsuc, not, pos};
 ghost use Rattle.aat_buffer.specs.Clusters.{IsSmall};
 ghost use Rattle.aat_glyph.specs.Directions.{is_backward, is_horizontal};
-ghost use Rattle.aat_font.specs.Truth.{is_alike};
+ghost use Rattle.aat_lookup.specs.Truth.{is_alike};
 ghost use Rattle.aat_kerning.specs.PairKerning.{pair_kerning};
 ghost use Rattle.aat_kerning.specs.Positioning.{cursively_attached, in_processing_order, line_marked, turned_round};
 ghost use Rattle.aat_kerning_machines.specs.Positions.{IsPlaced, attached_as};

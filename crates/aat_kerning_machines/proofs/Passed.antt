@@ -8,10 +8,10 @@ use Rattle.std.proofs.lemmas.List.{get_or-drop}
 use Rattle.aat_buffer.specs.Buffer.{Buffer, glyph_at, no_glyph, with_cursor}
 use Rattle.aat_glyph.specs.declared.glyph.hb_glyph_info_t.{hb_glyph_info_t}
 use Rattle.aat_buffer.specs.facts.Cases.{either}
-use Rattle.aat_font.specs.Entries.{goes_on}
+use Rattle.aat_machine_tables.specs.Entries.{goes_on}
 use Rattle.aat_font.specs.Idle.{has_entry}
-use Rattle.aat_font.specs.Table.{TableValue, entry_of}
-use Rattle.aat_font.specs.declared.state_table.GenericStateEntry.{GenericStateEntry}
+use Rattle.aat_machine_tables.specs.Table.{TableValue, entry_of}
+use Rattle.aat_machine_tables.specs.declared.state_table.GenericStateEntry.{GenericStateEntry}
 use Rattle.aat_kerning_machines.specs.KerningLaws.{ChangesPositionsAlone}
 use Rattle.aat_kerning_machines.specs.KerningMachine.{KerningMachine, kerning_machine_with, kerning_marked, kerning_acted, looked_ahead, kerning_by_entry, kerning_turn, stepped}
 use Rattle.aat_kerning_machines.specs.inside.Passing.{first_entry_at, is_passed, is_quiet_at_end, leads_over}

@@ -3,11 +3,11 @@ use Rattle.std.specs.Prelude.{ℕ, ◌<◌, IfSome, ◌&&◌, not, Bool, nat_lt,
 use Rattle.std.specs.Int.{int_wrap, w16}
 use Rattle.aat_buffer.specs.Buffer.{Buffer, glyph_at}
 use Rattle.aat_glyph.specs.declared.glyph.GlyphPosition.{GlyphPosition}
-use Rattle.aat_font.specs.declared.state_table.GenericStateEntry.{GenericStateEntry}
-use Rattle.aat_font.specs.declared.entries.EntryData.{EntryData}
-use Rattle.aat_font.specs.declared.entries.Point.{Point}
-use Rattle.aat_font.specs.AnchorPoints.{Points, point_of}
-use Rattle.aat_font.specs.Entries.{has_flag}
+use Rattle.aat_machine_tables.specs.declared.state_table.GenericStateEntry.{GenericStateEntry}
+use Rattle.aat_machine_tables.specs.declared.entries.EntryData.{EntryData}
+use Rattle.aat_kerning_tables.specs.declared.ankr.Point.{Point}
+use Rattle.aat_kerning_tables.specs.AnchorPoints.{Points, point_of}
+use Rattle.aat_machine_tables.specs.Entries.{has_flag}
 use Rattle.aat_run.specs.Context.{Moved}
 use Rattle.aat_kerning_machines.specs.KerningMachine.{Driver, has_action}
 use Rattle.aat_kerning_machines.specs.Positions.{on_position, with_attachment_flag, attached_as}

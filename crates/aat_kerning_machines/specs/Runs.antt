@@ -1,7 +1,7 @@
 -- What a driver does over what its run is given: the state table, the subtable, the plan, and how values stand in it.
 use Rattle.std.specs.Prelude.{ℕ, Bool}
 use Rattle.aat_buffer.specs.Buffer.{Buffer}
-use Rattle.aat_font.specs.declared.state_table.GenericStateEntry.{GenericStateEntry}
+use Rattle.aat_machine_tables.specs.declared.state_table.GenericStateEntry.{GenericStateEntry}
 use Rattle.aat_kerning_machines.specs.KerningMachine.{Driver, KerningMachine, driver_from, kerning_machine_with}
 use Rattle.aat_kerning_machines.specs.declared.run.KerningRun.{KerningRun}
 use Rattle.aat_run.specs.Context.{Moved}

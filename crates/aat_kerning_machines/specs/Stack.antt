@@ -3,10 +3,10 @@
 use Rattle.std.specs.Prelude.{ℕ, ◌+◌, ◌%◌, ◌==◌, ◌&&◌, not, Bool, true, false, nat_lt, nat_le, max, List, [], ◌∷◌, length, ℤ, pos, negsuc, ◌-ℤ◌, unsigned_abs, Option, Some, None, slice_get, unwrap_or, if◌then◌else◌}
 use Rattle.std.specs.Ordering.{int_eq}
 use Rattle.aat_buffer.specs.Buffer.{Buffer, glyph_at, position_at}
-use Rattle.aat_font.specs.declared.state_table.GenericStateEntry.{GenericStateEntry}
-use Rattle.aat_font.specs.declared.entries.EntryData.{EntryData}
-use Rattle.aat_font.specs.declared.entries.KernEntryData.{KernEntryData}
-use Rattle.aat_font.specs.Entries.{has_flag, is_present}
+use Rattle.aat_machine_tables.specs.declared.state_table.GenericStateEntry.{GenericStateEntry}
+use Rattle.aat_machine_tables.specs.declared.entries.EntryData.{EntryData}
+use Rattle.aat_machine_tables.specs.declared.entries.KernEntryData.{KernEntryData}
+use Rattle.aat_machine_tables.specs.Entries.{has_flag, is_present}
 use Rattle.aat_run.specs.Switches.{meets}
 use Rattle.aat_run.specs.Context.{Moved}
 use Rattle.aat_glyph.specs.Directions.{is_horizontal}

@@ -1,7 +1,7 @@
 //! The machine of the extended kerning table that gives values to the glyphs of a stack.
 ghost use Rattle.std.specs.Prelude.{◌≡◌, ◌≤◌, [], length, max, if◌then◌else◌};
 ghost use Rattle.aat_buffer.specs.Clusters.{IsSmall};
-ghost use Rattle.aat_font.specs.Entries.{has_flag};
+ghost use Rattle.aat_machine_tables.specs.Entries.{has_flag};
 ghost use Rattle.aat_run.specs.Laws.{FitsAlways};
 ghost use Rattle.aat_kerning_machines.specs.Positions.{IsPlaced};
 ghost use Rattle.aat_kerning_machines.specs.Stack.{kerx_act, kerx_value, popped, pushed_by};
@@ -11,8 +11,10 @@ use crate::stack::Stack;
 use crate::stack_values::ValueList;
 use crate::state_table_driver::StateTableDriver;
 use aat_buffer::hb_buffer_t;
-use aat_font::entry_bits::NO_INDEX;
-use aat_font::{EntryData, GenericStateEntry, Subtable1, hb_ot_shape_plan_t};
+use aat_font::hb_ot_shape_plan_t;
+use aat_kerning_tables::Subtable1;
+use aat_machine_tables::entry_bits::NO_INDEX;
+use aat_machine_tables::{EntryData, GenericStateEntry};
 use std::alloc::Allocator;
 use std::marker::Model;
 

@@ -3,15 +3,18 @@ ghost use Rattle.std.specs.Prelude.{◌≡◌, ◌-ℤ◌, ◌<◌, ◌≤◌, f
 ghost use Rattle.std.specs.Bool.{OnTrue};
 ghost use Rattle.std.specs.Int.{int_rem_euclid, int_wrap, w16};
 ghost use Rattle.aat_buffer.specs.Clusters.{IsSmall};
-ghost use Rattle.aat_font.specs.AnchorPoints.{point_of};
+ghost use Rattle.aat_kerning_tables.specs.AnchorPoints.{point_of};
 ghost use Rattle.aat_kerning_machines.specs.Anchors.{anchored, attached_to_mark, held_act, held_fit, held_fresh};
 ghost use Rattle.aat_kerning_machines.specs.Positions.{IsPlaced};
 
 use crate::attachment::note_attachment;
 use crate::state_table_driver::StateTableDriver;
 use aat_buffer::hb_buffer_t;
-use aat_font::entry_bits::NO_INDEX;
-use aat_font::{Ankr, EntryData, GenericStateEntry, GlyphId, Point, Subtable4, hb_ot_shape_plan_t};
+use aat_font::hb_ot_shape_plan_t;
+use aat_kerning_tables::{Ankr, Point, Subtable4};
+use aat_lookup::GlyphId;
+use aat_machine_tables::entry_bits::NO_INDEX;
+use aat_machine_tables::{EntryData, GenericStateEntry};
 use std::alloc::Allocator;
 use std::marker::Model;
 

@@ -4,9 +4,9 @@ ghost use Rattle.std.specs.Prelude.{◌≡◌, ◌+◌, ◌-◌, ◌<◌, ◌^�
 ghost use Rattle.aat_buffer.specs.Buffer.{Buffer};
 ghost use Rattle.aat_buffer.specs.Clusters.{IsSmall};
 ghost use Rattle.aat_buffer.specs.Marks.{unsafe_to_break};
-ghost use Rattle.aat_font.specs.Entries.{goes_on};
-ghost use Rattle.aat_font.specs.Table.{TableValue};
-ghost use Rattle.aat_font.specs.declared.state_table.GenericStateEntry.{GenericStateEntry};
+ghost use Rattle.aat_machine_tables.specs.Entries.{goes_on};
+ghost use Rattle.aat_machine_tables.specs.Table.{TableValue};
+ghost use Rattle.aat_machine_tables.specs.declared.state_table.GenericStateEntry.{GenericStateEntry};
 ghost use Rattle.aat_kerning_machines.specs.KerningMachine.{break_marked_behind, kerning_acted, kerning_by_entry, kerning_machine_with, kerning_marked, kerning_turn, moved_on, stepped};
 ghost use Rattle.aat_kerning_machines.specs.Positions.{IsPlaced};
 ghost use Rattle.aat_kerning_machines.specs.Runs.{machine_over};
@@ -19,9 +19,9 @@ use crate::run::KerningRun;
 use crate::run_state::RunState;
 use crate::state_table_driver::StateTableDriver;
 use aat_buffer::hb_buffer_t;
-use aat_font::entry_bits::class::END_OF_TEXT;
-use aat_font::entry_bits::state::START_OF_TEXT;
-use aat_font::{Acting, GenericStateEntry};
+use aat_machine_tables::entry_bits::class::END_OF_TEXT;
+use aat_machine_tables::entry_bits::state::START_OF_TEXT;
+use aat_machine_tables::{Acting, GenericStateEntry};
 use std::alloc::Allocator;
 
 /// Takes an operation from the budget.

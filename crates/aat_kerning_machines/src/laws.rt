@@ -1,14 +1,14 @@
 //! Laws of the runs of kerning as theorems. These calls do nothing: what is proved is their contracts.
 
 ghost use Rattle.std.specs.Prelude.{ℕ, Bool};
-ghost use Rattle.aat_font.specs.Table.{TableValue};
-ghost use Rattle.aat_font.specs.declared.state_table.GenericStateEntry.{GenericStateEntry};
+ghost use Rattle.aat_machine_tables.specs.Table.{TableValue};
+ghost use Rattle.aat_machine_tables.specs.declared.state_table.GenericStateEntry.{GenericStateEntry};
 ghost use Rattle.aat_kerning_machines.specs.KerningLaws.{PaysForStaying};
 ghost use Rattle.aat_kerning_machines.specs.KerningMachine.{driver_from, kerning_machine_of, kerning_turn};
 ghost use Rattle.aat_run.specs.Laws.{RunsEnd};
 
 use crate::state_table_driver::StateTableDriver;
-use aat_font::Acting;
+use aat_machine_tables::Acting;
 
 /// Each run of a driver ends by itself, within the turns that it is given, and more turns would change nothing. A turn
 /// that goes on and leaves the cursor where it was took an operation from a budget above 0, which was above 0 behind

@@ -1,5 +1,9 @@
 //! The machines of kerning: what their entries do, by a stack of places or by anchor points, and the run of a state
 //! table over a line.
+//!
+//! ```
+//! let turns = drive_kerning(&run, pays_first, &mut driver, &mut buffer);
+//! ```
 #![tactic(auto)]
 
 mod attachment;
@@ -20,7 +24,7 @@ mod state_table_driver;
 pub use attachment::{meets, note_attachment};
 pub use driver1::Driver1;
 pub use driver4::Driver4;
-pub use kerning_run::{drive_kern, drive_kerx};
+pub use kerning_run::drive_kerning;
 pub use run::KerningRun;
 pub use state_machine_driver::StateMachineDriver;
 pub use state_table_driver::StateTableDriver;

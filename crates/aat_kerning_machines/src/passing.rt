@@ -15,9 +15,10 @@ use crate::run::KerningRun;
 use crate::run_state::RunState;
 use crate::state_table_driver::StateTableDriver;
 use aat_buffer::{hb_buffer_t, hb_glyph_info_t};
-use aat_font::entry_bits::class::END_OF_TEXT;
-use aat_font::entry_bits::state::START_OF_TEXT;
-use aat_font::{Acting, ExtendedStateTable, GenericStateEntry, GlyphId};
+use aat_lookup::GlyphId;
+use aat_machine_tables::entry_bits::class::END_OF_TEXT;
+use aat_machine_tables::entry_bits::state::START_OF_TEXT;
+use aat_machine_tables::{Acting, ExtendedStateTable, GenericStateEntry};
 use aat_run::class_at_cursor;
 use std::alloc::Allocator;
 

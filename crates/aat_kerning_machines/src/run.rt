@@ -1,6 +1,7 @@
 //! What the run of a kerning machine is given.
 
-use aat_font::{Acting, ExtendedStateTable, hb_ot_shape_plan_t};
+use aat_font::hb_ot_shape_plan_t;
+use aat_machine_tables::{Acting, ExtendedStateTable};
 
 /// What the run of a kerning machine is given besides the line and its driver.
 #[derive(Clone, Copy)]

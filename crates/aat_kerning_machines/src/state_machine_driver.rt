@@ -10,8 +10,10 @@ use crate::stack::Stack;
 use crate::stack_values::ValueList;
 use crate::state_table_driver::StateTableDriver;
 use aat_buffer::hb_buffer_t;
-use aat_font::entry_bits::NO_INDEX;
-use aat_font::{GenericStateEntry, KernEntryData, KernMachine, hb_ot_shape_plan_t};
+use aat_font::hb_ot_shape_plan_t;
+use aat_kerning_tables::KernMachine;
+use aat_machine_tables::entry_bits::NO_INDEX;
+use aat_machine_tables::{GenericStateEntry, KernEntryData};
 use std::alloc::Allocator;
 use std::marker::Model;
 
@@ -92,7 +94,7 @@ impl StateMachineDriver {
 }
 
 impl StateTableDriver<KernMachine, KernEntryData> for StateMachineDriver {
-    ghost use Rattle.aat_font.specs.Entries.{is_present};
+    ghost use Rattle.aat_machine_tables.specs.Entries.{is_present};
     ghost use Rattle.aat_kerning_machines.specs.Stack as stack;
     ghost use Rattle.aat_kerning_machines.specs.facts.Resting as alone;
     ghost use Rattle.aat_kerning_machines.specs.facts.StackLaws as laws;

@@ -5,7 +5,8 @@
 ghost use Rattle.std.specs.Prelude.{◌≡◌, length};
 
 use aat_buffer::hb_buffer_t;
-use aat_font::{Acting, GenericStateEntry, hb_ot_shape_plan_t};
+use aat_font::hb_ot_shape_plan_t;
+use aat_machine_tables::{Acting, GenericStateEntry};
 use std::alloc::Allocator;
 
 /// One kind of kerning machine over a line: its registers, and what an entry of its table does to positions. A run of
@@ -30,7 +31,7 @@ pub trait StateTableDriver<Table, E: Acting> {
     ghost use Rattle.std.specs.Prelude.{ℕ, Bool};
     ghost use Rattle.aat_buffer.specs.Buffer.{Buffer};
     ghost use Rattle.aat_buffer.specs.Clusters.{IsSmall};
-    ghost use Rattle.aat_font.specs.declared.state_table.GenericStateEntry.{GenericStateEntry};
+    ghost use Rattle.aat_machine_tables.specs.declared.state_table.GenericStateEntry.{GenericStateEntry};
     ghost use Rattle.aat_kerning_machines.specs.KerningLaws.{ChangesPositionsAlone};
     ghost use Rattle.aat_kerning_machines.specs.Positions.{IsPlaced};
     ghost use Rattle.aat_run.specs.Context.{Moved};

@@ -6,9 +6,9 @@ use Rattle.std.specs.Prelude.{slice_get, slice_index, if◌then◌else◌}
 use Rattle.aat_buffer.specs.Buffer.{Buffer, glyph_at}
 use Rattle.aat_buffer.specs.facts.Cases.{chosen}
 use Rattle.aat_glyph.specs.declared.glyph.hb_glyph_info_t.{hb_glyph_info_t}
-use Rattle.aat_font.specs.declared.plan.GlyphId.{GlyphId}
-use Rattle.aat_font.specs.declared.state_table.GenericStateEntry.{GenericStateEntry}
-use Rattle.aat_font.specs.Entries.{has_flag}
+use Rattle.aat_lookup.specs.declared.glyph_id.GlyphId.{GlyphId}
+use Rattle.aat_machine_tables.specs.declared.state_table.GenericStateEntry.{GenericStateEntry}
+use Rattle.aat_machine_tables.specs.Entries.{has_flag}
 use Rattle.aat_run.specs.Context.{Moved}
 use Rattle.aat_kinds.specs.Ligature.{Registers, Held, IsFit, IsHeldFit, DeletesLater, component, with_component, act, held_act, ligated, through_last, component_step, summed, stored_by, stored, Step, Stops, GoesOn, is_last, is_store, offset_of, element_at}
 use Rattle.aat_kinds.specs.facts.LigatureLaws.{OnStep, fit_of_component, fit_of_fewer, deleted_by_id, length_of_stored, stored_deletes, stored_keeps_deleted}

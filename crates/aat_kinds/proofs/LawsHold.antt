@@ -2,15 +2,15 @@
 use Rattle.std.proofs.Common.{◌≡◌, ℕ, ◌<◌, Bool, List, length, Option, refl, ◌∙◌, arith}
 use Rattle.std.proofs.lemmas.List.{length-map, length-reverse}
 use Rattle.aat_buffer.specs.Buffer.{Buffer, with_cursor, reversed, without_positions}
-use Rattle.aat_font.specs.Table.{TableValue}
-use Rattle.aat_font.specs.declared.morx.Coverage.{Coverage}
-use Rattle.aat_font.specs.declared.plan.GlyphId.{GlyphId}
-use Rattle.aat_font.specs.declared.state_table.GenericStateEntry.{GenericStateEntry}
+use Rattle.aat_machine_tables.specs.Table.{TableValue}
+use Rattle.aat_machine_tables.specs.declared.morx.Coverage.{Coverage}
+use Rattle.aat_lookup.specs.declared.glyph_id.GlyphId.{GlyphId}
+use Rattle.aat_machine_tables.specs.declared.state_table.GenericStateEntry.{GenericStateEntry}
 use Rattle.aat_run.specs.Context.{Context, machine_of, start}
 use Rattle.aat_kinds.specs.Kinds.{Sizes, kind_run, rearrangement_run, contextual_run, ligature_run, insertion_run, noncontextual_run, reversed_run, is_reversed, ordered_run}
 use Rattle.aat_run.specs.Driven.{machine_run}
-use Rattle.aat_font.specs.declared.morx.SubtableKind.{SubtableKind}
-use Rattle.aat_font.specs.declared.morx.SubtableKind.TheVariants.{Rearrangement, Contextual, Ligature, NonContextual, Insertion}
+use Rattle.aat_machine_tables.specs.declared.morx.SubtableKind.{SubtableKind}
+use Rattle.aat_machine_tables.specs.declared.morx.SubtableKind.TheVariants.{Rearrangement, Contextual, Ligature, NonContextual, Insertion}
 use Rattle.aat_run.specs.Outcome.{Outcome}
 use Rattle.aat_run.specs.Budget.{extent}
 use Rattle.aat_run.specs.Laws.{IsLawful, IsBounded}

@@ -3,8 +3,8 @@ use Rattle.std.proofs.Common.{◌≡◌, zero, suc, ℕ, ◌+◌, List, set, ref
 use Rattle.std.specs.Prelude.{slice_get}
 use Rattle.aat_buffer.specs.Buffer.{Buffer, Is16Bit, glyph_at, with_line}
 use Rattle.aat_glyph.specs.declared.glyph.hb_glyph_info_t.{hb_glyph_info_t}
-use Rattle.aat_font.specs.declared.plan.GlyphId.{GlyphId}
-use Rattle.aat_font.specs.Subtables.{LigatureTables}
+use Rattle.aat_lookup.specs.declared.glyph_id.GlyphId.{GlyphId}
+use Rattle.aat_machine_tables.specs.Subtables.{LigatureTables}
 use Rattle.aat_run.specs.Context.{Moved}
 use Rattle.aat_run.specs.inside.Places.{left_with}
 use Rattle.aat_kinds.specs.Ligature.{Registers, component, component_step, deleted, deleted_at, later_deleted, ligated, Stops, GoesOn}

@@ -2,9 +2,9 @@
 use Rattle.std.proofs.Common.{◌≡◌, ℕ, ◌<◌, ◌==◌, Bool, true, false, List, Some, None, cond, ap, refl, sym, ◌∙◌, arith}
 use Rattle.std.proofs.lemmas.Bool.Decides.{nat_tests}
 use Rattle.aat_glyph.specs.declared.glyph.hb_glyph_info_t.{hb_glyph_info_t}
-use Rattle.aat_font.specs.Keys.{value_in}
-use Rattle.aat_font.specs.Moves.{moved_by, AreMovesOf}
-use Rattle.aat_font.specs.declared.moves.GlyphMoves.{GlyphMoves}
+use Rattle.aat_lookup.specs.Keys.{value_in}
+use Rattle.aat_lookup.specs.Moves.{moved_by, AreMovesOf}
+use Rattle.aat_lookup.specs.declared.moves.GlyphMoves.{GlyphMoves}
 use Rattle.aat_kinds.specs.Values.{with_answer, with_looked_up_value}
 
 module _ (g : hb_glyph_info_t) (now : ℕ) where

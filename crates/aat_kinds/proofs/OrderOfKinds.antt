@@ -6,11 +6,11 @@ use Rattle.std.specs.Prelude.{IsPermutation}
 use Rattle.aat_buffer.specs.Buffer.{Buffer, no_glyph, with_cursor, without_positions}
 use Rattle.aat_buffer.specs.Marks.{unsafe_to_concat, produces_concat, concat_marked, on_span, with_line, with_mask_bits, end_place, clusters_stay_apart}
 use Rattle.aat_glyph.specs.declared.glyph.hb_glyph_info_t.{hb_glyph_info_t}
-use Rattle.aat_font.specs.Table.{TableValue}
-use Rattle.aat_font.specs.declared.entries.ContextualEntryData.{ContextualEntryData}
-use Rattle.aat_font.specs.declared.plan.GlyphId.{GlyphId}
-use Rattle.aat_font.specs.declared.state_table.GenericStateEntry.{GenericStateEntry}
-use Rattle.aat_font.specs.Keys.{value_in}
+use Rattle.aat_machine_tables.specs.Table.{TableValue}
+use Rattle.aat_machine_tables.specs.declared.entries.ContextualEntryData.{ContextualEntryData}
+use Rattle.aat_lookup.specs.declared.glyph_id.GlyphId.{GlyphId}
+use Rattle.aat_machine_tables.specs.declared.state_table.GenericStateEntry.{GenericStateEntry}
+use Rattle.aat_lookup.specs.Keys.{value_in}
 use Rattle.aat_run.specs.Context.{Context, machine_of, start}
 use Rattle.aat_kinds.specs.Kinds.{Sizes, kind_run, rearrangement_run, contextual_run, ligature_run, insertion_run, noncontextual_run}
 use Rattle.aat_run.specs.Driven.{machine_run}
@@ -27,8 +27,8 @@ use Rattle.aat_buffer.specs.facts.Order.{Kept, kept_refl, kept_same, kept_unsafe
 use Rattle.aat_kinds.specs.facts.OrderHolds.{rearrangement_kept, contextual_kept, ligature_kept, insertion_kept}
 use Rattle.aat_kinds.specs.facts.Permutation.{act_permutes}
 use Rattle.aat_buffer.specs.facts.Ids.{ids_of_unsafe}
-use Rattle.aat_font.specs.declared.morx.SubtableKind.{SubtableKind}
-use Rattle.aat_font.specs.declared.morx.SubtableKind.TheVariants.{Rearrangement, Contextual, Ligature, NonContextual, Insertion}
+use Rattle.aat_machine_tables.specs.declared.morx.SubtableKind.{SubtableKind}
+use Rattle.aat_machine_tables.specs.declared.morx.SubtableKind.TheVariants.{Rearrangement, Contextual, Ligature, NonContextual, Insertion}
 use Rattle.aat_kinds.specs.Rearrangement as r
 use Rattle.aat_kinds.specs.Contextual as c
 use Rattle.aat_kinds.specs.Ligature as l

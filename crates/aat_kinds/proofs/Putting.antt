@@ -6,7 +6,7 @@ use Rattle.std.proofs.lemmas.List.{same_lists, places, get_or-set_same}
 use Rattle.std.proofs.lemmas.List.Elements.{All-append, All-take, All-drop}
 use Rattle.aat_glyph.specs.declared.glyph.hb_glyph_info_t.{hb_glyph_info_t}
 use Rattle.aat_buffer.specs.Buffer.{Is16Bit, glyph_at, no_glyph}
-use Rattle.aat_font.specs.declared.plan.GlyphId.{GlyphId}
+use Rattle.aat_lookup.specs.declared.glyph_id.GlyphId.{GlyphId}
 use Rattle.aat_kinds.specs.Insertion.{inserted}
 
 -- a line of glyph ids of 16 bits stays so

@@ -2,11 +2,11 @@
 use Rattle.std.proofs.Common.{◌≡◌, ◌∙◌, ap, subst, ℕ, Bool, true, false, List, Option}
 use Rattle.std.specs.Prelude.{Result, IfErr, IfOk}
 use Rattle.aat_buffer.specs.Buffer.{Buffer}
-use Rattle.aat_font.specs.Entries.{goes_on}
-use Rattle.aat_font.specs.Subtables.{ContextualTables, InsertionTables, LigatureTables}
-use Rattle.aat_font.specs.Table.{TableValue}
-use Rattle.aat_font.specs.declared.plan.GlyphId.{GlyphId}
-use Rattle.aat_font.specs.declared.state_table.GenericStateEntry.{GenericStateEntry}
+use Rattle.aat_machine_tables.specs.Entries.{goes_on}
+use Rattle.aat_machine_tables.specs.Subtables.{ContextualTables, InsertionTables, LigatureTables}
+use Rattle.aat_machine_tables.specs.Table.{TableValue}
+use Rattle.aat_lookup.specs.declared.glyph_id.GlyphId.{GlyphId}
+use Rattle.aat_machine_tables.specs.declared.state_table.GenericStateEntry.{GenericStateEntry}
 use Rattle.aat_run.specs.Driven.{IsRefusal, context_from, machine_run}
 use Rattle.aat_run.specs.Outcome.{IsOutcome, Outcome}
 use Rattle.aat_run.specs.Ranges.{is_driven_on}

@@ -1,14 +1,14 @@
 -- Glyphs that are known not to wake a subtable.
 use Rattle.std.proofs.Common.{◌≡◌, ◌∙◌, ap, subst, refl, ℕ, Bool, true, false, cond, is_none, unwrap_or, Option, Some, None, List}
 use Rattle.std.specs.Option.{IfSome}
-use Rattle.aat_font.specs.Entries.{goes_on}
+use Rattle.aat_machine_tables.specs.Entries.{goes_on}
 use Rattle.aat_font.specs.Idle.{is_idle, is_idle_at_end, is_idle_class, is_idle_glyph, rearrangement_rests, contextual_rests, ligature_rests, insertion_rests}
-use Rattle.aat_font.specs.Keys.{value_in}
-use Rattle.aat_font.specs.Table.{TableValue, class_of}
-use Rattle.aat_font.specs.Subtables.{ContextualTables, LigatureTables, InsertionTables}
-use Rattle.aat_font.specs.declared.morx.SubtableKind.{SubtableKind}
-use Rattle.aat_font.specs.declared.morx.SubtableKind.TheVariants.{Rearrangement, Contextual, Ligature, NonContextual, Insertion}
-use Rattle.aat_font.specs.declared.state_table.GenericStateEntry.{GenericStateEntry}
+use Rattle.aat_lookup.specs.Keys.{value_in}
+use Rattle.aat_machine_tables.specs.Table.{TableValue, class_of}
+use Rattle.aat_machine_tables.specs.Subtables.{ContextualTables, LigatureTables, InsertionTables}
+use Rattle.aat_machine_tables.specs.declared.morx.SubtableKind.{SubtableKind}
+use Rattle.aat_machine_tables.specs.declared.morx.SubtableKind.TheVariants.{Rearrangement, Contextual, Ligature, NonContextual, Insertion}
+use Rattle.aat_machine_tables.specs.declared.state_table.GenericStateEntry.{GenericStateEntry}
 use Rattle.aat_glyph.specs.declared.glyph.hb_glyph_info_t.{hb_glyph_info_t}
 use Rattle.aat_kinds.specs.Idle.{SleepOthers, has_no_value}
 use Rattle.aat_kinds.specs.Values.{with_answer, with_looked_up_value}

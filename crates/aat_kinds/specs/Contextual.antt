@@ -2,10 +2,10 @@
 use Rattle.std.specs.Prelude.{◌≡◌, ℕ, ◌+◌, ◌-◌, ◌<◌, ◌&&◌, ◌||◌, Bool, true, false, nat_lt, min, List, length, Option, Some, None, option_map, unwrap_or, slice_get, if◌then◌else◌}
 use Rattle.aat_buffer.specs.Buffer.{Buffer, glyph_at}
 use Rattle.aat_buffer.specs.Marks.{unsafe_to_break, with_line}
-use Rattle.aat_font.specs.Keys.{value_in}
-use Rattle.aat_font.specs.declared.state_table.GenericStateEntry.{GenericStateEntry}
-use Rattle.aat_font.specs.declared.entries.ContextualEntryData.{ContextualEntryData}
-use Rattle.aat_font.specs.Entries.{has_flag, goes_on, is_present}
+use Rattle.aat_lookup.specs.Keys.{value_in}
+use Rattle.aat_machine_tables.specs.declared.state_table.GenericStateEntry.{GenericStateEntry}
+use Rattle.aat_machine_tables.specs.declared.entries.ContextualEntryData.{ContextualEntryData}
+use Rattle.aat_machine_tables.specs.Entries.{has_flag, goes_on, is_present}
 use Rattle.aat_run.specs.Context.{Context, Moved}
 use Rattle.aat_kinds.specs.Values.{with_value_at}
 

@@ -3,10 +3,10 @@ use Rattle.std.specs.Prelude.{◌≡◌, ◌+◌, ◌<◌, ℕ, Bool, true, is_n
 use Rattle.std.specs.Int.{bit_at}
 use Rattle.aat_buffer.specs.Buffer.{Buffer, with_cursor, without_positions, glyph_at}
 use Rattle.aat_font.specs.Idle.{is_idle}
-use Rattle.aat_font.specs.Keys.{value_in}
+use Rattle.aat_lookup.specs.Keys.{value_in}
 use Rattle.aat_font.specs.Wakers.{word_of}
-use Rattle.aat_font.specs.declared.morx.SubtableKind.{SubtableKind}
-use Rattle.aat_font.specs.declared.morx.SubtableKind.TheVariants.{Rearrangement, Contextual, Ligature, NonContextual, Insertion}
+use Rattle.aat_machine_tables.specs.declared.morx.SubtableKind.{SubtableKind}
+use Rattle.aat_machine_tables.specs.declared.morx.SubtableKind.TheVariants.{Rearrangement, Contextual, Ligature, NonContextual, Insertion}
 use Rattle.aat_glyph.specs.declared.glyph.hb_glyph_info_t.{hb_glyph_info_t}
 use Rattle.aat_run.specs.Outcome.{Outcome}
 use Rattle.aat_run.specs.declared.wakers.Wakers.{Wakers}

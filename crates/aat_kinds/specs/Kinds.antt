@@ -3,22 +3,22 @@
 use Rattle.std.specs.Prelude.{ℕ, not, Bool, true, false, List, length, Option, if◌then◌else◌, ◌||◌}
 use Rattle.aat_buffer.specs.Buffer.{Buffer, with_line, reversed}
 use Rattle.aat_glyph.specs.declared.glyph.Direction.{Direction}
-use Rattle.aat_font.specs.Coverage.{is_backwards, is_logical, is_vertical_coverage, is_all_directions}
-use Rattle.aat_font.specs.Table.{TableValue}
-use Rattle.aat_font.specs.declared.morx.Coverage.{Coverage}
+use Rattle.aat_machine_tables.specs.Coverage.{is_backwards, is_logical, is_vertical_coverage, is_all_directions}
+use Rattle.aat_machine_tables.specs.Table.{TableValue}
+use Rattle.aat_machine_tables.specs.declared.morx.Coverage.{Coverage}
 use Rattle.aat_font.specs.Face.{glyph_classes_of}
 use Rattle.aat_font.specs.declared.face.hb_font_t.{hb_font_t}
-use Rattle.aat_font.specs.declared.plan.GlyphId.{GlyphId}
-use Rattle.aat_font.specs.declared.state_table.GenericStateEntry.{GenericStateEntry}
-use Rattle.aat_font.specs.declared.entries.ContextualEntryData.{ContextualEntryData}
-use Rattle.aat_font.specs.declared.entries.InsertionEntryData.{InsertionEntryData}
+use Rattle.aat_lookup.specs.declared.glyph_id.GlyphId.{GlyphId}
+use Rattle.aat_machine_tables.specs.declared.state_table.GenericStateEntry.{GenericStateEntry}
+use Rattle.aat_machine_tables.specs.declared.entries.ContextualEntryData.{ContextualEntryData}
+use Rattle.aat_machine_tables.specs.declared.entries.InsertionEntryData.{InsertionEntryData}
 use Rattle.aat_glyph.specs.Directions.{is_backward, is_vertical}
-use Rattle.aat_font.specs.Truth.{is_alike}
+use Rattle.aat_lookup.specs.Truth.{is_alike}
 use Rattle.aat_run.specs.Driven.{machine_run}
 use Rattle.aat_run.specs.Outcome.{Outcome}
 use Rattle.aat_kinds.specs.Values.{noncontextual}
-use Rattle.aat_font.specs.declared.morx.SubtableKind.{SubtableKind}
-use Rattle.aat_font.specs.declared.morx.SubtableKind.TheVariants.{Rearrangement, Contextual, Ligature, NonContextual, Insertion}
+use Rattle.aat_machine_tables.specs.declared.morx.SubtableKind.{SubtableKind}
+use Rattle.aat_machine_tables.specs.declared.morx.SubtableKind.TheVariants.{Rearrangement, Contextual, Ligature, NonContextual, Insertion}
 use Rattle.aat_kinds.specs.Rearrangement as rearrangement
 use Rattle.aat_kinds.specs.Contextual as contextual
 use Rattle.aat_kinds.specs.Ligature as ligature

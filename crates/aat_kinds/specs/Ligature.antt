@@ -4,9 +4,9 @@ use Rattle.aat_buffer.specs.Buffer.{Buffer, glyph_at}
 use Rattle.aat_buffer.specs.Marks.{merge_out_clusters, with_line}
 use Rattle.aat_buffer.specs.Removal.{is_deleted}
 use Rattle.aat_glyph.specs.declared.glyph.hb_glyph_info_t.{hb_glyph_info_t}
-use Rattle.aat_font.specs.declared.plan.GlyphId.{GlyphId}
-use Rattle.aat_font.specs.declared.state_table.GenericStateEntry.{GenericStateEntry}
-use Rattle.aat_font.specs.Entries.{has_flag, goes_on}
+use Rattle.aat_lookup.specs.declared.glyph_id.GlyphId.{GlyphId}
+use Rattle.aat_machine_tables.specs.declared.state_table.GenericStateEntry.{GenericStateEntry}
+use Rattle.aat_machine_tables.specs.Entries.{has_flag, goes_on}
 use Rattle.aat_run.specs.Context.{Context, Moved}
 
 -- how many components are held, and the slots that hold their places

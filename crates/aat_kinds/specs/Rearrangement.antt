@@ -2,8 +2,8 @@
 use Rattle.std.specs.Prelude.{◌≡◌, ℕ, ◌+◌, ◌-◌, ◌==◌, ◌&&◌, ◌≤◌, not, Bool, true, nat_le, nat_lt, min, bit_and, List, [], ◌∷◌, ◌++◌, length, take, drop, reverse, slice_range, slice_index_or, if◌then◌else◌}
 use Rattle.aat_buffer.specs.Buffer.{Buffer}
 use Rattle.aat_buffer.specs.Marks.{merge_clusters, on_line_span}
-use Rattle.aat_font.specs.declared.state_table.GenericStateEntry.{GenericStateEntry}
-use Rattle.aat_font.specs.Entries.{has_flag, goes_on}
+use Rattle.aat_machine_tables.specs.declared.state_table.GenericStateEntry.{GenericStateEntry}
+use Rattle.aat_machine_tables.specs.Entries.{has_flag, goes_on}
 use Rattle.aat_run.specs.Context.{Context, Moved}
 use Rattle.aat_kinds.specs.declared.verb.Part.{Part}
 use Rattle.aat_kinds.specs.declared.verb.Part.TheVariants.{Nothing, One, Two, TwoTurned}

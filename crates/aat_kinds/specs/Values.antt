@@ -4,9 +4,9 @@ use Rattle.std.specs.Prelude.{◌≡◌, ℕ, Bool, List, map, Option, Some, Non
 use Rattle.aat_buffer.specs.Buffer.{glyph_at}
 use Rattle.aat_glyph.specs.declared.glyph.hb_glyph_info_t.{hb_glyph_info_t}
 use Rattle.aat_font.specs.Face.{value_or_zero}
-use Rattle.aat_font.specs.Keys.{value_in}
-use Rattle.aat_font.specs.Moves.{AreMovesOf}
-use Rattle.aat_font.specs.declared.moves.GlyphMoves.{GlyphMoves}
+use Rattle.aat_lookup.specs.Keys.{value_in}
+use Rattle.aat_lookup.specs.Moves.{AreMovesOf}
+use Rattle.aat_lookup.specs.declared.moves.GlyphMoves.{GlyphMoves}
 
 -- the properties of a glyph that becomes v: by the classes of the font where it has them, and else as they were
 abbrev pub props_after : Option (List (ℕ × ℕ)) → ℕ → ℕ → ℕ

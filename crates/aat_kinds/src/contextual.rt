@@ -11,10 +11,9 @@ ghost use Rattle.aat_kinds.specs.Contextual.{answer_of, at_cursor, at_mark, held
 
 use crate::values::props_after;
 use aat_buffer::{hb_buffer_t, hb_glyph_info_t};
-use aat_font::{
-    ContextualEntryData, ContextualSubtable, GenericStateEntry, GlyphId, Lookup,
-    contextual_entry_rests, hb_font_t,
-};
+use aat_font::{contextual_entry_rests, hb_font_t};
+use aat_lookup::{GlyphId, Lookup};
+use aat_machine_tables::{ContextualEntryData, ContextualSubtable, GenericStateEntry};
 use aat_run::{AatError, driver_context_t};
 use std::alloc::Allocator;
 use std::marker::Model;
@@ -151,7 +150,7 @@ impl<'a> ContextualCtx<'a> {
 
 impl<'a> driver_context_t<ContextualEntryData> for ContextualCtx<'a> {
     ghost use Rattle.std.specs.Prelude.{true};
-    ghost use Rattle.aat_font.specs.Entries.{goes_on};
+    ghost use Rattle.aat_machine_tables.specs.Entries.{goes_on};
     ghost use Rattle.aat_font.specs.Idle.{contextual_rests};
     ghost use Rattle.aat_kinds.specs.facts.Resting.{contextual_held_rest};
     ghost use Rattle.aat_kinds.specs.Contextual as contextual;

@@ -4,7 +4,7 @@ ghost use Rattle.aat_buffer.specs.Buffer.{Is16Bit, failed, model_at, with_cursor
 ghost use Rattle.aat_glyph.specs.declared.error.BufferError.{BufferError};
 ghost use Rattle.aat_glyph.specs.declared.error.BufferError.TheVariants as BufferError;
 ghost use Rattle.aat_buffer.specs.Clusters.{IsSmall};
-ghost use Rattle.aat_font.specs.Entries.{goes_on, has_flag, is_present};
+ghost use Rattle.aat_machine_tables.specs.Entries.{goes_on, has_flag, is_present};
 ghost use Rattle.aat_run.specs.Budget.{paid};
 ghost use Rattle.aat_run.specs.Driven.{IsRefusal, IsRefused};
 ghost use Rattle.aat_run.specs.Laws.{FitsFresh, SameSettings};
@@ -12,10 +12,12 @@ ghost use Rattle.aat_kinds.specs.Insertion.{IsLineOfWholeRuns, at_cursor, at_mar
 ghost use Rattle.aat_kinds.specs.inside.Run.{IsRefusedRun, put_behind_current};
 
 use aat_buffer::{BufferError, hb_buffer_t, hb_glyph_info_t};
-use aat_font::entry_bits::insertion::{
+use aat_font::insertion_entry_rests;
+use aat_lookup::GlyphId;
+use aat_machine_tables::entry_bits::insertion::{
     CURRENT_INSERT_BEFORE, CURRENT_INSERT_COUNT, MARKED_INSERT_BEFORE, MARKED_INSERT_COUNT,
 };
-use aat_font::{GenericStateEntry, GlyphId, InsertionEntryData, insertion_entry_rests};
+use aat_machine_tables::{GenericStateEntry, InsertionEntryData};
 use aat_run::{AatError, driver_context_t};
 use std::alloc::Allocator;
 use std::marker::Model;
@@ -135,7 +137,7 @@ impl<'a> InsertionCtx<'a> {
 
 impl<'a> driver_context_t<InsertionEntryData> for InsertionCtx<'a> {
     ghost use Rattle.std.specs.Prelude.{false};
-    ghost use Rattle.aat_font.specs.Entries.{goes_on};
+    ghost use Rattle.aat_machine_tables.specs.Entries.{goes_on};
     ghost use Rattle.aat_font.specs.Idle.{insertion_rests};
     ghost use Rattle.aat_kinds.specs.facts.Resting.{insertion_held_rest};
     ghost use Rattle.aat_kinds.specs.Insertion as insertion;

@@ -13,7 +13,7 @@ use crate::machines::{run_contextual, run_insertion, run_ligature, run_rearrange
 use crate::noncontextual::replace_all;
 use crate::run::SubtableRun;
 use aat_buffer::hb_buffer_t;
-use aat_font::SubtableKind;
+use aat_machine_tables::SubtableKind;
 use aat_run::{AatError, is_nowhere_on};
 use std::alloc::Allocator;
 

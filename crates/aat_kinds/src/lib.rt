@@ -1,4 +1,8 @@
 //! The kinds of subtables of the extended glyph metamorphosis table: what each does to a line, with its laws.
+//!
+//! ```
+//! let turns = run_kind::<SLOTS, LONGEST, A>(&run, &subtable.kind, &mut buffer)?;
+//! ```
 #![tactic(auto)]
 
 mod contextual;

@@ -12,8 +12,10 @@ ghost use Rattle.aat_kinds.specs.Ligature.{held_act, later_deleted, offset_of, s
 ghost use Rattle.aat_kinds.specs.inside.Taken.{all_taken, step_of};
 
 use aat_buffer::{DELETED_GLYPH, UnicodeProps, hb_buffer_t, hb_glyph_info_t};
-use aat_font::entry_bits::ligature::{LIG_ACTION_LAST, LIG_ACTION_STORE, PERFORM_ACTION};
-use aat_font::{GenericStateEntry, GlyphId, LigatureSubtable, ligature_entry_rests};
+use aat_font::ligature_entry_rests;
+use aat_lookup::GlyphId;
+use aat_machine_tables::entry_bits::ligature::{LIG_ACTION_LAST, LIG_ACTION_STORE, PERFORM_ACTION};
+use aat_machine_tables::{GenericStateEntry, LigatureSubtable};
 use aat_run::{AatError, driver_context_t};
 use bitflags::Flags;
 use std::alloc::Allocator;
@@ -304,7 +306,7 @@ impl<'a, const SLOTS: usize> LigatureCtx<'a, SLOTS> {
 
 impl<'a, const SLOTS: usize> driver_context_t<u16> for LigatureCtx<'a, SLOTS> {
     ghost use Rattle.std.specs.Prelude.{false, true};
-    ghost use Rattle.aat_font.specs.Entries.{goes_on};
+    ghost use Rattle.aat_machine_tables.specs.Entries.{goes_on};
     ghost use Rattle.aat_font.specs.Idle.{ligature_rests};
     ghost use Rattle.aat_kinds.specs.facts.Resting.{ligature_held_rest};
     ghost use Rattle.aat_kinds.specs.Ligature as ligature;

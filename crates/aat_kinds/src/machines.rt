@@ -15,7 +15,9 @@ use crate::ligature::LigatureCtx;
 use crate::rearrangement::RearrangementCtx;
 use crate::run::SubtableRun;
 use aat_buffer::hb_buffer_t;
-use aat_font::{ContextualSubtable, ExtendedStateTable, InsertionSubtable, LigatureSubtable};
+use aat_machine_tables::{
+    ContextualSubtable, ExtendedStateTable, InsertionSubtable, LigatureSubtable,
+};
 use aat_run::{AatError, run_machine};
 use std::alloc::Allocator;
 

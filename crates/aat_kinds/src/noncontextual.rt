@@ -3,7 +3,7 @@ ghost use Rattle.std.specs.Prelude.{◌≡◌, ◌<◌, All, ℕ, Bool, IfSome, 
 ghost use Rattle.aat_buffer.specs.Buffer.{Is16Bit, with_line};
 ghost use Rattle.aat_buffer.specs.Clusters.{IsSmall};
 ghost use Rattle.aat_font.specs.Face.{glyph_classes_of};
-ghost use Rattle.aat_font.specs.Moves.{AreMovesOf, HasCells};
+ghost use Rattle.aat_lookup.specs.Moves.{AreMovesOf, HasCells};
 ghost use Rattle.aat_kinds.specs.Idle.{has_no_value, SleepOthers};
 ghost use Rattle.aat_run.specs.Ranges.{IsGapless, switch_for};
 ghost use Rattle.aat_run.specs.Stretches.{IsSwitchedAlike};
@@ -13,7 +13,7 @@ ghost use Rattle.aat_kinds.specs.Values.{with_looked_up_value, noncontextual, Mo
 use crate::run::SubtableRun;
 use crate::values::props_after;
 use aat_buffer::{hb_buffer_t, hb_glyph_info_t};
-use aat_font::{GlyphId, GlyphMoves, Lookup};
+use aat_lookup::{GlyphId, GlyphMoves, Lookup};
 use aat_run::{Stretch, range_flags_t, ranges_to_ask};
 use std::alloc::Allocator;
 

@@ -5,7 +5,7 @@ ghost use Rattle.aat_run.specs.Outcome.{IsOutcome};
 ghost use Rattle.aat_buffer.specs.Clusters.{IsSmall};
 
 use aat_buffer::hb_buffer_t;
-use aat_font::SubtableKind;
+use aat_machine_tables::SubtableKind;
 use std::alloc::Allocator;
 
 /// Leaves what a subtable leaves over a line on which it does nothing, and answers its turns: one for each glyph, and

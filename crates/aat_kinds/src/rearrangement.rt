@@ -9,8 +9,9 @@ ghost use Rattle.aat_kinds.specs.Rearrangement.{IsFit, act, fresh, is_within, mo
 use crate::rearrangement_span::move_span;
 use crate::verb::{Verb, verb_of};
 use aat_buffer::{HB_BUFFER_CLUSTER_LEVEL_CHARACTERS, hb_buffer_t};
-use aat_font::entry_bits::rearrangement::{MARK_FIRST, MARK_LAST, VERB};
-use aat_font::{GenericStateEntry, rearrangement_entry_rests};
+use aat_font::rearrangement_entry_rests;
+use aat_machine_tables::GenericStateEntry;
+use aat_machine_tables::entry_bits::rearrangement::{MARK_FIRST, MARK_LAST, VERB};
 use aat_run::{AatError, driver_context_t};
 use std::alloc::Allocator;
 use std::marker::Model;
@@ -135,7 +136,7 @@ impl<const LONGEST: usize> RearrangementCtx<LONGEST> {
 
 impl<const LONGEST: usize> driver_context_t<()> for RearrangementCtx<LONGEST> {
     ghost use Rattle.std.specs.Prelude.{true};
-    ghost use Rattle.aat_font.specs.Entries.{goes_on};
+    ghost use Rattle.aat_machine_tables.specs.Entries.{goes_on};
     ghost use Rattle.aat_font.specs.Idle.{rearrangement_rests};
     ghost use Rattle.aat_kinds.specs.facts.Resting.{rearrangement_rest};
     ghost use Rattle.aat_kinds.specs.Rearrangement as rearrangement;

@@ -3,7 +3,8 @@ ghost use Rattle.std.specs.Prelude.{◌≡◌};
 ghost use Rattle.aat_font.specs.Face.{glyph_classes_of};
 ghost use Rattle.aat_kinds.specs.Values.{props_after};
 
-use aat_font::{GlyphId, hb_font_t};
+use aat_font::hb_font_t;
+use aat_lookup::GlyphId;
 
 /// The properties of a glyph that becomes another one: by the font's classes of glyphs where it has
 /// them, and else as they were.

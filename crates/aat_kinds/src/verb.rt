@@ -2,8 +2,8 @@
 ghost use Rattle.std.specs.Prelude.{◌≡◌, ◌≤◌};
 ghost use Rattle.aat_kinds.specs.Rearrangement.{size_of, verb_of};
 
-use aat_font::GenericStateEntry;
-use aat_font::entry_bits::rearrangement::VERB;
+use aat_machine_tables::GenericStateEntry;
+use aat_machine_tables::entry_bits::rearrangement::VERB;
 
 /// What a verb takes from one end of its span, to put it down at the other.
 #[derive(Clone, Copy)]

@@ -3,7 +3,7 @@ use Rattle.std.proofs.Common.{◌≡◌, ◌∙◌, ap, ℕ, suc, ◌+◌, ◌==
 use Rattle.std.specs.List.{list_any, prefix_len, cons_option}
 use Rattle.aat_font.specs.Face.{tables_of}
 use Rattle.aat_font.specs.declared.face.hb_font_t.{hb_font_t}
-use Rattle.aat_font.specs.declared.feat.FeatureName.{FeatureName}
+use Rattle.aat_lookup.specs.declared.feat.FeatureName.{FeatureName}
 use Rattle.aat_font.specs.declared.plan.Feature.{Feature}
 use Rattle.aat_font.specs.declared.plan.hb_ot_shape_plan_t.{hb_ot_shape_plan_t}
 use Rattle.aat_layout.specs.Refusals.{first_too_large, wants_memory}

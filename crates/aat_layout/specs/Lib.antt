@@ -3,10 +3,10 @@ pub use Rattle.aat_buffer.specs.Buffer
 pub use Rattle.aat_buffer.specs.Clusters
 pub use Rattle.aat_buffer.specs.Marks
 pub use Rattle.aat_buffer.specs.Removal
-pub use Rattle.aat_font.specs.Chains
+pub use Rattle.aat_machine_tables.specs.Chains
 pub use Rattle.aat_font.specs.Face
-pub use Rattle.aat_font.specs.declared.feat.FeatureName
-pub use Rattle.aat_font.specs.declared.morx.Chain
+pub use Rattle.aat_lookup.specs.declared.feat.FeatureName
+pub use Rattle.aat_machine_tables.specs.declared.morx.Chain
 pub use Rattle.aat_font.specs.declared.plan.Feature
 pub use Rattle.aat_run.specs.Budget
 pub use Rattle.aat_run.specs.Driven

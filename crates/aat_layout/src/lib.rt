@@ -10,8 +10,26 @@ mod aat_layout;
 
 /// The shaping buffer, a crate of its own.
 pub use aat_buffer as buffer;
-/// The typed tables of a font, a crate of their own.
-pub use aat_font as font;
+/// The typed tables of a font, from crates of their own.
+pub mod font {
+    pub use aat_font::{
+        FaceTables, Feature, GlyphWords, Morx, constants, contextual_entry_rests, hb_font_t,
+        hb_ot_shape_plan_t, hb_tag_t, insertion_entry_rests, ligature_entry_rests,
+        rearrangement_entry_rests, word_at,
+    };
+    pub use aat_kerning_tables::{
+        Ankr, ClassPairs, Kern, KernKind, KernMachine, KernSubtable, Kerx, KerxFormat,
+        KerxSubtable, Pairs, Point, Subtable1, Subtable4,
+    };
+    pub use aat_lookup::{
+        Feat, FeatureName, GlyphId, GlyphMoves, Lookup, LookupSegment, TableError, keys,
+    };
+    pub use aat_machine_tables::{
+        Acting, Chain, ChainFeature, ContextualEntryData, ContextualSubtable, Coverage, EntryData,
+        ExtendedStateTable, GenericStateEntry, InsertionEntryData, InsertionSubtable, JudgedEntry,
+        KernEntryData, LigatureSubtable, Subtable, SubtableKind, entry_bits,
+    };
+}
 /// The numbers of the feature types and their selectors.
 pub use aat_font::constants;
 pub use aat_kerning::{
@@ -20,7 +38,7 @@ pub use aat_kerning::{
     hb_aat_layout_zero_width_deleted_glyphs, hb_ot_layout_kern, is_solid,
 };
 pub use aat_kerning_machines::{
-    Driver1, Driver4, KerningRun, StateMachineDriver, StateTableDriver, drive_kern, drive_kerx,
+    Driver1, Driver4, KerningRun, StateMachineDriver, StateTableDriver, drive_kerning,
 };
 pub use aat_kinds::{
     ContextualCtx, InsertionCtx, LIGATURE_SLOTS, LigatureCtx, MAX_CONTEXT_LENGTH, RearrangementCtx,

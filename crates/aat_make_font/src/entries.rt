@@ -2,10 +2,10 @@
 
 use crate::known::Known;
 use crate::values::{Members, Told, Word, at, bits, members};
-use aat_font::entry_bits::{
+use aat_machine_tables::entry_bits::{
     DONT_ADVANCE, NO_INDEX, anchor, contextual, insertion, ligature, rearrangement, stack,
 };
-use aat_font::{
+use aat_machine_tables::{
     Acting, ContextualEntryData, EntryData, GenericStateEntry, InsertionEntryData, KernEntryData,
 };
 use anyhow::Result;

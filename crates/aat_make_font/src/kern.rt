@@ -5,7 +5,7 @@ use crate::known::Known;
 use crate::machines::machine;
 use crate::pairs::class_pairs;
 use crate::values::{Told, bits, list, members, need, object};
-use aat_font::{KernKind, KernMachine, KernSubtable};
+use aat_kerning_tables::{KernKind, KernMachine, KernSubtable};
 use anyhow::{Result, bail};
 use serde_json::Value;
 

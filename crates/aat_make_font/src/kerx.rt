@@ -4,7 +4,7 @@ use crate::known::Known;
 use crate::machines::machine;
 use crate::pairs::class_pairs;
 use crate::values::{Told, Word, at, bits, list, members, need, object};
-use aat_font::{KerxFormat, KerxSubtable, Point, Subtable1, Subtable4};
+use aat_kerning_tables::{KerxFormat, KerxSubtable, Point, Subtable1, Subtable4};
 use anyhow::{Result, bail};
 use serde_json::Value;
 

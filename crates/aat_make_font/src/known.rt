@@ -1,7 +1,7 @@
 //! What a description has told so far.
 
 use crate::values::{Told, object};
-use aat_font::GlyphId;
+use aat_lookup::GlyphId;
 use anyhow::{Context, Result, bail};
 use serde_json::Value;
 use std::alloc::Global;

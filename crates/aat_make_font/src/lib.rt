@@ -2,6 +2,10 @@
 //!
 //! A description is an object. `units_per_em` and `glyphs` have to be there; what else is absent is not written. A glyph
 //! is named by its name or its number, and glyphs have their numbers in the order of the list. docs/MAKE.md has the keys.
+//!
+//! ```
+//! let bytes = make_font(alloc, description)?;
+//! ```
 #![tactic(auto)]
 
 mod characters;

@@ -4,7 +4,7 @@ use crate::classes::Classes;
 use crate::entries::Extra;
 use crate::known::Known;
 use crate::values::{Members, Told, at, items, need, object};
-use aat_font::{ExtendedStateTable, GenericStateEntry};
+use aat_machine_tables::{ExtendedStateTable, GenericStateEntry};
 use anyhow::{Context, Result, bail};
 use serde_json::{Map, Value};
 

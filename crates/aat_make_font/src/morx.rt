@@ -2,7 +2,7 @@
 
 use crate::known::Known;
 use crate::values::{Told, Word, at, bits, list, members, need, object};
-use aat_font::{Chain, ChainFeature, Coverage, Subtable, SubtableKind};
+use aat_machine_tables::{Chain, ChainFeature, Coverage, Subtable, SubtableKind};
 use anyhow::Result;
 use bitflags::Flags;
 use serde_json::Value;

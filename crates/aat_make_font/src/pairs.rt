@@ -2,7 +2,7 @@
 
 use crate::known::{ByGlyph, Known};
 use crate::values::{Members, Told, at, list, need, object};
-use aat_font::{ClassPairs, Pairs};
+use aat_kerning_tables::{ClassPairs, Pairs};
 use anyhow::{Context, Result, bail};
 use serde_json::Value;
 

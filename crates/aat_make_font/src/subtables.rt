@@ -3,8 +3,11 @@
 use crate::known::{ByGlyph, Known};
 use crate::machines::machine;
 use crate::values::{Told, list, members, need};
-use aat_font::entry_bits::ligature::{LIG_ACTION_LAST, LIG_ACTION_OFFSET, LIG_ACTION_STORE};
-use aat_font::{ContextualSubtable, InsertionSubtable, LigatureSubtable, Lookup, SubtableKind};
+use aat_lookup::Lookup;
+use aat_machine_tables::entry_bits::ligature::{
+    LIG_ACTION_LAST, LIG_ACTION_OFFSET, LIG_ACTION_STORE,
+};
+use aat_machine_tables::{ContextualSubtable, InsertionSubtable, LigatureSubtable, SubtableKind};
 use anyhow::{Context, Result, bail};
 use serde_json::Value;
 

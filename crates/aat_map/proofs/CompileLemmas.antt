@@ -4,7 +4,7 @@ use Rattle.std.proofs.lemmas.Grind.{common_steps}
 use Rattle.std.specs.Result.{OnOk}
 use Rattle.std.proofs.lemmas.List.{length-replicate, map_push, take_more}
 use Rattle.std.proofs.lemmas.Result.{on_ok_weaker}
-use Rattle.aat_font.specs.declared.morx.Chain.{Chain}
+use Rattle.aat_machine_tables.specs.declared.morx.Chain.{Chain}
 use Rattle.aat_map.specs.declared.feature.feature_range_t.{feature_range_t}
 use Rattle.aat_map.specs.Builder.{Builder}
 use Rattle.aat_map.specs.inside.CompiledSpans.{IsCompiled}

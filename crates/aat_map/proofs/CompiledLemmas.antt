@@ -8,7 +8,7 @@ use Rattle.std.proofs.lemmas.List.{length-map}
 use Rattle.std.proofs.lemmas.List.Elements.{recursion_from_All, All-map}
 use Rattle.std.proofs.lemmas.List.Kept.{AllPairs-from_increasing}
 use Rattle.aat_map.specs.declared.feature.feature_range_t.{feature_range_t}
-use Rattle.aat_font.specs.declared.morx.Chain.{Chain}
+use Rattle.aat_machine_tables.specs.declared.morx.Chain.{Chain}
 use Rattle.aat_run.specs.Switches.{by_flags, meets}
 use Rattle.aat_map.specs.Builder.{Builder}
 use Rattle.aat_map.specs.Compiled.{IsLastStart}

@@ -5,7 +5,7 @@ use Rattle.std.proofs.lemmas.Bool.Decides.{nat_tests}
 use Rattle.std.proofs.lemmas.List.Elements.{filter_passes, recursion_from_All, All-filter}
 use Rattle.aat_map.specs.declared.feature.feature_range_t.{feature_range_t}
 use Rattle.aat_map.specs.declared.feature.feature_info_t.{feature_info_t}
-use Rattle.aat_font.specs.declared.morx.ChainFeature.{ChainFeature}
+use Rattle.aat_machine_tables.specs.declared.morx.ChainFeature.{ChainFeature}
 use Rattle.aat_map.specs.ChainFlags.{flags_by}
 use Rattle.aat_run.specs.Ranges.{last_cluster}
 use Rattle.aat_map.specs.Live.{is_admitted, admitted, placed_by_start, by_start, has_begun, has_ended, infos, live, without_earliest, kept, has_setting, flags_at_cluster, is_edge, is_cut, cuts_at}

@@ -1,8 +1,8 @@
 -- Without a map each chain has its default flags, as it has where nothing is requested.
 use Rattle.std.proofs.Common.{◌≡◌, ◌∙◌, ap, sym, refl, ℕ, ◌<◌, Bool, true, false, ◌&&◌, ◌||◌, ◌==◌, cond, List, [], ◌∷◌, map, fold, length, get_or, arith, All, Option, Some, None, bit_and, bit_or}
 use Rattle.std.proofs.lemmas.List.{get_or-map}
-use Rattle.aat_font.specs.declared.morx.Chain.{Chain}
-use Rattle.aat_font.specs.declared.morx.ChainFeature.{ChainFeature}
+use Rattle.aat_machine_tables.specs.declared.morx.Chain.{Chain}
+use Rattle.aat_machine_tables.specs.declared.morx.ChainFeature.{ChainFeature}
 use Rattle.aat_run.specs.declared.ranges.range_flags_t.{range_flags_t}
 use Rattle.aat_run.specs.Ranges.{last_cluster, range}
 use Rattle.aat_map.specs.ChainFlags.{after_feature, is_asked}

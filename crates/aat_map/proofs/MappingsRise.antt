@@ -1,7 +1,7 @@
 -- The table of features rises by tag.
 use Rattle.std.proofs.Common.{refl}
-use Rattle.aat_font.specs.Keys.{IsRising}
-use Rattle.aat_font.specs.facts.Falls.{rising}
+use Rattle.aat_lookup.specs.Keys.{IsRising}
+use Rattle.aat_lookup.specs.facts.Falls.{rising}
 use Rattle.aat_map.specs.Mappings.{mapped_tag}
 use Rattle.aat_map.specs.declared.mapping.TheConstants.{feature_mappings}
 

@@ -5,7 +5,7 @@ use Rattle.std.proofs.lemmas.Bool.Decides.{nat_tests}
 use Rattle.std.proofs.lemmas.List.Elements.{filter_passes, recursion_from_All}
 use Rattle.aat_map.specs.declared.feature.feature_range_t.{feature_range_t}
 use Rattle.aat_map.specs.declared.feature.feature_info_t.{feature_info_t}
-use Rattle.aat_font.specs.declared.morx.ChainFeature.{ChainFeature}
+use Rattle.aat_machine_tables.specs.declared.morx.ChainFeature.{ChainFeature}
 use Rattle.aat_map.specs.ChainFlags.{flags_by}
 use Rattle.aat_map.specs.Live.{is_admitted, admitted, kept, has_setting, flags_at_cluster, is_uncut, is_between_edges}
 use Rattle.aat_map.proofs.CutLemmas.{SameSide, live_same, ordered_all}

@@ -4,7 +4,7 @@ use Rattle.std.proofs.lemmas.List.{append-nil, append_assoc}
 use Rattle.std.proofs.Math.Bool.{or-false}
 use Rattle.std.specs.List.{list_any}
 use Rattle.std.proofs.lemmas.Bool.Decides.{nat_tests}
-use Rattle.aat_font.specs.declared.morx.Chain.{Chain}
+use Rattle.aat_machine_tables.specs.declared.morx.Chain.{Chain}
 use Rattle.aat_run.specs.declared.ranges.range_flags_t.{range_flags_t}
 use Rattle.aat_run.specs.Ranges.{last_cluster, range}
 use Rattle.aat_map.specs.declared.feature.feature_info_t.{feature_info_t}

@@ -5,8 +5,8 @@ use Rattle.std.proofs.lemmas.List.{get_or-map, length-map, take_more}
 use Rattle.std.proofs.lemmas.List.Folds.{length-prefix_len}
 use Rattle.std.proofs.lemmas.List.Sums.{fold_push}
 use Rattle.std.proofs.lemmas.Bool.Decides.{nat_tests}
-use Rattle.aat_font.specs.declared.morx.Chain.{Chain}
-use Rattle.aat_font.specs.declared.morx.ChainFeature.{ChainFeature}
+use Rattle.aat_machine_tables.specs.declared.morx.Chain.{Chain}
+use Rattle.aat_machine_tables.specs.declared.morx.ChainFeature.{ChainFeature}
 use Rattle.aat_map.specs.declared.feature.feature_info_t.{feature_info_t}
 use Rattle.aat_map.specs.ChainFlags.{is_asked, after_feature}
 use Rattle.aat_map.specs.Live.{in_group, has_setting}

@@ -1,6 +1,6 @@
 -- The flags of a chain. Apple's TrueType Reference Manual, "The 'morx' table", chain header and feature subtables.
 use Rattle.std.specs.Prelude.{ℕ, ◌==◌, ◌&&◌, ◌||◌, Bool, false, List, fold, bit_and, bit_or, if◌then◌else◌}
-use Rattle.aat_font.specs.declared.morx.ChainFeature.{ChainFeature}
+use Rattle.aat_machine_tables.specs.declared.morx.ChainFeature.{ChainFeature}
 
 -- nothing is requested
 abbrev pub nothing_requested : ℕ → ℕ → Bool

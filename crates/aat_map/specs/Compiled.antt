@@ -9,7 +9,7 @@ use Rattle.aat_run.specs.Ranges.{next_start, last_cluster, range}
 use Rattle.aat_map.specs.Map.{list_at, flags_at, resized, with_ranges}
 use Rattle.aat_font.specs.Morx.{chains_of}
 use Rattle.aat_run.specs.declared.ranges.range_flags_t.{range_flags_t}
-use Rattle.aat_font.specs.declared.morx.Chain.{Chain}
+use Rattle.aat_machine_tables.specs.declared.morx.Chain.{Chain}
 use Rattle.aat_font.specs.declared.morx.Morx.{Morx}
 
 -- the flags that settings give a chain

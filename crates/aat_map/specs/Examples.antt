@@ -6,8 +6,8 @@ use Rattle.aat_map.specs.Live.{is_cut, flags_at_cluster}
 use Rattle.aat_map.specs.Requests.{requests_of, addition, is_too_large}
 use Rattle.aat_map.specs.Spans.{spans}
 use Rattle.aat_run.specs.declared.ranges.range_flags_t.{range_flags_t}
-use Rattle.aat_font.specs.declared.feat.FeatureName.{FeatureName}
-use Rattle.aat_font.specs.declared.morx.ChainFeature.{ChainFeature}
+use Rattle.aat_lookup.specs.declared.feat.FeatureName.{FeatureName}
+use Rattle.aat_machine_tables.specs.declared.morx.ChainFeature.{ChainFeature}
 use Rattle.aat_font.specs.declared.plan.Feature.{Feature}
 
 -- (37, 1) alone is requested

@@ -1,5 +1,5 @@
 pub use Rattle.aat_font.specs.Face
-pub use Rattle.aat_font.specs.FeatureNames
+pub use Rattle.aat_lookup.specs.FeatureNames
 pub use Rattle.aat_run.specs.Ranges
 pub use Rattle.aat_run.specs.Switches
 pub mod Adding

@@ -4,9 +4,9 @@ use Rattle.std.specs.List.{list_any, list_all, AllAdjacentBelow}
 use Rattle.std.specs.Ordering.{nat_cmp, bool_cmp, on, then_cmp}
 use Rattle.std.specs.declared.cmp.Ordering.{Ordering}
 use Rattle.std.specs.declared.cmp.Ordering.TheVariants.{Less}
-use Rattle.aat_font.specs.Truth.{is_alike}
+use Rattle.aat_lookup.specs.Truth.{is_alike}
 use Rattle.aat_map.specs.ChainFlags.{flags_by}
-use Rattle.aat_font.specs.declared.morx.ChainFeature.{ChainFeature}
+use Rattle.aat_machine_tables.specs.declared.morx.ChainFeature.{ChainFeature}
 use Rattle.aat_map.specs.declared.feature.feature_info_t.{feature_info_t}
 use Rattle.aat_map.specs.declared.feature.feature_range_t.{feature_range_t}
 use Rattle.aat_run.specs.Ranges.{last_cluster}

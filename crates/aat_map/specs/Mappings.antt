@@ -1,6 +1,6 @@
 -- The table of features as a total function. Apple's TrueType Reference Manual, "The 'feat' table", feature registry.
 use Rattle.std.specs.Prelude.{ℕ, Option}
-use Rattle.aat_font.specs.Keys.{IsRising, at_key}
+use Rattle.aat_lookup.specs.Keys.{IsRising, at_key}
 use Rattle.aat_map.specs.declared.mapping.hb_aat_feature_mapping_t.{hb_aat_feature_mapping_t}
 use Rattle.aat_map.specs.declared.mapping.TheConstants.{feature_mappings}
 

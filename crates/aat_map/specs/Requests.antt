@@ -1,9 +1,9 @@
 -- Which requests the user's features make. Apple's TrueType Reference Manual, "The 'feat' table", feature registry.
 use Rattle.std.specs.Prelude.{ℕ, ◌==◌, ◌&&◌, nat_lt, Bool, true, false, List, Option, Some, None, is_some, option_map, if◌then◌else◌}
 use Rattle.std.specs.List.{filter_map}
-use Rattle.aat_font.specs.FeatureNames.{name_of}
+use Rattle.aat_lookup.specs.FeatureNames.{name_of}
 use Rattle.aat_map.specs.Mappings.{mapping_of}
-use Rattle.aat_font.specs.declared.feat.FeatureName.{FeatureName}
+use Rattle.aat_lookup.specs.declared.feat.FeatureName.{FeatureName}
 use Rattle.aat_font.specs.declared.plan.Feature.{Feature}
 use Rattle.aat_map.specs.declared.mapping.hb_aat_feature_mapping_t.{hb_aat_feature_mapping_t}
 use Rattle.aat_map.specs.declared.feature.feature_info_t.{feature_info_t}

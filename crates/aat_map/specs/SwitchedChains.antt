@@ -8,10 +8,10 @@ use Rattle.aat_map.specs.Requests.{requests_of}
 use Rattle.aat_font.specs.Face.{tables_of}
 use Rattle.aat_map.specs.declared.feature.feature_range_t.{feature_range_t}
 use Rattle.aat_run.specs.declared.ranges.range_flags_t.{range_flags_t}
-use Rattle.aat_font.specs.declared.morx.Chain.{Chain}
+use Rattle.aat_machine_tables.specs.declared.morx.Chain.{Chain}
 use Rattle.aat_font.specs.declared.face.hb_font_t.{hb_font_t}
 use Rattle.aat_font.specs.declared.plan.hb_ot_shape_plan_t.{hb_ot_shape_plan_t}
-use Rattle.aat_font.specs.declared.morx.Subtable.{Subtable}
+use Rattle.aat_machine_tables.specs.declared.morx.Subtable.{Subtable}
 
 -- a chain's subtables with how they are switched
 pub record SwitchedChain : Type 0 where

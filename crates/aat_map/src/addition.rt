@@ -7,7 +7,8 @@ ghost use Rattle.aat_map.specs.inside.AdditionInside.{addition_from};
 
 use crate::feature::feature_info_t;
 use crate::mapping::{hb_aat_feature_mapping_t, mapping_of};
-use aat_font::{Feat, Feature, FeatureName, constants, hb_font_t};
+use aat_font::{Feature, constants, hb_font_t};
+use aat_lookup::{Feat, FeatureName};
 use aat_run::AatError;
 
 /// The tag `aalt`, access to all alternates.

@@ -12,7 +12,8 @@ use crate::builder::hb_aat_map_builder_t;
 use crate::feature::feature_info_t;
 use crate::map::hb_aat_map_t;
 use aat_buffer::hb_mask_t;
-use aat_font::{Chain, ChainFeature, constants, hb_font_t};
+use aat_font::{constants, hb_font_t};
+use aat_machine_tables::{Chain, ChainFeature};
 use aat_run::{AatError, range_flags_t};
 use std::alloc::Allocator;
 

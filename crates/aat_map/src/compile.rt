@@ -25,7 +25,8 @@ use crate::placed::placed_in;
 use crate::remembered::{push_flags, renew};
 use crate::starts::starts_of;
 use crate::walk::{by_end, count_ending, go_on};
-use aat_font::{Chain, hb_font_t};
+use aat_font::hb_font_t;
+use aat_machine_tables::Chain;
 use aat_run::AatError;
 use std::alloc::Allocator;
 

@@ -6,7 +6,7 @@ ghost use Rattle.aat_map.specs.Map.{default_list, list_or};
 ghost use Rattle.aat_run.specs.Ranges.{is_whole_list, IsGapless};
 
 use crate::map::hb_aat_map_t;
-use aat_font::Chain;
+use aat_machine_tables::Chain;
 use aat_run::range_flags_t;
 use std::alloc::Allocator;
 

@@ -1,6 +1,9 @@
-//! From feature requests over ranges of clusters to the flags of each chain at each cluster.
+//! From feature requests over ranges of clusters to the flags of each chain at each cluster. By which way something is
+//! found, and in how many steps, is told in comments and not proved.
 //!
-//! By which way something is found, and in how many steps, is told in comments and not proved.
+//! ```
+//! builder.compile(&font, &mut map)?;
+//! ```
 #![tactic(auto)]
 
 mod addition;

@@ -2,8 +2,8 @@
 ghost use Rattle.std.specs.Prelude.{◌≡◌};
 ghost use Rattle.aat_map.specs.Mappings.{mapping_of};
 
-use aat_font::keys::{Keyed, row_at};
 use aat_font::{constants, hb_tag_t};
+use aat_lookup::keys::{Keyed, row_at};
 
 /// A row of the table of features: an OpenType tag, and the type and the two selectors of the
 /// feature that stands for it.

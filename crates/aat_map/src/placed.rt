@@ -13,7 +13,7 @@ use crate::chain_flags::{OLDER_SMALL_CAPS, SMALL_CAPS, changed_by, count_below};
 use crate::feature::feature_info_t;
 use crate::live::{Live, place_of};
 use aat_buffer::hb_mask_t;
-use aat_font::{Chain, ChainFeature};
+use aat_machine_tables::{Chain, ChainFeature};
 use aat_run::AatError;
 use std::alloc::Allocator;
 

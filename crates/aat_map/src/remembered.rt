@@ -10,7 +10,7 @@ use crate::live::Live;
 use crate::map::hb_aat_map_t;
 use crate::placed::{Placed, write_flags};
 use aat_buffer::hb_mask_t;
-use aat_font::Chain;
+use aat_machine_tables::Chain;
 use aat_run::{AatError, range_flags_t};
 use std::alloc::Allocator;
 

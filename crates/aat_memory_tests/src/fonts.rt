@@ -7,7 +7,7 @@ use aat_layout::font::{
     InsertionEntryData, InsertionSubtable, Kern, KernKind, KernSubtable, Lookup, Morx, Pairs,
     Subtable, SubtableKind, hb_font_t,
 };
-use aat_rows::font_of_part;
+use aat_shape::font_of_part;
 use std::alloc::Global;
 use std::test::Fail;
 

@@ -6,11 +6,11 @@ use Rattle.aat_buffer.specs.Clusters.{ComesFrom}
 use Rattle.aat_buffer.specs.Marks.{cluster_at, unsafe_to_break}
 use Rattle.aat_buffer.specs.facts.Cases.{chosen, either}
 use Rattle.aat_buffer.specs.facts.Order.{Kept, kept_refl, kept_unsafe, comes_refl, comes_trans}
-use Rattle.aat_font.specs.Keys.{value_in}
-use Rattle.aat_font.specs.Table.{TableValue}
-use Rattle.aat_font.specs.declared.morx.SubtableKind.{SubtableKind}
-use Rattle.aat_font.specs.declared.morx.SubtableKind.TheVariants.{Rearrangement, Contextual, Ligature, NonContextual, Insertion}
-use Rattle.aat_font.specs.declared.state_table.GenericStateEntry.{GenericStateEntry}
+use Rattle.aat_lookup.specs.Keys.{value_in}
+use Rattle.aat_machine_tables.specs.Table.{TableValue}
+use Rattle.aat_machine_tables.specs.declared.morx.SubtableKind.{SubtableKind}
+use Rattle.aat_machine_tables.specs.declared.morx.SubtableKind.TheVariants.{Rearrangement, Contextual, Ligature, NonContextual, Insertion}
+use Rattle.aat_machine_tables.specs.declared.state_table.GenericStateEntry.{GenericStateEntry}
 use Rattle.aat_glyph.specs.declared.glyph.GlyphPosition.{GlyphPosition}
 use Rattle.aat_glyph.specs.declared.glyph.hb_glyph_info_t.{hb_glyph_info_t}
 use Rattle.aat_kinds.proofs.LawsHold.{contexts_are_lawful}

@@ -6,7 +6,7 @@ use Rattle.aat_buffer.specs.Clusters.{IsSmall}
 use Rattle.aat_kinds.specs.Insertion as insertion
 use Rattle.aat_kinds.specs.Kinds.{Sizes, insertion_run}
 use Rattle.aat_map.specs.SwitchedChains.{SwitchedChain}
-use Rattle.aat_font.specs.declared.morx.Subtable.{Subtable}
+use Rattle.aat_machine_tables.specs.declared.morx.Subtable.{Subtable}
 use Rattle.aat_morx.specs.BestBounds.{two_before_and_stay, one_six, MayGrow, MeetsBounds, BoundsAreMet}
 use Rattle.aat_morx.specs.Rows.{subtable, chain}
 use Rattle.aat_morx.specs.Substitution.{subtable_run, chain_run, prepared, substituted}

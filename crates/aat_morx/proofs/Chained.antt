@@ -4,9 +4,9 @@ use Rattle.std.proofs.Math.Nat.{mul-le-mul_left}
 use Rattle.std.proofs.lemmas.List.{take_all}
 use Rattle.std.proofs.lemmas.List.Sums.{sum_by_more}
 use Rattle.aat_buffer.specs.Buffer.{Buffer}
-use Rattle.aat_font.specs.Chains.{subtable_count}
-use Rattle.aat_font.specs.declared.morx.Chain.{Chain}
-use Rattle.aat_font.specs.declared.morx.Subtable.{Subtable}
+use Rattle.aat_machine_tables.specs.Chains.{subtable_count}
+use Rattle.aat_machine_tables.specs.declared.morx.Chain.{Chain}
+use Rattle.aat_machine_tables.specs.declared.morx.Subtable.{Subtable}
 use Rattle.aat_kinds.specs.Kinds.{Sizes}
 use Rattle.aat_map.specs.Map.{list_at}
 use Rattle.aat_map.specs.SwitchedChains.{SwitchedChain, switched_by, with_switch}

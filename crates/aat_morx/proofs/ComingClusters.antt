@@ -6,8 +6,8 @@ use Rattle.aat_buffer.specs.Buffer.{Buffer, reversed, without_positions, no_glyp
 use Rattle.aat_buffer.specs.Clusters.{ComesFrom}
 use Rattle.aat_buffer.specs.facts.Cases.{chosen}
 use Rattle.aat_buffer.specs.facts.Order.{comes_refl, comes_trans}
-use Rattle.aat_font.specs.declared.morx.Coverage.{Coverage}
-use Rattle.aat_font.specs.declared.morx.Subtable.{Subtable}
+use Rattle.aat_machine_tables.specs.declared.morx.Coverage.{Coverage}
+use Rattle.aat_machine_tables.specs.declared.morx.Subtable.{Subtable}
 use Rattle.aat_glyph.specs.declared.glyph.hb_glyph_info_t.{hb_glyph_info_t}
 use Rattle.aat_kinds.proofs.OrderOfKinds.{Rising, le_same, kept_kind, kept_concat}
 use Rattle.aat_kinds.specs.Kinds.{Sizes, kind_run, reversed_run, is_reversed, ordered_run}

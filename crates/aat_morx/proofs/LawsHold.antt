@@ -5,7 +5,7 @@ use Rattle.std.specs.Prelude.{fold}
 use Rattle.aat_buffer.specs.Buffer.{Buffer, without_positions}
 use Rattle.aat_buffer.specs.facts.Cases.{chosen}
 use Rattle.aat_buffer.specs.facts.Lines.{length_concat, of_concat}
-use Rattle.aat_font.specs.declared.morx.Subtable.{Subtable}
+use Rattle.aat_machine_tables.specs.declared.morx.Subtable.{Subtable}
 use Rattle.aat_run.specs.Budget.{extent}
 use Rattle.aat_run.specs.Laws.{IsBounded}
 use Rattle.aat_run.specs.Outcome.{Outcome, untouched, then_run}

@@ -5,14 +5,14 @@ use Rattle.std.specs.Prelude.{fold}
 use Rattle.aat_buffer.specs.Buffer.{Buffer, reversed, without_positions}
 use Rattle.aat_buffer.specs.Marks.{clusters_stay_apart}
 use Rattle.aat_glyph.specs.declared.glyph.hb_glyph_info_t.{hb_glyph_info_t}
-use Rattle.aat_font.specs.declared.morx.Coverage.{Coverage}
+use Rattle.aat_machine_tables.specs.declared.morx.Coverage.{Coverage}
 use Rattle.aat_kinds.specs.Kinds.{Sizes, kind_run, reversed_run, is_reversed, ordered_run}
 use Rattle.aat_run.specs.Outcome.{Outcome, untouched, then_run}
 use Rattle.aat_buffer.specs.Clusters.{IsOrdered, ClustersMerge}
 use Rattle.aat_morx.specs.Lawful.{ClustersKeepTheirOrder}
 use Rattle.aat_buffer.specs.facts.Cases.{chosen}
 use Rattle.aat_buffer.specs.facts.Order.{Kept}
-use Rattle.aat_font.specs.declared.morx.Subtable.{Subtable}
+use Rattle.aat_machine_tables.specs.declared.morx.Subtable.{Subtable}
 use Rattle.aat_run.specs.Switches.{Switch}
 use Rattle.aat_map.specs.SwitchedChains.{SwitchedChain}
 use Rattle.aat_morx.specs.Substitution.{is_skipped, subtable_run, chain_run, substituted, prepared}

@@ -5,11 +5,11 @@ use Rattle.std.specs.Prelude.{fold}
 use Rattle.aat_buffer.specs.Buffer.{Buffer, reversed, without_positions}
 use Rattle.aat_buffer.specs.facts.Cases.{chosen}
 use Rattle.aat_buffer.specs.facts.Lines.{length_concat, of_concat}
-use Rattle.aat_font.specs.declared.morx.Chain.{Chain}
-use Rattle.aat_font.specs.declared.morx.Coverage.{Coverage}
-use Rattle.aat_font.specs.declared.morx.Subtable.{Subtable}
-use Rattle.aat_font.specs.declared.morx.SubtableKind.{SubtableKind}
-use Rattle.aat_font.specs.declared.morx.SubtableKind.TheVariants.{Rearrangement, Contextual, Ligature, NonContextual, Insertion}
+use Rattle.aat_machine_tables.specs.declared.morx.Chain.{Chain}
+use Rattle.aat_machine_tables.specs.declared.morx.Coverage.{Coverage}
+use Rattle.aat_machine_tables.specs.declared.morx.Subtable.{Subtable}
+use Rattle.aat_machine_tables.specs.declared.morx.SubtableKind.{SubtableKind}
+use Rattle.aat_machine_tables.specs.declared.morx.SubtableKind.TheVariants.{Rearrangement, Contextual, Ligature, NonContextual, Insertion}
 use Rattle.aat_kinds.proofs.LawsHold.{contexts_are_lawful}
 use Rattle.aat_kinds.proofs.OrderOfKinds.{glyphs_are_kept}
 use Rattle.aat_kinds.specs.Kinds.{Sizes, is_insertion, kind_run, rearrangement_run, reversed_run, is_reversed, ordered_run}

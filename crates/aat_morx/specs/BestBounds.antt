@@ -2,9 +2,9 @@
 use Rattle.std.specs.Prelude.{◌≡◌, ℕ, suc, pos, negsuc, ◌+◌, ◌*◌, ◌<◌, ◌≤◌, List, [], ◌∷◌, length, replicate}
 use Rattle.aat_buffer.specs.Buffer.{Buffer}
 use Rattle.aat_buffer.specs.Clusters.{IsSmall}
-use Rattle.aat_font.specs.declared.entries.InsertionEntryData.{InsertionEntryData}
-use Rattle.aat_font.specs.declared.morx.SubtableKind.{SubtableKind}
-use Rattle.aat_font.specs.declared.state_table.GenericStateEntry.{GenericStateEntry}
+use Rattle.aat_machine_tables.specs.declared.entries.InsertionEntryData.{InsertionEntryData}
+use Rattle.aat_machine_tables.specs.declared.morx.SubtableKind.{SubtableKind}
+use Rattle.aat_machine_tables.specs.declared.state_table.GenericStateEntry.{GenericStateEntry}
 use Rattle.aat_kinds.specs.Kinds.{Sizes}
 use Rattle.aat_map.specs.SwitchedChains.{SwitchedChain}
 use Rattle.aat_morx.specs.InsertionRows.{with_indexes, id}

@@ -10,9 +10,9 @@ use Rattle.aat_map.specs.SwitchedChains.{SwitchedChain}
 use Rattle.aat_morx.specs.Substitution.{substituted}
 use Rattle.aat_map.specs.declared.feature.feature_range_t.{feature_range_t}
 use Rattle.aat_glyph.specs.declared.glyph.hb_glyph_info_t.{hb_glyph_info_t}
-use Rattle.aat_font.specs.declared.morx.ChainFeature.{ChainFeature}
-use Rattle.aat_font.specs.declared.morx.Subtable.{Subtable}
-use Rattle.aat_font.specs.declared.morx.SubtableKind.TheVariants.{NonContextual}
+use Rattle.aat_machine_tables.specs.declared.morx.ChainFeature.{ChainFeature}
+use Rattle.aat_machine_tables.specs.declared.morx.Subtable.{Subtable}
+use Rattle.aat_machine_tables.specs.declared.morx.SubtableKind.TheVariants.{NonContextual}
 use Rattle.aat_map.specs.Examples.{ligature_names, liga, ligature_feature}
 use Rattle.aat_run.specs.Rows.{glyph, buffer_with, many}
 use Rattle.aat_morx.specs.Rows.{sizes}

@@ -1,9 +1,9 @@
 -- The worked rows of insertion.
 use Rattle.std.specs.Prelude.{◌≡◌, ℕ, pos, negsuc, ◌==◌, not, List, [], ◌∷◌}
-use Rattle.aat_font.specs.declared.state_table.GenericStateEntry.{GenericStateEntry}
-use Rattle.aat_font.specs.declared.plan.GlyphId.{GlyphId}
-use Rattle.aat_font.specs.declared.entries.InsertionEntryData.{InsertionEntryData}
-use Rattle.aat_font.specs.declared.morx.SubtableKind.{SubtableKind}
+use Rattle.aat_machine_tables.specs.declared.state_table.GenericStateEntry.{GenericStateEntry}
+use Rattle.aat_lookup.specs.declared.glyph_id.GlyphId.{GlyphId}
+use Rattle.aat_machine_tables.specs.declared.entries.InsertionEntryData.{InsertionEntryData}
+use Rattle.aat_machine_tables.specs.declared.morx.SubtableKind.{SubtableKind}
 use Rattle.aat_morx.specs.Rows.{substituted_by, row_on, row, row_with, subtable}
 use Rattle.aat_run.specs.Rows.{shows, shows_with, printed, glyph, rising_from, all_at, table, entry, buffer_with}
 

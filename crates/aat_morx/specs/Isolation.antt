@@ -1,7 +1,7 @@
 -- What is asked for at the clusters of a line decides what substitution leaves of it.
 use Rattle.std.specs.Prelude.{◌≡◌, ℕ, ◌<◌, List, [], ◌∷◌, map, All}
 use Rattle.aat_buffer.specs.Buffer.{Buffer, with_cursor}
-use Rattle.aat_font.specs.declared.morx.Chain.{Chain}
+use Rattle.aat_machine_tables.specs.declared.morx.Chain.{Chain}
 use Rattle.aat_glyph.specs.declared.glyph.hb_glyph_info_t.{hb_glyph_info_t}
 use Rattle.aat_kinds.specs.Kinds.{Sizes}
 use Rattle.aat_map.specs.Live.{flags_at_cluster}

@@ -1,7 +1,7 @@
 -- What holds of substitution as a whole: its bounds, and the order of its clusters.
 use Rattle.std.specs.Prelude.{◌+◌, ◌*◌, ◌<◌, ◌≤◌, List, length}
 use Rattle.aat_buffer.specs.Buffer.{Buffer}
-use Rattle.aat_font.specs.declared.morx.Subtable.{Subtable}
+use Rattle.aat_machine_tables.specs.declared.morx.Subtable.{Subtable}
 use Rattle.aat_run.specs.Budget.{extent}
 use Rattle.aat_run.specs.Laws.{HasOrderOf, IsBounded}
 use Rattle.aat_run.specs.Switches.{Switch}

@@ -1,5 +1,5 @@
 pub use Rattle.aat_buffer.specs.Clusters
-pub use Rattle.aat_font.specs.Chains
+pub use Rattle.aat_machine_tables.specs.Chains
 pub use Rattle.aat_font.specs.Face
 pub use Rattle.aat_run.specs.Driven
 pub use Rattle.aat_run.specs.Outcome

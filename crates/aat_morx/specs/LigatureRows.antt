@@ -2,8 +2,8 @@
 use Rattle.std.specs.Prelude.{◌≡◌, ℕ, pos, ◌==◌, not, List, [], ◌∷◌, ◌++◌, replicate}
 use Rattle.aat_glyph.specs.declared.glyph.hb_glyph_info_t.{hb_glyph_info_t}
 use Rattle.aat_buffer.specs.Removal.{removed, is_deleted}
-use Rattle.aat_font.specs.declared.state_table.GenericStateEntry.{GenericStateEntry}
-use Rattle.aat_font.specs.declared.morx.SubtableKind.{SubtableKind}
+use Rattle.aat_machine_tables.specs.declared.state_table.GenericStateEntry.{GenericStateEntry}
+use Rattle.aat_machine_tables.specs.declared.morx.SubtableKind.{SubtableKind}
 use Rattle.aat_morx.specs.Rows.{substituted_by, row_on, row_of_sizes, row, sizes, subtable}
 use Rattle.aat_run.specs.Rows.{shows, shows_with, Printed, glyph, rising_from, deleted_in, deleted_from, table, entry, buffer_with, many}
 

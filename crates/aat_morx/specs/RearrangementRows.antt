@@ -3,7 +3,7 @@ use Rattle.std.specs.Prelude.{◌≡◌, ℕ, List, [], ◌∷◌, ◌++◌, map
 use Rattle.aat_glyph.specs.declared.glyph.hb_glyph_info_t.{hb_glyph_info_t}
 use Rattle.aat_glyph.specs.declared.glyph.Direction.{Direction}
 use Rattle.aat_glyph.specs.declared.glyph.Direction.TheVariants.{RightToLeft, TopToBottom}
-use Rattle.aat_font.specs.declared.morx.SubtableKind.{SubtableKind}
+use Rattle.aat_machine_tables.specs.declared.morx.SubtableKind.{SubtableKind}
 use Rattle.aat_morx.specs.Rows.{substituted_by, row_of_sizes, row, sizes, subtable}
 use Rattle.aat_kinds.specs.Rearrangement.{rearranged, verbs}
 use Rattle.aat_run.specs.Rows.{shows, printed, Printed, glyph, rising_from, all_at, table, entry, buffer_with, many}

@@ -3,7 +3,7 @@ use Rattle.std.specs.Prelude.{ℕ, ◌&&◌, ◌||◌, not, Bool, List, length, 
 use Rattle.aat_buffer.specs.Buffer.{Buffer, without_positions}
 use Rattle.aat_buffer.specs.Marks.{unsafe_to_concat}
 use Rattle.aat_glyph.specs.declared.glyph.Direction.{Direction}
-use Rattle.aat_font.specs.declared.morx.Subtable.{Subtable}
+use Rattle.aat_machine_tables.specs.declared.morx.Subtable.{Subtable}
 use Rattle.aat_run.specs.Switches.{Switch}
 use Rattle.aat_run.specs.Outcome.{Outcome, untouched, in_order}
 use Rattle.aat_map.specs.SwitchedChains.{SwitchedChain}

@@ -3,7 +3,7 @@ ghost use Rattle.std.specs.Prelude.{◌≡◌, ◌+◌, ◌-◌, ◌*◌, ◌^�
 ghost use Rattle.std.specs.List.{list_all};
 ghost use Rattle.std.specs.Option.{option_copied};
 ghost use Rattle.aat_buffer.specs.Clusters.{IsSmall};
-ghost use Rattle.aat_font.specs.Chains.{subtable_count};
+ghost use Rattle.aat_machine_tables.specs.Chains.{subtable_count};
 ghost use Rattle.aat_font.specs.Face.{chains_in, tables_of};
 ghost use Rattle.aat_kinds.specs.Kinds.{sizes_for, sizes_of};
 ghost use Rattle.aat_morx.specs.Applying.{RefusesRun, applied, applied_by};

@@ -13,8 +13,9 @@ ghost use Rattle.aat_run.specs.Ranges.{IsGapless, is_whole_list, switch_for};
 
 use crate::waking::LineWord;
 use aat_buffer::{Direction, hb_buffer_t};
-use aat_font::{Coverage, GlyphWords, Subtable};
+use aat_font::GlyphWords;
 use aat_kinds::{SubtableRun, pass_over, run_kind};
+use aat_machine_tables::{Coverage, Subtable};
 use aat_run::AatError;
 use std::alloc::Allocator;
 

@@ -5,12 +5,13 @@ ghost use Rattle.aat_buffer.specs.Buffer.{Is16Bit, glyph_at};
 ghost use Rattle.aat_buffer.specs.Clusters.{IsSmall};
 ghost use Rattle.aat_font.specs.Idle.{is_idle};
 ghost use Rattle.aat_font.specs.Wakers.{word_of};
-ghost use Rattle.aat_font.specs.declared.morx.Subtable.{Subtable};
+ghost use Rattle.aat_machine_tables.specs.declared.morx.Subtable.{Subtable};
 ghost use Rattle.aat_kinds.specs.Idle.{SleepOthers};
 ghost use Rattle.aat_morx.specs.inside.LineWords.{HasBitsOf, IsAsleep, TellsOf, WakeAt};
 
 use aat_buffer::{hb_buffer_t, hb_glyph_info_t};
-use aat_font::{GlyphId, GlyphWords, word_at};
+use aat_font::{GlyphWords, word_at};
+use aat_lookup::GlyphId;
 use aat_run::Wakers;
 use std::alloc::Allocator;
 

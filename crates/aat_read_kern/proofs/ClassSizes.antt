@@ -6,8 +6,8 @@ use Rattle.std.specs.Prelude.{nat_le}
 use Rattle.std.proofs.Math.Nat.{div-le_self}
 use Rattle.std.proofs.lemmas.Bool.{le-leb}
 use Rattle.std.proofs.lemmas.List.FromFn.{get_or-map-range_with_len, length-map-range_with_len}
-use Rattle.aat_font.specs.Keys.{first}
-use Rattle.aat_font.specs.inside.GlyphSpans.{glyph_span}
+use Rattle.aat_lookup.specs.Keys.{first}
+use Rattle.aat_lookup.specs.inside.GlyphSpans.{glyph_span}
 use Rattle.aat_read_lookup.specs.Sizes.{cells_beside, pairs_size}
 use Rattle.aat_read_lookup.proofs.ReadLayouts.{at_most}
 

@@ -6,9 +6,9 @@ use Rattle.std.proofs.lemmas.Bool.{ltb-false}
 use Rattle.std.proofs.lemmas.List.FromFn.{length-map-range_with_len}
 use Rattle.aat_bytes.specs.Numbers.{be16}
 use Rattle.aat_bytes.specs.facts.Parts.{none_of, ok_parts, parts, passes}
-use Rattle.aat_font.specs.Classes.{ClassValues}
-use Rattle.aat_font.specs.Keys.{first_fall}
-use Rattle.aat_font.specs.Pairs.{key_of_pair}
+use Rattle.aat_kerning_tables.specs.Classes.{ClassValues}
+use Rattle.aat_lookup.specs.Keys.{first_fall}
+use Rattle.aat_kerning_tables.specs.Pairs.{key_of_pair}
 use Rattle.aat_read_lookup.specs.Sizes.{pairs_size}
 use Rattle.aat_read_pairs.specs.ClassTables.{class_table_at}
 use Rattle.aat_read_pairs.specs.KernClasses.{checked_table_at, grid_at, grid_value, kern_classes_at, value_count}

@@ -8,7 +8,7 @@ use Rattle.std.proofs.lemmas.List.FromFn.{length-map-range_with_len}
 use Rattle.std.proofs.lemmas.Nat.{div-mul-add, mod-mul-add}
 use Rattle.aat_bytes.specs.Numbers.{be16, signed16}
 use Rattle.aat_bytes.specs.facts.Parts.{none_of, ok_parts, parts, passes}
-use Rattle.aat_font.specs.KerningTables.{KernMachineTables}
+use Rattle.aat_kerning_tables.specs.KerningTables.{KernMachineTables}
 use Rattle.aat_read_kern.specs.ByteMachines.{byte_machine_at, cell_count, entry_place, has_entry, has_index, index_place, row_offset, rows_before}
 use Rattle.aat_read_kern.specs.ByteStates.{are_closed, closed_rows, first_row, missing_entry, missing_index, rows_of, rule_of, whole_rows, with_all_named, with_named}
 use Rattle.aat_read_kern.specs.KernLaws.{MachinesAreBounded}

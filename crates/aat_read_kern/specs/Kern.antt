@@ -6,9 +6,9 @@ use Rattle.aat_bytes.specs.Numbers.{be16, be32}
 use Rattle.aat_bytes.specs.declared.error.Fault.{Fault}
 use Rattle.aat_bytes.specs.declared.error.FaultKind.TheVariants.{PastEnd, ShortLength, UnknownFormat}
 use Rattle.aat_bytes.specs.declared.tags.TheConstants.{KERN}
-use Rattle.aat_font.specs.declared.kern.KernKind.{KernKind}
-use Rattle.aat_font.specs.declared.kern.KernKind.TheVariants.{Classes, Machine, Pairs}
-use Rattle.aat_font.specs.declared.kern.KernSubtable.{KernSubtable}
+use Rattle.aat_kerning_tables.specs.declared.kern.KernKind.{KernKind}
+use Rattle.aat_kerning_tables.specs.declared.kern.KernKind.TheVariants.{Classes, Machine, Pairs}
+use Rattle.aat_kerning_tables.specs.declared.kern.KernSubtable.{KernSubtable}
 use Rattle.aat_read_kern.specs.KernMachines.{kern_machine_at}
 use Rattle.aat_read_kern.specs.declared.header.KernHeader.{KernHeader}
 use Rattle.aat_read_kern.specs.declared.header.KernList.{KernList}

@@ -3,10 +3,10 @@ use Rattle.std.specs.Prelude.{◌≡◌, ℕ, pos, negsuc, List, [], ◌∷◌, 
 use Rattle.aat_bytes.specs.Faults.{fault_at}
 use Rattle.aat_bytes.specs.declared.error.FaultKind.TheVariants.{PastEnd, ShortLength, UnknownFormat}
 use Rattle.aat_bytes.specs.declared.tags.TheConstants.{KERN}
-use Rattle.aat_font.specs.Table.{Rule}
-use Rattle.aat_font.specs.declared.entries.KernEntryData.{KernEntryData}
-use Rattle.aat_font.specs.declared.kern.KernKind.TheVariants.{Pairs}
-use Rattle.aat_font.specs.declared.state_table.GenericStateEntry.{GenericStateEntry}
+use Rattle.aat_machine_tables.specs.Table.{Rule}
+use Rattle.aat_machine_tables.specs.declared.entries.KernEntryData.{KernEntryData}
+use Rattle.aat_kerning_tables.specs.declared.kern.KernKind.TheVariants.{Pairs}
+use Rattle.aat_machine_tables.specs.declared.state_table.GenericStateEntry.{GenericStateEntry}
 use Rattle.aat_read_kern.specs.Kern.{kern_of}
 use Rattle.aat_read_kern.specs.KernMachines.{kern_machine_at}
 

@@ -3,8 +3,8 @@ use Rattle.std.specs.Prelude.{◌≡◌, ℕ, zero, suc, ◌+◌, ◌-◌, ◌*�
 use Rattle.aat_bytes.specs.Faults.{fault_at}
 use Rattle.aat_bytes.specs.declared.error.FaultKind.TheVariants.{UnknownFormat}
 use Rattle.aat_bytes.specs.declared.tags.TheConstants.{KERN}
-use Rattle.aat_font.specs.KerningTables.{KernMachineTables}
-use Rattle.aat_font.specs.Table.{entry_of, table_value}
+use Rattle.aat_kerning_tables.specs.KerningTables.{KernMachineTables}
+use Rattle.aat_machine_tables.specs.Table.{entry_of, table_value}
 use Rattle.aat_read_kern.specs.ByteMachines.{state_count}
 use Rattle.aat_read_kern.specs.ByteStates.{entry_of_cell, rules_of}
 use Rattle.aat_read_kern.specs.declared.byte_machine.ByteMachine.{ByteMachine}

@@ -6,8 +6,8 @@ use Rattle.aat_bytes.specs.Numbers.{be16, signed16}
 use Rattle.aat_bytes.specs.declared.error.Fault.{Fault}
 use Rattle.aat_bytes.specs.declared.error.FaultKind.TheVariants.{PastEnd}
 use Rattle.aat_bytes.specs.declared.tags.TheConstants.{KERN}
-use Rattle.aat_font.specs.KerningTables.{KernMachineTables}
-use Rattle.aat_font.specs.Table.{table_value}
+use Rattle.aat_kerning_tables.specs.KerningTables.{KernMachineTables}
+use Rattle.aat_machine_tables.specs.Table.{table_value}
 use Rattle.aat_read_kern.specs.ByteMachines.{byte_machine_at}
 use Rattle.aat_read_kern.specs.ByteStates.{rows_of, rules_of, whole_rows}
 use Rattle.aat_read_kern.specs.declared.byte_classes.ByteClasses.{ByteClasses}

@@ -1,10 +1,10 @@
 -- What a kerning table weighs that is read: the bytes of memory that it takes.
 use Rattle.std.specs.Prelude.{ℕ, ◌+◌, ◌*◌, ◌/◌, length, sum_by}
-use Rattle.aat_font.specs.Classes.{ClassValues}
-use Rattle.aat_font.specs.KerningTables.{KernMachineTables}
-use Rattle.aat_font.specs.declared.kern.KernKind.{KernKind}
-use Rattle.aat_font.specs.declared.kern.KernKind.TheVariants.{Classes, Machine, Pairs}
-use Rattle.aat_font.specs.declared.kern.KernSubtable.{KernSubtable}
+use Rattle.aat_kerning_tables.specs.Classes.{ClassValues}
+use Rattle.aat_kerning_tables.specs.KerningTables.{KernMachineTables}
+use Rattle.aat_kerning_tables.specs.declared.kern.KernKind.{KernKind}
+use Rattle.aat_kerning_tables.specs.declared.kern.KernKind.TheVariants.{Classes, Machine, Pairs}
+use Rattle.aat_kerning_tables.specs.declared.kern.KernSubtable.{KernSubtable}
 use Rattle.aat_read_lookup.specs.Sizes.{pairs_size}
 use Rattle.aat_read_machine.specs.Weights.{machine_weight}
 use Rattle.aat_read_pairs.specs.Weights.{pairs_weight}

@@ -7,7 +7,7 @@ ghost use Rattle.aat_read_machine.specs.Within.{GivesAs, GivesWithin};
 use crate::header::KernList;
 use crate::subtables::{SubtableRead, subtable_at};
 use aat_bytes::ReadError;
-use aat_font::{Kern, KernSubtable};
+use aat_kerning_tables::{Kern, KernSubtable};
 use aat_read_pairs::LeftOutSubtable;
 use std::alloc::{AllocError, Global};
 use std::marker::Model;

@@ -1,6 +1,6 @@
 //! Machines of the kerning table.
 ghost use Rattle.std.specs.Prelude.{◌≡◌, ◌+◌, ◌*◌, ◌<◌, ◌≤◌, length, IfOk, MatchResult, Ok};
-ghost use Rattle.aat_font.specs.Table.{table_value};
+ghost use Rattle.aat_machine_tables.specs.Table.{table_value};
 ghost use Rattle.aat_read_lookup.specs.Lookups.{Gives};
 ghost use Rattle.aat_read_kern.specs.ByteStates.{rules_of};
 ghost use Rattle.aat_read_kern.specs.KernMachines.{classes_of, kern_machine_at, values_of};
@@ -10,7 +10,9 @@ use crate::byte_classes::ByteClasses;
 use crate::byte_machine::ByteMachine;
 use crate::rows::Rows;
 use aat_bytes::{ReadError, be16};
-use aat_font::{ExtendedStateTable, KernEntryData, KernMachine, Lookup};
+use aat_kerning_tables::KernMachine;
+use aat_lookup::Lookup;
+use aat_machine_tables::{ExtendedStateTable, KernEntryData};
 use std::alloc::{AllocError, Global};
 
 /// The most values of a machine.

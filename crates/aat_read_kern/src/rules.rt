@@ -7,7 +7,7 @@ ghost use Rattle.aat_read_kern.specs.inside.Whole.{AreIndexed, AreNear, AreWhole
 use crate::byte_machine::ByteMachine;
 use crate::rows::Rows;
 use aat_bytes::{Fault, FaultKind, be16};
-use aat_font::{GenericStateEntry, KernEntryData};
+use aat_machine_tables::{GenericStateEntry, KernEntryData};
 use aat_read_pairs::KERN;
 use std::alloc::{AllocError, Allocator};
 

@@ -7,7 +7,7 @@ ghost use Rattle.aat_read_machine.specs.Within.{GivesAs, GivesWithin};
 use crate::header::{KernHeader, KernList};
 use crate::kern_machine::read_kern_machine;
 use aat_bytes::{Fault, FaultKind, ReadError};
-use aat_font::{KernKind, KernSubtable};
+use aat_kerning_tables::{KernKind, KernSubtable};
 use aat_read_pairs::{
     KERN, LeftOutSubtable, read_kern_classes, read_kern_indexes, read_kern_pairs,
 };

@@ -1,6 +1,7 @@
 //! What values that are read weigh: the bytes of memory that they take.
 
-use aat_font::{GenericStateEntry, JudgedEntry, KernEntryData, KernSubtable};
+use aat_kerning_tables::KernSubtable;
+use aat_machine_tables::{GenericStateEntry, JudgedEntry, KernEntryData};
 pub use aat_read_pairs::weights::{LEFT_OUT_SIZE, PAIR_SIZE, START_SIZE};
 
 /// The bytes of a rule of a machine, and of its cell in the grid beside the rules.

@@ -11,10 +11,10 @@ use Rattle.aat_bytes.specs.Numbers.{be16, be32}
 use Rattle.aat_bytes.specs.declared.error.Fault.{Fault}
 use Rattle.aat_bytes.specs.facts.Parts.{after_ok, after_one_more, ok_parts, parts, passes}
 use Rattle.aat_bytes.specs.declared.tags.TheConstants.{ANKR}
-use Rattle.aat_font.specs.AnchorPoints.{Points, glyph_of_row, listed_point, points_in_rows}
-use Rattle.aat_font.specs.Keys.{IsRising, at_key, fall_after, first, first_fall, value_in}
-use Rattle.aat_font.specs.declared.entries.Point.{Point}
-use Rattle.aat_font.specs.facts.Falls.{rising}
+use Rattle.aat_kerning_tables.specs.AnchorPoints.{Points, glyph_of_row, listed_point, points_in_rows}
+use Rattle.aat_lookup.specs.Keys.{IsRising, at_key, fall_after, first, first_fall, value_in}
+use Rattle.aat_kerning_tables.specs.declared.ankr.Point.{Point}
+use Rattle.aat_lookup.specs.facts.Falls.{rising}
 use Rattle.aat_read_lookup.specs.Lookups.{lookup_at}
 use Rattle.aat_read_kerx.specs.AnchorLaws.{PointsAreBounded, PointsAreThoseOfBytes, points_weight}
 use Rattle.aat_read_kerx.specs.Anchors.{ankr_of, point_at, points_at, points_place, points_within, row_size, rows_within}

@@ -7,7 +7,7 @@ use Rattle.aat_bytes.specs.Numbers.{be16, signed16}
 use Rattle.aat_bytes.specs.declared.error.Fault.{Fault}
 use Rattle.aat_bytes.specs.facts.Parts.{ok_parts, parts, passes}
 use Rattle.aat_bytes.specs.declared.tags.TheConstants.{KERX}
-use Rattle.aat_font.specs.KerningTables.{KerxAnchorTables, KerxStackTables}
+use Rattle.aat_kerning_tables.specs.KerningTables.{KerxAnchorTables, KerxStackTables}
 use Rattle.aat_read_lookup.proofs.Extents.{sizes_have_bytes}
 use Rattle.aat_read_lookup.proofs.SizeBounds.{bytes_are_inside, lookups_are_bounded}
 use Rattle.aat_read_lookup.specs.Sizes.{lookup_size_at}

@@ -4,7 +4,7 @@ use Rattle.aat_bytes.specs.Faults.{fault_at}
 use Rattle.aat_bytes.specs.declared.error.Fault.{Fault}
 use Rattle.aat_bytes.specs.declared.error.FaultKind.TheVariants.{PastEnd, UnknownFormat}
 use Rattle.aat_bytes.specs.declared.tags.TheConstants.{ANKR}
-use Rattle.aat_font.specs.AnchorPoints.{Points}
+use Rattle.aat_kerning_tables.specs.AnchorPoints.{Points}
 use Rattle.aat_read_kerx.specs.Anchors.{ankr_of}
 
 -- the header of a version, with the lookup at 12 and the points at a place

@@ -2,8 +2,8 @@
 use Rattle.std.specs.Prelude.{◌≡◌, ℕ, ◌+◌, ◌*◌, ◌≤◌, List, length, sum_by, Ok, Option, option_and_then, slice_get}
 use Rattle.aat_bytes.specs.Numbers.{be32}
 use Rattle.aat_bytes.specs.declared.tags.TheConstants.{ANKR}
-use Rattle.aat_font.specs.AnchorPoints.{Points, listed_point}
-use Rattle.aat_font.specs.declared.entries.Point.{Point}
+use Rattle.aat_kerning_tables.specs.AnchorPoints.{Points, listed_point}
+use Rattle.aat_kerning_tables.specs.declared.ankr.Point.{Point}
 use Rattle.aat_read_lookup.specs.Lookups.{value_of_glyph}
 use Rattle.aat_read_kerx.specs.Anchors.{ankr_of, points_at, points_place}
 use Rattle.aat_read_kerx.specs.declared.weights.TheConstants.{ANCHOR_ROW_SIZE, POINT_SIZE}

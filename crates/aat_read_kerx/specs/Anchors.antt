@@ -6,8 +6,8 @@ use Rattle.aat_bytes.specs.Numbers.{be16, be32, signed16}
 use Rattle.aat_bytes.specs.declared.error.Fault.{Fault}
 use Rattle.aat_bytes.specs.declared.error.FaultKind.TheVariants.{PastEnd, UnknownFormat}
 use Rattle.aat_bytes.specs.declared.tags.TheConstants.{ANKR}
-use Rattle.aat_font.specs.AnchorPoints.{Points}
-use Rattle.aat_font.specs.declared.entries.Point.{Point}
+use Rattle.aat_kerning_tables.specs.AnchorPoints.{Points}
+use Rattle.aat_kerning_tables.specs.declared.ankr.Point.{Point}
 use Rattle.aat_read_lookup.specs.Lookups.{lookup_at}
 
 -- a point: two signed numbers

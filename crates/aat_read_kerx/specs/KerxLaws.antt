@@ -6,7 +6,7 @@ use Rattle.aat_read_kerx.specs.KerxSubtables.{format_up_to, subtable_read}
 use Rattle.aat_read_kerx.specs.KerxTables.{KerxValue, kerx_of, kerx_value}
 use Rattle.aat_read_kerx.specs.Machines.{anchor_tables_at, stack_tables_at}
 use Rattle.aat_read_kerx.specs.Weights.{anchor_weight, kerx_weight, stack_weight}
-use Rattle.aat_font.specs.KerningTables.{KerxAnchorTables, KerxStackTables}
+use Rattle.aat_kerning_tables.specs.KerningTables.{KerxAnchorTables, KerxStackTables}
 use Rattle.aat_read_kerx.specs.declared.formats.FormatRead.{FormatRead}
 use Rattle.aat_read_kerx.specs.declared.subtables.SubtableRead.{SubtableRead}
 

@@ -5,8 +5,8 @@ use Rattle.aat_bytes.specs.Numbers.{be32}
 use Rattle.aat_bytes.specs.declared.error.Fault.{Fault}
 use Rattle.aat_bytes.specs.declared.error.FaultKind.TheVariants.{PastEnd, ShortLength}
 use Rattle.aat_bytes.specs.declared.tags.TheConstants.{KERX}
-use Rattle.aat_font.specs.declared.kerx.KerxFormat.{KerxFormat}
-use Rattle.aat_font.specs.declared.kerx.KerxSubtable.{KerxSubtable}
+use Rattle.aat_kerning_tables.specs.declared.kerx.KerxFormat.{KerxFormat}
+use Rattle.aat_kerning_tables.specs.declared.kerx.KerxSubtable.{KerxSubtable}
 use Rattle.aat_read_kerx.specs.Formats.{format_at, left_out_at}
 use Rattle.aat_read_kerx.specs.declared.formats.FormatRead.{FormatRead}
 use Rattle.aat_read_kerx.specs.declared.formats.FormatRead.TheVariants as formats

@@ -6,7 +6,7 @@ use Rattle.aat_bytes.specs.Numbers.{be16, be32}
 use Rattle.aat_bytes.specs.declared.error.Fault.{Fault}
 use Rattle.aat_bytes.specs.declared.error.FaultKind.TheVariants.{PastEnd, UnknownFormat}
 use Rattle.aat_bytes.specs.declared.tags.TheConstants.{KERX}
-use Rattle.aat_font.specs.declared.kerx.KerxSubtable.{KerxSubtable}
+use Rattle.aat_kerning_tables.specs.declared.kerx.KerxSubtable.{KerxSubtable}
 use Rattle.aat_read_machine.specs.InTurn.{in_turn}
 use Rattle.aat_read_kerx.specs.KerxSubtables.{KerxStart, subtable_at}
 use Rattle.aat_read_pairs.specs.declared.left_out.LeftOutSubtable.{LeftOutSubtable}

@@ -1,14 +1,14 @@
 //! The anchor point table from bytes.
 ghost use Rattle.std.specs.Prelude.{◌≡◌, ◌+◌, ◌*◌, ◌<◌, ◌≤◌, ◌^◌, IfOk, length, MatchResult, None, Ok, vec_len};
 ghost use Rattle.aat_bytes.specs.Numbers.{be32};
-ghost use Rattle.aat_font.specs.AnchorPoints.{glyph_of_row, points_in_rows};
-ghost use Rattle.aat_font.specs.Keys.{first, first_fall};
+ghost use Rattle.aat_kerning_tables.specs.AnchorPoints.{glyph_of_row, points_in_rows};
+ghost use Rattle.aat_lookup.specs.Keys.{first, first_fall};
 ghost use Rattle.aat_read_machine.specs.Within.{GivesWithin, RefusesWithin};
 ghost use Rattle.aat_read_kerx.specs.Anchors.{ankr_of, point_at, points_at, points_within, row_size, rows_within};
 
 use aat_bytes::tags::ANKR;
 use aat_bytes::{Fault, FaultKind, ReadError, be16, be32};
-use aat_font::{Ankr, Point};
+use aat_kerning_tables::{Ankr, Point};
 use aat_read_lookup::read_pairs;
 use std::alloc::{AllocError, Global};
 

@@ -2,7 +2,7 @@
 ghost use Rattle.std.specs.Prelude.{◌≡◌, ◌+◌, ◌≤◌, length};
 ghost use Rattle.aat_bytes.specs.Faults.{fault_at};
 ghost use Rattle.aat_bytes.specs.declared.error.FaultKind.TheVariants.{UnknownFormat};
-ghost use Rattle.aat_font.specs.declared.kerx.KerxFormat.TheVariants.{Format0, Format1, Format2Classes};
+ghost use Rattle.aat_kerning_tables.specs.declared.kerx.KerxFormat.TheVariants.{Format0, Format1, Format2Classes};
 ghost use Rattle.aat_read_machine.specs.Within.{GivesWithin};
 ghost use Rattle.aat_read_pairs.specs.KerxClasses.{kerx_classes_at};
 ghost use Rattle.aat_read_pairs.specs.ListedPairs.{kerx_pairs_at};
@@ -12,7 +12,7 @@ ghost use Rattle.aat_read_kerx.specs.declared.formats.FormatRead.TheVariants.{Le
 
 use crate::machines::{action_type, read_anchor_tables, read_stack_tables};
 use aat_bytes::{Fault, FaultKind, ReadError, be32};
-use aat_font::KerxFormat;
+use aat_kerning_tables::KerxFormat;
 use aat_read_pairs::{
     KERX, kerx_wide_value, read_kerx_arrays, read_kerx_classes, read_kerx_long_arrays,
     read_kerx_pairs,

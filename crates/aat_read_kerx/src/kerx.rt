@@ -6,7 +6,7 @@ ghost use Rattle.aat_read_kerx.specs.KerxTables.{kerning_of, kerx_of, left_out_o
 
 use crate::subtables::{SubtableRead, subtable_at};
 use aat_bytes::{Fault, FaultKind, ReadError, be16, be32};
-use aat_font::{Kerx, KerxSubtable};
+use aat_kerning_tables::{Kerx, KerxSubtable};
 use aat_read_pairs::{KERX, LeftOutSubtable};
 use std::alloc::{AllocError, Global};
 use std::marker::Model;

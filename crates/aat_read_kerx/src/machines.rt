@@ -5,7 +5,8 @@ ghost use Rattle.aat_read_machine.specs.Kinds.{list_place};
 ghost use Rattle.aat_read_kerx.specs.Machines.{action_type, anchor_flags, anchor_tables_at, pairs_place, point_pairs_from, stack_tables_at, values_from};
 
 use aat_bytes::{Fault, FaultKind, ReadError, be16, be32};
-use aat_font::{EntryData, Subtable1, Subtable4};
+use aat_kerning_tables::{Subtable1, Subtable4};
+use aat_machine_tables::EntryData;
 use aat_read_machine::{read_machine, read_stack_machine};
 use aat_read_pairs::KERX;
 use std::alloc::{AllocError, Global};

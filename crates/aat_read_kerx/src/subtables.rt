@@ -5,7 +5,7 @@ ghost use Rattle.aat_read_kerx.specs.KerxSubtables.{KerxStart, end_at, format_of
 
 use crate::formats::{FormatRead, format_at, left_out};
 use aat_bytes::{Fault, FaultKind, ReadError, be32};
-use aat_font::{KerxFormat, KerxSubtable};
+use aat_kerning_tables::{KerxFormat, KerxSubtable};
 use aat_read_pairs::{KERX, LeftOutSubtable};
 use std::alloc::Global;
 

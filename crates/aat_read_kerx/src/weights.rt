@@ -1,6 +1,7 @@
 //! What values that are read weigh: the bytes of memory that they take.
 
-use aat_font::{EntryData, GenericStateEntry, JudgedEntry, KerxSubtable, Point};
+use aat_kerning_tables::{KerxSubtable, Point};
+use aat_machine_tables::{EntryData, GenericStateEntry, JudgedEntry};
 pub use aat_read_pairs::weights::{LEFT_OUT_SIZE, PAIR_SIZE, START_SIZE};
 
 /// The bytes of a glyph with anchor points, besides these.

@@ -6,7 +6,7 @@ use Rattle.std.proofs.lemmas.Bool.Decides.{nat_tests}
 use Rattle.std.proofs.lemmas.List.{append-nil, length-append}
 use Rattle.std.proofs.lemmas.List.FromFn.{length-map-range_with_len}
 use Rattle.std.proofs.lemmas.List.Sums.{sum_by-cons}
-use Rattle.aat_font.specs.declared.segments.LookupSegment.{LookupSegment}
+use Rattle.aat_lookup.specs.declared.segments.LookupSegment.{LookupSegment}
 use Rattle.aat_read_lookup.specs.Kept.{kept_count, kept_segments, kept_value, layout_segments, single_segment, whole_segment}
 use Rattle.aat_read_lookup.specs.Layouts.{glyphs_of, has_offset, segment_at, segment_of, unit_place, unit_segments}
 use Rattle.aat_read_lookup.specs.Segments.{is_shared}

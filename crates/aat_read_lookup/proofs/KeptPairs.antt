@@ -5,7 +5,7 @@ use Rattle.std.specs.Prelude.{if◌then◌else◌}
 use Rattle.std.proofs.lemmas.Bool.Decides.{nat_tests}
 use Rattle.std.proofs.lemmas.List.{append-nil, map-append}
 use Rattle.std.proofs.lemmas.List.Concat.{flat_map-append}
-use Rattle.aat_font.specs.Segments.{pairs_of_segment, pairs_of_segments}
+use Rattle.aat_lookup.specs.Segments.{pairs_of_segment, pairs_of_segments}
 use Rattle.aat_read_lookup.specs.Kept.{kept_pairs, kept_segments, kept_value, layout_segments, row_of, single_segment, whole_segment}
 use Rattle.aat_read_lookup.specs.Layouts.{segments_of}
 use Rattle.aat_read_lookup.specs.LongLookups.{in_long_row, long_pairs_of}

@@ -3,8 +3,8 @@ use Rattle.std.proofs.Common.{◌≡◌, ℕ, zero, suc, ◌+◌, ◌-◌, ◌�
 use Rattle.std.specs.Prelude.{nat_eq}
 use Rattle.std.specs.List.{flat_map, range_with_len}
 use Rattle.std.proofs.lemmas.Bool.{ne_eqb}
-use Rattle.aat_font.specs.Keys.{first, first_fall}
-use Rattle.aat_font.specs.Segments.{first_segment_fall}
+use Rattle.aat_lookup.specs.Keys.{first, first_fall}
+use Rattle.aat_lookup.specs.Segments.{first_segment_fall}
 use Rattle.aat_read_lookup.specs.Layouts.{end_before, segment_of, segments_of, unit_segments}
 use Rattle.aat_read_lookup.specs.Segments.{end_of, pairs_by}
 use Rattle.aat_read_lookup.specs.Kept.{layout_segments}

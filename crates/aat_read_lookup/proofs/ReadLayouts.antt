@@ -7,7 +7,7 @@ use Rattle.aat_bytes.specs.Faults.{after}
 use Rattle.aat_bytes.specs.Numbers.{be16}
 use Rattle.aat_bytes.specs.declared.error.Fault.{Fault}
 use Rattle.aat_bytes.specs.declared.tag.Tag.{Tag}
-use Rattle.aat_font.specs.Keys.{first}
+use Rattle.aat_lookup.specs.Keys.{first}
 use Rattle.aat_read_lookup.specs.Layouts.{are_crowded, array_of, checked_units, has_offset, is_terminator, layout_at, record_size, searched_at, sized_array_at, trimmed_array_at, unit_bytes, unit_place, units_at, units_fault, unless_fault, without_terminator}
 use Rattle.aat_read_lookup.specs.Segments.{is_long, numbers_size, values_end, values_place, values_size}
 use Rattle.aat_read_lookup.specs.declared.layout.Layout.{Layout}

@@ -4,9 +4,9 @@ use Rattle.std.specs.Prelude.{nat_lt, if◌then◌else◌}
 use Rattle.std.specs.List.{flat_map, range_with_len}
 use Rattle.std.proofs.lemmas.Bool.{lt-ltb, le-ltb, cond-true}
 use Rattle.std.proofs.lemmas.Bool.Decides.{nat_tests}
-use Rattle.aat_font.specs.Keys.{fall_after, first, first_fall}
-use Rattle.aat_font.specs.Segments.{first_segment_fall, segment_fall_from}
-use Rattle.aat_font.specs.declared.segments.LookupSegment.{LookupSegment}
+use Rattle.aat_lookup.specs.Keys.{fall_after, first, first_fall}
+use Rattle.aat_lookup.specs.Segments.{first_segment_fall, segment_fall_from}
+use Rattle.aat_lookup.specs.declared.segments.LookupSegment.{LookupSegment}
 use Rattle.aat_read_lookup.specs.Segments.{end_of, is_shared, pairs_by}
 use Rattle.aat_read_lookup.specs.Kept.{kept_segments, single_segment, whole_segment}
 use Rattle.aat_read_lookup.specs.declared.kept.Keep.{Keep}

@@ -7,7 +7,7 @@ use Rattle.std.proofs.lemmas.Bool.{cases_eq, cases_lt, eq-eqb, ne_eqb, le-leb, l
 use Rattle.std.proofs.lemmas.List.Folds.{find-append}
 use Rattle.aat_bytes.specs.Faults.{after}
 use Rattle.aat_bytes.specs.declared.error.Fault.{Fault}
-use Rattle.aat_font.specs.Keys.{at_key, first, value_in}
+use Rattle.aat_lookup.specs.Keys.{at_key, first, value_in}
 use Rattle.aat_read_lookup.specs.Layouts.{layout_at, segments_of}
 use Rattle.aat_read_lookup.specs.LookupLaws.{ValuesAreThoseOfSegments}
 use Rattle.aat_read_lookup.specs.Lookups.{pairs_of}

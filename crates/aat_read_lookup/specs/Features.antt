@@ -7,9 +7,9 @@ use Rattle.aat_bytes.specs.Numbers.{be16, be32, u16_at}
 use Rattle.aat_bytes.specs.declared.error.Fault.{Fault}
 use Rattle.aat_bytes.specs.declared.error.FaultKind.TheVariants.{PastEnd, UnknownFormat, NotRising}
 use Rattle.aat_bytes.specs.declared.tags.TheConstants.{FEAT}
-use Rattle.aat_font.specs.FeatureNames.{kind_of}
-use Rattle.aat_font.specs.Keys.{first_fall}
-use Rattle.aat_font.specs.declared.feat.FeatureName.{FeatureName}
+use Rattle.aat_lookup.specs.FeatureNames.{kind_of}
+use Rattle.aat_lookup.specs.Keys.{first_fall}
+use Rattle.aat_lookup.specs.declared.feat.FeatureName.{FeatureName}
 
 -- the number of features, whose records of 12 bytes stand behind a header of 12 bytes, of version 1
 unfoldable pub feature_count : List ℕ → Result ℕ Fault

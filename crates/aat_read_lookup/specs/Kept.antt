@@ -2,7 +2,7 @@
 -- "Font Tables", section on lookup tables.
 use Rattle.std.specs.Prelude.{ℕ, ◌+◌, ◌-◌, ◌/◌, List, [], ◌∷◌, map, min, if◌then◌else◌, ◌==◌}
 use Rattle.std.specs.List.{flat_map, range_with_len}
-use Rattle.aat_font.specs.declared.segments.LookupSegment.{LookupSegment}
+use Rattle.aat_lookup.specs.declared.segments.LookupSegment.{LookupSegment}
 use Rattle.aat_read_lookup.specs.Layouts.{segments_of}
 use Rattle.aat_read_lookup.specs.Segments.{end_of, is_shared, long_value_at, pairs_by, value_at}
 use Rattle.aat_read_lookup.specs.declared.kept.Keep.{Keep}

@@ -1,7 +1,7 @@
 -- What is known of a lookup with values of 32 bits that is read, and of its size, whatever the bytes say.
 use Rattle.std.specs.Prelude.{◌≡◌, ℕ, ◌*◌, ◌-◌, ◌≤◌, List, length, Ok, None}
 use Rattle.aat_bytes.specs.declared.tag.Tag.{Tag}
-use Rattle.aat_font.specs.Keys.{first, first_fall}
+use Rattle.aat_lookup.specs.Keys.{first, first_fall}
 use Rattle.aat_read_lookup.specs.LongLookups.{long_lookup_at}
 use Rattle.aat_read_lookup.specs.LongSizes.{long_bytes_at, long_size_at}
 

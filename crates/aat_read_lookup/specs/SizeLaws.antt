@@ -1,8 +1,8 @@
 -- What is known of a lookup that is read, and of its size, whatever the bytes say.
 use Rattle.std.specs.Prelude.{◌≡◌, ℕ, ◌+◌, ◌*◌, ◌-◌, ◌≤◌, List, length, Ok, None}
 use Rattle.aat_bytes.specs.declared.tag.Tag.{Tag}
-use Rattle.aat_font.specs.Keys.{first, first_fall}
-use Rattle.aat_font.specs.inside.Dense.{span_count}
+use Rattle.aat_lookup.specs.Keys.{first, first_fall}
+use Rattle.aat_lookup.specs.inside.Dense.{span_count}
 use Rattle.aat_read_lookup.specs.Lookups.{lookup_at}
 use Rattle.aat_read_lookup.specs.Sizes.{lookup_bytes_at, lookup_size_at, pairs_size}
 

@@ -2,14 +2,14 @@
 ghost use Rattle.std.specs.Prelude.{◌≡◌, ◌+◌, ◌*◌, ◌<◌, ◌≤◌, ◌==◌, find, length, IfOk, IfSome};
 ghost use Rattle.std.specs.List.{range_with_len};
 ghost use Rattle.aat_bytes.specs.Numbers.{be16};
-ghost use Rattle.aat_font.specs.FeatureNames.{kind_of};
-ghost use Rattle.aat_font.specs.Keys.{first_fall};
+ghost use Rattle.aat_lookup.specs.FeatureNames.{kind_of};
+ghost use Rattle.aat_lookup.specs.Keys.{first_fall};
 ghost use Rattle.aat_read_lookup.specs.Features.{feat_of, feature_count, feature_name, feature_name_id, feature_names, feature_place, feature_record, has_number, setting_name_id, setting_name_in};
 ghost use Rattle.aat_read_lookup.specs.Lookups.{Gives};
 
 use aat_bytes::tags::FEAT;
 use aat_bytes::{Fault, FaultKind, ReadError, be16, be32, u16_at};
-use aat_font::{Feat, FeatureName};
+use aat_lookup::{Feat, FeatureName};
 use std::alloc::{AllocError, Allocator};
 
 /// The number of features.

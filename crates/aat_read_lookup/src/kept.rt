@@ -10,7 +10,7 @@ ghost use Rattle.aat_read_lookup.specs.declared.kept.Keep.TheVariants.{Value};
 use crate::layout::Layout;
 use crate::segment::Segment;
 use crate::units::Units;
-use aat_font::LookupSegment;
+use aat_lookup::LookupSegment;
 use std::alloc::{AllocError, Allocator};
 
 /// What is kept of a value.

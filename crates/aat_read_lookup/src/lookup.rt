@@ -1,8 +1,8 @@
 //! Lookups from bytes.
 ghost use Rattle.std.specs.Prelude.{◌≡◌, ◌++◌, None, Ok, IfOk, OnOk, MatchResult};
 ghost use Rattle.std.specs.List.{flat_map};
-ghost use Rattle.aat_font.specs.Keys.{first, first_fall};
-ghost use Rattle.aat_font.specs.Segments.{first_segment_fall, pairs_of_segments};
+ghost use Rattle.aat_lookup.specs.Keys.{first, first_fall};
+ghost use Rattle.aat_lookup.specs.Segments.{first_segment_fall, pairs_of_segments};
 ghost use Rattle.aat_read_lookup.specs.Kept.{kept_pairs};
 ghost use Rattle.aat_read_lookup.specs.Lookups.{Gives, Refuses, lookup_at};
 ghost use Rattle.aat_read_lookup.specs.inside.Sound.{AreSound, CanKeep, IsSound};
@@ -13,7 +13,7 @@ use crate::layout::Layout;
 use crate::segment::ValueKind;
 use crate::units::Units;
 use aat_bytes::{ReadError, Tag};
-use aat_font::{Lookup, LookupSegment, TableError};
+use aat_lookup::{Lookup, LookupSegment, TableError};
 use std::alloc::{AllocError, Allocator};
 
 /// Appends the pairs of units.

@@ -10,7 +10,7 @@ use crate::layout::Layout;
 use crate::lookup::{lookup_of, spread_lookup};
 use crate::segment::ValueKind;
 use aat_bytes::{ReadError, Tag};
-use aat_font::Lookup;
+use aat_lookup::Lookup;
 use std::alloc::{AllocError, Allocator};
 
 /// The rows of a layout. Fails only where they get no memory.

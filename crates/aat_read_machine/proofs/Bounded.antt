@@ -9,11 +9,11 @@ use Rattle.std.proofs.lemmas.List.FromFn.{length-map-range_with_len}
 use Rattle.aat_bytes.specs.Numbers.{be16, be32, u32_at}
 use Rattle.aat_bytes.specs.declared.error.Fault.{Fault}
 use Rattle.aat_bytes.specs.declared.tag.Tag.{Tag}
-use Rattle.aat_font.specs.Subtables.{ContextualTables, InsertionTables, LigatureTables}
-use Rattle.aat_font.specs.Table.{TableValue, table_value}
-use Rattle.aat_font.specs.declared.morx.SubtableKind.{SubtableKind}
-use Rattle.aat_font.specs.declared.morx.SubtableKind.TheVariants.{Rearrangement, Contextual, Ligature, NonContextual, Insertion}
-use Rattle.aat_font.specs.declared.state_table.GenericStateEntry.{GenericStateEntry}
+use Rattle.aat_machine_tables.specs.Subtables.{ContextualTables, InsertionTables, LigatureTables}
+use Rattle.aat_machine_tables.specs.Table.{TableValue, table_value}
+use Rattle.aat_machine_tables.specs.declared.morx.SubtableKind.{SubtableKind}
+use Rattle.aat_machine_tables.specs.declared.morx.SubtableKind.TheVariants.{Rearrangement, Contextual, Ligature, NonContextual, Insertion}
+use Rattle.aat_machine_tables.specs.declared.state_table.GenericStateEntry.{GenericStateEntry}
 use Rattle.aat_read_lookup.proofs.Extents.{array_within, bytes_within, extent, sizes_have_bytes}
 use Rattle.aat_read_lookup.proofs.SizeBounds.{bytes_are_inside, lookups_are_bounded}
 use Rattle.aat_read_lookup.specs.Lookups.{lookup_at}

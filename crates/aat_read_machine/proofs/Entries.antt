@@ -5,8 +5,8 @@ use Rattle.std.specs.Prelude.{option_map, nat_lt}
 use Rattle.std.proofs.Math.Nat.{div-add-mod}
 use Rattle.std.proofs.lemmas.Bool.Decides.{nat_tests}
 use Rattle.std.proofs.lemmas.Nat.{div-mul-add, mod-mul-add}
-use Rattle.aat_font.specs.Keys.{at_key}
-use Rattle.aat_font.specs.Table.{entry_of, known_class, rule_key, table_value}
+use Rattle.aat_lookup.specs.Keys.{at_key}
+use Rattle.aat_machine_tables.specs.Table.{entry_of, known_class, rule_key, table_value}
 use Rattle.aat_read_machine.specs.Entries.{entry_at}
 use Rattle.aat_read_machine.specs.MachineLaws.{HasEntriesOfBytes}
 use Rattle.aat_read_machine.specs.StateArray.{StateArray, entry_place, rule_of, rules_of}

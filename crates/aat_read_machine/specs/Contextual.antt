@@ -6,7 +6,7 @@ use Rattle.aat_bytes.specs.Numbers.{be32}
 use Rattle.aat_bytes.specs.declared.error.Fault.{Fault}
 use Rattle.aat_bytes.specs.declared.error.FaultKind.TheVariants.{PastEnd}
 use Rattle.aat_bytes.specs.declared.tags.TheConstants.{MORX}
-use Rattle.aat_font.specs.Subtables.{ContextualTables}
+use Rattle.aat_machine_tables.specs.Subtables.{ContextualTables}
 use Rattle.aat_read_lookup.specs.Lookups.{lookup_at}
 use Rattle.aat_read_machine.specs.Entries.{contextual_at}
 use Rattle.aat_read_machine.specs.Kinds.{list_place}

@@ -5,7 +5,7 @@ use Rattle.aat_bytes.specs.Numbers.{be16, be32}
 use Rattle.aat_bytes.specs.declared.error.Fault.{Fault}
 use Rattle.aat_bytes.specs.declared.error.FaultKind.TheVariants.{PastEnd}
 use Rattle.aat_bytes.specs.declared.tags.TheConstants.{MORX}
-use Rattle.aat_font.specs.Subtables.{InsertionTables, LigatureTables}
+use Rattle.aat_machine_tables.specs.Subtables.{InsertionTables, LigatureTables}
 use Rattle.aat_read_machine.specs.Entries.{insertion_at}
 use Rattle.aat_read_machine.specs.Lists.{glyphs_from, numbers16, numbers32}
 use Rattle.aat_read_machine.specs.Machine.{machine_at}

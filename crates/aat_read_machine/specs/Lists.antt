@@ -3,7 +3,7 @@
 use Rattle.std.specs.Prelude.{ℕ, ◌+◌, ◌*◌, ◌-◌, ◌/◌, List, length, map}
 use Rattle.std.specs.List.{range_with_len}
 use Rattle.aat_bytes.specs.Numbers.{be16, be32}
-use Rattle.aat_font.specs.declared.plan.GlyphId.{GlyphId}
+use Rattle.aat_lookup.specs.declared.glyph_id.GlyphId.{GlyphId}
 
 -- how many elements of a size stand from a place on
 abbrev pub count_from : List ℕ → ℕ → ℕ → ℕ

@@ -2,8 +2,8 @@
 use Rattle.std.specs.Prelude.{◌≡◌, ℕ, ◌<◌, ◌+◌, ◌*◌, List, All, Option, Some, if◌then◌else◌, ◌==◌}
 use Rattle.std.specs.List.{fold}
 use Rattle.aat_bytes.specs.Numbers.{be16, be32}
-use Rattle.aat_font.specs.Table.{TableValue, class_of, entry_of}
-use Rattle.aat_font.specs.declared.state_table.GenericStateEntry.{GenericStateEntry}
+use Rattle.aat_machine_tables.specs.Table.{TableValue, class_of, entry_of}
+use Rattle.aat_machine_tables.specs.declared.state_table.GenericStateEntry.{GenericStateEntry}
 use Rattle.aat_read_machine.specs.Entries.{entry_at}
 
 -- where the entry of a state and a class stands in a state table, whose entries have so many bytes beside a state and

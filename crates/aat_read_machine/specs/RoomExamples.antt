@@ -4,10 +4,10 @@ use Rattle.aat_bytes.specs.Faults.{fault_at}
 use Rattle.aat_bytes.specs.declared.error.Fault.{Fault}
 use Rattle.aat_bytes.specs.declared.error.FaultKind.TheVariants.{PastEnd}
 use Rattle.aat_bytes.specs.declared.tags.TheConstants.{MORX}
-use Rattle.aat_font.specs.Subtables.{ContextualTables}
-use Rattle.aat_font.specs.Table.{Rule}
-use Rattle.aat_font.specs.declared.entries.ContextualEntryData.{ContextualEntryData}
-use Rattle.aat_font.specs.declared.state_table.GenericStateEntry.{GenericStateEntry}
+use Rattle.aat_machine_tables.specs.Subtables.{ContextualTables}
+use Rattle.aat_machine_tables.specs.Table.{Rule}
+use Rattle.aat_machine_tables.specs.declared.entries.ContextualEntryData.{ContextualEntryData}
+use Rattle.aat_machine_tables.specs.declared.state_table.GenericStateEntry.{GenericStateEntry}
 use Rattle.aat_read_machine.specs.Contextual.{contextual_tables_at}
 use Rattle.aat_read_machine.specs.MachineExamples.{example_classes}
 

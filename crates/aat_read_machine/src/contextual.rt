@@ -11,7 +11,8 @@ use crate::room::lookup_past_room;
 use crate::state_array::StateArray;
 use aat_bytes::tags::MORX;
 use aat_bytes::{Fault, FaultKind, ReadError, be32};
-use aat_font::{ContextualEntryData, ContextualSubtable, Lookup};
+use aat_lookup::Lookup;
+use aat_machine_tables::{ContextualEntryData, ContextualSubtable};
 use aat_read_lookup::read_lookup;
 use std::alloc::Global;
 

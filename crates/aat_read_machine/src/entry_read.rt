@@ -1,7 +1,7 @@
 //! What entries of state tables hold beside a state and flags, read from bytes.
 
 use aat_bytes::be16;
-use aat_font::{Acting, ContextualEntryData, EntryData, InsertionEntryData};
+use aat_machine_tables::{Acting, ContextualEntryData, EntryData, InsertionEntryData};
 
 /// What an entry holds beside a state and flags, as it stands behind them.
 pub trait EntryRead: Acting {

@@ -7,7 +7,7 @@ use crate::lists::{glyphs_from, numbers16, numbers32};
 use crate::machine::read_machine;
 use aat_bytes::tags::MORX;
 use aat_bytes::{Fault, FaultKind, ReadError, be32};
-use aat_font::{InsertionEntryData, InsertionSubtable, LigatureSubtable};
+use aat_machine_tables::{InsertionEntryData, InsertionSubtable, LigatureSubtable};
 use std::alloc::Global;
 
 /// Where a list starts whose offset, from the subtable's place, stands so many bytes behind that place.

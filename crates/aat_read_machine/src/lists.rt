@@ -3,7 +3,7 @@ ghost use Rattle.std.specs.Prelude.{◌≡◌, IfOk};
 ghost use Rattle.aat_read_machine.specs.Lists.{count_from, glyphs_from, numbers16, numbers32};
 
 use aat_bytes::{be16, be32};
-use aat_font::GlyphId;
+use aat_lookup::GlyphId;
 use std::alloc::{AllocError, Global};
 
 /// How many elements of two bytes stand from a place on.

@@ -7,7 +7,7 @@ ghost use Rattle.aat_read_machine.specs.StateArray.{AreIndexed, AreWhole, class_
 use crate::entry_read::EntryRead;
 use crate::state_array::StateArray;
 use aat_bytes::{ReadError, Tag};
-use aat_font::ExtendedStateTable;
+use aat_machine_tables::ExtendedStateTable;
 use aat_read_lookup::read_lookup;
 use std::alloc::Allocator;
 

@@ -7,7 +7,7 @@ ghost use Rattle.aat_read_machine.specs.StateArray.{AreIndexed, AreWhole, has_en
 
 use crate::state_array::StateArray;
 use aat_bytes::{ReadError, Tag};
-use aat_font::{EntryData, ExtendedStateTable, GenericStateEntry};
+use aat_machine_tables::{EntryData, ExtendedStateTable, GenericStateEntry};
 use aat_read_lookup::read_lookup;
 use std::alloc::{AllocError, Allocator};
 

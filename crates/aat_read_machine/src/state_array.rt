@@ -6,7 +6,7 @@ ghost use Rattle.aat_read_machine.specs.StateArray.{AreIndexed, AreWhole, cells_
 
 use crate::entry_read::EntryRead;
 use aat_bytes::{Fault, FaultKind, Tag, be16, be32};
-use aat_font::GenericStateEntry;
+use aat_machine_tables::GenericStateEntry;
 use std::alloc::{AllocError, Allocator};
 use std::marker::Model;
 

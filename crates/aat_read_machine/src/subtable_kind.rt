@@ -1,6 +1,6 @@
 //! What a subtable of `morx` does, from bytes.
 ghost use Rattle.std.specs.Prelude.{[], Ok};
-ghost use Rattle.aat_font.specs.declared.morx.SubtableKind.TheVariants.{NonContextual};
+ghost use Rattle.aat_machine_tables.specs.declared.morx.SubtableKind.TheVariants.{NonContextual};
 ghost use Rattle.aat_read_lookup.specs.Lookups.{Gives};
 ghost use Rattle.aat_read_machine.specs.SubtableKinds.{subtable_kind_at};
 ghost use Rattle.aat_read_machine.specs.Within.{GivesWithin};
@@ -10,7 +10,8 @@ use crate::kinds::{read_insertion, read_ligature};
 use crate::machine::read_machine;
 use aat_bytes::ReadError;
 use aat_bytes::tags::MORX;
-use aat_font::{Lookup, SubtableKind};
+use aat_lookup::Lookup;
+use aat_machine_tables::SubtableKind;
 use aat_read_lookup::read_lookup;
 use std::alloc::Global;
 

@@ -1,6 +1,7 @@
 //! What values that are read weigh: the bytes of memory that they take.
 
-use aat_font::{ContextualEntryData, GenericStateEntry, InsertionEntryData, JudgedEntry, Lookup};
+use aat_lookup::Lookup;
+use aat_machine_tables::{ContextualEntryData, GenericStateEntry, InsertionEntryData, JudgedEntry};
 
 /// The bytes of a rule of a machine of rearrangement, and of its cell in the grid beside the rules.
 pub const PLAIN_RULE_SIZE: usize = size_of::<(u16, u16, GenericStateEntry<()>)>()

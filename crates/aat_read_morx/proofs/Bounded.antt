@@ -6,7 +6,7 @@ use Rattle.std.proofs.lemmas.Nat.{le-div}
 use Rattle.std.proofs.lemmas.List.FromFn.{length-map-range_with_len}
 use Rattle.aat_bytes.specs.Numbers.{be32}
 use Rattle.aat_bytes.specs.declared.error.Fault.{Fault}
-use Rattle.aat_font.specs.declared.morx.Subtable.{Subtable}
+use Rattle.aat_machine_tables.specs.declared.morx.Subtable.{Subtable}
 use Rattle.aat_read_machine.proofs.Bounded.{subtables_bounded}
 use Rattle.aat_read_morx.specs.ChainFeatures.{feature_at}
 use Rattle.aat_read_morx.specs.ChainSubtables.{kind_at, subtable_at}

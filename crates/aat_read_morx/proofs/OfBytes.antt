@@ -7,8 +7,8 @@ use Rattle.std.proofs.lemmas.List.FromFn.{get_or-map-range_with_len, length-map-
 use Rattle.std.proofs.lemmas.Option.{get_or_from_slice_get, none-some, same_Some, slice_get_within}
 use Rattle.aat_bytes.specs.Numbers.{be16, be32}
 use Rattle.aat_bytes.specs.declared.error.Fault.{Fault}
-use Rattle.aat_font.specs.declared.morx.ChainFeature.{ChainFeature}
-use Rattle.aat_font.specs.declared.morx.Subtable.{Subtable}
+use Rattle.aat_machine_tables.specs.declared.morx.ChainFeature.{ChainFeature}
+use Rattle.aat_machine_tables.specs.declared.morx.Subtable.{Subtable}
 use Rattle.aat_bytes.specs.facts.Parts.{ok_parts}
 use Rattle.aat_read_machine.specs.SubtableKinds.{subtable_kind_at}
 use Rattle.aat_read_morx.specs.ChainFeatures.{feature_at, features_at}

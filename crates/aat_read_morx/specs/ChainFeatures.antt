@@ -6,7 +6,7 @@ use Rattle.aat_bytes.specs.Numbers.{be16, be32}
 use Rattle.aat_bytes.specs.declared.error.Fault.{Fault}
 use Rattle.aat_bytes.specs.declared.error.FaultKind.TheVariants.{PastEnd}
 use Rattle.aat_bytes.specs.declared.tags.TheConstants.{MORX}
-use Rattle.aat_font.specs.declared.morx.ChainFeature.{ChainFeature}
+use Rattle.aat_machine_tables.specs.declared.morx.ChainFeature.{ChainFeature}
 
 -- the record of a feature: type, selector, the flags that are set, and those that are kept
 abbrev pub feature_at : List ℕ → ℕ → ChainFeature

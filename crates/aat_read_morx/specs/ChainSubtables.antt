@@ -3,8 +3,8 @@ use Rattle.std.specs.Prelude.{ℕ, ◌+◌, ◌/◌, ◌%◌, List, take, Bool, 
 use Rattle.aat_bytes.specs.Faults.{after}
 use Rattle.aat_bytes.specs.Numbers.{be32}
 use Rattle.aat_bytes.specs.declared.error.Fault.{Fault}
-use Rattle.aat_font.specs.declared.morx.Coverage.{Coverage}
-use Rattle.aat_font.specs.declared.morx.Subtable.{Subtable}
+use Rattle.aat_machine_tables.specs.declared.morx.Coverage.{Coverage}
+use Rattle.aat_machine_tables.specs.declared.morx.Subtable.{Subtable}
 use Rattle.aat_read_machine.specs.SubtableKinds.{subtable_kind_at}
 use Rattle.aat_read_machine.specs.InTurn.{in_turn}
 use Rattle.aat_read_morx.specs.InTurn.{end_at}

@@ -1,7 +1,7 @@
 -- The chains of a table in the words of its bytes. Apple's TrueType Reference Manual, "The 'morx' table".
 use Rattle.std.specs.Prelude.{◌≡◌, ℕ, ◌+◌, ◌*◌, ◌≤◌, List, length, take, Ok}
 use Rattle.aat_bytes.specs.Numbers.{be32}
-use Rattle.aat_font.specs.declared.morx.Subtable.{Subtable}
+use Rattle.aat_machine_tables.specs.declared.morx.Subtable.{Subtable}
 use Rattle.aat_read_machine.specs.InTurn.{AreInOrder, end_by, place_in_turn}
 use Rattle.aat_read_machine.specs.SubtableKinds.{subtable_kind_at}
 use Rattle.aat_read_morx.specs.ChainFeatures.{feature_at}

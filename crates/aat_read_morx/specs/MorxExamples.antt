@@ -4,9 +4,9 @@ use Rattle.aat_bytes.specs.Faults.{fault_at}
 use Rattle.aat_bytes.specs.declared.error.Fault.{Fault}
 use Rattle.aat_bytes.specs.declared.error.FaultKind.TheVariants.{PastEnd, UnknownFormat, ShortLength}
 use Rattle.aat_bytes.specs.declared.tags.TheConstants.{MORX}
-use Rattle.aat_font.specs.declared.morx.ChainFeature.{ChainFeature}
-use Rattle.aat_font.specs.declared.morx.Subtable.{Subtable}
-use Rattle.aat_font.specs.declared.morx.SubtableKind.TheVariants.{NonContextual}
+use Rattle.aat_machine_tables.specs.declared.morx.ChainFeature.{ChainFeature}
+use Rattle.aat_machine_tables.specs.declared.morx.Subtable.{Subtable}
+use Rattle.aat_machine_tables.specs.declared.morx.SubtableKind.TheVariants.{NonContextual}
 use Rattle.aat_read_morx.specs.Chains.{ChainValue, morx_of}
 use Rattle.aat_read_morx.specs.ChainsOfBytes.{chain_place, subtable_place}
 

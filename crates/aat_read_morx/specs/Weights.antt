@@ -1,7 +1,7 @@
 -- What a table that is read weighs: the bytes of memory that its chains, features and subtables take.
 use Rattle.std.specs.Prelude.{ℕ, ◌+◌, ◌*◌, ◌-◌, List, length, take}
 use Rattle.aat_bytes.specs.Numbers.{be32}
-use Rattle.aat_font.specs.declared.morx.Subtable.{Subtable}
+use Rattle.aat_machine_tables.specs.declared.morx.Subtable.{Subtable}
 use Rattle.aat_read_machine.specs.InTurn.{weight_in_turn}
 use Rattle.aat_read_machine.specs.Weights.{kind_weight}
 use Rattle.aat_read_morx.specs.Chains.{ChainStart, ChainValue, chain_at, first_chain}

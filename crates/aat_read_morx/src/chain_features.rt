@@ -4,7 +4,7 @@ ghost use Rattle.aat_read_lookup.specs.Lookups.{Refuses};
 ghost use Rattle.aat_read_morx.specs.ChainFeatures.{feature_at, features_at, whole_features};
 
 use aat_bytes::{Fault, FaultKind, ReadError, be16, be32};
-use aat_font::ChainFeature;
+use aat_machine_tables::ChainFeature;
 use aat_read_machine::MORX;
 use std::alloc::{AllocError, Global};
 

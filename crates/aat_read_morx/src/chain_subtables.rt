@@ -7,7 +7,7 @@ ghost use Rattle.aat_read_machine.specs.Within.{GivesAs};
 use crate::in_turn::end_at;
 use crate::reach::{Reach, up_to};
 use aat_bytes::{ReadError, be32};
-use aat_font::{Coverage, Subtable};
+use aat_machine_tables::{Coverage, Subtable};
 use aat_read_machine::read_subtable_kind;
 use bitflags::Flags;
 use std::alloc::Global;

@@ -1,6 +1,6 @@
 //! The extended glyph metamorphosis table from bytes.
 ghost use Rattle.std.specs.Prelude.{◌≡◌, ◌+◌, ◌≤◌, length, map, vec_len, IfOk};
-ghost use Rattle.aat_font.specs.Chains.{subtable_count};
+ghost use Rattle.aat_machine_tables.specs.Chains.{subtable_count};
 ghost use Rattle.aat_read_morx.specs.Chains.{ChainStart, chain_at, chain_value_at, first_chain, morx_of, value_and_next, value_of_chain, values_of_morx};
 ghost use Rattle.aat_read_machine.specs.Within.{GivesAs};
 ghost use Rattle.aat_read_machine.specs.InTurn.{in_turn};
@@ -10,7 +10,8 @@ use crate::chain_subtables::subtables;
 use crate::in_turn::end_at;
 use crate::reach::{Reach, allowance};
 use aat_bytes::{Fault, FaultKind, ReadError, be16, be32};
-use aat_font::{Chain, Morx};
+use aat_font::Morx;
+use aat_machine_tables::Chain;
 use aat_read_machine::MORX;
 use std::alloc::Global;
 

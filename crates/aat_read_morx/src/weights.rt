@@ -1,6 +1,6 @@
 //! What chains that are read weigh: the bytes of memory that they take.
 
-use aat_font::{Chain, ChainFeature, Subtable};
+use aat_machine_tables::{Chain, ChainFeature, Subtable};
 
 /// The bytes of a chain, besides its features and subtables.
 pub const CHAIN_SIZE: usize = size_of::<Chain>();

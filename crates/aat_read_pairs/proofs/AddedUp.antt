@@ -9,7 +9,7 @@ use Rattle.aat_bytes.specs.declared.error.Fault.{Fault}
 use Rattle.aat_bytes.specs.declared.error.FaultKind.TheVariants.{PastEnd, ShortLength}
 use Rattle.aat_bytes.specs.facts.Parts.{ok_parts, parts, passes}
 use Rattle.aat_bytes.specs.declared.tags.TheConstants.{KERN}
-use Rattle.aat_font.specs.Classes.{ClassValues, class_in, kerning_by_classes}
+use Rattle.aat_kerning_tables.specs.Classes.{ClassValues, class_in, kerning_by_classes}
 use Rattle.aat_read_pairs.specs.KernClasses.{array_place, checked_table_at, class_of, classes_of, columns_of, grid_at, grid_value, grid_values, kern_classes_at, value_count}
 use Rattle.aat_read_pairs.specs.PairLaws.{ClassValuesAreBounded, OffsetsAreAddedUp, offset_in, value_of_offsets}
 use Rattle.aat_read_pairs.specs.declared.class_table.ClassTable.{ClassTable}

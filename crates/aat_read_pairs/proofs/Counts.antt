@@ -9,9 +9,9 @@ use Rattle.aat_bytes.specs.Numbers.{be16, be32}
 use Rattle.aat_bytes.specs.declared.error.FaultKind.TheVariants.{UnknownFormat}
 use Rattle.aat_bytes.specs.facts.Parts.{none_of, ok_parts, parts, passes}
 use Rattle.aat_bytes.specs.declared.tags.TheConstants.{KERX}
-use Rattle.aat_font.specs.Classes.{ClassValues}
-use Rattle.aat_font.specs.Keys.{first_fall}
-use Rattle.aat_font.specs.Pairs.{key_of_pair}
+use Rattle.aat_kerning_tables.specs.Classes.{ClassValues}
+use Rattle.aat_lookup.specs.Keys.{first_fall}
+use Rattle.aat_kerning_tables.specs.Pairs.{key_of_pair}
 use Rattle.aat_read_lookup.specs.Lookups.{lookup_at}
 use Rattle.aat_read_lookup.specs.Rows.{rows_at}
 use Rattle.aat_read_lookup.specs.LongLookups.{long_rows_at}

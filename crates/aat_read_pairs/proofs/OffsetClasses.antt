@@ -10,8 +10,8 @@ use Rattle.aat_bytes.specs.declared.error.FaultKind.TheVariants.{PastEnd, Unknow
 use Rattle.aat_bytes.specs.facts.Parts.{none_of, ok_parts, parts, passes}
 use Rattle.aat_bytes.specs.facts.Ranges.{none_each}
 use Rattle.aat_bytes.specs.declared.tags.TheConstants.{KERN}
-use Rattle.aat_font.specs.Classes.{class_in}
-use Rattle.aat_font.specs.Keys.{at_key, first}
+use Rattle.aat_kerning_tables.specs.Classes.{class_in}
+use Rattle.aat_lookup.specs.Keys.{at_key, first}
 use Rattle.aat_read_pairs.specs.ClassTables.{class_table_at, offset_of, offset_place}
 use Rattle.aat_read_pairs.specs.KernClasses.{checked_table_at, class_of, classes_of, first_odd}
 use Rattle.aat_read_pairs.specs.PairLaws.{offset_in}

@@ -6,7 +6,7 @@ use Rattle.std.proofs.lemmas.Bool.{cases_lt, cases_eq, eq-eqb, ne_eqb, lt-ltb, l
 use Rattle.std.proofs.lemmas.List.{get_or_past}
 use Rattle.std.proofs.lemmas.List.FromFn.{get_or-map-range_with_len, length-map-range_with_len}
 use Rattle.aat_bytes.specs.Numbers.{be16, signed16}
-use Rattle.aat_font.specs.Classes.{value_of_classes}
+use Rattle.aat_kerning_tables.specs.Classes.{value_of_classes}
 use Rattle.aat_read_pairs.specs.KernClasses.{array_place, class_of, columns_of, grid_value, grid_values, value_count}
 use Rattle.aat_read_pairs.specs.PairLaws.{value_of_offsets}
 use Rattle.aat_read_pairs.specs.declared.kern_classes.KernGrid.{KernGrid}

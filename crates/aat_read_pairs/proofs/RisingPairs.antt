@@ -9,8 +9,8 @@ use Rattle.aat_bytes.specs.declared.error.FaultKind.TheVariants.{NotRising, Past
 use Rattle.aat_bytes.specs.declared.tag.Tag.{Tag}
 use Rattle.aat_bytes.specs.facts.Parts.{none_of, ok_parts, passes}
 use Rattle.aat_bytes.specs.declared.tags.TheConstants.{KERN, KERX}
-use Rattle.aat_font.specs.Keys.{first_fall}
-use Rattle.aat_font.specs.Pairs.{key_of_pair}
+use Rattle.aat_lookup.specs.Keys.{first_fall}
+use Rattle.aat_kerning_tables.specs.Pairs.{key_of_pair}
 use Rattle.aat_read_pairs.specs.KerningValues.{no_tuples}
 use Rattle.aat_read_pairs.specs.ListedPairs.{kern_pairs_at, kerx_pairs_at, listed_pairs, pair_at, pair_place, pairs_at}
 use Rattle.aat_read_pairs.specs.PairLaws.{ExtendedPairsAreBounded, ExtendedPairsRise, PairsAreBounded, PairsRise}

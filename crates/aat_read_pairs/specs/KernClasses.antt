@@ -8,7 +8,7 @@ use Rattle.aat_bytes.specs.Numbers.{be16, signed16}
 use Rattle.aat_bytes.specs.declared.error.Fault.{Fault}
 use Rattle.aat_bytes.specs.declared.error.FaultKind.TheVariants.{PastEnd, ShortLength, UnknownFormat}
 use Rattle.aat_bytes.specs.declared.tags.TheConstants.{KERN}
-use Rattle.aat_font.specs.Classes.{ClassValues}
+use Rattle.aat_kerning_tables.specs.Classes.{ClassValues}
 use Rattle.aat_read_pairs.specs.ClassTables.{class_table_at, offset_of, offset_place}
 use Rattle.aat_read_pairs.specs.declared.class_table.ClassTable.{ClassTable}
 use Rattle.aat_read_pairs.specs.declared.kern_classes.KernGrid.{KernGrid}

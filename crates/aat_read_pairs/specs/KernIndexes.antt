@@ -7,7 +7,7 @@ use Rattle.aat_bytes.specs.Numbers.{be16, signed16}
 use Rattle.aat_bytes.specs.declared.error.Fault.{Fault}
 use Rattle.aat_bytes.specs.declared.error.FaultKind.TheVariants.{PastEnd}
 use Rattle.aat_bytes.specs.declared.tags.TheConstants.{KERN}
-use Rattle.aat_font.specs.Classes.{ClassValues}
+use Rattle.aat_kerning_tables.specs.Classes.{ClassValues}
 use Rattle.aat_read_pairs.specs.declared.kern_indexes.KernIndexes.{KernIndexes}
 
 -- where the left classes of glyphs start, behind the values

@@ -8,8 +8,8 @@ use Rattle.aat_bytes.specs.declared.error.Fault.{Fault}
 use Rattle.aat_bytes.specs.declared.error.FaultKind.TheVariants.{PastEnd, NotRising}
 use Rattle.aat_bytes.specs.declared.tag.Tag.{Tag}
 use Rattle.aat_bytes.specs.declared.tags.TheConstants.{KERN, KERX}
-use Rattle.aat_font.specs.Keys.{first_fall}
-use Rattle.aat_font.specs.Pairs.{key_of_pair}
+use Rattle.aat_lookup.specs.Keys.{first_fall}
+use Rattle.aat_kerning_tables.specs.Pairs.{key_of_pair}
 use Rattle.aat_read_pairs.specs.KerningValues.{kerning_value, no_tuples}
 use Rattle.aat_read_pairs.specs.declared.values.Tuples.{Tuples}
 

@@ -8,7 +8,7 @@ use Rattle.aat_bytes.specs.Numbers.{be16, be32, signed16}
 use Rattle.aat_bytes.specs.declared.error.Fault.{Fault}
 use Rattle.aat_bytes.specs.declared.error.FaultKind.TheVariants.{PastEnd, UnknownFormat}
 use Rattle.aat_bytes.specs.declared.tags.TheConstants.{KERX}
-use Rattle.aat_font.specs.Classes.{ClassValues}
+use Rattle.aat_kerning_tables.specs.Classes.{ClassValues}
 use Rattle.aat_read_lookup.specs.LongLookups.{long_rows_at}
 use Rattle.aat_read_pairs.specs.KerxClasses.{column_count_at}
 use Rattle.aat_read_pairs.specs.declared.long_arrays.LongGrid.{LongGrid}

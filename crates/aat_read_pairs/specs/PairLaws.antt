@@ -1,9 +1,9 @@
 -- What pairs that are read say, in the words of their bytes.
 use Rattle.std.specs.Prelude.{◌≡◌, ℕ, ℤ, pos, ◌+◌, ◌*◌, ◌-◌, ◌<◌, ◌≤◌, List, length, if◌then◌else◌, nat_le, nat_lt, ◌==◌, ◌&&◌, Ok, None}
 use Rattle.aat_bytes.specs.Numbers.{be16, signed16}
-use Rattle.aat_font.specs.Classes.{ClassValues, kerning_by_classes}
-use Rattle.aat_font.specs.Keys.{first_fall}
-use Rattle.aat_font.specs.Pairs.{key_of_pair}
+use Rattle.aat_kerning_tables.specs.Classes.{ClassValues, kerning_by_classes}
+use Rattle.aat_lookup.specs.Keys.{first_fall}
+use Rattle.aat_kerning_tables.specs.Pairs.{key_of_pair}
 use Rattle.aat_read_pairs.specs.KernClasses.{kern_classes_at}
 use Rattle.aat_read_pairs.specs.ListedPairs.{kern_pairs_at, kerx_pairs_at}
 

@@ -8,7 +8,7 @@ use crate::class_table::ClassTable;
 use crate::made::class_pairs;
 use aat_bytes::tags::KERN;
 use aat_bytes::{Fault, FaultKind, ReadError, be16};
-use aat_font::ClassPairs;
+use aat_kerning_tables::ClassPairs;
 use std::alloc::{AllocError, Allocator};
 
 /// The side of a pair on which a glyph stands.

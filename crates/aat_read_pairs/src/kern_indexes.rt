@@ -7,7 +7,7 @@ ghost use Rattle.aat_read_pairs.specs.inside.Inside.{HasIndexes};
 use crate::made::class_pairs;
 use aat_bytes::tags::KERN;
 use aat_bytes::{Fault, FaultKind, ReadError, be16};
-use aat_font::ClassPairs;
+use aat_kerning_tables::ClassPairs;
 use std::alloc::{AllocError, Allocator};
 
 /// A subtable by indexes.

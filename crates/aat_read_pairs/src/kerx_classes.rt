@@ -7,7 +7,7 @@ ghost use Rattle.aat_read_pairs.specs.inside.Inside.{IsNear};
 use crate::values::Tuples;
 use aat_bytes::tags::KERX;
 use aat_bytes::{Fault, FaultKind, ReadError, be16, be32};
-use aat_font::ClassPairs;
+use aat_kerning_tables::ClassPairs;
 use aat_read_lookup::{lookup_bytes, read_lookup, read_rows};
 use std::alloc::{AllocError, Allocator};
 

@@ -1,15 +1,15 @@
 //! Pairs that are listed: format 0 of both tables.
 ghost use Rattle.std.specs.Prelude.{◌≡◌, ◌+◌, ◌*◌, ◌^◌, ◌<◌, ◌≤◌, length, IfOk, IfSome};
 ghost use Rattle.aat_bytes.specs.Numbers.{be16};
-ghost use Rattle.aat_font.specs.Keys.{first_fall};
-ghost use Rattle.aat_font.specs.Pairs.{key_of_pair, pair_key};
+ghost use Rattle.aat_lookup.specs.Keys.{first_fall};
+ghost use Rattle.aat_kerning_tables.specs.Pairs.{key_of_pair, pair_key};
 ghost use Rattle.aat_read_lookup.specs.Lookups.{Gives};
 ghost use Rattle.aat_read_pairs.specs.ListedPairs.{kern_pairs_at, kerx_pairs_at, listed_pairs, pair_at, pair_place, pairs_at};
 
 use crate::values::Tuples;
 use aat_bytes::tags::{KERN, KERX};
 use aat_bytes::{Fault, FaultKind, ReadError, Tag, be16, be32};
-use aat_font::Pairs;
+use aat_kerning_tables::Pairs;
 use std::alloc::{AllocError, Allocator};
 
 /// The number by which pairs rise.

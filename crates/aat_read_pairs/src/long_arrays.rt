@@ -9,7 +9,7 @@ use crate::kerx_classes::column_count_at;
 use crate::values::Tuples;
 use aat_bytes::tags::KERX;
 use aat_bytes::{Fault, FaultKind, ReadError, be16, be32};
-use aat_font::ClassPairs;
+use aat_kerning_tables::ClassPairs;
 use aat_read_lookup::{long_lookup_bytes, read_long_rows};
 use std::alloc::{AllocError, Allocator};
 

@@ -1,7 +1,8 @@
 //! Pairs by classes of what was read.
 ghost use Rattle.std.specs.Prelude.{◌≡◌, IfOk};
 
-use aat_font::{ClassPairs, Lookup};
+use aat_kerning_tables::ClassPairs;
+use aat_lookup::Lookup;
 use std::alloc::{AllocError, Allocator};
 
 /// The pairs of classes of left and right glyphs. Fails where they get no memory.

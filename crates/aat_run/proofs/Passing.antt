@@ -3,8 +3,8 @@ use Rattle.std.proofs.Common.{◌≡◌, subst, refl, ℕ, zero, suc, ◌+◌, �
 use Rattle.std.proofs.lemmas.Bool.Decides.{nat_tests}
 use Rattle.aat_buffer.specs.Buffer.{Buffer, with_cursor, glyph_at}
 use Rattle.aat_font.specs.Idle.{has_entry}
-use Rattle.aat_font.specs.Table.{TableValue, class_of, entry_of}
-use Rattle.aat_font.specs.declared.state_table.GenericStateEntry.{GenericStateEntry}
+use Rattle.aat_machine_tables.specs.Table.{TableValue, class_of, entry_of}
+use Rattle.aat_machine_tables.specs.declared.state_table.GenericStateEntry.{GenericStateEntry}
 use Rattle.aat_run.specs.Context.{Config, Moved, machine_with, is_at_end, cluster_seen, entry_at}
 use Rattle.aat_run.specs.Laws.{KeepsFit, PassesFit, Pays, RestsBy}
 use Rattle.aat_run.specs.Machine.{passed, turn}

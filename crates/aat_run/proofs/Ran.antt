@@ -1,8 +1,8 @@
 -- A run of the turns from the front is the run of the machine.
 use Rattle.std.proofs.Common.{◌≡◌, ℕ, ◌+◌, ◌≤◌, Bool, true, false, cond, length, ap, sym, ◌∙◌, arith}
 use Rattle.aat_buffer.specs.Buffer.{Buffer, with_cursor, without_positions}
-use Rattle.aat_font.specs.Table.{TableValue}
-use Rattle.aat_font.specs.declared.state_table.GenericStateEntry.{GenericStateEntry}
+use Rattle.aat_machine_tables.specs.Table.{TableValue}
+use Rattle.aat_machine_tables.specs.declared.state_table.GenericStateEntry.{GenericStateEntry}
 use Rattle.aat_run.specs.Context.{Context, Machine, first_config, machine_of, start}
 use Rattle.aat_run.specs.Driven.{machine_run, outcome_of, IsRefusal}
 use Rattle.aat_run.specs.Laws.{KeepsFit, PassesFit, Pays, KeepsLength}

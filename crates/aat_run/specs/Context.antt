@@ -2,8 +2,8 @@
 -- table, and State tables.
 use Rattle.std.specs.Prelude.{ℕ, Bool, not, ◌&&◌, Option, nat_lt, length, unwrap_or, if◌then◌else◌}
 use Rattle.aat_buffer.specs.Buffer.{Buffer, glyph_at, with_cursor, without_positions}
-use Rattle.aat_font.specs.Table.{TableValue, class_of, entry_of}
-use Rattle.aat_font.specs.declared.state_table.GenericStateEntry.{GenericStateEntry}
+use Rattle.aat_machine_tables.specs.Table.{TableValue, class_of, entry_of}
+use Rattle.aat_machine_tables.specs.declared.state_table.GenericStateEntry.{GenericStateEntry}
 
 -- the registers and the buffer that an act leaves
 pub record Moved (R : Type 0) : Type 0 where

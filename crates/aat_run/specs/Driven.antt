@@ -4,8 +4,8 @@ use Rattle.std.specs.Prelude.{◌≡◌, ℕ, ◌+◌, ◌*◌, ◌<◌, ◌≤�
 use Rattle.aat_buffer.specs.Buffer.{Buffer, failed, with_cursor}
 use Rattle.aat_buffer.specs.Clusters.{IsSmall}
 use Rattle.aat_glyph.specs.declared.glyph.GlyphPosition.{GlyphPosition}
-use Rattle.aat_font.specs.Table.{TableValue}
-use Rattle.aat_font.specs.declared.state_table.GenericStateEntry.{GenericStateEntry}
+use Rattle.aat_machine_tables.specs.Table.{TableValue}
+use Rattle.aat_machine_tables.specs.declared.state_table.GenericStateEntry.{GenericStateEntry}
 use Rattle.aat_run.specs.Budget.{extent}
 use Rattle.aat_run.specs.Context.{Context, Config, Moved, first_config, machine_of, machine_with, start}
 use Rattle.aat_run.specs.Laws.{SameSettings}

@@ -1,8 +1,8 @@
 -- The laws of an act, which a run asks for, and what a run keeps.
 use Rattle.std.specs.Prelude.{◌≡◌, ℕ, ◌+◌, ◌<◌, ◌≤◌, Bool, true, false, length, None}
 use Rattle.aat_buffer.specs.Buffer.{Buffer}
-use Rattle.aat_font.specs.Entries.{goes_on}
-use Rattle.aat_font.specs.declared.state_table.GenericStateEntry.{GenericStateEntry}
+use Rattle.aat_machine_tables.specs.Entries.{goes_on}
+use Rattle.aat_machine_tables.specs.declared.state_table.GenericStateEntry.{GenericStateEntry}
 use Rattle.aat_run.specs.Budget.{potential, extent}
 use Rattle.aat_run.specs.Context.{Moved, Context, Config}
 use Rattle.aat_run.specs.Machine.{Turn, IsWholeRun}

@@ -1,6 +1,6 @@
 pub use Rattle.aat_buffer.specs.Buffer
 pub use Rattle.aat_buffer.specs.Clusters
-pub use Rattle.aat_font.specs.Table
+pub use Rattle.aat_machine_tables.specs.Table
 pub mod Budget
 pub mod Context
 pub mod Driven

@@ -1,7 +1,7 @@
 -- Where a turn of the rewriting machine leaves the line without a mark before the cursor. (No chapter of the manual:
 -- break safety is the shaper's own.)
-use Rattle.std.specs.Prelude.{◌==◌, ◌&&◌, ◌||◌, not, Bool, Option, length}
-use Rattle.aat_font.specs.Truth.{is_some_and, is_alike}
+use Rattle.std.specs.Prelude.{Bool, Option, length}
+use Rattle.aat_machine_tables.specs.Judged.{is_safe_turn}
 use Rattle.aat_run.specs.Context.{Machine, Config}
 
 -- What the mark tells. A text that is cut before the cursor is shaped in two parts. The first one ends here, with the
@@ -26,10 +26,5 @@ use Rattle.aat_run.specs.Context.{Machine, Config}
 -- Registers, cursor and length are those before the act.
 unfoldable pub is_safe : {R E : Type 0} → Machine R E → E → Option E → Option E → Config R → Bool
 is_safe {R} {E} m e from_start at_end c =
-    let is_idle : E → Bool = λ f. not (m.actionable f c.registers c.buffer.cursor (length c.buffer.line)) in
-    let does_as_e : E → Bool = λ f. (m.next f == m.next e) && is_alike (m.advances f) (m.advances e) in
-    is_idle e
-    && (((c.state == 0)
-    || ((not (m.advances e) && (m.next e == 0))
-    || is_some_and from_start (λ f. is_idle f && does_as_e f)))
-    && is_some_and at_end is_idle)
+    let acts : E → Bool = λ f. m.actionable f c.registers c.buffer.cursor (length c.buffer.line) in
+    is_safe_turn acts m.advances m.next c.state e from_start at_end

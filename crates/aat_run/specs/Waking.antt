@@ -4,9 +4,9 @@ use Rattle.std.specs.Prelude.{◌≡◌, ◌==◌, ◌&&◌, ◌<◌, ℕ, Bool,
 use Rattle.std.specs.Int.{bit_at}
 use Rattle.std.specs.Option.{unwrap_or}
 use Rattle.aat_font.specs.Idle.{has_entry}
-use Rattle.aat_font.specs.Table.{TableValue, class_of, entry_of}
+use Rattle.aat_machine_tables.specs.Table.{TableValue, class_of, entry_of}
 use Rattle.aat_font.specs.Wakers.{word_of}
-use Rattle.aat_font.specs.declared.state_table.GenericStateEntry.{GenericStateEntry}
+use Rattle.aat_machine_tables.specs.declared.state_table.GenericStateEntry.{GenericStateEntry}
 use Rattle.aat_run.specs.declared.wakers.Wakers.{Wakers}
 
 -- an entry leads over its glyph to state 0, and rests

@@ -6,7 +6,7 @@ ghost use Rattle.std.specs.Prelude.{◌≡◌, ◌+◌, ◌-◌, ◌<◌, ◌≤
 ghost use Rattle.aat_buffer.specs.Buffer.{with_cursor, without_positions};
 ghost use Rattle.aat_buffer.specs.Clusters.{IsSmall};
 ghost use Rattle.aat_font.specs.Idle.{has_entry};
-ghost use Rattle.aat_font.specs.Table.{entry_of};
+ghost use Rattle.aat_machine_tables.specs.Table.{entry_of};
 ghost use Rattle.aat_run.specs.Budget.{potential, rest};
 ghost use Rattle.aat_run.specs.Context.{machine_with};
 ghost use Rattle.aat_run.specs.Driven.{IsRefusal, IsRefused, driven_registers, driven_run, driven_to_end, outcome_of, positions_behind};
@@ -26,8 +26,8 @@ use crate::run_state::RunState;
 use crate::turns::{rests_at_end, turn_once};
 use crate::wakers::{Wakers, pass_asleep};
 use aat_buffer::{hb_buffer_t, hb_mask_t};
-use aat_font::entry_bits::state::START_OF_TEXT;
-use aat_font::{Acting, ExtendedStateTable};
+use aat_machine_tables::entry_bits::state::START_OF_TEXT;
+use aat_machine_tables::{Acting, ExtendedStateTable};
 use std::alloc::Allocator;
 
 /// Whether glyphs may be passed: the machine is on everywhere, since it has fewer than two ranges, and at rest at the end.

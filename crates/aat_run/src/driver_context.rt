@@ -6,7 +6,7 @@ ghost use Rattle.std.specs.Prelude.{◌≡◌, OnOk, IfErr, OnErr, length};
 
 use crate::error::AatError;
 use aat_buffer::hb_buffer_t;
-use aat_font::{Acting, GenericStateEntry};
+use aat_machine_tables::{Acting, GenericStateEntry};
 use std::alloc::Allocator;
 
 /// One kind of state machine over a line: its registers, and what an entry of its table does to them and to the
@@ -41,7 +41,7 @@ pub trait driver_context_t<T: Acting> {
     ghost use Rattle.std.specs.Prelude.{ℕ, Bool, true};
     ghost use Rattle.aat_buffer.specs.Buffer.{Buffer};
     ghost use Rattle.aat_buffer.specs.Clusters.{IsSmall};
-    ghost use Rattle.aat_font.specs.declared.state_table.GenericStateEntry.{GenericStateEntry};
+    ghost use Rattle.aat_machine_tables.specs.declared.state_table.GenericStateEntry.{GenericStateEntry};
     ghost use Rattle.aat_run.specs.Context.{Moved};
     ghost use Rattle.aat_run.specs.Driven.{IsRefusal, IsRefused};
     ghost use Rattle.aat_run.specs.Laws.{ActsByEntries, RestsBy, FitsWhereFresh, KeepsFit, PassesFit, Pays, Bounded, Lengthens, MakesNoPositions, KeepsSettings, KeepsPlaceWhere, KeepsLengthWhere, KeepsClusterOrder};

@@ -2,8 +2,8 @@
 
 ghost use Rattle.std.specs.Prelude.{ℕ, Bool, length};
 ghost use Rattle.aat_buffer.specs.Buffer.{Buffer};
-ghost use Rattle.aat_font.specs.Table.{TableValue};
-ghost use Rattle.aat_font.specs.declared.state_table.GenericStateEntry.{GenericStateEntry};
+ghost use Rattle.aat_machine_tables.specs.Table.{TableValue};
+ghost use Rattle.aat_machine_tables.specs.declared.state_table.GenericStateEntry.{GenericStateEntry};
 ghost use Rattle.aat_run.specs.Budget.{FloorIsUnseen};
 ghost use Rattle.aat_run.specs.Context.{machine_with};
 ghost use Rattle.aat_run.specs.Driven.{context_from, machine_run};
@@ -11,7 +11,7 @@ ghost use Rattle.aat_run.specs.Laws.{HasOrderOf, MeetsLaws, RunsEnd};
 ghost use Rattle.aat_run.specs.Machine.{turn};
 
 use crate::driver_context::driver_context_t;
-use aat_font::Acting;
+use aat_machine_tables::Acting;
 
 /// The least budget that a buffer holds changes no test and no payment of a run.
 #[tactic(auto, using(crate::proofs::FloorUnseen::floor_is_unseen))]

@@ -1,5 +1,9 @@
 //! What every run over a buffer shares: errors, ranges with flags, the context of a run, and the rewriting machine
 //! with its driver.
+//!
+//! ```
+//! drive(&machine, &mut context, &mut apply_context)?;
+//! ```
 #![tactic(auto)]
 
 mod aat_layout_common;

@@ -3,16 +3,15 @@
 ghost use Rattle.std.specs.Prelude.{◌≡◌, ◌+◌, ◌<◌, ◌^◌, ◌==◌, ◌&&◌, if◌then◌else◌, ℕ, Bool, true, Option, Some, length, not, OnOk, OnErr, IfOk, IfErr};
 ghost use Rattle.aat_buffer.specs.Clusters.{IsSmall};
 ghost use Rattle.aat_font.specs.Idle.{has_entry};
-ghost use Rattle.aat_font.specs.Judged.{is_safe_by};
-ghost use Rattle.aat_font.specs.Table.{TableValue, class_of, entry_of};
-ghost use Rattle.aat_font.specs.declared.state_table.GenericStateEntry.{GenericStateEntry};
+ghost use Rattle.aat_machine_tables.specs.Judged.{is_safe_by};
+ghost use Rattle.aat_machine_tables.specs.Table.{TableValue, class_of, entry_of};
+ghost use Rattle.aat_machine_tables.specs.declared.state_table.GenericStateEntry.{GenericStateEntry};
 ghost use Rattle.aat_run.specs.Context.{Machine, machine_with, is_at_end, class_at, cluster_seen, entry_at};
 ghost use Rattle.aat_run.specs.Driven.{IsRefusal, IsRefused};
 ghost use Rattle.aat_run.specs.Laws.{SameSettings};
 ghost use Rattle.aat_run.specs.Machine.{left_by, stepped, marked, acted, by_entry, off, turn};
 ghost use Rattle.aat_run.specs.Ranges.{IsGapless, is_driven_on};
 ghost use Rattle.aat_run.specs.Safe.{is_safe};
-ghost use Rattle.aat_run.specs.inside.Branches.{does_alike, restarts_alike};
 ghost use Rattle.aat_run.specs.inside.Places.{config, turn_of};
 
 use crate::driver_context::driver_context_t;
@@ -20,9 +19,10 @@ use crate::error::AatError;
 use crate::ranges::{is_driven_on, range_flags_t};
 use crate::run_state::RunState;
 use aat_buffer::{hb_buffer_t, hb_mask_t};
-use aat_font::entry_bits::class::END_OF_TEXT;
-use aat_font::entry_bits::state::START_OF_TEXT;
-use aat_font::{Acting, ExtendedStateTable, GenericStateEntry, GlyphId};
+use aat_lookup::GlyphId;
+use aat_machine_tables::entry_bits::class::END_OF_TEXT;
+use aat_machine_tables::entry_bits::state::START_OF_TEXT;
+use aat_machine_tables::{Acting, ExtendedStateTable, GenericStateEntry, Turns, is_safe_turn};
 use std::alloc::Allocator;
 
 /// The class at the cursor: 0, `END_OF_TEXT`, at the end, and 1, `OUT_OF_BOUNDS`, of a glyph without a class. Each
@@ -59,76 +59,41 @@ fn count<A: Allocator + Copy>(buffer: &hb_buffer_t<A>, run_state: &mut RunState)
     }
 }
 
-/// Whether another entry is not actionable, goes to the state of this one, and advances as it does.
-#[tactic(auto, unfolding(crate::specs::inside::Branches::does_alike))]
-fn does_alike<T: Acting, C: driver_context_t<T>, A: Allocator + Copy>(
-    context: &C,
-    buffer: &hb_buffer_t<A>,
-    entry: &GenericStateEntry<T>,
-    other: Option<GenericStateEntry<T>>,
-    run_state: RunState,
-) -> bool
-    ensures { (on : ℕ → Bool) (table : TableValue (GenericStateEntry T))
-        → result ≡ does_alike (machine_with on table C.advances C.actionable C.act)
-        (config buffer.now context.now run_state) entry.now other }
-{
-    match other {
-        None => false,
-        Some(other) => {
-            // the state first, by which most entries differ
-            if other.new_state != entry.new_state || context.is_actionable(&other, buffer) {
-                false
-            } else {
-                context.can_advance(&other) == context.can_advance(entry)
-            }
-        }
+/// What the entries of a machine do by the registers, the cursor and the length of the line as they are here.
+#[derive(Clone, Copy)]
+struct TurnsHere<'m, 'c, 'b, T: Acting, C: driver_context_t<T>, A: Allocator + Copy> {
+    machine: &'m ExtendedStateTable<T>,
+    context: &'c C,
+    buffer: &'b hb_buffer_t<A>,
+}
+
+impl<'m, 'c, 'b, T: Acting, C: driver_context_t<T>, A: Allocator + Copy> Turns<T>
+    for TurnsHere<'m, 'c, 'b, T, C, A> {
+    ghost use Rattle.std.specs.Prelude.{length};
+    ghost use Rattle.aat_machine_tables.specs.Table.{entry_of};
+
+    ghost acting = { λ s e. C.actionable e s.context.now s.buffer.now.cursor (length s.buffer.now.line) };
+
+    ghost advancing = { λ _ e. C.advances e };
+
+    ghost entry_at = { λ s state class. entry_of s.machine.now state class };
+
+    fn acts(&self, entry: &GenericStateEntry<T>) -> bool {
+        self.context.is_actionable(entry, self.buffer)
+    }
+
+    fn advances(&self, entry: &GenericStateEntry<T>) -> bool {
+        self.context.can_advance(entry)
+    }
+
+    fn entry(&self, state: u16, class: u16) -> Option<GenericStateEntry<T>> {
+        self.machine.entry(state, class)
     }
 }
 
-/// Whether an entry stays, and goes to the state for the start of the text.
-fn stays_for_start<T: Acting, C: driver_context_t<T>>(
-    context: &C,
-    entry: &GenericStateEntry<T>,
-) -> bool
-    ensures { result ≡ not (C.advances entry.now) && (entry.now.new_state == 0) }
-{
-    !context.can_advance(entry) && entry.new_state == START_OF_TEXT
-}
-
-/// Whether the state for the start of the text leads on from the cursor as the run goes on: HarfBuzz's condition 2, of
-/// which one part is enough. What a part that begins there would find in its registers is not looked at.
-fn restarts_alike<T: Acting, C: driver_context_t<T>, A: Allocator + Copy>(
-    machine: &ExtendedStateTable<T>,
-    context: &C,
-    buffer: &hb_buffer_t<A>,
-    entry: &GenericStateEntry<T>,
-    class: u16,
-    run_state: RunState,
-) -> bool
-    ensures { (on : ℕ → Bool) → result ≡ restarts_alike (machine_with on machine.now C.advances C.actionable C.act)
-        (config buffer.now context.now run_state) entry.now (entry_of machine.now 0 class) }
-{
-    // 2a: the run is in that state already
-    if run_state.state == START_OF_TEXT {
-        return true;
-    }
-    // 2b: the entry stays and goes to that state, from which the glyph is looked at again while the budget lasts
-    if stays_for_start(context, entry) {
-        return true;
-    }
-    // 2c: in that state the class has an entry that is not actionable, and leads on as this one does
-    does_alike(
-        context,
-        buffer,
-        entry,
-        machine.entry(START_OF_TEXT, class),
-        run_state,
-    )
-}
-
-/// Whether the line gets no mark before the cursor, by the three conditions of HarfBuzz, which numbers them so. Where
-/// it gets none the two parts may still come out differently: `specs/Safe.antt` says what the mark tells.
-#[tactic(auto, using(crate::specs::facts::SafeBranches::safe_by_branches))]
+/// Whether the line gets no mark before the cursor, by HarfBuzz's test over the registers as they are here. Where it
+/// gets none the two parts may still come out differently: `specs/Safe.antt` says what the mark tells.
+#[tactic(auto, unfolding(crate::specs::Safe::is_safe))]
 fn is_safe<T: Acting, C: driver_context_t<T>, A: Allocator + Copy>(
     machine: &ExtendedStateTable<T>,
     context: &C,
@@ -141,20 +106,12 @@ fn is_safe<T: Acting, C: driver_context_t<T>, A: Allocator + Copy>(
         (entry_of machine.now 0 class) (entry_of machine.now run_state.state 0)
         (config buffer.now context.now run_state) }
 {
-    // 2: a part of the text that begins at the cursor is led as the run is, whatever the registers hold. It is asked
-    // first, since most turns that are not safe fail here
-    if !restarts_alike(machine, context, buffer, entry, class, run_state) {
-        return false;
-    }
-    // 1: the entry is not actionable, since an act may use what was marked before the cursor
-    if context.is_actionable(entry, buffer) {
-        return false;
-    }
-    // 3: the entry that the state has for the end of the text is not actionable, by the registers as they are here
-    match machine.entry(run_state.state, END_OF_TEXT) {
-        Some(end) => !context.is_actionable(&end, buffer),
-        None => false,
-    }
+    let turns = TurnsHere {
+        machine,
+        context,
+        buffer,
+    };
+    is_safe_turn(&turns, run_state.state, class, entry)
 }
 
 /// Whether the line gets no mark before the cursor: as `judged_entry` says, where the context acts by entries, and

@@ -9,7 +9,8 @@ ghost use Rattle.aat_run.specs.inside.Passing.{last_seen};
 
 use crate::run_state::RunState;
 use aat_buffer::{hb_buffer_t, hb_glyph_info_t};
-use aat_font::{GlyphId, GlyphWords, word_at};
+use aat_font::{GlyphWords, word_at};
+use aat_lookup::GlyphId;
 use std::alloc::Allocator;
 
 /// Which glyphs may wake a machine: those whose word has its bit. In state 0 it passes each other one.

@@ -1,9 +1,10 @@
 -- Flags that share no bit with others.
-use Rattle.std.proofs.Common.{◌≡◌, ◌∙◌, sym, ap, ℕ, Bool, true, false, cond, min, max, List, [], ◌∷◌, arith, bit_and, bit_or, fold}
+use Rattle.std.proofs.Common.{◌≡◌, ◌==◌, ◌&&◌, ◌||◌, ◌∙◌, sym, ap, refl, ℕ, Bool, true, false, cond, min, max, List, [], ◌∷◌, arith, bit_and, bit_or, fold}
 use Rattle.std.proofs.lemmas.Nat.Bits.{bit_at_and, bit_at_or, same_from_bits, bit_at-zero}
 use Rattle.std.specs.Int.{bit_at}
-use Rattle.aat_font.specs.declared.morx.ChainFeature.{ChainFeature}
+use Rattle.aat_machine_tables.specs.declared.morx.ChainFeature.{ChainFeature}
 use Rattle.aat_map.specs.ChainFlags.{after_feature, flags_by, is_asked}
+use Rattle.aat_map.specs.Live.{requested_at}
 
 module _ (m : ℕ) where
   apart_bits : (a : ℕ) → bit_and a m ≡ 0 → (i : ℕ) → min (bit_at a i) (bit_at m i) ≡ 0
@@ -60,3 +61,20 @@ module _ (m : ℕ) where
       (requested : ℕ → ℕ → Bool) (a : ℕ) (fs : List ChainFeature)
       → bit_and (fold (λ flags f. bit_or flags f.enable_flags) a fs) m ≡ 0 → bit_and (flags_by requested a fs) m ≡ 0
   possible_are_all requested a fs h = flags_off requested a a fs (first_off a fs h) h
+
+-- without a request no feature of a chain is asked for
+not_asked : (x : ℕ) (f : ChainFeature) → is_asked (requested_at x []) f ≡ false
+not_asked x f = by (f.kind == 3) (f.setting == 3)
+  where
+    by : (t u : Bool) → (false || (t && u && false)) ≡ false
+    by true true = refl
+    by true false = refl
+    by false true = refl
+    by false false = refl
+
+-- and it has its default flags
+pub none_asks : (x a : ℕ) (fs : List ChainFeature) → flags_by (requested_at x []) a fs ≡ a
+none_asks x a [] = refl
+none_asks x a (f ∷ fs) =
+    let next : Bool → ℕ = λ t. cond t (bit_or (bit_and a f.disable_flags) f.enable_flags) a in
+    ap (λ (t : Bool). flags_by (requested_at x []) (next t) fs) (not_asked x f) ∙ none_asks x a fs

@@ -7,12 +7,12 @@ use Rattle.aat_glyph.specs.Directions.{is_backward, is_horizontal}
 use Rattle.aat_glyph.specs.declared.glyph.GlyphPosition.{GlyphPosition}
 use Rattle.aat_buffer.specs.Buffer.{Buffer, glyph_at, position_at, position_list, reversed, zero_position}
 use Rattle.aat_buffer.specs.Marks.{unsafe_to_break}
-use Rattle.aat_font.specs.AnchorPoints.{Points}
-use Rattle.aat_font.specs.Classes.{kerning_by_classes}
-use Rattle.aat_font.specs.declared.kern.KernKind.{KernKind}
-use Rattle.aat_font.specs.declared.kern.KernKind.TheVariants as kind
-use Rattle.aat_font.specs.declared.kerx.KerxFormat.{KerxFormat}
-use Rattle.aat_font.specs.declared.kerx.KerxFormat.TheVariants.{Format0, Format1, Format2, Format2Classes, Format4, Format6, Format6Classes}
+use Rattle.aat_kerning_tables.specs.AnchorPoints.{Points}
+use Rattle.aat_kerning_tables.specs.Classes.{kerning_by_classes}
+use Rattle.aat_kerning_tables.specs.declared.kern.KernKind.{KernKind}
+use Rattle.aat_kerning_tables.specs.declared.kern.KernKind.TheVariants as kind
+use Rattle.aat_kerning_tables.specs.declared.kerx.KerxFormat.{KerxFormat}
+use Rattle.aat_kerning_tables.specs.declared.kerx.KerxFormat.TheVariants.{Format0, Format1, Format2, Format2Classes, Format4, Format6, Format6Classes}
 use Rattle.aat_kerning_machines.specs.Positions.{on_position, with_advance, with_shift}
 use Rattle.aat_kerning.specs.PairKerning.{PairValues, half, in_stream, kerned, pair_kerning, value_of}
 use Rattle.aat_kerning.specs.Pairs.{Pair, kern_skips, kerx_skips, pairs_of}

@@ -5,11 +5,11 @@ use Rattle.std.specs.Prelude.{Option, None}
 use Rattle.std.proofs.lemmas.List.Folds.{list_all_at}
 use Rattle.aat_buffer.specs.Buffer.{Buffer}
 use Rattle.aat_buffer.specs.Marks.{unsafe_to_concat}
-use Rattle.aat_font.specs.AnchorPoints.{Points}
+use Rattle.aat_kerning_tables.specs.AnchorPoints.{Points}
 use Rattle.aat_font.specs.Face.{kern_in, kerx_in, tables_of}
 use Rattle.aat_font.specs.declared.face.hb_font_t.{hb_font_t}
-use Rattle.aat_font.specs.declared.kern.KernSubtable.{KernSubtable}
-use Rattle.aat_font.specs.declared.kerx.KerxSubtable.{KerxSubtable}
+use Rattle.aat_kerning_tables.specs.declared.kern.KernSubtable.{KernSubtable}
+use Rattle.aat_kerning_tables.specs.declared.kerx.KerxSubtable.{KerxSubtable}
 use Rattle.aat_font.specs.declared.plan.Feature.{Feature}
 use Rattle.aat_kerning_machines.specs.KerningLaws.{IsKernedFrom}
 use Rattle.aat_run.specs.Outcome.{Outcome}

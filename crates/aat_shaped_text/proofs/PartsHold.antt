@@ -43,14 +43,14 @@ in_order_of_text v face d features glyphs k false first second early late e l bo
 module _ (apart : PartsAreKernedApart) (little : KerningChangesLittle) (alone : UnattachedLinesStay) (tracks : PartsAreTrackedApart) where
   drawn_in_parts :
       (v : ℤ) (face : hb_font_t) (d : Direction) (features : List Feature) (text : Text) (k i : ℕ)
-      → k < length (shaped_text v face d features text) → shapes_apart face d ≡ true → is_rising text ≡ true
+      → k < length (shaped_text v face d features text) → shapes_apart face d features ≡ true → is_rising text ≡ true
       → MeetsAt (skips_of face) (drawn_text v face d features text).line k i
       → IsDrawnInParts v face d features text (shaped_text v face d features text) k
   drawn_in_parts v face d features text k i low shapes rising m =
       let x : Apart face d features = record {
         value = v;
-        substitutes = substitution_is_a_map face d features (and_first (substitutes_apart face d) (kerns_apart face d) shapes);
-        kerns = and_second (substitutes_apart face d) (kerns_apart face d) shapes;
+        substitutes = substitution_is_a_map face d features (and_first (substitutes_apart face d features) (kerns_apart face d) shapes);
+        kerns = and_second (substitutes_apart face d features) (kerns_apart face d) shapes;
         little = little;
         alone = alone;
         tracks = tracks;
@@ -70,6 +70,6 @@ module _ (apart : PartsAreKernedApart) (little : KerningChangesLittle) (alone : 
   texts_are_drawn_in_parts v face d features text most k low may =
       let line = (drawn_text v face d features text).line in
       let there = breaks_at (may_break_text v face d features text) (drawn_text v face d features text) k low may in
-      let all = three (shapes_apart face d) (is_rising text) (may_break_at (skips_of face) features line there.place) there.may in
+      let all = three (shapes_apart face d features) (is_rising text) (may_break_at (skips_of face) features line there.place) there.may in
       drawn_in_parts v face d features text k there.place low all.0 all.1
       (meets_at (skips_of face) line k there.place there.at_place (may_break_is (skips_of face) features line there.place all.2))

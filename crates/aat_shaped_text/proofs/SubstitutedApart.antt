@@ -7,7 +7,7 @@ use Rattle.aat_buffer.specs.Buffer.{Buffer, with_line, without_positions}
 use Rattle.aat_buffer.specs.Marks.{on_span, concat_marked, produces_concat}
 use Rattle.aat_font.specs.Face.{chains_in, tables_of}
 use Rattle.aat_font.specs.declared.face.hb_font_t.{hb_font_t}
-use Rattle.aat_font.specs.declared.morx.Chain.{Chain}
+use Rattle.aat_machine_tables.specs.declared.morx.Chain.{Chain}
 use Rattle.aat_font.specs.declared.plan.Feature.{Feature}
 use Rattle.aat_run.specs.Outcome.{Outcome, then_run, untouched}
 use Rattle.aat_map.specs.Requests.{requests_of}
@@ -79,16 +79,17 @@ pub record SubstitutesApart (face : hb_font_t) (d : Direction) (features : List 
       → IsMapped glyph b (text_substitution face features b).buffer
 
 pub substitution_is_a_map :
-    (face : hb_font_t) (d : Direction) (features : List Feature) → substitutes_apart face d ≡ true
+    (face : hb_font_t) (d : Direction) (features : List Feature) → substitutes_apart face d features ≡ true
     → SubstitutesApart face d features
 substitution_is_a_map face d features all =
     let z = sizes_for face in
-    let requests = requests_of (tables_of face).feat features in
+    let names = (tables_of face).feat in
+    let requests = requests_of names features in
     let run : Chain → Buffer → Outcome = λ c b. chain_run z (switched_at requests c) b in
     let chains : List Chain = chains_in (tables_of face).morx in
-    let whole = runs_apart d run (λ c. list_all (keeps_apart d (possible_flags c)) c.subtables.items)
+    let whole = runs_apart d run (λ c. list_all (keeps_apart d (possible_flags features c)) c.subtables.items)
     (λ c ok.
-    let inner = runs_apart d (subtable_run z (switch_of z requests d c)) (keeps_apart d (possible_flags c)) (subtable_apart z requests d c) c.subtables.items ok in
+    let inner = runs_apart d (subtable_run z (switch_of z names features d c)) (keeps_apart d (possible_flags features c)) (subtable_apart z names features d c) c.subtables.items ok in
     record { glyph = inner.glyph; keeps = inner.keeps; maps = λ b is. inner.maps (untouched b) is }) chains all in
     record {
       glyph = whole.glyph;

@@ -5,12 +5,12 @@ use Rattle.std.proofs.lemmas.List.{reverse-reverse}
 use Rattle.aat_glyph.specs.declared.glyph.Direction.{Direction}
 use Rattle.aat_glyph.specs.declared.glyph.hb_glyph_info_t.{hb_glyph_info_t}
 use Rattle.aat_buffer.specs.Buffer.{Buffer, reversed, with_cursor}
-use Rattle.aat_font.specs.Table.{TableValue}
-use Rattle.aat_font.specs.declared.morx.Chain.{Chain}
-use Rattle.aat_font.specs.declared.morx.Subtable.{Subtable}
-use Rattle.aat_font.specs.declared.morx.SubtableKind.{SubtableKind}
-use Rattle.aat_font.specs.declared.morx.SubtableKind.TheVariants.{Rearrangement, Contextual, Ligature, NonContextual, Insertion}
-use Rattle.aat_font.specs.declared.state_table.GenericStateEntry.{GenericStateEntry}
+use Rattle.aat_machine_tables.specs.Table.{TableValue}
+use Rattle.aat_machine_tables.specs.declared.morx.Chain.{Chain}
+use Rattle.aat_machine_tables.specs.declared.morx.Subtable.{Subtable}
+use Rattle.aat_machine_tables.specs.declared.morx.SubtableKind.{SubtableKind}
+use Rattle.aat_machine_tables.specs.declared.morx.SubtableKind.TheVariants.{Rearrangement, Contextual, Ligature, NonContextual, Insertion}
+use Rattle.aat_machine_tables.specs.declared.state_table.GenericStateEntry.{GenericStateEntry}
 use Rattle.aat_run.specs.Context.{Context, machine_of, start}
 use Rattle.aat_run.specs.Driven.{machine_run}
 use Rattle.aat_run.specs.Machine.{run_to_end}
@@ -19,14 +19,17 @@ use Rattle.aat_run.specs.Switches.{Switch, meets}
 use Rattle.aat_run.specs.facts.OffRuns.{passed_over}
 use Rattle.aat_map.specs.Live.{requested_at}
 use Rattle.aat_map.specs.SwitchedChains.{switched_at}
-use Rattle.aat_map.specs.declared.feature.feature_range_t.{feature_range_t}
+use Rattle.aat_map.specs.ChainFlags.{flags_by}
+use Rattle.aat_map.specs.Requests.{requests_of}
+use Rattle.aat_lookup.specs.declared.feat.FeatureName.{FeatureName}
+use Rattle.aat_font.specs.declared.plan.Feature.{Feature}
 use Rattle.aat_kinds.specs.Kinds.{Sizes, contextual_run, insertion_run, is_for, is_reversed, kind_run, ligature_run, noncontextual_run, ordered_run, rearrangement_run, reversed_run}
 use Rattle.aat_kinds.specs.Values.{with_answer, with_looked_up_value}
-use Rattle.aat_font.specs.Keys.{value_in}
+use Rattle.aat_lookup.specs.Keys.{value_in}
 use Rattle.std.specs.Prelude.{Option, Some, None}
 use Rattle.aat_morx.specs.Substitution.{is_skipped, subtable_run}
 use Rattle.aat_shaped_text.specs.Breaks.{is_noncontextual, keeps_apart, possible_flags}
-use Rattle.aat_shaped_text.proofs.Bits.{possible_are_all}
+use Rattle.aat_shaped_text.proofs.Bits.{none_asks, possible_are_all}
 use Rattle.aat_shaped_text.proofs.SpotsRuns.{map-reverse}
 
 -- a buffer whose line is that of another one, with f of each glyph
@@ -193,19 +196,29 @@ subtable_skips z switch s d other = record {
     by b true = record { line = map-same b.line; direction = refl; level = refl; flags = refl }
     by b false = record { line = map-same b.line; direction = refl; level = refl; flags = refl }
 
-module _ (z : Sizes) (requests : List feature_range_t) (d : Direction) where
+-- a subtable that no flags of a text switch on is off at each cluster
+possible_is_all :
+    (names : Option (List FeatureName)) (features : List Feature) (c : Chain) (m x : ℕ)
+    → bit_and (possible_flags features c) m ≡ 0
+    → bit_and (flags_by (requested_at x (requests_of names features)) c.default_flags c.features.items) m ≡ 0
+possible_is_all names [] c m x off =
+    ap (λ n. bit_and n m) (none_asks x c.default_flags c.features.items) ∙ off
+possible_is_all names (f ∷ features) c m x off =
+    possible_are_all m (requested_at x (requests_of names (f ∷ features))) c.default_flags c.features.items off
+
+module _ (z : Sizes) (names : Option (List FeatureName)) (features : List Feature) (d : Direction) where
   abbrev pub switch_of : Chain → Switch
-  switch_of c = (switched_at requests c).switch
+  switch_of c = (switched_at (requests_of names features) c).switch
 
   -- a subtable that keeps glyphs apart
   pub subtable_apart :
-      (c : Chain) (s : Subtable) → keeps_apart d (possible_flags c) s ≡ true
+      (c : Chain) (s : Subtable) → keeps_apart d (possible_flags features c) s ≡ true
       → RunsApart d (λ b. (subtable_run z (switch_of c) s b).buffer)
-  subtable_apart c s holds = by (is_noncontextual s.kind) refl (is_for d s.coverage) refl (bit_and (possible_flags c) s.feature_flags == 0) refl holds
+  subtable_apart c s holds = by (is_noncontextual s.kind) refl (is_for d s.coverage) refl (bit_and (possible_flags features c) s.feature_flags == 0) refl holds
     where
       by :
           (t : Bool) → is_noncontextual s.kind ≡ t → (u : Bool) → is_for d s.coverage ≡ u
-          → (v : Bool) → (bit_and (possible_flags c) s.feature_flags == 0) ≡ v → (t || not u || not (not v)) ≡ true
+          → (v : Bool) → (bit_and (possible_flags features c) s.feature_flags == 0) ≡ v → (t || not u || not (not v)) ≡ true
           → RunsApart d (λ b. (subtable_run z (switch_of c) s b).buffer)
       by true is u for v meets holds =
           subtable_maps z (switch_of c) s d (kind_apart z ((switch_of c).is_on s.feature_flags) s.kind true is (λ e. absurd (true≢false e)))
@@ -213,4 +226,4 @@ module _ (z : Sizes) (requests : List feature_range_t) (d : Direction) where
       by false is true for false meets holds = absurd (true≢false (sym holds))
       by false is true for true meets holds =
           subtable_maps z (switch_of c) s d (kind_apart z ((switch_of c).is_on s.feature_flags) s.kind false is
-          (λ e x. ap (λ n. not (n == 0)) (possible_are_all s.feature_flags (requested_at x requests) c.default_flags c.features.items (eqb-true (bit_and (possible_flags c) s.feature_flags) 0 meets))))
+          (λ e x. ap (λ n. not (n == 0)) (possible_is_all names features c s.feature_flags x (eqb-true (bit_and (possible_flags features c) s.feature_flags) 0 meets))))

@@ -9,10 +9,10 @@ use Rattle.aat_glyph.specs.declared.glyph.Direction.{Direction}
 use Rattle.aat_glyph.specs.declared.glyph.hb_glyph_info_t.{hb_glyph_info_t}
 use Rattle.aat_font.specs.Face.{chains_in, kern_in, kerx_in, tables_of}
 use Rattle.aat_font.specs.declared.face.hb_font_t.{hb_font_t}
-use Rattle.aat_font.specs.declared.morx.Chain.{Chain}
-use Rattle.aat_font.specs.declared.morx.Subtable.{Subtable}
-use Rattle.aat_font.specs.declared.morx.SubtableKind.{SubtableKind}
-use Rattle.aat_font.specs.declared.morx.SubtableKind.TheVariants.{Rearrangement, Contextual, Ligature, NonContextual, Insertion}
+use Rattle.aat_machine_tables.specs.declared.morx.Chain.{Chain}
+use Rattle.aat_machine_tables.specs.declared.morx.Subtable.{Subtable}
+use Rattle.aat_machine_tables.specs.declared.morx.SubtableKind.{SubtableKind}
+use Rattle.aat_machine_tables.specs.declared.morx.SubtableKind.TheVariants.{Rearrangement, Contextual, Ligature, NonContextual, Insertion}
 use Rattle.aat_font.specs.declared.plan.Feature.{Feature}
 use Rattle.aat_run.specs.Switches.{meets}
 use Rattle.aat_kinds.specs.Kinds.{is_for}
@@ -21,9 +21,11 @@ use Rattle.aat_kerning.specs.Positioning.{Kerning, is_for_direction, kerning_of_
 use Rattle.aat_shaped_text.specs.TextFeatures.{ask_alike}
 use Rattle.aat_shaped_text.specs.declared.text.TextGlyph.{TextGlyph}
 
--- all flags that a chain can come to have
-abbrev pub possible_flags : Chain → ℕ
-possible_flags c = fold (λ flags f. bit_or flags f.enable_flags) c.default_flags c.features.items
+-- the flags that a chain can come to have in a text: its default ones, and where the text asks for features also those
+-- that its own features set
+abbrev pub possible_flags : List Feature → Chain → ℕ
+possible_flags [] c = c.default_flags
+possible_flags (f ∷ features) c = fold (λ flags f. bit_or flags f.enable_flags) c.default_flags c.features.items
 
 -- a subtable substitutes each glyph by itself
 abbrev pub is_noncontextual : SubtableKind → Bool
@@ -38,10 +40,11 @@ abbrev pub keeps_apart : Direction → ℕ → Subtable → Bool
 keeps_apart d flags s =
     is_noncontextual s.kind || not (is_for d s.coverage) || not (meets flags s.feature_flags)
 
--- each subtable of the font's extended glyph metamorphosis table does
-abbrev pub substitutes_apart : hb_font_t → Direction → Bool
-substitutes_apart face d =
-    list_all (λ c. list_all (keeps_apart d (possible_flags c)) c.subtables.items) (chains_in (tables_of face).morx)
+-- each subtable of the font's extended glyph metamorphosis table does, under the features of a text
+abbrev pub substitutes_apart : hb_font_t → Direction → List Feature → Bool
+substitutes_apart face d features =
+    list_all (λ c. list_all (keeps_apart d (possible_flags features c)) c.subtables.items)
+    (chains_in (tables_of face).morx)
 
 -- a subtable of kerning is not for texts of a direction, or kerns pairs along the line
 abbrev pub kerns_pairs_along : Direction → Kerning → Bool
@@ -62,10 +65,11 @@ kerns_apart face d = list_all (kerns_pairs_along d) (kernings_of face)
 abbrev pub skips_of : hb_font_t → ℕ
 skips_of face = if is_some (tables_of face).kerx then kerx_skips else kern_skips
 
--- what the font has to be like for its texts of a direction to be broken anywhere: of the subtables that are for them,
--- those of `morx` that can be switched on substitute glyph by glyph, and those of kerning kern pairs along the line
-abbrev pub shapes_apart : hb_font_t → Direction → Bool
-shapes_apart face d = substitutes_apart face d && kerns_apart face d
+-- what the font has to be like for its texts of a direction with these features to be broken anywhere: of the subtables
+-- that are for them, those of `morx` that can be switched on substitute glyph by glyph, and those of kerning kern pairs
+-- along the line
+abbrev pub shapes_apart : hb_font_t → Direction → List Feature → Bool
+shapes_apart face d features = substitutes_apart face d features && kerns_apart face d
 
 -- clusters never fall along a text
 abbrev pub is_rising : List TextGlyph → Bool

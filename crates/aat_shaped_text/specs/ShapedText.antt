@@ -151,7 +151,7 @@ drawn_glyphs may_break b =
 -- allow it
 abbrev pub may_break_text : ℤ → hb_font_t → Direction → List Feature → List TextGlyph → ℕ → Bool
 may_break_text v face d features text i =
-    shapes_apart face d && is_rising text
+    shapes_apart face d features && is_rising text
     && may_break_at (skips_of face) features (drawn_text v face d features text).line i
 
 -- what is drawn of a text that is tracked by a value

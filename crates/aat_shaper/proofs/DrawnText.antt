@@ -46,17 +46,17 @@ module _ (v : ℤ) (face : hb_font_t) (d : Direction) (features : List Feature) 
   pub drawn_so :
       (glyphs : List ShapedGlyph) (allowed : Bool) (skips : ℕ) (asked : List Feature) (b : Buffer)
       → glyphs ≡ drawn_glyphs (λ i. allowed && may_break_at skips asked b.line i) b
-      → allowed ≡ (shapes_apart face d && is_rising text) → skips ≡ skips_of face → asked ≡ features
+      → allowed ≡ (shapes_apart face d asked && is_rising text) → skips ≡ skips_of face → asked ≡ features
       → b ≡ drawn_text v face d features text
       → glyphs ≡ shaped_text v face d features text
   drawn_so glyphs allowed skips asked b put may skipped same drawn =
       put
       ∙ (ap (λ (a : Bool). drawn_glyphs (λ i. a && may_break_at skips asked b.line i) b) may
-      ∙ (ap (λ (n : ℕ). drawn_glyphs (λ i. (shapes_apart face d && is_rising text) && may_break_at n asked b.line i) b) skipped
+      ∙ (ap (λ (n : ℕ). drawn_glyphs (λ i. (shapes_apart face d asked && is_rising text) && may_break_at n asked b.line i) b) skipped
       ∙ (ap (λ (fs : List Feature).
-      drawn_glyphs (λ i. (shapes_apart face d && is_rising text) && may_break_at (skips_of face) fs b.line i) b) same
+      drawn_glyphs (λ i. (shapes_apart face d fs && is_rising text) && may_break_at (skips_of face) fs b.line i) b) same
       ∙ (ap (λ (c : Buffer).
-      drawn_glyphs (λ i. (shapes_apart face d && is_rising text) && may_break_at (skips_of face) features c.line i) c) drawn))))
+      drawn_glyphs (λ i. (shapes_apart face d features && is_rising text) && may_break_at (skips_of face) features c.line i) c) drawn))))
 
   -- the clusters of the line of a text do not stay apart
   pub text_merges :

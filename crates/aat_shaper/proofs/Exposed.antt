@@ -1,7 +1,7 @@
 -- Whether a font has one of two feature types.
 use Rattle.std.proofs.Common.{◌≡◌, refl, ◌||◌, Option, Some, None}
 use Rattle.std.specs.Prelude.{is_some}
-use Rattle.aat_font.specs.declared.feat.FeatureName.{FeatureName}
+use Rattle.aat_lookup.specs.declared.feat.FeatureName.{FeatureName}
 use Rattle.aat_map.specs.Requests.{either_name}
 
 pub either_is_some :

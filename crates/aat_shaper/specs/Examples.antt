@@ -3,7 +3,7 @@
 use Rattle.std.specs.Prelude.{◌≡◌, ℕ, Bool, true, false, List, [], ◌∷◌, Some, None, map}
 use Rattle.aat_font.specs.declared.face.FaceTables.{FaceTables}
 use Rattle.aat_font.specs.declared.face.hb_font_t.{hb_font_t}
-use Rattle.aat_font.specs.declared.feat.FeatureName.{FeatureName}
+use Rattle.aat_lookup.specs.declared.feat.FeatureName.{FeatureName}
 use Rattle.aat_map.specs.Examples.{alternate_names, letter_case_names, ligature_names}
 use Rattle.aat_shaper.specs.Named.{has_feature}
 

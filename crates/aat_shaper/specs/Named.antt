@@ -2,7 +2,7 @@
 use Rattle.std.specs.Prelude.{ℕ, ◌==◌, ◌||◌, Bool, false, List, Option, Some, None, is_some, if◌then◌else◌}
 use Rattle.aat_font.specs.Face.{tables_of}
 use Rattle.aat_font.specs.declared.face.hb_font_t.{hb_font_t}
-use Rattle.aat_font.specs.declared.feat.FeatureName.{FeatureName}
+use Rattle.aat_lookup.specs.declared.feat.FeatureName.{FeatureName}
 use Rattle.aat_font.specs.declared.tag.hb_tag_t.{hb_tag_t}
 use Rattle.aat_map.specs.Mappings.{mapping_of}
 use Rattle.aat_map.specs.Requests.{exposed, name_for}

@@ -1,5 +1,5 @@
 //! Whether texts of a font can be broken.
-ghost use Rattle.std.specs.Prelude.{◌≡◌, None};
+ghost use Rattle.std.specs.Prelude.{◌≡◌, None, bit_or, fold};
 ghost use Rattle.std.specs.List.{list_all};
 ghost use Rattle.aat_font.specs.Face.{kern_in, kerx_in, tables_of};
 ghost use Rattle.aat_kerning.specs.Positioning.{kerning_of_kern_subtable, kerning_of_kerx_subtable};
@@ -7,20 +7,32 @@ ghost use Rattle.aat_shaped_text.specs.Breaks.{is_noncontextual, keeps_apart, ke
 
 use aat_layout::buffer::{Direction, hb_mask_t};
 use aat_layout::font::{
-    Chain, KernKind, KernSubtable, KerxFormat, KerxSubtable, Subtable, SubtableKind, hb_font_t,
+    Chain, Feature, KernKind, KernSubtable, KerxFormat, KerxSubtable, Subtable, SubtableKind,
+    hb_font_t,
 };
 use aat_layout::{KERN_SKIPS, KERX_SKIPS};
 use aat_morx::is_for;
 
 /// All flags that a chain can come to have.
-fn possible_flags(chain: &Chain) -> hb_mask_t
-    ensures { result ≡ possible_flags chain.now }
+fn all_flags(chain: &Chain) -> hb_mask_t
+    ensures { result ≡ fold (λ flags f. bit_or flags f.enable_flags) chain.now.default_flags chain.now.features.items }
 {
     let mut flags = chain.default_flags;
     for feature in &chain.features {
         flags |= feature.enable_flags;
     }
     flags
+}
+
+/// The flags that a chain can come to have in a text with these features.
+fn possible_flags(chain: &Chain, features: &[Feature]) -> hb_mask_t
+    ensures { result ≡ possible_flags features.now chain.now }
+{
+    if features.is_empty() {
+        chain.default_flags
+    } else {
+        all_flags(chain)
+    }
 }
 
 /// Whether a subtable substitutes each glyph by itself.
@@ -40,10 +52,11 @@ fn keeps_apart(direction: Direction, flags: hb_mask_t, subtable: &Subtable) -> b
 }
 
 /// Whether each subtable of a chain does.
-fn chain_keeps_apart(direction: Direction, chain: &Chain) -> bool
-    ensures { result ≡ list_all (keeps_apart direction (possible_flags chain.now)) chain.now.subtables.items }
+fn chain_keeps_apart(direction: Direction, features: &[Feature], chain: &Chain) -> bool
+    ensures { result ≡ list_all (keeps_apart direction (possible_flags features.now chain.now))
+        chain.now.subtables.items }
 {
-    let flags = possible_flags(chain);
+    let flags = possible_flags(chain, features);
     chain
         .subtables
         .iter()
@@ -51,12 +64,12 @@ fn chain_keeps_apart(direction: Direction, chain: &Chain) -> bool
 }
 
 /// Whether each subtable of the extended glyph metamorphosis table does.
-fn substitutes_apart(face: &hb_font_t, direction: Direction) -> bool
-    ensures { result ≡ substitutes_apart face.now direction }
+fn substitutes_apart(face: &hb_font_t, direction: Direction, features: &[Feature]) -> bool
+    ensures { result ≡ substitutes_apart face.now direction features.now }
 {
     face.chains()
         .iter()
-        .all(|chain| chain_keeps_apart(direction, chain))
+        .all(|chain| chain_keeps_apart(direction, features, chain))
 }
 
 /// Whether a subtable of the extended kerning table is not for texts of a direction, or kerns pairs along the line.
@@ -115,11 +128,12 @@ fn kerns_apart(face: &hb_font_t, direction: Direction) -> bool
     }
 }
 
-/// Whether all that is for texts of a direction substitutes glyph by glyph, and kerns pairs along the line.
-pub(crate) fn shapes_apart(face: &hb_font_t, direction: Direction) -> bool
-    ensures { result ≡ shapes_apart face.now direction }
+/// Whether all that is for texts of a direction with these features substitutes glyph by glyph, and kerns pairs along
+/// the line.
+pub(crate) fn shapes_apart(face: &hb_font_t, direction: Direction, features: &[Feature]) -> bool
+    ensures { result ≡ shapes_apart face.now direction features.now }
 {
-    substitutes_apart(face, direction) && kerns_apart(face, direction)
+    substitutes_apart(face, direction, features) && kerns_apart(face, direction)
 }
 
 /// The glyph properties that the kerning table in use skips.

@@ -195,8 +195,9 @@ impl<'f, A: Allocator + Copy> Shaper<'f, A> {
     /// and its two parts shaped by themselves with the same features, what is drawn before the glyph looks as the one
     /// part does, and what is drawn from it on as the other one: ids, clusters, advances and offsets. In a backward
     /// text the later part is drawn first. No glyph says so unless clusters never fall along the text; all subtables
-    /// of `morx` that are for its direction and can be switched on are noncontextual; and those of the kerning table in
-    /// use that are for it are of pairs, along the line. Then a glyph says so exactly where some glyph is drawn before
+    /// of `morx` that are for its direction and can be switched on are noncontextual, where without features only the
+    /// default flags of a chain switch, and with features also the flags that its own features set; and those of the
+    /// kerning table in use that are for it are of pairs, along the line. Then a glyph says so exactly where some glyph is drawn before
     /// it; kerning does not skip it; its cluster is not that of the glyph before it, which may be a deleted one; no
     /// glyph of the later of these two clusters is marked `UNSAFE_TO_BREAK`, deleted ones included; and the same
     /// features hold both.
@@ -299,10 +300,15 @@ fn make_room<A: Allocator + Copy>(
 }
 
 /// Whether the font and the text allow a break anywhere.
-fn may_break_anywhere(face: &hb_font_t, direction: Direction, text: &[TextGlyph]) -> bool
-    ensures { result ≡ (shapes_apart face.now direction && is_rising text.now) }
+fn may_break_anywhere(
+    face: &hb_font_t,
+    direction: Direction,
+    features: &[Feature],
+    text: &[TextGlyph],
+) -> bool
+    ensures { result ≡ (shapes_apart face.now direction features.now && is_rising text.now) }
 {
-    shapes_apart(face, direction) && is_rising(text)
+    shapes_apart(face, direction, features) && is_rising(text)
 }
 
 /// Whether nothing is left of a buffer's budget.
@@ -342,7 +348,7 @@ fn shape_over<H: Allocator + Copy, A: Allocator>(
     track_line(workspace, value, &mut buffer)?;
     turn(&mut buffer);
     let breaks = Breaks {
-        is_allowed: may_break_anywhere(face, direction, text),
+        is_allowed: may_break_anywhere(face, direction, features, text),
         skips: skips_of(face),
         features,
     };

@@ -9,7 +9,7 @@ use Rattle.std.proofs.lemmas.List.Sums.{count_by_more_no, count_by_more_yes}
 use Rattle.std.proofs.lemmas.Option.{slice_get-get_or, slice_get_past}
 use Rattle.std.specs.List.{count_by, filter, range_with_len}
 use Rattle.std.specs.Prelude.{option_and_then, pos, slice_get, if◌then◌else◌}
-use Rattle.aat_font.specs.declared.plan.GlyphId.{GlyphId}
+use Rattle.aat_lookup.specs.declared.glyph_id.GlyphId.{GlyphId}
 use Rattle.aat_shaped_text.specs.declared.text.ShapedGlyph.{ShapedGlyph}
 use Rattle.aat_text.specs.Ignorables.{as_space, kept_glyph, kept_place, stays, with_spaces}
 use Rattle.aat_text.specs.inside.Listed.{listed_place}

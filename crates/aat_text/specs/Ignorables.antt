@@ -1,7 +1,7 @@
 -- What is drawn of a text where its ignorable glyphs are hidden.
 use Rattle.std.specs.Prelude.{ℕ, pos, Bool, not, ◌&&◌, ◌==◌, List, count_by, filter, map, take, slice_get, Option, Some, None, option_and_then, if◌then◌else◌}
 use Rattle.std.specs.List.{list_any}
-use Rattle.aat_font.specs.declared.plan.GlyphId.{GlyphId}
+use Rattle.aat_lookup.specs.declared.glyph_id.GlyphId.{GlyphId}
 use Rattle.aat_shaped_text.specs.declared.text.ShapedGlyph.{ShapedGlyph}
 use Rattle.aat_shaped_text.specs.declared.text.TextGlyph.{TextGlyph}
 

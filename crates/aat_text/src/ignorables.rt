@@ -6,7 +6,7 @@ ghost use Rattle.std.specs.Ordering.{nat_cmp};
 ghost use Rattle.aat_text.specs.Ignorables.{as_space, drawn_without_ignorables, has_ignorable, is_hidden, kept_glyphs, kept_place, with_spaces};
 ghost use Rattle.aat_text.specs.inside.Listed.{listed_place};
 
-use aat_font::GlyphId;
+use aat_lookup::GlyphId;
 use aat_shaped_text::{ShapedGlyph, TextGlyph};
 use std::alloc::{AllocError, Allocator};
 use std::collections::BTreeSet;

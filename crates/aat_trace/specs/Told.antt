@@ -6,7 +6,7 @@ use Rattle.aat_buffer.specs.Clusters.{ids}
 use Rattle.aat_glyph.specs.declared.glyph.hb_glyph_info_t.{hb_glyph_info_t}
 use Rattle.aat_font.specs.Face.{chains_in, tables_of}
 use Rattle.aat_font.specs.declared.face.hb_font_t.{hb_font_t}
-use Rattle.aat_font.specs.declared.morx.Subtable.{Subtable}
+use Rattle.aat_machine_tables.specs.declared.morx.Subtable.{Subtable}
 use Rattle.aat_font.specs.declared.plan.hb_ot_shape_plan_t.{hb_ot_shape_plan_t}
 use Rattle.aat_kinds.specs.Kinds.{Sizes, is_reversed, sizes_for}
 use Rattle.aat_map.specs.SwitchedChains.{SwitchedChain, plan_requests, switched}

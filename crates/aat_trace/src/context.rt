@@ -3,7 +3,7 @@ ghost use Rattle.std.specs.Prelude.{◌≡◌};
 
 use crate::log::Log;
 use aat_buffer::hb_buffer_t;
-use aat_font::{Acting, GenericStateEntry};
+use aat_machine_tables::{Acting, GenericStateEntry};
 use aat_run::{AatError, driver_context_t};
 use std::alloc::Allocator;
 use std::marker::Model;

@@ -11,11 +11,11 @@ ghost use Rattle.aat_run.specs.Ranges.{IsGapless, is_whole_list};
 use crate::context::Traced;
 use crate::log::Log;
 use aat_buffer::hb_buffer_t;
-use aat_font::{
-    ContextualSubtable, ExtendedStateTable, InsertionSubtable, LigatureSubtable, SubtableKind,
-};
 use aat_kinds::{
     ContextualCtx, InsertionCtx, LigatureCtx, RearrangementCtx, SubtableRun, run_kind,
+};
+use aat_machine_tables::{
+    ContextualSubtable, ExtendedStateTable, InsertionSubtable, LigatureSubtable, SubtableKind,
 };
 use aat_run::{AatError, run_machine};
 use std::alloc::Allocator;

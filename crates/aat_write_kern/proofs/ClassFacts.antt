@@ -3,7 +3,7 @@ use Rattle.std.proofs.Common.{◌≡◌, ℕ, ◌*◌, ◌<◌, ◌≤◌, ◌^�
 use Rattle.std.specs.Prelude.{nat_lt, nat_le, option_map}
 use Rattle.std.proofs.lemmas.Bool.{leb-false, ltb-false}
 use Rattle.std.proofs.lemmas.Bool.Decides.{nat_tests}
-use Rattle.aat_font.specs.Classes.{ClassValues}
+use Rattle.aat_kerning_tables.specs.Classes.{ClassValues}
 use Rattle.aat_write_kern.specs.ClassBytes.{array_offset, classes_refusal, left_limit, lists_refusal, value_from, wrong_value}
 use Rattle.aat_write_kern.specs.DenseClasses.{class_gap}
 use Rattle.aat_write_kern.specs.declared.error.KernWriteError.TheVariants.{ClassCount, TooLong, Class, Value}

@@ -1,6 +1,6 @@
 -- What is written of each of some subtables.
 use Rattle.std.proofs.Common.{◌≡◌, ℕ, zero, suc, ◌+◌, ◌<◌, List, [], ◌∷◌, ◌++◌, length, get_or, drop, Result, Ok, Err, refl, sym, ap, ◌∙◌, append_assoc, arith}
-use Rattle.aat_font.specs.declared.kern.KernSubtable.{KernSubtable}
+use Rattle.aat_kerning_tables.specs.declared.kern.KernSubtable.{KernSubtable}
 use Rattle.aat_write_kern.specs.KernBytes.{subtable_written, subtables_written}
 use Rattle.aat_write_kern.specs.KernWriteErrors.{after_written}
 use Rattle.aat_write_kern.specs.declared.error.KernWriteError.{KernWriteError}

@@ -4,8 +4,8 @@ use Rattle.std.specs.Prelude.{bit_and, nat_lt}
 use Rattle.std.proofs.lemmas.Bool.{le-ltb}
 use Rattle.std.proofs.lemmas.Bool.Decides.{nat_tests}
 use Rattle.std.proofs.lemmas.Nat.Bits.{and_high}
-use Rattle.aat_font.specs.declared.entries.KernEntryData.{KernEntryData}
-use Rattle.aat_font.specs.declared.state_table.GenericStateEntry.{GenericStateEntry}
+use Rattle.aat_machine_tables.specs.declared.entries.KernEntryData.{KernEntryData}
+use Rattle.aat_machine_tables.specs.declared.state_table.GenericStateEntry.{GenericStateEntry}
 use Rattle.aat_read_kern.specs.ByteStates.{value_named}
 use Rattle.aat_write_kern.specs.MachineBytes.{fits_flags, flags_word}
 use Rattle.aat_write_kern.proofs.Opened.{both_true, same_by}

@@ -9,10 +9,10 @@ use Rattle.std.proofs.lemmas.Bool.Decides.{nat_tests}
 use Rattle.std.proofs.lemmas.List.{get_or-append-add, get_or-map, length-append, length-map}
 use Rattle.std.proofs.lemmas.List.FromFn.{fill_by_all, get_or-range_with_len, length-range_with_len}
 use Rattle.aat_bytes.specs.Numbers.{be16, signed16}
-use Rattle.aat_font.specs.KerningTables.{KernMachineTables}
-use Rattle.aat_font.specs.Table.{table_value}
-use Rattle.aat_font.specs.declared.entries.KernEntryData.{KernEntryData}
-use Rattle.aat_font.specs.declared.state_table.GenericStateEntry.{GenericStateEntry}
+use Rattle.aat_kerning_tables.specs.KerningTables.{KernMachineTables}
+use Rattle.aat_machine_tables.specs.Table.{table_value}
+use Rattle.aat_machine_tables.specs.declared.entries.KernEntryData.{KernEntryData}
+use Rattle.aat_machine_tables.specs.declared.state_table.GenericStateEntry.{GenericStateEntry}
 use Rattle.aat_read_kern.specs.ByteMachines.{byte_machine_at, cell_count, entry_place, state_named}
 use Rattle.aat_read_kern.specs.ByteStates.{entry_of_cell, rows_of, rule_of, rules_of, value_named, whole_rows}
 use Rattle.aat_read_kern.specs.KernMachines.{byte_classes_at, classes_of, kern_machine_at, tables_of, values_of}

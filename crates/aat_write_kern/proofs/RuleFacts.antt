@@ -4,7 +4,7 @@ use Rattle.std.specs.Prelude.{nat_lt, option_map}
 use Rattle.std.proofs.Math.Nat.{mul-div-le, mul-le-mul_right}
 use Rattle.std.proofs.lemmas.Bool.{ltb-false}
 use Rattle.std.proofs.lemmas.Bool.Decides.{nat_tests}
-use Rattle.aat_font.specs.Table.{rule_key}
+use Rattle.aat_machine_tables.specs.Table.{rule_key}
 use Rattle.aat_write_kern.specs.DenseClasses.{class_gap}
 use Rattle.aat_write_kern.specs.MachineBytes.{KernRule, fill_rows, fits_flags, is_at_cell, parts_refusal, rules_refusal, value_offset, wrong_from, wrong_rule}
 use Rattle.aat_write_kern.specs.declared.error.KernWriteError.TheVariants.{ClassCount, RuleCount, TooLong, Class, Rule as RuleError}

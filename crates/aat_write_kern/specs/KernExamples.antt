@@ -1,8 +1,8 @@
 -- Worked examples of kerning tables that are written. Apple's TrueType Reference Manual, "The 'kern' table".
 use Rattle.std.specs.Prelude.{◌≡◌, ℕ, pos, negsuc, [], ◌∷◌, ◌++◌, true, false, Ok, Err}
-use Rattle.aat_font.specs.Classes.{ClassValues}
-use Rattle.aat_font.specs.KerningTables.{KernMachineTables}
-use Rattle.aat_font.specs.declared.kern.KernKind.TheVariants.{Classes, Pairs}
+use Rattle.aat_kerning_tables.specs.Classes.{ClassValues}
+use Rattle.aat_kerning_tables.specs.KerningTables.{KernMachineTables}
+use Rattle.aat_kerning_tables.specs.declared.kern.KernKind.TheVariants.{Classes, Pairs}
 use Rattle.aat_write_kern.specs.ClassBytes.{classes_written}
 use Rattle.aat_write_kern.specs.KernBytes.{kern_written}
 use Rattle.aat_write_kern.specs.MachineBytes.{KernRule, machine_written}

@@ -2,10 +2,10 @@
 use Rattle.std.specs.Prelude.{ℕ, ◌+◌, ◌*◌, ◌/◌, ◌%◌, List, [], ◌∷◌, ◌++◌, length, map, max, Bool, not, Option, Some, None, option_map, Result, if◌then◌else◌, nat_lt, ◌==◌, ◌&&◌, ◌||◌, bit_and}
 use Rattle.std.specs.List.{flat_map, range_with_len}
 use Rattle.std.specs.Option.{option_or}
-use Rattle.aat_font.specs.KerningTables.{KernMachineTables}
-use Rattle.aat_font.specs.Table.{Rule, rule_key}
-use Rattle.aat_font.specs.declared.entries.KernEntryData.{KernEntryData}
-use Rattle.aat_font.specs.declared.state_table.GenericStateEntry.{GenericStateEntry}
+use Rattle.aat_kerning_tables.specs.KerningTables.{KernMachineTables}
+use Rattle.aat_machine_tables.specs.Table.{Rule, rule_key}
+use Rattle.aat_machine_tables.specs.declared.entries.KernEntryData.{KernEntryData}
+use Rattle.aat_machine_tables.specs.declared.state_table.GenericStateEntry.{GenericStateEntry}
 use Rattle.aat_write_lookup.specs.Words.{word_bytes}
 use Rattle.aat_write_kern.specs.DenseClasses.{class_gap, first_glyph}
 use Rattle.aat_write_kern.specs.KernWriteErrors.{unless_refused}

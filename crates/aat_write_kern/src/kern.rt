@@ -7,7 +7,7 @@ use crate::classes::write_classes;
 use crate::error::KernWriteError;
 use crate::machine::write_machine;
 use crate::pairs::write_pairs;
-use aat_font::{Kern, KernKind, KernSubtable};
+use aat_kerning_tables::{Kern, KernKind, KernSubtable};
 use aat_write_lookup::{append_longs, append_words};
 use std::alloc::{AllocError, Global};
 

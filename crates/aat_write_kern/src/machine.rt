@@ -1,7 +1,7 @@
 //! Machines with a stack to bytes.
 ghost use Rattle.std.specs.Prelude.{◌≡◌, ◌++◌, ◌+◌, ◌*◌, ◌<◌, ◌≤◌, All, length, map, true, IfOk, OnOk, None};
 ghost use Rattle.std.specs.List.{flat_map, range_with_len};
-ghost use Rattle.aat_font.specs.Table.{table_value};
+ghost use Rattle.aat_machine_tables.specs.Table.{table_value};
 ghost use Rattle.aat_write_lookup.specs.Words.{word_bytes};
 ghost use Rattle.aat_write_kern.specs.KernWriteErrors.{Writes};
 ghost use Rattle.aat_write_kern.specs.MachineBytes.{KernRule, entry_words, fits_flags, flags_word, machine_bytes, machine_written, rules_refusal};
@@ -10,7 +10,8 @@ use crate::dense::first_glyph;
 use crate::error::KernWriteError;
 use crate::pairs::append_values;
 use crate::rules::{KernRule, NO_VALUE, rules_refusal};
-use aat_font::{GenericStateEntry, KernEntryData, KernMachine};
+use aat_kerning_tables::KernMachine;
+use aat_machine_tables::{GenericStateEntry, KernEntryData};
 use aat_write_lookup::append_words;
 use std::alloc::{AllocError, Global};
 

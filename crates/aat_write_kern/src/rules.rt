@@ -4,8 +4,8 @@ ghost use Rattle.aat_write_kern.specs.MachineBytes.{fill_rows, fits_flags, is_at
 
 use crate::dense::class_gap;
 use crate::error::KernWriteError;
-use aat_font::keys::Keyed;
-use aat_font::{GenericStateEntry, KernEntryData};
+use aat_lookup::keys::Keyed;
+use aat_machine_tables::{GenericStateEntry, KernEntryData};
 
 /// A rule of a machine of the kerning table.
 pub(crate) type KernRule = (u16, u16, GenericStateEntry<KernEntryData>);

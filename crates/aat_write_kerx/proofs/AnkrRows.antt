@@ -3,8 +3,8 @@ use Rattle.std.proofs.Common.{◌≡◌, ℕ, zero, suc, ◌+◌, ◌<◌, ◌�
 use Rattle.std.specs.Prelude.{nat_lt}
 use Rattle.std.specs.declared.vec.Vec.{Vec}
 use Rattle.std.proofs.lemmas.Bool.{ltb-false}
-use Rattle.aat_font.specs.AnchorPoints.{Points, points_in_rows}
-use Rattle.aat_font.specs.declared.entries.Point.{Point}
+use Rattle.aat_kerning_tables.specs.AnchorPoints.{Points, points_in_rows}
+use Rattle.aat_kerning_tables.specs.declared.ankr.Point.{Point}
 use Rattle.aat_write_kerx.specs.AnkrBytes.{HasFewPoints, points_size, refusal_from}
 use Rattle.aat_write_kerx.specs.declared.ankr_error.AnkrWriteError.{AnkrWriteError}
 use Rattle.aat_write_kerx.specs.declared.ankr_error.AnkrWriteError.TheVariants.{TooFar, TooManyPoints}

@@ -10,7 +10,7 @@ use Rattle.aat_bytes.specs.Faults.{after}
 use Rattle.aat_bytes.specs.Numbers.{be16, be32, signed16}
 use Rattle.aat_bytes.specs.declared.error.Fault.{Fault}
 use Rattle.aat_bytes.specs.declared.tags.TheConstants.{KERX}
-use Rattle.aat_font.specs.Classes.{ClassValues}
+use Rattle.aat_kerning_tables.specs.Classes.{ClassValues}
 use Rattle.aat_read_lookup.specs.Lookups.{lookup_at}
 use Rattle.aat_read_lookup.specs.Rows.{in_row}
 use Rattle.aat_read_pairs.specs.KerxClasses.{array_grid_at, class_grid_at, grid_pairs, kerx_classes_at}

@@ -1,7 +1,7 @@
 -- Subtables with the bytes of their formats, one behind the other.
 use Rattle.std.proofs.Common.{◌≡◌, ℕ, ◌+◌, ◌<◌, ◌≤◌, List, [], ◌∷◌, ◌++◌, length, get_or, drop, Result, Ok, Err, refl, sym, ap, ◌∙◌, append_assoc}
 use Rattle.std.proofs.lemmas.List.{append-nil, drop_all, drop_more}
-use Rattle.aat_font.specs.declared.kerx.KerxSubtable.{KerxSubtable}
+use Rattle.aat_kerning_tables.specs.declared.kerx.KerxSubtable.{KerxSubtable}
 use Rattle.aat_write_kerx.specs.KerxBytes.{SubtableContent, contents_from, subtable_content}
 use Rattle.aat_write_kerx.specs.KerxWriteErrors.{RefusesWithin, TableRefusesWithin, after_written, error_of_subtable, of_subtable}
 use Rattle.aat_write_kerx.specs.declared.kerx_error.KerxWriteError.{KerxWriteError}

@@ -4,9 +4,9 @@ use Rattle.std.specs.Prelude.{nat_lt}
 use Rattle.std.specs.List.{position_or_len}
 use Rattle.std.proofs.lemmas.Bool.{ltb-false}
 use Rattle.std.proofs.lemmas.List.Sums.{fails_before_first}
-use Rattle.aat_font.specs.Table.{Rule}
-use Rattle.aat_font.specs.declared.entries.EntryData.{EntryData}
-use Rattle.aat_font.specs.declared.state_table.GenericStateEntry.{GenericStateEntry}
+use Rattle.aat_machine_tables.specs.Table.{Rule}
+use Rattle.aat_machine_tables.specs.declared.entries.EntryData.{EntryData}
+use Rattle.aat_machine_tables.specs.declared.state_table.GenericStateEntry.{GenericStateEntry}
 use Rattle.aat_write_kerx.specs.MachineBytes.{action_number, is_far}
 use Rattle.aat_write_kerx.specs.PairBytes.{first_far}
 

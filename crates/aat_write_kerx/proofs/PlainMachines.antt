@@ -6,9 +6,9 @@ use Rattle.std.specs.Option.{option_or}
 use Rattle.std.proofs.lemmas.List.{drop_at, length-append, length-map}
 use Rattle.std.proofs.lemmas.List.FromFn.{length-range_with_len}
 use Rattle.aat_bytes.specs.Numbers.{be16}
-use Rattle.aat_font.specs.Table.{Rule, rule_key}
-use Rattle.aat_font.specs.declared.entries.EntryData.{EntryData}
-use Rattle.aat_font.specs.declared.state_table.GenericStateEntry.{GenericStateEntry}
+use Rattle.aat_machine_tables.specs.Table.{Rule, rule_key}
+use Rattle.aat_machine_tables.specs.declared.entries.EntryData.{EntryData}
+use Rattle.aat_machine_tables.specs.declared.state_table.GenericStateEntry.{GenericStateEntry}
 use Rattle.aat_write_lookup.specs.Lookups.{lookup_written}
 use Rattle.aat_write_lookup.specs.Words.{long_bytes, word_bytes}
 use Rattle.aat_write_lookup.specs.facts.LongPlaces.{length_longs}

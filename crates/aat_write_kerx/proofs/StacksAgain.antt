@@ -9,16 +9,16 @@ use Rattle.aat_bytes.specs.Faults.{after}
 use Rattle.aat_bytes.specs.Numbers.{be16, be32}
 use Rattle.aat_bytes.specs.declared.error.Fault.{Fault}
 use Rattle.aat_bytes.specs.declared.tags.TheConstants.{KERX}
-use Rattle.aat_font.specs.KerningTables.{KerxAnchorTables, KerxStackTables}
-use Rattle.aat_font.specs.Table.{Rule}
-use Rattle.aat_font.specs.declared.entries.EntryData.{EntryData}
-use Rattle.aat_font.specs.declared.state_table.GenericStateEntry.{GenericStateEntry}
+use Rattle.aat_kerning_tables.specs.KerningTables.{KerxAnchorTables, KerxStackTables}
+use Rattle.aat_machine_tables.specs.Table.{Rule}
+use Rattle.aat_machine_tables.specs.declared.entries.EntryData.{EntryData}
+use Rattle.aat_machine_tables.specs.declared.state_table.GenericStateEntry.{GenericStateEntry}
 use Rattle.aat_read_machine.specs.Entries.{action_at, stack_action_at, value_index}
 use Rattle.aat_read_machine.specs.Kinds.{list_place}
 use Rattle.aat_read_machine.specs.Machine.{machine_at}
 use Rattle.aat_read_kerx.specs.Formats.{anchor_format_at, as_format}
 use Rattle.aat_read_kerx.specs.Machines.{action_type, pairs_place, point_pairs_from, stack_tables_at, values_from}
-use Rattle.aat_font.specs.declared.kerx.KerxFormat.TheVariants.{Format4}
+use Rattle.aat_kerning_tables.specs.declared.kerx.KerxFormat.TheVariants.{Format4}
 use Rattle.aat_write_lookup.specs.LookupLaws.{IsPair, WrittenLookupsAreRead}
 use Rattle.aat_write_lookup.specs.Lookups.{pair_words}
 use Rattle.aat_write_lookup.specs.Words.{word_bytes}

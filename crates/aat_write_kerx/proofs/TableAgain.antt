@@ -9,8 +9,8 @@ use Rattle.std.proofs.lemmas.List.Sums.{sum_by-cons}
 use Rattle.aat_bytes.specs.Faults.{after}
 use Rattle.aat_bytes.specs.Numbers.{be16, be32}
 use Rattle.aat_bytes.specs.declared.error.Fault.{Fault}
-use Rattle.aat_font.specs.declared.kerx.KerxFormat.{KerxFormat}
-use Rattle.aat_font.specs.declared.kerx.KerxSubtable.{KerxSubtable}
+use Rattle.aat_kerning_tables.specs.declared.kerx.KerxFormat.{KerxFormat}
+use Rattle.aat_kerning_tables.specs.declared.kerx.KerxSubtable.{KerxSubtable}
 use Rattle.aat_read_machine.specs.InTurn.{in_turn}
 use Rattle.aat_read_kerx.specs.Formats.{as_format, format_at}
 use Rattle.aat_read_kerx.specs.KerxSubtables.{KerxStart, end_at, format_of, format_up_to, has_coverage, is_variable, read_and_next, subtable_at, subtable_of, subtable_read, tuple_count_of, used_bytes}

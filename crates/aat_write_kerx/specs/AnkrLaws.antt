@@ -2,8 +2,8 @@
 use Rattle.std.specs.Prelude.{◌≡◌, ℕ, ℤ, ◌<◌, List, All, Ok}
 use Rattle.std.specs.Int.{w16}
 use Rattle.std.specs.Int.RustNames.{FitsSigned}
-use Rattle.aat_font.specs.AnchorPoints.{Points}
-use Rattle.aat_font.specs.declared.entries.Point.{Point}
+use Rattle.aat_kerning_tables.specs.AnchorPoints.{Points}
+use Rattle.aat_kerning_tables.specs.declared.ankr.Point.{Point}
 use Rattle.aat_read_kerx.specs.Anchors.{ankr_of}
 use Rattle.aat_write_kerx.specs.AnkrBytes.{ankr_written}
 

@@ -1,9 +1,9 @@
 -- The extended kerning table as bytes. Apple's TrueType Reference Manual, "The 'kerx' table".
 use Rattle.std.specs.Prelude.{ℕ, ◌+◌, ◌^◌, List, [], ◌∷◌, ◌++◌, length, sum_by, Bool, not, Result, Ok, Err, if◌then◌else◌, nat_le, ◌==◌}
 use Rattle.std.specs.List.{flat_map}
-use Rattle.aat_font.specs.declared.kerx.KerxFormat.{KerxFormat}
-use Rattle.aat_font.specs.declared.kerx.KerxFormat.TheVariants.{Format0, Format1, Format2, Format2Classes, Format4, Format6, Format6Classes}
-use Rattle.aat_font.specs.declared.kerx.KerxSubtable.{KerxSubtable}
+use Rattle.aat_kerning_tables.specs.declared.kerx.KerxFormat.{KerxFormat}
+use Rattle.aat_kerning_tables.specs.declared.kerx.KerxFormat.TheVariants.{Format0, Format1, Format2, Format2Classes, Format4, Format6, Format6Classes}
+use Rattle.aat_kerning_tables.specs.declared.kerx.KerxSubtable.{KerxSubtable}
 use Rattle.aat_write_lookup.specs.Words.{long_bytes, word_bytes}
 use Rattle.aat_write_kerx.specs.KerxWriteErrors.{after_written, of_subtable}
 use Rattle.aat_write_kerx.specs.MachineBytes.{anchor_written, stack_written}

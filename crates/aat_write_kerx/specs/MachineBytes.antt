@@ -2,10 +2,10 @@
 -- Manual, "The 'kerx' table", formats 1 and 4.
 use Rattle.std.specs.Prelude.{ℕ, ◌+◌, ◌*◌, List, [], ◌∷◌, ◌++◌, length, Bool, true, false, not, Option, Some, None, Result, Ok, Err, if◌then◌else◌, nat_lt, position, ◌==◌, ◌&&◌}
 use Rattle.std.specs.List.{flat_map}
-use Rattle.aat_font.specs.KerningTables.{KerxAnchorTables, KerxStackTables}
-use Rattle.aat_font.specs.Table.{Rule, TableValue}
-use Rattle.aat_font.specs.declared.entries.EntryData.{EntryData}
-use Rattle.aat_font.specs.declared.state_table.GenericStateEntry.{GenericStateEntry}
+use Rattle.aat_kerning_tables.specs.KerningTables.{KerxAnchorTables, KerxStackTables}
+use Rattle.aat_machine_tables.specs.Table.{Rule, TableValue}
+use Rattle.aat_machine_tables.specs.declared.entries.EntryData.{EntryData}
+use Rattle.aat_machine_tables.specs.declared.state_table.GenericStateEntry.{GenericStateEntry}
 use Rattle.aat_write_lookup.specs.Lookups.{pair_words}
 use Rattle.aat_write_lookup.specs.Words.{word_bytes}
 use Rattle.aat_write_machine.specs.Kinds.{machine_end}

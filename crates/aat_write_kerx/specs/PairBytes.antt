@@ -2,9 +2,9 @@
 -- 'kerx' table", formats 0, 2 and 6.
 use Rattle.std.specs.Prelude.{ℕ, ℤ, ◌+◌, ◌*◌, ◌/◌, List, [], ◌∷◌, ◌++◌, length, map, min, Option, Some, None, Result, Ok, Err, if◌then◌else◌, nat_lt, position, ◌==◌}
 use Rattle.std.specs.List.{flat_map}
-use Rattle.aat_font.specs.Classes.{ClassValues}
-use Rattle.aat_font.specs.Keys.{first_fall}
-use Rattle.aat_font.specs.Pairs.{key_of_pair}
+use Rattle.aat_kerning_tables.specs.Classes.{ClassValues}
+use Rattle.aat_lookup.specs.Keys.{first_fall}
+use Rattle.aat_kerning_tables.specs.Pairs.{key_of_pair}
 use Rattle.aat_write_lookup.specs.Lookups.{lookup_written}
 use Rattle.aat_write_lookup.specs.Words.{long_bytes, word_bytes}
 use Rattle.aat_write_lookup.specs.WriteErrors.{unless_refused}

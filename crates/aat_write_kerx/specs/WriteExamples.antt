@@ -1,10 +1,10 @@
 -- Worked examples of tables that are written. Apple's TrueType Reference Manual, "The 'ankr' table" and "The 'kerx'
 -- table".
 use Rattle.std.specs.Prelude.{◌≡◌, ℕ, List, [], ◌∷◌, ◌++◌, pos, negsuc, true, false, Result, Ok, Err}
-use Rattle.aat_font.specs.Classes.{ClassValues}
-use Rattle.aat_font.specs.declared.kerx.KerxFormat.{KerxFormat}
-use Rattle.aat_font.specs.declared.kerx.KerxFormat.TheVariants.{Format0, Format1, Format2Classes, Format6, Format6Classes}
-use Rattle.aat_font.specs.declared.kerx.KerxSubtable.{KerxSubtable}
+use Rattle.aat_kerning_tables.specs.Classes.{ClassValues}
+use Rattle.aat_kerning_tables.specs.declared.kerx.KerxFormat.{KerxFormat}
+use Rattle.aat_kerning_tables.specs.declared.kerx.KerxFormat.TheVariants.{Format0, Format1, Format2Classes, Format6, Format6Classes}
+use Rattle.aat_kerning_tables.specs.declared.kerx.KerxSubtable.{KerxSubtable}
 use Rattle.aat_read_kerx.specs.KerxExamples.{machine_with}
 use Rattle.aat_write_kerx.specs.AnkrBytes.{ankr_written}
 use Rattle.aat_write_kerx.specs.KerxBytes.{kerx_written}

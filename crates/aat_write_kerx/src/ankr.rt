@@ -1,7 +1,7 @@
 //! The table of anchor points to bytes.
 ghost use Rattle.std.specs.Prelude.{◌≡◌, ◌++◌, ◌<◌, ◌≤◌, ◌^◌, length, All, IfOk, OnOk, None};
 ghost use Rattle.std.specs.List.{flat_map};
-ghost use Rattle.aat_font.specs.AnchorPoints.{points_in_rows};
+ghost use Rattle.aat_kerning_tables.specs.AnchorPoints.{points_in_rows};
 ghost use Rattle.aat_write_lookup.specs.Lookups.{lookup_written};
 ghost use Rattle.aat_write_lookup.specs.WriteErrors.{Writes};
 ghost use Rattle.aat_write_lookup.specs.Words.{word_bytes};
@@ -9,7 +9,7 @@ ghost use Rattle.aat_write_kerx.specs.AnkrBytes.{HasFewPoints, ankr_bytes, ankr_
 ghost use Rattle.aat_write_kerx.specs.AnkrWriteErrors.{WritesWithin};
 
 use crate::ankr_error::AnkrWriteError;
-use aat_font::{Ankr, Point};
+use aat_kerning_tables::{Ankr, Point};
 use aat_write_lookup::{WriteError, append_longs, append_words, write_lookup};
 use std::alloc::{AllocError, Global};
 

@@ -6,7 +6,8 @@ ghost use Rattle.aat_write_kerx.specs.PairBytes.{arrays_header, arrays_written, 
 
 use crate::subtable_error::SubtableWriteError;
 use crate::values::append_values;
-use aat_font::{ClassPairs, Lookup};
+use aat_kerning_tables::ClassPairs;
+use aat_lookup::Lookup;
 use aat_write_lookup::{append_longs, append_words, write_lookup};
 use std::alloc::{AllocError, Global};
 

@@ -6,7 +6,7 @@ ghost use Rattle.aat_write_kerx.specs.KerxWriteErrors.{TableRefusesWithin, Write
 
 use crate::kerx_error::{KerxWriteError, error_of_subtable};
 use crate::subtable::{SubtableBytes, subtable_content};
-use aat_font::{Kerx, KerxSubtable};
+use aat_kerning_tables::{Kerx, KerxSubtable};
 use aat_write_lookup::{append_longs, append_words};
 use std::alloc::{AllocError, Global};
 

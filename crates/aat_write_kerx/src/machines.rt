@@ -9,7 +9,8 @@ ghost use Rattle.aat_write_kerx.specs.inside.Plain.{IsPlain, numbered, numbered_
 
 use crate::subtable_error::SubtableWriteError;
 use crate::values::append_values;
-use aat_font::{EntryData, ExtendedStateTable, GenericStateEntry, Subtable1, Subtable4};
+use aat_kerning_tables::{Subtable1, Subtable4};
+use aat_machine_tables::{EntryData, ExtendedStateTable, GenericStateEntry};
 use aat_write_lookup::{append_longs, append_words};
 use aat_write_machine::write_machine;
 use std::alloc::{AllocError, Global};

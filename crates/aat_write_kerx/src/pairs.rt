@@ -6,8 +6,9 @@ ghost use Rattle.aat_write_kerx.specs.KerxWriteErrors.{Writes};
 ghost use Rattle.aat_write_kerx.specs.PairBytes.{kerning_words, pairs_bytes, pairs_written};
 
 use crate::subtable_error::SubtableWriteError;
-use aat_font::Pairs;
-use aat_write_lookup::{WriteError, append_longs, append_words, first_fall};
+use aat_kerning_tables::Pairs;
+use aat_lookup::keys::first_fall;
+use aat_write_lookup::{WriteError, append_longs, append_words};
 use std::alloc::{AllocError, Global};
 
 /// How many pairs a subtable may have.

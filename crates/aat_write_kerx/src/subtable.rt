@@ -7,7 +7,7 @@ use crate::classes::{write_arrays, write_classes};
 use crate::machines::{write_anchors, write_stack};
 use crate::pairs::write_pairs;
 use crate::subtable_error::SubtableWriteError;
-use aat_font::{KerxFormat, KerxSubtable};
+use aat_kerning_tables::{KerxFormat, KerxSubtable};
 use std::alloc::Global;
 use std::marker::Model;
 

@@ -9,9 +9,9 @@ use Rattle.std.proofs.lemmas.List.FromFn.{fill_by_all}
 use Rattle.aat_bytes.specs.Faults.{after}
 use Rattle.aat_bytes.specs.Numbers.{be16}
 use Rattle.aat_bytes.specs.declared.error.Fault.{Fault}
-use Rattle.aat_font.specs.FeatureNames.{kind_of}
-use Rattle.aat_font.specs.Keys.{first_fall}
-use Rattle.aat_font.specs.declared.feat.FeatureName.{FeatureName}
+use Rattle.aat_lookup.specs.FeatureNames.{kind_of}
+use Rattle.aat_lookup.specs.Keys.{first_fall}
+use Rattle.aat_lookup.specs.declared.feat.FeatureName.{FeatureName}
 use Rattle.aat_read_lookup.specs.Features.{feat_of, feature_count, feature_name, feature_names, rising_names}
 use Rattle.aat_write_lookup.specs.FeatLaws.{IsName, WrittenFeatsAreRead}
 use Rattle.aat_write_lookup.specs.Features.{feat_words, feature_flags, feature_words}

@@ -1,7 +1,7 @@
 -- The look for a fall over a list.
 use Rattle.std.proofs.Common.{◌≡◌, ℕ, ◌-◌, ◌≤◌, List, [], ◌∷◌, length, get_or, drop, None, refl, sym, ap, ◌∙◌}
 use Rattle.std.proofs.lemmas.List.{drop_all}
-use Rattle.aat_font.specs.Keys.{fall_after, first_fall}
+use Rattle.aat_lookup.specs.Keys.{fall_after, first_fall}
 
 module _ {X : Type 0} (key : X → ℕ) where
   -- a look for a fall that has come to the end has found none

@@ -5,8 +5,8 @@ use Rattle.std.specs.List.{flat_map}
 use Rattle.std.proofs.lemmas.Bool.{ltb-false}
 use Rattle.std.proofs.lemmas.List.{get_or-append-add, length-append}
 use Rattle.aat_bytes.specs.Numbers.{be16}
-use Rattle.aat_font.specs.Keys.{first, first_fall}
-use Rattle.aat_font.specs.facts.Falls.{rising}
+use Rattle.aat_lookup.specs.Keys.{first, first_fall}
+use Rattle.aat_lookup.specs.facts.Falls.{rising}
 use Rattle.aat_read_lookup.specs.Lookups.{lookup_at}
 use Rattle.aat_write_lookup.specs.LookupLaws.{IsPair, WrittenLookupsAreRead}
 use Rattle.aat_write_lookup.specs.Lookups.{lookup_words, pair_words}

@@ -1,6 +1,6 @@
 -- A feature name table that is written is read again.
 use Rattle.std.specs.Prelude.{◌≡◌, ℕ, ◌<◌, List, All, Ok}
-use Rattle.aat_font.specs.declared.feat.FeatureName.{FeatureName}
+use Rattle.aat_lookup.specs.declared.feat.FeatureName.{FeatureName}
 use Rattle.aat_read_lookup.specs.Features.{feat_of}
 use Rattle.aat_write_lookup.specs.Features.{feat_written}
 

@@ -1,9 +1,9 @@
 -- The feature name table as bytes. Apple's TrueType Reference Manual, "The 'feat' table".
 use Rattle.std.specs.Prelude.{ℕ, ◌+◌, ◌*◌, ◌/◌, ◌%◌, List, [], ◌∷◌, ◌++◌, length, Bool, Result, if◌then◌else◌, nat_lt}
 use Rattle.std.specs.List.{flat_map}
-use Rattle.aat_font.specs.FeatureNames.{kind_of}
-use Rattle.aat_font.specs.Keys.{first_fall}
-use Rattle.aat_font.specs.declared.feat.FeatureName.{FeatureName}
+use Rattle.aat_lookup.specs.FeatureNames.{kind_of}
+use Rattle.aat_lookup.specs.Keys.{first_fall}
+use Rattle.aat_lookup.specs.declared.feat.FeatureName.{FeatureName}
 use Rattle.aat_write_lookup.specs.Words.{word_bytes}
 use Rattle.aat_write_lookup.specs.WriteErrors.{unless_refused}
 use Rattle.aat_write_lookup.specs.declared.error.WriteError.{WriteError}

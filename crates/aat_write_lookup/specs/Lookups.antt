@@ -1,7 +1,7 @@
 -- Lookups as bytes, in format 6. Apple's TrueType Reference Manual, "Font Tables", section on lookup tables.
 use Rattle.std.specs.Prelude.{ℕ, ◌+◌, List, [], ◌∷◌, ◌++◌, length, Result, nat_lt}
 use Rattle.std.specs.List.{flat_map}
-use Rattle.aat_font.specs.Keys.{first, first_fall}
+use Rattle.aat_lookup.specs.Keys.{first, first_fall}
 use Rattle.aat_write_lookup.specs.Words.{word_bytes}
 use Rattle.aat_write_lookup.specs.declared.error.WriteError.{WriteError}
 use Rattle.aat_write_lookup.specs.WriteErrors.{unless_refused}

@@ -6,9 +6,9 @@ ghost use Rattle.aat_write_lookup.specs.Words.{word_bytes};
 ghost use Rattle.aat_write_lookup.specs.WriteErrors.{Writes};
 
 use crate::error::WriteError;
-use crate::rising::first_fall;
 use crate::words::append_words;
-use aat_font::FeatureName;
+use aat_lookup::FeatureName;
+use aat_lookup::keys::first_fall;
 use std::alloc::{AllocError, Allocator};
 
 /// The flags of a feature in its record: 0x8000 where its settings exclude one another.

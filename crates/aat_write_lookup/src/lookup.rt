@@ -6,8 +6,8 @@ ghost use Rattle.aat_write_lookup.specs.Words.{word_bytes};
 ghost use Rattle.aat_write_lookup.specs.WriteErrors.{Appends, Writes};
 
 use crate::error::WriteError;
-use crate::rising::first_fall;
 use crate::words::append_words;
+use aat_lookup::keys::first_fall;
 use std::alloc::{AllocError, Allocator};
 
 /// Appends the units of pairs.

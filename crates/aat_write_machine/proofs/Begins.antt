@@ -4,7 +4,7 @@ use Rattle.std.specs.List.{range_with_len}
 use Rattle.std.proofs.lemmas.List.{length-append}
 use Rattle.std.proofs.lemmas.List.FromFn.{fill_by_all}
 use Rattle.aat_bytes.specs.Numbers.{be16, be32}
-use Rattle.aat_font.specs.declared.plan.GlyphId.{GlyphId}
+use Rattle.aat_lookup.specs.declared.glyph_id.GlyphId.{GlyphId}
 use Rattle.aat_read_machine.specs.Lists.{count_from, glyphs_from, numbers16, numbers32}
 use Rattle.aat_write_lookup.specs.Words.{long_bytes, word_bytes}
 use Rattle.aat_write_machine.specs.KindLaws.{BeginsWith, IsGlyph}

@@ -4,9 +4,9 @@ use Rattle.std.specs.Prelude.{nat_lt}
 use Rattle.std.specs.List.{flat_map}
 use Rattle.std.proofs.lemmas.Bool.{ltb-false}
 use Rattle.std.proofs.lemmas.List.{length-append}
-use Rattle.aat_font.specs.Keys.{first, first_fall}
-use Rattle.aat_font.specs.Table.{TableValue}
-use Rattle.aat_font.specs.declared.state_table.GenericStateEntry.{GenericStateEntry}
+use Rattle.aat_lookup.specs.Keys.{first, first_fall}
+use Rattle.aat_machine_tables.specs.Table.{TableValue}
+use Rattle.aat_machine_tables.specs.declared.state_table.GenericStateEntry.{GenericStateEntry}
 use Rattle.aat_write_lookup.specs.Lookups.{lookup_words, lookup_written, pair_words}
 use Rattle.aat_write_lookup.specs.Words.{word_bytes}
 use Rattle.aat_write_lookup.specs.WriteErrors as lookups

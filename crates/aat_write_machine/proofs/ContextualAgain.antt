@@ -12,10 +12,10 @@ use Rattle.aat_bytes.specs.facts.Ranges.{none_found}
 use Rattle.aat_bytes.specs.declared.error.FaultKind.TheVariants.{PastEnd, ShortLength}
 use Rattle.aat_bytes.specs.declared.tag.Tag.{Tag}
 use Rattle.aat_bytes.specs.declared.tags.TheConstants.{MORX}
-use Rattle.aat_font.specs.Subtables.{ContextualTables}
-use Rattle.aat_font.specs.Table.{Rule, TableValue, table_value}
-use Rattle.aat_font.specs.declared.entries.ContextualEntryData.{ContextualEntryData}
-use Rattle.aat_font.specs.declared.state_table.GenericStateEntry.{GenericStateEntry}
+use Rattle.aat_machine_tables.specs.Subtables.{ContextualTables}
+use Rattle.aat_machine_tables.specs.Table.{Rule, TableValue, table_value}
+use Rattle.aat_machine_tables.specs.declared.entries.ContextualEntryData.{ContextualEntryData}
+use Rattle.aat_machine_tables.specs.declared.state_table.GenericStateEntry.{GenericStateEntry}
 use Rattle.aat_read_lookup.specs.Lookups.{lookup_at}
 use Rattle.aat_read_machine.specs.Contextual.{contextual_tables, contextual_tables_at, listed_lookup, lookups_at, lookups_within}
 use Rattle.aat_read_machine.specs.Entries.{contextual_at}

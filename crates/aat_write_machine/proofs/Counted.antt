@@ -8,8 +8,8 @@ use Rattle.aat_bytes.specs.Faults.{after}
 use Rattle.aat_bytes.specs.Numbers.{be16}
 use Rattle.aat_bytes.specs.declared.error.Fault.{Fault}
 use Rattle.aat_bytes.specs.facts.Ranges.{all_pass, each_passes, none_found}
-use Rattle.aat_font.specs.Table.{Rule}
-use Rattle.aat_font.specs.declared.state_table.GenericStateEntry.{GenericStateEntry}
+use Rattle.aat_machine_tables.specs.Table.{Rule}
+use Rattle.aat_machine_tables.specs.declared.state_table.GenericStateEntry.{GenericStateEntry}
 use Rattle.aat_read_machine.specs.Entries.{entry_at}
 use Rattle.aat_read_machine.specs.StateArray as reader
 use Rattle.aat_read_machine.specs.StateArray.{StateArray, cells_of, entry_place, has_entry, has_index, is_closed, least, missing_entry, missing_index, past_end, row_fault, state_count, states_named}

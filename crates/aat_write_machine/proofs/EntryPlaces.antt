@@ -5,8 +5,8 @@ use Rattle.std.specs.List.{flat_map}
 use Rattle.std.proofs.lemmas.List.{length-append}
 use Rattle.std.proofs.lemmas.List.Concat.{flat_map-append}
 use Rattle.aat_bytes.specs.Numbers.{be16}
-use Rattle.aat_font.specs.Table.{Rule}
-use Rattle.aat_font.specs.declared.state_table.GenericStateEntry.{GenericStateEntry}
+use Rattle.aat_machine_tables.specs.Table.{Rule}
+use Rattle.aat_machine_tables.specs.declared.state_table.GenericStateEntry.{GenericStateEntry}
 use Rattle.aat_read_machine.specs.Entries.{entry_at}
 use Rattle.aat_write_lookup.specs.Words.{word_bytes}
 use Rattle.aat_write_machine.specs.EntryLaws.{HasSize, ReadsAgain}

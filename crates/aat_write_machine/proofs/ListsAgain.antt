@@ -6,10 +6,10 @@ use Rattle.aat_bytes.specs.Faults.{after}
 use Rattle.aat_bytes.specs.Numbers.{be16}
 use Rattle.aat_bytes.specs.declared.error.Fault.{Fault}
 use Rattle.aat_bytes.specs.declared.tags.TheConstants.{MORX}
-use Rattle.aat_font.specs.Subtables.{InsertionTables, LigatureTables}
-use Rattle.aat_font.specs.Table.{TableValue}
-use Rattle.aat_font.specs.declared.entries.InsertionEntryData.{InsertionEntryData}
-use Rattle.aat_font.specs.declared.state_table.GenericStateEntry.{GenericStateEntry}
+use Rattle.aat_machine_tables.specs.Subtables.{InsertionTables, LigatureTables}
+use Rattle.aat_machine_tables.specs.Table.{TableValue}
+use Rattle.aat_machine_tables.specs.declared.entries.InsertionEntryData.{InsertionEntryData}
+use Rattle.aat_machine_tables.specs.declared.state_table.GenericStateEntry.{GenericStateEntry}
 use Rattle.aat_read_machine.specs.Entries.{insertion_at}
 use Rattle.aat_read_machine.specs.Kinds.{insertion_tables_at, ligature_at, list_place}
 use Rattle.aat_read_machine.specs.Lists.{glyphs_from, numbers16, numbers32}

@@ -9,8 +9,8 @@ use Rattle.aat_bytes.specs.Faults.{after}
 use Rattle.aat_bytes.specs.Numbers.{be16, be32}
 use Rattle.aat_bytes.specs.declared.error.Fault.{Fault}
 use Rattle.aat_bytes.specs.declared.tag.Tag.{Tag}
-use Rattle.aat_font.specs.Table.{Rule, TableValue, table_value}
-use Rattle.aat_font.specs.declared.state_table.GenericStateEntry.{GenericStateEntry}
+use Rattle.aat_machine_tables.specs.Table.{Rule, TableValue, table_value}
+use Rattle.aat_machine_tables.specs.declared.state_table.GenericStateEntry.{GenericStateEntry}
 use Rattle.aat_read_lookup.specs.Lookups.{lookup_at}
 use Rattle.aat_read_machine.specs.Entries.{entry_at}
 use Rattle.aat_read_machine.specs.Machine.{machine_at, with_classes}

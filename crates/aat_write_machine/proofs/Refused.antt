@@ -1,7 +1,7 @@
 -- What is known where something is refused.
 use Rattle.std.proofs.Common.{◌≡◌, Some, Result, Err, ap}
-use Rattle.aat_font.specs.Table.{TableValue}
-use Rattle.aat_font.specs.declared.state_table.GenericStateEntry.{GenericStateEntry}
+use Rattle.aat_machine_tables.specs.Table.{TableValue}
+use Rattle.aat_machine_tables.specs.declared.state_table.GenericStateEntry.{GenericStateEntry}
 use Rattle.aat_write_machine.specs.MachineRefusals.{rules_refusal}
 use Rattle.aat_write_machine.specs.Machines.{class_table_written}
 use Rattle.aat_write_machine.specs.MorxWriteErrors.{RefusesWithin, of_lookup, unless_refused}

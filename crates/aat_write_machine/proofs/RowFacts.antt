@@ -7,8 +7,8 @@ use Rattle.std.proofs.Math.Nat.{div-add-mod}
 use Rattle.std.proofs.lemmas.Bool.{ltb-false}
 use Rattle.std.proofs.lemmas.Bool.Decides.{nat_tests}
 use Rattle.aat_bytes.specs.facts.Ranges.{none_each}
-use Rattle.aat_font.specs.Table.{Rule, rule_key}
-use Rattle.aat_font.specs.declared.state_table.GenericStateEntry.{GenericStateEntry}
+use Rattle.aat_machine_tables.specs.Table.{Rule, rule_key}
+use Rattle.aat_machine_tables.specs.declared.state_table.GenericStateEntry.{GenericStateEntry}
 use Rattle.aat_write_machine.specs.MachineRefusals.{cell_key, highest_from, highest_named, is_cut, misplaced_from, no_row, not_named, out_of_place, rules_refusal, states_of}
 use Rattle.aat_write_machine.specs.declared.error.MorxWriteError.TheVariants.{FewClasses, TooManyRules, OutOfPlace, NoRow, NotNamed}
 

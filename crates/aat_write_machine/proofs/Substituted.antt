@@ -1,6 +1,6 @@
 -- What is known of a contextual subtable that is not written, or is.
 use Rattle.std.proofs.Common.{◌≡◌, ℕ, List, Result, Ok, ap, ◌∙◌}
-use Rattle.aat_font.specs.Subtables.{ContextualTables}
+use Rattle.aat_machine_tables.specs.Subtables.{ContextualTables}
 use Rattle.aat_write_machine.specs.Contextual.{contextual_bytes, contextual_written, substitutions_written}
 use Rattle.aat_write_machine.specs.Machines.{class_table_written}
 use Rattle.aat_write_machine.specs.MorxWriteErrors.{RefusesWithin, after_written}

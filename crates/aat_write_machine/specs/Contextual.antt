@@ -2,10 +2,10 @@
 use Rattle.std.specs.Prelude.{ℕ, ◌+◌, ◌*◌, List, [], ◌∷◌, ◌++◌, length, map, max, Bool, Result, Ok, Err, if◌then◌else◌, nat_lt, ◌==◌}
 use Rattle.std.specs.List.{flat_map, fold}
 use Rattle.std.specs.declared.vec.Vec.{Vec}
-use Rattle.aat_font.specs.Subtables.{ContextualTables}
-use Rattle.aat_font.specs.Table.{Rule}
-use Rattle.aat_font.specs.declared.entries.ContextualEntryData.{ContextualEntryData}
-use Rattle.aat_font.specs.declared.state_table.GenericStateEntry.{GenericStateEntry}
+use Rattle.aat_machine_tables.specs.Subtables.{ContextualTables}
+use Rattle.aat_machine_tables.specs.Table.{Rule}
+use Rattle.aat_machine_tables.specs.declared.entries.ContextualEntryData.{ContextualEntryData}
+use Rattle.aat_machine_tables.specs.declared.state_table.GenericStateEntry.{GenericStateEntry}
 use Rattle.aat_read_machine.specs.Lookups.{lookups_to}
 use Rattle.aat_write_lookup.specs.Lookups.{lookup_written}
 use Rattle.aat_write_machine.specs.EntryWords.{contextual_words}

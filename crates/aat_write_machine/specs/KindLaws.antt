@@ -2,8 +2,8 @@
 -- are handed in: what is read begins with what was written.
 use Rattle.std.specs.Prelude.{◌≡◌, ℕ, List, ◌++◌, length, take, All, Result, Ok}
 use Rattle.aat_bytes.specs.declared.error.Fault.{Fault}
-use Rattle.aat_font.specs.Subtables.{InsertionTables, LigatureTables}
-use Rattle.aat_font.specs.declared.plan.GlyphId.{GlyphId}
+use Rattle.aat_machine_tables.specs.Subtables.{InsertionTables, LigatureTables}
+use Rattle.aat_lookup.specs.declared.glyph_id.GlyphId.{GlyphId}
 use Rattle.aat_read_machine.specs.Kinds.{insertion_tables_at, ligature_at}
 use Rattle.aat_write_machine.specs.EntryWords.{insertion_words, one_word}
 use Rattle.aat_write_machine.specs.Kinds.{insertion_written, ligature_written}

@@ -1,7 +1,7 @@
 -- Worked examples of a machine that is written.
 use Rattle.std.specs.Prelude.{◌≡◌, ℕ, List, [], ◌∷◌, ◌++◌, Ok, Err, Result}
-use Rattle.aat_font.specs.Table.{Rule, TableValue}
-use Rattle.aat_font.specs.declared.state_table.GenericStateEntry.{GenericStateEntry}
+use Rattle.aat_machine_tables.specs.Table.{Rule, TableValue}
+use Rattle.aat_machine_tables.specs.declared.state_table.GenericStateEntry.{GenericStateEntry}
 use Rattle.aat_write_machine.specs.EntryWords.{no_words}
 use Rattle.aat_write_machine.specs.Machines.{machine_written}
 use Rattle.aat_write_machine.specs.declared.error.MorxWriteError.{MorxWriteError}

@@ -1,8 +1,8 @@
 -- A machine that is written is read again.
 use Rattle.std.specs.Prelude.{◌≡◌, ℕ, ◌<◌, ◌^◌, List, ◌++◌, length, All, Ok}
 use Rattle.aat_bytes.specs.declared.tag.Tag.{Tag}
-use Rattle.aat_font.specs.Table.{Rule, TableValue}
-use Rattle.aat_font.specs.declared.state_table.GenericStateEntry.{GenericStateEntry}
+use Rattle.aat_machine_tables.specs.Table.{Rule, TableValue}
+use Rattle.aat_machine_tables.specs.declared.state_table.GenericStateEntry.{GenericStateEntry}
 use Rattle.aat_read_machine.specs.Machine.{machine_at}
 use Rattle.aat_write_lookup.specs.LookupLaws.{IsPair}
 use Rattle.aat_write_machine.specs.EntryWords.{rule_words}

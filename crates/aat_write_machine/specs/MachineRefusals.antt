@@ -4,8 +4,8 @@
 use Rattle.std.specs.Prelude.{ℕ, ◌+◌, ◌*◌, ◌-◌, ◌/◌, ◌%◌, List, [], ◌∷◌, length, take, position, find, max, Bool, Option, Some, None, option_map, if◌then◌else◌, nat_lt, nat_le, ◌==◌, ◌||◌}
 use Rattle.std.specs.List.{fold, range_with_len}
 use Rattle.std.specs.Option.{option_or}
-use Rattle.aat_font.specs.Table.{Rule, rule_key}
-use Rattle.aat_font.specs.declared.state_table.GenericStateEntry.{GenericStateEntry}
+use Rattle.aat_machine_tables.specs.Table.{Rule, rule_key}
+use Rattle.aat_machine_tables.specs.declared.state_table.GenericStateEntry.{GenericStateEntry}
 use Rattle.aat_write_machine.specs.declared.error.MorxWriteError.{MorxWriteError}
 use Rattle.aat_write_machine.specs.declared.error.MorxWriteError.TheVariants.{FewClasses, TooManyRules, OutOfPlace, NoRow, NotNamed}
 

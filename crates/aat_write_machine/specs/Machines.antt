@@ -1,8 +1,8 @@
 -- State tables as bytes. Apple's TrueType Reference Manual, "Font Tables", section on state tables.
 use Rattle.std.specs.Prelude.{ℕ, ◌+◌, ◌*◌, List, ◌∷◌, ◌++◌, length, Result, Ok}
 use Rattle.std.specs.List.{flat_map, range_with_len}
-use Rattle.aat_font.specs.Table.{Rule, TableValue}
-use Rattle.aat_font.specs.declared.state_table.GenericStateEntry.{GenericStateEntry}
+use Rattle.aat_machine_tables.specs.Table.{Rule, TableValue}
+use Rattle.aat_machine_tables.specs.declared.state_table.GenericStateEntry.{GenericStateEntry}
 use Rattle.aat_write_lookup.specs.Lookups.{lookup_written}
 use Rattle.aat_write_lookup.specs.Words.{long_bytes, word_bytes}
 use Rattle.aat_write_machine.specs.EntryWords.{rule_words}

@@ -1,8 +1,8 @@
 -- What a subtable does is read again. Apple's TrueType Reference Manual, "The 'morx' table".
 use Rattle.std.specs.Prelude.{◌≡◌, ℕ, List, ◌++◌, length, All, Ok}
-use Rattle.aat_font.specs.Subtables.{ContextualTables}
-use Rattle.aat_font.specs.declared.morx.SubtableKind.{SubtableKind}
-use Rattle.aat_font.specs.declared.morx.SubtableKind.TheVariants.{Rearrangement, Contextual, Ligature, NonContextual, Insertion}
+use Rattle.aat_machine_tables.specs.Subtables.{ContextualTables}
+use Rattle.aat_machine_tables.specs.declared.morx.SubtableKind.{SubtableKind}
+use Rattle.aat_machine_tables.specs.declared.morx.SubtableKind.TheVariants.{Rearrangement, Contextual, Ligature, NonContextual, Insertion}
 use Rattle.aat_read_machine.specs.Contextual.{contextual_tables_at}
 use Rattle.aat_read_machine.specs.SubtableKinds.{subtable_kind_at}
 use Rattle.aat_write_lookup.specs.LookupLaws.{IsPair}

@@ -8,7 +8,7 @@ use crate::error::MorxWriteError;
 use crate::lists::machine_end;
 use crate::machine::{class_table, machine_bytes};
 use crate::tables::{append_substitutions, are_too_long, lookup_tables};
-use aat_font::{ContextualEntryData, ContextualSubtable, GenericStateEntry};
+use aat_machine_tables::{ContextualEntryData, ContextualSubtable, GenericStateEntry};
 use std::alloc::{AllocError, Global};
 
 /// A rule of a contextual machine.

@@ -1,6 +1,6 @@
 //! What entries of state tables hold beside a state and flags, written to bytes.
 
-use aat_font::{ContextualEntryData, InsertionEntryData};
+use aat_machine_tables::{ContextualEntryData, InsertionEntryData};
 use aat_read_machine::EntryRead;
 use aat_write_lookup::append_words;
 use std::alloc::{AllocError, Allocator};

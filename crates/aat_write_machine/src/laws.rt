@@ -4,7 +4,7 @@ ghost use Rattle.aat_write_machine.specs.SubtableKindLaws.{ContextualsAreRead, S
 ghost use Rattle.aat_write_machine.specs.MachineLaws.{MachinesAreRead};
 
 use crate::entry_write::EntryWrite;
-use aat_font::{ContextualEntryData, InsertionEntryData};
+use aat_machine_tables::{ContextualEntryData, InsertionEntryData};
 use aat_write_lookup::laws::written_lookups_are_read;
 
 /// A machine that is written is read again, at any place of a table.

@@ -6,7 +6,7 @@ ghost use Rattle.aat_write_machine.specs.MorxWriteErrors.{Writes};
 use crate::error::MorxWriteError;
 use crate::machine::{class_table, machine_bytes};
 use crate::numbers::append_glyphs;
-use aat_font::{InsertionSubtable, LigatureSubtable};
+use aat_machine_tables::{InsertionSubtable, LigatureSubtable};
 use aat_write_lookup::{append_longs, append_words};
 use std::alloc::{AllocError, Global};
 

@@ -4,7 +4,7 @@ ghost use Rattle.aat_write_lookup.specs.Lookups.{lookup_written};
 ghost use Rattle.aat_write_machine.specs.MorxWriteErrors.{Writes, of_lookup};
 
 use crate::error::MorxWriteError;
-use aat_font::Lookup;
+use aat_lookup::Lookup;
 use aat_write_lookup::write_lookup;
 use std::alloc::Allocator;
 

@@ -12,7 +12,7 @@ use crate::entry_write::EntryWrite;
 use crate::error::MorxWriteError;
 use crate::lookups::lookup_bytes;
 use crate::refusals::rules_refusal;
-use aat_font::{Acting, ExtendedStateTable, GenericStateEntry};
+use aat_machine_tables::{Acting, ExtendedStateTable, GenericStateEntry};
 use aat_write_lookup::{append_longs, append_words};
 use std::alloc::{AllocError, Allocator};
 

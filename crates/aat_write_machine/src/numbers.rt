@@ -3,7 +3,7 @@ ghost use Rattle.std.specs.Prelude.{◌≡◌, ◌++◌, OnOk};
 ghost use Rattle.aat_write_lookup.specs.Words.{word_bytes};
 ghost use Rattle.aat_write_machine.specs.Kinds.{glyph_words};
 
-use aat_font::GlyphId;
+use aat_lookup::GlyphId;
 use aat_write_lookup::append_words;
 use std::alloc::{AllocError, Allocator};
 

@@ -3,8 +3,8 @@ ghost use Rattle.std.specs.Prelude.{◌≡◌, ◌<◌, ◌≤◌, length, IsTru
 ghost use Rattle.aat_write_machine.specs.MachineRefusals.{cell_key, highest_from, is_cut, misplaced_from, no_row, not_named, out_of_place, rules_refusal};
 
 use crate::error::MorxWriteError;
-use aat_font::GenericStateEntry;
-use aat_font::keys::Keyed;
+use aat_lookup::keys::Keyed;
+use aat_machine_tables::GenericStateEntry;
 
 /// The key of a cell: its state, then its class.
 fn cell_key(class_count: u16, cell: usize) -> usize

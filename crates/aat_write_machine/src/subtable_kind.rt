@@ -9,7 +9,8 @@ use crate::error::MorxWriteError;
 use crate::lists::{write_insertion, write_ligature};
 use crate::lookups::lookup_bytes;
 use crate::machine::write_machine;
-use aat_font::{Lookup, SubtableKind};
+use aat_lookup::Lookup;
+use aat_machine_tables::SubtableKind;
 use std::alloc::Global;
 
 /// The number of a kind of subtables: 0 rearrangement, 1 contextual, 2 ligature, 4 noncontextual and 5 insertion.

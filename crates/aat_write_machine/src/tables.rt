@@ -7,7 +7,7 @@ ghost use Rattle.aat_write_machine.specs.MorxWriteErrors.{RefusesWithin};
 use crate::error::MorxWriteError;
 use crate::lists::MOST;
 use crate::lookups::lookup_bytes;
-use aat_font::Lookup;
+use aat_lookup::Lookup;
 use aat_write_lookup::append_longs;
 use std::alloc::{AllocError, Global};
 

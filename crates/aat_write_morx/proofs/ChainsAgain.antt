@@ -7,8 +7,8 @@ use Rattle.std.proofs.lemmas.List.{length-append}
 use Rattle.std.proofs.lemmas.List.Sums.{sum_by-cons}
 use Rattle.std.proofs.lemmas.Slice.Zip.{AllZip-long}
 use Rattle.aat_bytes.specs.Numbers.{be32}
-use Rattle.aat_font.specs.declared.morx.ChainFeature.{ChainFeature}
-use Rattle.aat_font.specs.declared.morx.Subtable.{Subtable}
+use Rattle.aat_machine_tables.specs.declared.morx.ChainFeature.{ChainFeature}
+use Rattle.aat_machine_tables.specs.declared.morx.Subtable.{Subtable}
 use Rattle.aat_read_morx.specs.ChainFeatures.{whole_features}
 use Rattle.aat_read_morx.specs.ChainSubtables.{subtable_at}
 use Rattle.aat_read_morx.specs.Chains.{ChainStart, ChainValue, chain_at, chain_value_at, start_behind}

@@ -1,8 +1,8 @@
 -- Chains as bytes, whose subtables have bodies of bytes. Apple's TrueType Reference Manual, "The 'morx' table".
 use Rattle.std.specs.Prelude.{ℕ, ◌+◌, ◌*◌, ◌^◌, List, [], ◌∷◌, ◌++◌, length, sum_by, Result, Ok, Err, if◌then◌else◌, nat_le, nat_lt}
 use Rattle.std.specs.List.{flat_map}
-use Rattle.aat_font.specs.declared.morx.ChainFeature.{ChainFeature}
-use Rattle.aat_font.specs.declared.morx.Coverage.{Coverage}
+use Rattle.aat_machine_tables.specs.declared.morx.ChainFeature.{ChainFeature}
+use Rattle.aat_machine_tables.specs.declared.morx.Coverage.{Coverage}
 use Rattle.aat_write_lookup.specs.Words.{long_bytes, word_bytes}
 use Rattle.aat_write_morx.specs.declared.error.ChainWriteError.{ChainWriteError}
 use Rattle.aat_write_morx.specs.declared.error.ChainWriteError.TheVariants.{TooLong, TooManySubtables}

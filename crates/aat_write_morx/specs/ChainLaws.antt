@@ -1,9 +1,9 @@
 -- Chains that are written are read again.
 use Rattle.std.specs.Prelude.{◌≡◌, ℕ, ◌<◌, List, ◌++◌, length, All, true, bit_and, Ok}
 use Rattle.std.specs.List.{AllZip}
-use Rattle.aat_font.specs.declared.morx.ChainFeature.{ChainFeature}
-use Rattle.aat_font.specs.declared.morx.Subtable.{Subtable}
-use Rattle.aat_font.specs.declared.morx.SubtableKind.{SubtableKind}
+use Rattle.aat_machine_tables.specs.declared.morx.ChainFeature.{ChainFeature}
+use Rattle.aat_machine_tables.specs.declared.morx.Subtable.{Subtable}
+use Rattle.aat_machine_tables.specs.declared.morx.SubtableKind.{SubtableKind}
 use Rattle.aat_read_machine.specs.SubtableKinds.{subtable_kind_at}
 use Rattle.aat_read_morx.specs.ChainSubtables.{is_known}
 use Rattle.aat_read_morx.specs.Chains.{ChainValue, morx_of}

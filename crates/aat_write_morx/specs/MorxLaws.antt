@@ -1,7 +1,7 @@
 -- A table of chains that is written is read again. Apple's TrueType Reference Manual, "The 'morx' table".
 use Rattle.std.specs.Prelude.{◌≡◌, ℕ, List, All, Ok}
 use Rattle.std.specs.List.{AllZip}
-use Rattle.aat_font.specs.declared.morx.Subtable.{Subtable}
+use Rattle.aat_machine_tables.specs.declared.morx.Subtable.{Subtable}
 use Rattle.aat_read_morx.specs.Chains.{ChainValue, morx_of}
 use Rattle.aat_write_machine.specs.SubtableKindLaws.{IsSubtableKind, ReadsAs}
 use Rattle.aat_write_machine.specs.MachineLaws.{IsLong}

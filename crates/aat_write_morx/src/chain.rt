@@ -1,7 +1,7 @@
 //! A chain whose subtables have bodies of bytes.
 
 use crate::subtable::SubtableBytes;
-use aat_font::ChainFeature;
+use aat_machine_tables::ChainFeature;
 use std::marker::Model;
 
 /// A chain whose subtables have bodies of bytes. A contract sees it as the record `ChainContent`.

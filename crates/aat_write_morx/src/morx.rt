@@ -9,7 +9,8 @@ use crate::chain::ChainBytes;
 use crate::error::ChainWriteError;
 use crate::subtable::SubtableBytes;
 use crate::write::write_chains;
-use aat_font::{Chain, Morx, Subtable};
+use aat_font::Morx;
+use aat_machine_tables::{Chain, Subtable};
 use aat_write_machine::{MorxWriteError, kind_number, write_subtable_kind};
 use std::alloc::Global;
 

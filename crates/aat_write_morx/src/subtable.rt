@@ -1,6 +1,6 @@
 //! A subtable whose body is bytes.
 
-use aat_font::Coverage;
+use aat_machine_tables::Coverage;
 use std::marker::Model;
 
 /// A subtable whose body is bytes. A contract sees it as the record `SubtableContent`.

@@ -8,7 +8,7 @@ use crate::chain::ChainBytes;
 use crate::error::ChainWriteError;
 use crate::sizes::{LIMIT, MOST_SUBTABLES, chain_size, count_subtables, table_size};
 use crate::subtable::SubtableBytes;
-use aat_font::ChainFeature;
+use aat_machine_tables::ChainFeature;
 use aat_write_lookup::{append_longs, append_words};
 use bitflags::Flags;
 use std::alloc::{AllocError, Global};

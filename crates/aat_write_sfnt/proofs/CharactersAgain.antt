@@ -10,8 +10,8 @@ use Rattle.aat_bytes.specs.Numbers.{be16, be32, slice_from}
 use Rattle.aat_bytes.specs.Faults.{fault_at}
 use Rattle.aat_bytes.specs.declared.error.Fault.{Fault}
 use Rattle.aat_bytes.specs.declared.error.FaultKind.TheVariants.{PastEnd}
-use Rattle.aat_font.specs.Keys.{IsRising, at_key, first_fall}
-use Rattle.aat_font.specs.facts.Falls.{rising}
+use Rattle.aat_lookup.specs.Keys.{IsRising, at_key, first_fall}
+use Rattle.aat_lookup.specs.facts.Falls.{rising}
 use Rattle.aat_read_sfnt.specs.Characters.{best_record, cmap_of, first_encoding, record_with, subtable_at, subtable_of}
 use Rattle.aat_read_sfnt.specs.RisingEnds.{end_falls}
 use Rattle.aat_read_sfnt.specs.SegmentedCoverage.{end_char, glyph_in_group, group_glyph, groups_at, known_glyph, start_char, start_glyph}

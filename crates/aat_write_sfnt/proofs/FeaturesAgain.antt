@@ -13,9 +13,9 @@ use Rattle.aat_bytes.specs.Faults.{after}
 use Rattle.aat_bytes.specs.Numbers.{be16, be32, u16_at}
 use Rattle.aat_bytes.specs.declared.error.Fault.{Fault}
 use Rattle.aat_bytes.specs.facts.Longs.{long_is}
-use Rattle.aat_font.specs.FeatureNames.{kind_of}
-use Rattle.aat_font.specs.Keys.{at_key, fall_after, first_fall}
-use Rattle.aat_font.specs.declared.feat.FeatureName.{FeatureName}
+use Rattle.aat_lookup.specs.FeatureNames.{kind_of}
+use Rattle.aat_lookup.specs.Keys.{at_key, fall_after, first_fall}
+use Rattle.aat_lookup.specs.declared.feat.FeatureName.{FeatureName}
 use Rattle.aat_read_lookup.specs.Features.{feat_of, feature_count, feature_name, feature_name_id, feature_names, has_number, rising_names, searched_count, setting_name_id, setting_name_in}
 use Rattle.aat_write_sfnt.specs.NamedFeatureLaws.{IsFeature, IsSetting, WrittenFeaturesAreRead, feature_of, name_of_setting}
 use Rattle.aat_write_sfnt.specs.NamedFeatures.{FeatFeature, all_setting_bytes, feature_record_words, named_feat_words, setting_bytes, setting_count, setting_words, type_of}

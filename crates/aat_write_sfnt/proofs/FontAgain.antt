@@ -10,8 +10,8 @@ use Rattle.aat_bytes.specs.Faults.{fault_at}
 use Rattle.aat_bytes.specs.declared.error.Fault.{Fault}
 use Rattle.aat_bytes.specs.declared.error.FaultKind.TheVariants.{Missing, PastEnd}
 use Rattle.aat_bytes.specs.declared.tag.Tag.{Tag}
-use Rattle.aat_font.specs.Keys.{at_key, first_fall}
-use Rattle.aat_font.specs.facts.Falls.{rising}
+use Rattle.aat_lookup.specs.Keys.{at_key, first_fall}
+use Rattle.aat_lookup.specs.facts.Falls.{rising}
 use Rattle.aat_read_sfnt.specs.Directory.{Directory, bytes_of_record, directory_at, directory_of, directory_place, is_font_version, record_of, table_of}
 use Rattle.aat_bytes.specs.facts.Ranges.{found_first, none_found}
 use Rattle.aat_write_sfnt.specs.FontLaws.{HasTag, WrittenTablesAreFound, whole_file}

@@ -6,8 +6,8 @@ use Rattle.std.proofs.lemmas.Bool.{le-ltb, ltb-false}
 use Rattle.std.proofs.lemmas.Bool.Decides.{nat_tests}
 use Rattle.std.proofs.lemmas.List.{get_or-append-add, length-append}
 use Rattle.aat_bytes.specs.Numbers.{be16, slice}
-use Rattle.aat_font.specs.Keys.{first_fall}
-use Rattle.aat_font.specs.facts.Falls.{rising}
+use Rattle.aat_lookup.specs.Keys.{first_fall}
+use Rattle.aat_lookup.specs.facts.Falls.{rising}
 use Rattle.aat_read_sfnt.specs.Names.{has_key, has_pair, name_record, names_of, text_of, text_of_record}
 use Rattle.aat_bytes.specs.facts.Ranges.{found_first}
 use Rattle.aat_write_sfnt.specs.NameLaws.{HasNumber, WrittenNamesAreFound, english}

@@ -1,6 +1,6 @@
 -- Glyphs of characters that are written are read again.
 use Rattle.std.specs.Prelude.{◌≡◌, ℕ, ◌<◌, List, drop, All, Ok, option_and_then}
-use Rattle.aat_font.specs.Keys.{at_key}
+use Rattle.aat_lookup.specs.Keys.{at_key}
 use Rattle.aat_read_sfnt.specs.Characters.{cmap_of, glyph_of}
 use Rattle.aat_read_sfnt.specs.SegmentedCoverage.{known_glyph}
 use Rattle.aat_read_sfnt.specs.declared.cmap.Cmap.TheVariants.{SegmentedCoverage}

@@ -1,7 +1,7 @@
 -- The character map as words, in format 12. Apple's TrueType Reference Manual, "The 'cmap' table", format 12.
 use Rattle.std.specs.Prelude.{ℕ, ◌+◌, ◌*◌, List, [], ◌∷◌, ◌++◌, length, Result, nat_lt}
 use Rattle.std.specs.List.{flat_map}
-use Rattle.aat_font.specs.Keys.{first_fall}
+use Rattle.aat_lookup.specs.Keys.{first_fall}
 use Rattle.aat_write_sfnt.specs.declared.cmap.Mapping.{Mapping}
 use Rattle.aat_write_lookup.specs.Words.{long, word_bytes}
 use Rattle.aat_write_lookup.specs.WriteErrors.{unless_refused}

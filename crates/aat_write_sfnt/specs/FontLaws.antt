@@ -3,7 +3,7 @@ use Rattle.std.specs.Prelude.{◌≡◌, ℕ, ◌<◌, List, All, None, Ok, Err}
 use Rattle.aat_bytes.specs.Faults.{fault_at}
 use Rattle.aat_bytes.specs.declared.error.FaultKind.TheVariants.{Missing}
 use Rattle.aat_bytes.specs.declared.tag.Tag.{Tag}
-use Rattle.aat_font.specs.Keys.{at_key}
+use Rattle.aat_lookup.specs.Keys.{at_key}
 use Rattle.aat_read_sfnt.specs.Directory.{Directory, directory_of, table_of}
 use Rattle.aat_write_sfnt.specs.Fonts.{SfntTable, font_written, tag_number}
 

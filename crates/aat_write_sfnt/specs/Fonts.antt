@@ -2,7 +2,7 @@
 use Rattle.std.specs.Prelude.{ℕ, ◌+◌, ◌*◌, ◌-◌, ◌%◌, List, [], ◌∷◌, ◌++◌, length, Result, nat_lt, ◌||◌, replicate}
 use Rattle.std.specs.List.{flat_map}
 use Rattle.aat_bytes.specs.declared.tag.Tag.{Tag}
-use Rattle.aat_font.specs.Keys.{first_fall}
+use Rattle.aat_lookup.specs.Keys.{first_fall}
 use Rattle.aat_write_sfnt.specs.Records.{records}
 use Rattle.aat_write_lookup.specs.Words.{long, word_bytes}
 use Rattle.aat_write_lookup.specs.WriteErrors.{unless_refused}

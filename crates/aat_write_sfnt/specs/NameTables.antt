@@ -1,7 +1,7 @@
 -- English names as bytes. Apple's TrueType Reference Manual, "The 'name' table".
 use Rattle.std.specs.Prelude.{ℕ, ◌+◌, ◌*◌, List, [], ◌∷◌, ◌++◌, length, Result, nat_lt, ◌||◌}
 use Rattle.std.specs.List.{flat_map}
-use Rattle.aat_font.specs.Keys.{first_fall}
+use Rattle.aat_lookup.specs.Keys.{first_fall}
 use Rattle.aat_write_sfnt.specs.Records.{records}
 use Rattle.aat_write_lookup.specs.Words.{word_bytes}
 use Rattle.aat_write_lookup.specs.WriteErrors.{unless_refused}

@@ -1,7 +1,7 @@
 -- Features that are written are read again, with their names.
 use Rattle.std.specs.Prelude.{◌≡◌, ℕ, ◌<◌, List, map, All, Option, Ok, option_and_then, option_map}
-use Rattle.aat_font.specs.Keys.{at_key}
-use Rattle.aat_font.specs.declared.feat.FeatureName.{FeatureName}
+use Rattle.aat_lookup.specs.Keys.{at_key}
+use Rattle.aat_lookup.specs.declared.feat.FeatureName.{FeatureName}
 use Rattle.aat_read_lookup.specs.Features.{feat_of, feature_name_id, setting_name_id}
 use Rattle.aat_write_sfnt.specs.NamedFeatures.{FeatFeature, named_feat_written, setting_count, type_of}
 use Rattle.aat_write_sfnt.specs.declared.feat.NamedSetting.{NamedSetting}

@@ -1,7 +1,7 @@
 -- Features with their names as bytes. Apple's TrueType Reference Manual, "The 'feat' table".
 use Rattle.std.specs.Prelude.{ℕ, ◌+◌, ◌*◌, ◌/◌, ◌%◌, List, [], ◌∷◌, ◌++◌, length, Bool, Result, nat_lt, ◌||◌, sum_by}
 use Rattle.std.specs.List.{flat_map}
-use Rattle.aat_font.specs.Keys.{first_fall}
+use Rattle.aat_lookup.specs.Keys.{first_fall}
 use Rattle.aat_write_sfnt.specs.Records.{records}
 use Rattle.aat_write_sfnt.specs.declared.feat.NamedSetting.{NamedSetting}
 use Rattle.aat_write_lookup.specs.Features.{feature_flags}

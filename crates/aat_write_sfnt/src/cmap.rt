@@ -6,8 +6,8 @@ ghost use Rattle.aat_write_lookup.specs.Words.{long, word_bytes};
 ghost use Rattle.aat_write_lookup.specs.WriteErrors.{Writes};
 
 use crate::longs::append_long;
-use aat_font::keys::Keyed;
-use aat_write_lookup::{WriteError, append_words, first_fall};
+use aat_lookup::keys::{Keyed, first_fall};
+use aat_write_lookup::{WriteError, append_words};
 use std::alloc::{AllocError, Allocator};
 
 /// A character and its glyph. Glyph 0 stands for none.

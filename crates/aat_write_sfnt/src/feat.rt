@@ -6,8 +6,8 @@ ghost use Rattle.aat_write_sfnt.specs.Records.{records};
 ghost use Rattle.aat_write_lookup.specs.Words.{word_bytes};
 ghost use Rattle.aat_write_lookup.specs.WriteErrors.{Writes};
 
-use aat_font::keys::Keyed;
-use aat_write_lookup::{WriteError, append_words, feature_flags, first_fall};
+use aat_lookup::keys::{Keyed, first_fall};
+use aat_write_lookup::{WriteError, append_words, feature_flags};
 use std::alloc::{AllocError, Allocator};
 use std::marker::Model;
 

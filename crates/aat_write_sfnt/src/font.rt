@@ -8,8 +8,8 @@ ghost use Rattle.aat_write_lookup.specs.WriteErrors.{Writes};
 
 use crate::longs::append_long;
 use aat_bytes::Tag;
-use aat_font::keys::Keyed;
-use aat_write_lookup::{WriteError, append_words, first_fall};
+use aat_lookup::keys::{Keyed, first_fall};
+use aat_write_lookup::{WriteError, append_words};
 use std::alloc::{AllocError, Allocator};
 use std::marker::Model;
 

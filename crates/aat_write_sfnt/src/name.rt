@@ -5,8 +5,8 @@ ghost use Rattle.aat_write_sfnt.specs.NameTables.{name_record_words, name_record
 ghost use Rattle.aat_write_lookup.specs.Words.{word_bytes};
 ghost use Rattle.aat_write_lookup.specs.WriteErrors.{Writes};
 
-use aat_font::keys::Keyed;
-use aat_write_lookup::{WriteError, append_words, first_fall};
+use aat_lookup::keys::{Keyed, first_fall};
+use aat_write_lookup::{WriteError, append_words};
 use std::alloc::{AllocError, Allocator};
 use std::marker::Model;
 

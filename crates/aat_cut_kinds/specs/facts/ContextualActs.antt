@@ -9,8 +9,8 @@ use Rattle.aat_buffer.specs.Marks.{unsafe_to_break, with_line}
 use Rattle.aat_buffer.specs.facts.Cases.{chosen}
 use Rattle.aat_buffer.specs.facts.Lines.{length_unsafe}
 use Rattle.aat_glyph.specs.declared.glyph.hb_glyph_info_t.{hb_glyph_info_t}
-use Rattle.aat_font.specs.Entries.{has_flag, is_present}
-use Rattle.aat_font.specs.Keys.{value_in}
+use Rattle.aat_machine_tables.specs.Entries.{has_flag, is_present}
+use Rattle.aat_lookup.specs.Keys.{value_in}
 use Rattle.aat_run.specs.Context.{Moved}
 use Rattle.aat_kinds.specs.Contextual.{Entry, Registers, act, answer_of, at_cursor, at_mark, behind_cursor, behind_mark, can_act, changed_by, replaced_at, with_mark}
 use Rattle.aat_kinds.specs.Values.{with_value}

@@ -5,8 +5,8 @@ use Rattle.std.proofs.lemmas.Bool.{cases_lt}
 use Rattle.aat_buffer.specs.Buffer.{Buffer, glyph_at, no_glyph}
 use Rattle.aat_buffer.specs.Marks.{cluster_at}
 use Rattle.aat_buffer.specs.facts.Lines.{length_unsafe}
-use Rattle.aat_font.specs.Entries.{goes_on, has_flag, is_present}
-use Rattle.aat_font.specs.Table.{TableValue, class_of, entry_of}
+use Rattle.aat_machine_tables.specs.Entries.{goes_on, has_flag, is_present}
+use Rattle.aat_machine_tables.specs.Table.{TableValue, class_of, entry_of}
 use Rattle.aat_glyph.specs.declared.glyph.hb_glyph_info_t.{hb_glyph_info_t}
 use Rattle.aat_run.specs.Budget.{operations_left}
 use Rattle.aat_run.specs.Context.{Machine, class_at, machine_of, start}

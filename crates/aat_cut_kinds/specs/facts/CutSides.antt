@@ -10,7 +10,7 @@ use Rattle.aat_buffer.specs.Marks.{break_marked, cluster_at, least_of, marked_ab
 use Rattle.aat_buffer.specs.facts.Cases.{chosen}
 use Rattle.aat_buffer.specs.facts.Clusters.{get_inside}
 use Rattle.aat_buffer.specs.facts.Lines.{length_slice, range_at}
-use Rattle.aat_font.specs.declared.plan.GlyphId.{GlyphId}
+use Rattle.aat_lookup.specs.declared.glyph_id.GlyphId.{GlyphId}
 use Rattle.aat_glyph.specs.declared.glyph.hb_glyph_info_t.{hb_glyph_info_t}
 use Rattle.aat_kinds.specs.Insertion.{copies, inserted}
 use Rattle.aat_cut_laws.specs.Greater.{IsUnflagged, clusters}

@@ -6,8 +6,8 @@ use Rattle.std.proofs.lemmas.Nat.{and_assoc}
 use Rattle.std.specs.Prelude.{slice_range}
 use Rattle.aat_buffer.specs.Buffer.{Buffer, with_line}
 use Rattle.aat_buffer.specs.Marks.{unsafe_to_break}
-use Rattle.aat_font.specs.Entries.{goes_on, has_flag, is_present}
-use Rattle.aat_font.specs.declared.plan.GlyphId.{GlyphId}
+use Rattle.aat_machine_tables.specs.Entries.{goes_on, has_flag, is_present}
+use Rattle.aat_lookup.specs.declared.glyph_id.GlyphId.{GlyphId}
 use Rattle.aat_glyph.specs.declared.glyph.hb_glyph_info_t.{hb_glyph_info_t}
 use Rattle.aat_run.specs.Budget.{has_operations, has_overspent, operations_left, paid}
 use Rattle.aat_run.specs.Context.{Moved}

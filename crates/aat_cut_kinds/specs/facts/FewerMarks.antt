@@ -5,7 +5,7 @@ use Rattle.std.proofs.lemmas.Option.{same_Some}
 use Rattle.std.specs.Prelude.{slice_range, unwrap_or}
 use Rattle.aat_buffer.specs.Buffer.{Buffer, glyph_at, with_line}
 use Rattle.aat_buffer.specs.Marks.{break_marked, cluster_at, end_place, least_of, marked_above, on_long_span, on_span, start_place, unsafe_to_break, with_mask_bits}
-use Rattle.aat_font.specs.declared.plan.GlyphId.{GlyphId}
+use Rattle.aat_lookup.specs.declared.glyph_id.GlyphId.{GlyphId}
 use Rattle.aat_glyph.specs.declared.glyph.hb_glyph_info_t.{hb_glyph_info_t}
 use Rattle.aat_kinds.specs.Insertion.{copies, inserted}
 use Rattle.aat_run.specs.Context.{class_at, cluster_seen, is_at_end, is_inside}

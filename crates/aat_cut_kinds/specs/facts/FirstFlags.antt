@@ -6,7 +6,7 @@ use Rattle.aat_buffer.specs.Buffer.{glyph_at}
 use Rattle.aat_buffer.specs.Marks.{cluster_at, unsafe_to_break}
 use Rattle.aat_buffer.specs.facts.Lines.{length_unsafe}
 use Rattle.aat_buffer.specs.facts.Order.{same_unsafe}
-use Rattle.aat_font.specs.declared.plan.GlyphId.{GlyphId}
+use Rattle.aat_lookup.specs.declared.glyph_id.GlyphId.{GlyphId}
 use Rattle.aat_glyph.specs.declared.glyph.hb_glyph_info_t.{hb_glyph_info_t}
 use Rattle.aat_kinds.specs.Insertion.{copies, inserted}
 use Rattle.aat_cut_laws.specs.Greater.{IsUnflagged, clusters}

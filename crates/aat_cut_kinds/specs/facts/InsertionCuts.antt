@@ -10,9 +10,9 @@ use Rattle.aat_buffer.specs.Marks.{unsafe_to_break}
 use Rattle.aat_buffer.specs.facts.Cases.{chosen}
 use Rattle.aat_buffer.specs.facts.Lines.{length_unsafe}
 use Rattle.aat_buffer.specs.facts.Order.{same_unsafe}
-use Rattle.aat_font.specs.Entries.{has_flag, is_present}
-use Rattle.aat_font.specs.Table.{TableValue}
-use Rattle.aat_font.specs.declared.plan.GlyphId.{GlyphId}
+use Rattle.aat_machine_tables.specs.Entries.{has_flag, is_present}
+use Rattle.aat_machine_tables.specs.Table.{TableValue}
+use Rattle.aat_lookup.specs.declared.glyph_id.GlyphId.{GlyphId}
 use Rattle.aat_glyph.specs.declared.glyph.hb_glyph_info_t.{hb_glyph_info_t}
 use Rattle.aat_run.specs.Budget.{has_operations, has_overspent, operations_left, paid}
 use Rattle.aat_run.specs.Context.{Machine, Moved, machine_of}

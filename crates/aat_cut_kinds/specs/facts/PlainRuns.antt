@@ -2,9 +2,9 @@
 -- that the plain one leaves fewer marks.
 use Rattle.std.proofs.Common.{◌≡◌, ◌∙◌, ◌⊎◌, inl, inr, ℕ, ℤ, zero, suc, ◌+◌, ◌-◌, ◌<◌, ◌≤◌, ◌&&◌, not, Bool, true, false, cond, List, length, Option, Some, None, option_map, refl, ap, subst, subst₂, sym, arith}
 use Rattle.aat_buffer.specs.Buffer.{Buffer, with_cursor, with_line}
-use Rattle.aat_font.specs.Entries.{goes_on}
-use Rattle.aat_font.specs.Table.{TableValue, class_of, entry_of}
-use Rattle.aat_font.specs.declared.plan.GlyphId.{GlyphId}
+use Rattle.aat_machine_tables.specs.Entries.{goes_on}
+use Rattle.aat_machine_tables.specs.Table.{TableValue, class_of, entry_of}
+use Rattle.aat_lookup.specs.declared.glyph_id.GlyphId.{GlyphId}
 use Rattle.aat_glyph.specs.declared.glyph.hb_glyph_info_t.{hb_glyph_info_t}
 use Rattle.aat_run.specs.Budget.{has_operations, operations_left, paid, potential}
 use Rattle.aat_run.specs.Context.{Config, Machine, Moved, class_at, cluster_seen, is_at_end, is_inside, start}

@@ -1,11 +1,11 @@
 -- An insertion table whose entries that put no glyphs in name no run, made of any one. It acts where that acts.
 use Rattle.std.proofs.Common.{◌≡◌, ◌∙◌, ℕ, ◌+◌, ◌*◌, ◌==◌, ◌&&◌, ◌||◌, not, Bool, true, false, cond, List, [], ◌∷◌, map, Option, Some, None, find, option_map, refl, ap, subst, sym}
 use Rattle.std.proofs.lemmas.Option.{same_Some}
-use Rattle.aat_font.specs.Entries.{goes_on, has_flag, is_present}
-use Rattle.aat_font.specs.Table.{Rule, TableValue, entry_of, known_class, rule_key}
-use Rattle.aat_font.specs.Truth.{is_some_and, is_alike}
-use Rattle.aat_font.specs.declared.entries.InsertionEntryData.{InsertionEntryData}
-use Rattle.aat_font.specs.declared.plan.GlyphId.{GlyphId}
+use Rattle.aat_machine_tables.specs.Entries.{goes_on, has_flag, is_present}
+use Rattle.aat_machine_tables.specs.Table.{Rule, TableValue, entry_of, known_class, rule_key}
+use Rattle.aat_lookup.specs.Truth.{is_some_and, is_alike}
+use Rattle.aat_machine_tables.specs.declared.entries.InsertionEntryData.{InsertionEntryData}
+use Rattle.aat_lookup.specs.declared.glyph_id.GlyphId.{GlyphId}
 use Rattle.aat_run.specs.Context.{Config, Machine, machine_of}
 use Rattle.aat_run.specs.Safe.{is_safe}
 use Rattle.aat_kinds.specs.Insertion.{Entry, Registers, actionable, context}

@@ -6,7 +6,7 @@ use Rattle.std.specs.Prelude.{int_lt, negsuc, pos, ◌-ℤ◌}
 use Rattle.aat_buffer.specs.Buffer.{Buffer}
 use Rattle.aat_buffer.specs.facts.Cases.{either}
 use Rattle.aat_glyph.specs.declared.glyph.hb_glyph_info_t.{hb_glyph_info_t}
-use Rattle.aat_font.specs.Truth.{is_alike}
+use Rattle.aat_lookup.specs.Truth.{is_alike}
 use Rattle.aat_run.specs.Budget.{has_operations, operations_left, paid}
 use Rattle.aat_run.specs.Context.{Config, Machine, Moved, class_at, cluster_seen, is_at_end, is_inside}
 use Rattle.aat_run.specs.Laws.{KeepsFit, PassesFit, Pays, Stands}

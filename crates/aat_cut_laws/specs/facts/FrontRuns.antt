@@ -5,7 +5,7 @@ use Rattle.std.proofs.lemmas.Bool.Decides.{nat_tests}
 use Rattle.aat_buffer.specs.Buffer.{Buffer}
 use Rattle.aat_buffer.specs.facts.Cases.{chosen}
 use Rattle.aat_glyph.specs.declared.glyph.hb_glyph_info_t.{hb_glyph_info_t}
-use Rattle.aat_font.specs.Truth.{is_some_and, is_alike}
+use Rattle.aat_lookup.specs.Truth.{is_some_and, is_alike}
 use Rattle.aat_run.specs.Budget.{has_operations, paid, potential}
 use Rattle.aat_run.specs.Context.{Config, Machine, Moved, class_at, is_inside}
 use Rattle.aat_run.specs.Laws.{KeepsFit, PassesFit, Pays, Stands}

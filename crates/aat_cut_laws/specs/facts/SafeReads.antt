@@ -1,6 +1,6 @@
 -- What a turn that passed the safety test tells.
 use Rattle.std.proofs.Common.{◌≡◌, ◌⊎◌, inl, inr, ◌&&◌, ◌||◌, not, Bool, true, false, refl}
-use Rattle.aat_font.specs.Truth.{is_alike}
+use Rattle.aat_lookup.specs.Truth.{is_alike}
 
 -- Three tests and the branch between them, as booleans: e acts, the state is 0, e advances, e leads to state 0, the entry
 -- f of state 0 acts, it leads where e leads, it advances as e does, and the entry for the end acts.

@@ -1,9 +1,9 @@
 -- The entries of a ligature machine, as far as its components are concerned.
 use Rattle.std.specs.Prelude.{◌≡◌, ℕ, ◌<◌, ◌==◌, ◌&&◌, ◌⊎◌, Bool, true, false, not, nat_lt, min, if◌then◌else◌, List, Option, Some, None}
 use Rattle.std.specs.List.{All, Contains}
-use Rattle.aat_font.specs.Entries.{goes_on, has_flag}
-use Rattle.aat_font.specs.Table.{Rule, TableValue, entry_of}
-use Rattle.aat_font.specs.declared.state_table.GenericStateEntry.{GenericStateEntry}
+use Rattle.aat_machine_tables.specs.Entries.{goes_on, has_flag}
+use Rattle.aat_machine_tables.specs.Table.{Rule, TableValue, entry_of}
+use Rattle.aat_machine_tables.specs.declared.state_table.GenericStateEntry.{GenericStateEntry}
 use Rattle.aat_cuts.specs.Held.{taken_by}
 use Rattle.aat_cuts.specs.Labels.{label_in}
 use Rattle.aat_cuts.specs.Reached.{is_labelled}

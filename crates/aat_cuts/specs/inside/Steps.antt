@@ -1,9 +1,9 @@
 -- The entries of a machine, as far as one register is concerned.
 use Rattle.std.specs.Prelude.{◌≡◌, ℕ, ◌==◌, ◌&&◌, ◌||◌, Bool, true, false, not, if◌then◌else◌, List, Option, Some, None}
 use Rattle.std.specs.List.{All, Contains}
-use Rattle.aat_font.specs.Entries.{goes_on}
-use Rattle.aat_font.specs.Table.{Rule, TableValue, class_of, entry_of}
-use Rattle.aat_font.specs.declared.state_table.GenericStateEntry.{GenericStateEntry}
+use Rattle.aat_machine_tables.specs.Entries.{goes_on}
+use Rattle.aat_machine_tables.specs.Table.{Rule, TableValue, class_of, entry_of}
+use Rattle.aat_machine_tables.specs.declared.state_table.GenericStateEntry.{GenericStateEntry}
 use Rattle.aat_cuts.specs.Reached.{IsReached, is_labelled}
 use Rattle.aat_cuts.specs.Settled.{IsClassOfGlyph, IsRegisterSettled, IsRegisterUnsettled, IsTakenAt, IsUsedAt, Register}
 use Rattle.aat_cuts.specs.declared.labels.Asked.TheVariants.{Nothing, Same, One}

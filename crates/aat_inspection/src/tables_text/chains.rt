@@ -1,7 +1,8 @@
 //! The chains of `morx`.
 use crate::chains::kind_name;
 use crate::tables_text::kinds::write_kind;
-use aat_font::{ChainFeature, Subtable, hb_font_t};
+use aat_font::hb_font_t;
+use aat_machine_tables::{ChainFeature, Subtable};
 use bitflags::Flags;
 use std::alloc::Global;
 use std::io::{self, Write};

@@ -1,5 +1,7 @@
 //! What an entry of a machine has behind its flags, as text.
-use aat_font::{Acting, ContextualEntryData, EntryData, InsertionEntryData, KernEntryData};
+use aat_machine_tables::{
+    Acting, ContextualEntryData, EntryData, InsertionEntryData, KernEntryData,
+};
 use std::io::{self, Write};
 
 /// What an entry has behind its flags.

@@ -1,7 +1,7 @@
 //! The features of `feat`, with their names.
 use crate::tables_text::names::text_of;
 use aat_face::Face;
-use aat_font::FeatureName;
+use aat_lookup::FeatureName;
 use std::alloc::Global;
 use std::io::{self, Write};
 

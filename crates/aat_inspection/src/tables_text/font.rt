@@ -1,7 +1,7 @@
 //! What a font has as a whole.
 use aat_bytes::Fault;
 use aat_face::Face;
-use aat_font::GlyphId;
+use aat_lookup::GlyphId;
 use aat_read_pairs::LeftOutSubtable;
 use std::io::{self, Write};
 

@@ -1,7 +1,8 @@
 //! The tables of kerning, and anchor points.
 use crate::tables_text::machines::write_machine;
 use crate::tables_text::pairs::{write_classes, write_pairs, write_values};
-use aat_font::{Ankr, KernKind, KernSubtable, KerxFormat, KerxSubtable, Point, hb_font_t};
+use aat_font::hb_font_t;
+use aat_kerning_tables::{Ankr, KernKind, KernSubtable, KerxFormat, KerxSubtable, Point};
 use std::alloc::Global;
 use std::io::{self, Write};
 

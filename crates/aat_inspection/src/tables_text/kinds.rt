@@ -1,7 +1,8 @@
 //! What a subtable of `morx` does.
 use crate::tables_text::lookups::write_lookup;
 use crate::tables_text::machines::write_machine;
-use aat_font::{ContextualSubtable, GlyphId, InsertionSubtable, LigatureSubtable, SubtableKind};
+use aat_lookup::GlyphId;
+use aat_machine_tables::{ContextualSubtable, InsertionSubtable, LigatureSubtable, SubtableKind};
 use std::alloc::Global;
 use std::io::{self, Write};
 

@@ -1,5 +1,5 @@
 //! Lookups.
-use aat_font::Lookup;
+use aat_lookup::Lookup;
 use std::alloc::Global;
 use std::io::{self, Write};
 

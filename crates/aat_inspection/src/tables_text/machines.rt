@@ -1,7 +1,7 @@
 //! State tables.
 use crate::tables_text::entries::EntryText;
 use crate::tables_text::lookups::write_lookup;
-use aat_font::{ExtendedStateTable, GenericStateEntry};
+use aat_machine_tables::{ExtendedStateTable, GenericStateEntry};
 use std::alloc::Global;
 use std::io::{self, Write};
 

@@ -1,6 +1,6 @@
 //! Pairs that kern.
 use crate::tables_text::lookups::write_lookup;
-use aat_font::{ClassPairs, Pairs};
+use aat_kerning_tables::{ClassPairs, Pairs};
 use std::alloc::Global;
 use std::io::{self, Write};
 

@@ -1,5 +1,5 @@
 -- The kerning values of pairs of glyphs, however a table has them.
-use Rattle.aat_font.specs.Classes.{kerning_by_classes}
+use Rattle.aat_kerning_tables.specs.Classes.{kerning_by_classes}
 use Rattle.aat_kerning.specs.PairKerning.{value_of}
 use Rattle.aat_kerning.specs.PairKerning as kerning
 use Rattle.aat_kerning.specs.declared.pair_values.PairValues.{PairValues}

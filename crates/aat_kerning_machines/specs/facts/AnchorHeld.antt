@@ -1,6 +1,6 @@
 -- The laws of the anchor act, over the points that a driver holds.
 use Rattle.std.proofs.Common.{ℕ, List, Option}
-use Rattle.aat_font.specs.AnchorPoints.{Points}
+use Rattle.aat_kerning_tables.specs.AnchorPoints.{Points}
 use Rattle.aat_run.specs.Laws.{KeepsFit, PassesFit}
 use Rattle.aat_kerning_machines.specs.Anchors.{held_act, held_fit, held_fresh}
 use Rattle.aat_kerning_machines.specs.KerningLaws.{ChangesPositionsAlone, IsLawfulDriver}

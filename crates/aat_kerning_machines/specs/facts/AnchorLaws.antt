@@ -4,10 +4,10 @@ use Rattle.std.specs.Prelude.{slice_get, option_map}
 use Rattle.aat_buffer.specs.Buffer.{Buffer, with_position}
 use Rattle.aat_buffer.specs.facts.Cases.{chosen}
 use Rattle.aat_glyph.specs.declared.glyph.GlyphPosition.{GlyphPosition}
-use Rattle.aat_font.specs.declared.state_table.GenericStateEntry.{GenericStateEntry}
-use Rattle.aat_font.specs.declared.entries.EntryData.{EntryData}
-use Rattle.aat_font.specs.Entries.{has_flag}
-use Rattle.aat_font.specs.AnchorPoints.{Points}
+use Rattle.aat_machine_tables.specs.declared.state_table.GenericStateEntry.{GenericStateEntry}
+use Rattle.aat_machine_tables.specs.declared.entries.EntryData.{EntryData}
+use Rattle.aat_machine_tables.specs.Entries.{has_flag}
+use Rattle.aat_kerning_tables.specs.AnchorPoints.{Points}
 use Rattle.aat_run.specs.Context.{Moved}
 use Rattle.aat_run.specs.Laws.{KeepsFit}
 use Rattle.aat_kerning_machines.specs.Anchors.{anchored, behind_anchors, with_mark, anchor_act, anchor_driver, IsFit}

@@ -1,11 +1,11 @@
 -- Entries that rest, by the kind of the machine: the law of `StateTableDriver`.
 use Rattle.std.proofs.Common.{◌≡◌, ap, refl, ℕ, ◌&&◌, Bool, true, false, not, List, ℤ, Option, Some, None}
 use Rattle.aat_buffer.specs.Buffer.{Buffer}
-use Rattle.aat_font.specs.AnchorPoints.{Points}
-use Rattle.aat_font.specs.Entries.{has_flag, is_present}
-use Rattle.aat_font.specs.declared.entries.EntryData.{EntryData}
-use Rattle.aat_font.specs.declared.entries.KernEntryData.{KernEntryData}
-use Rattle.aat_font.specs.declared.state_table.GenericStateEntry.{GenericStateEntry}
+use Rattle.aat_kerning_tables.specs.AnchorPoints.{Points}
+use Rattle.aat_machine_tables.specs.Entries.{has_flag, is_present}
+use Rattle.aat_machine_tables.specs.declared.entries.EntryData.{EntryData}
+use Rattle.aat_machine_tables.specs.declared.entries.KernEntryData.{KernEntryData}
+use Rattle.aat_machine_tables.specs.declared.state_table.GenericStateEntry.{GenericStateEntry}
 use Rattle.aat_kerning_machines.specs.Anchors.{Held, anchor_act, anchor_rests, held_act}
 use Rattle.aat_kerning_machines.specs.KerningMachine.{has_action}
 use Rattle.aat_kerning_machines.specs.Stack.{kern_act, kern_rests, kerx_act, kerx_rests}

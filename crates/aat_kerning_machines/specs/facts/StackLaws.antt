@@ -5,10 +5,10 @@ use Rattle.aat_buffer.specs.Buffer.{Buffer, with_position, glyph_at, position_at
 use Rattle.aat_buffer.specs.facts.Cases.{chosen}
 use Rattle.aat_glyph.specs.Directions.{is_horizontal}
 use Rattle.aat_glyph.specs.declared.glyph.GlyphPosition.{GlyphPosition}
-use Rattle.aat_font.specs.declared.state_table.GenericStateEntry.{GenericStateEntry}
-use Rattle.aat_font.specs.declared.entries.EntryData.{EntryData}
-use Rattle.aat_font.specs.declared.entries.KernEntryData.{KernEntryData}
-use Rattle.aat_font.specs.Entries.{has_flag, is_present}
+use Rattle.aat_machine_tables.specs.declared.state_table.GenericStateEntry.{GenericStateEntry}
+use Rattle.aat_machine_tables.specs.declared.entries.EntryData.{EntryData}
+use Rattle.aat_machine_tables.specs.declared.entries.KernEntryData.{KernEntryData}
+use Rattle.aat_machine_tables.specs.Entries.{has_flag, is_present}
 use Rattle.aat_run.specs.Context.{Moved}
 use Rattle.aat_run.specs.Laws.{FitsAlways}
 use Rattle.aat_run.specs.Switches.{meets}

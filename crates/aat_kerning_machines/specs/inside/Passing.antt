@@ -1,10 +1,10 @@
 -- Glyphs that a kerning machine passes in state 0. No contract but those of the run's parts cites this.
 use Rattle.std.specs.Prelude.{ℕ, ◌==◌, ◌&&◌, Bool, not, Option, unwrap_or, List, length, nat_lt, if◌then◌else◌}
 use Rattle.aat_buffer.specs.Buffer.{glyph_at}
-use Rattle.aat_font.specs.Entries.{goes_on}
+use Rattle.aat_machine_tables.specs.Entries.{goes_on}
 use Rattle.aat_font.specs.Idle.{has_entry}
-use Rattle.aat_font.specs.Table.{TableValue, class_of, entry_of}
-use Rattle.aat_font.specs.declared.state_table.GenericStateEntry.{GenericStateEntry}
+use Rattle.aat_machine_tables.specs.Table.{TableValue, class_of, entry_of}
+use Rattle.aat_machine_tables.specs.declared.state_table.GenericStateEntry.{GenericStateEntry}
 use Rattle.aat_glyph.specs.declared.glyph.hb_glyph_info_t.{hb_glyph_info_t}
 
 -- state 0 has an entry for the end of the text, which is not actionable: the look ahead finds it and marks nothing

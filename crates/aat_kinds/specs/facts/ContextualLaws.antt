@@ -2,7 +2,7 @@
 use Rattle.std.proofs.Common.{◌≡◌, ℕ, ◌+◌, ◌<◌, true, min, List, length, Option, Some, None, refl, ◌∙◌, arith, length-set}
 use Rattle.aat_buffer.specs.Buffer.{Buffer, glyph_at}
 use Rattle.aat_buffer.specs.Marks.{unsafe_to_break}
-use Rattle.aat_font.specs.Entries.{has_flag}
+use Rattle.aat_machine_tables.specs.Entries.{has_flag}
 use Rattle.aat_run.specs.Context.{Moved}
 use Rattle.aat_run.specs.Laws.{KeepsFit, PassesFit, FitsFresh, Pays, Bounded, Lengthens, KeepsLength, KeepsCursor, KeepsPositions, KeepsSettings, SameSettings}
 use Rattle.aat_kinds.specs.Contextual.{Entry, Registers, IsFit, act, answer_of, changed_by, looked_up, at_mark, at_cursor, behind_mark, behind_cursor, replaced_at, with_mark, can_act, fresh}

@@ -7,8 +7,8 @@ use Rattle.aat_buffer.specs.Buffer.{Is16Bit, glyph_at}
 use Rattle.aat_buffer.specs.Clusters.{IsSmall}
 use Rattle.aat_buffer.specs.facts.Cases.{chosen}
 use Rattle.aat_buffer.specs.facts.Ids.{small_of_unsafe}
-use Rattle.aat_font.specs.Entries.{is_present}
-use Rattle.aat_font.specs.Keys.{value_in}
+use Rattle.aat_machine_tables.specs.Entries.{is_present}
+use Rattle.aat_lookup.specs.Keys.{value_in}
 use Rattle.aat_kinds.specs.Contextual.{IsFit, act, answer_of}
 use Rattle.aat_kinds.specs.Lawful.{HasSmallValues, KeepsSmall}
 use Rattle.aat_kinds.specs.Values.{with_value}

@@ -2,11 +2,11 @@
 use Rattle.std.proofs.Common.{◌≡◌, ◌∙◌, ap, refl, ℕ, suc, ◌<◌, Bool, true, false, cond, Option, Some, None, is_none, unwrap_or, List, [], ◌∷◌, map, length, arith}
 use Rattle.aat_buffer.specs.Buffer.{Buffer, with_line, glyph_at}
 use Rattle.aat_font.specs.Idle.{is_idle, is_idle_at_end, is_idle_class, is_idle_glyph, rearrangement_rests, contextual_rests, ligature_rests, insertion_rests}
-use Rattle.aat_font.specs.Keys.{value_in}
-use Rattle.aat_font.specs.Table.{TableValue, class_of}
-use Rattle.aat_font.specs.declared.morx.SubtableKind.{SubtableKind}
-use Rattle.aat_font.specs.declared.morx.SubtableKind.TheVariants.{Rearrangement, Contextual, Ligature, NonContextual, Insertion}
-use Rattle.aat_font.specs.declared.state_table.GenericStateEntry.{GenericStateEntry}
+use Rattle.aat_lookup.specs.Keys.{value_in}
+use Rattle.aat_machine_tables.specs.Table.{TableValue, class_of}
+use Rattle.aat_machine_tables.specs.declared.morx.SubtableKind.{SubtableKind}
+use Rattle.aat_machine_tables.specs.declared.morx.SubtableKind.TheVariants.{Rearrangement, Contextual, Ligature, NonContextual, Insertion}
+use Rattle.aat_machine_tables.specs.declared.state_table.GenericStateEntry.{GenericStateEntry}
 use Rattle.aat_glyph.specs.declared.glyph.hb_glyph_info_t.{hb_glyph_info_t}
 use Rattle.aat_kinds.specs.Contextual as c
 use Rattle.aat_kinds.specs.Idle.{IsIdleLineOf, at_rest}

@@ -2,11 +2,11 @@
 use Rattle.std.proofs.Common.{◌≡◌, ℕ, ◌≤◌, Bool, false, List, refl, ap, sym, arith}
 use Rattle.std.proofs.lemmas.Bool.{false≢true}
 use Rattle.aat_buffer.specs.Buffer.{Buffer}
-use Rattle.aat_font.specs.Entries.{goes_on}
-use Rattle.aat_font.specs.Table.{TableValue, class_of, entry_of}
-use Rattle.aat_font.specs.declared.entries.InsertionEntryData.{InsertionEntryData}
-use Rattle.aat_font.specs.declared.plan.GlyphId.{GlyphId}
-use Rattle.aat_font.specs.declared.state_table.GenericStateEntry.{GenericStateEntry}
+use Rattle.aat_machine_tables.specs.Entries.{goes_on}
+use Rattle.aat_machine_tables.specs.Table.{TableValue, class_of, entry_of}
+use Rattle.aat_machine_tables.specs.declared.entries.InsertionEntryData.{InsertionEntryData}
+use Rattle.aat_lookup.specs.declared.glyph_id.GlyphId.{GlyphId}
+use Rattle.aat_machine_tables.specs.declared.state_table.GenericStateEntry.{GenericStateEntry}
 use Rattle.aat_run.specs.Context.{start}
 use Rattle.aat_run.specs.Driven.{context_from, machine_run, outcome_of}
 use Rattle.aat_run.specs.Laws.{KeepsFit, PassesFit, Pays, Bounded, Lengthens, MakesNoPositions, KeepsSettings, KeepsPlaceWhere, KeepsLengthWhere, KeepsClusterOrder, FitsFresh, FitsWhereFresh}

@@ -11,8 +11,8 @@ use Rattle.aat_buffer.specs.Clusters.{IsSmall}
 use Rattle.aat_buffer.specs.facts.Ids.{small_of_unsafe}
 use Rattle.aat_buffer.specs.Marks.{unsafe_to_break}
 use Rattle.aat_glyph.specs.declared.glyph.hb_glyph_info_t.{hb_glyph_info_t}
-use Rattle.aat_font.specs.declared.plan.GlyphId.{GlyphId}
-use Rattle.aat_font.specs.Entries.{has_flag, goes_on, is_present}
+use Rattle.aat_lookup.specs.declared.glyph_id.GlyphId.{GlyphId}
+use Rattle.aat_machine_tables.specs.Entries.{has_flag, goes_on, is_present}
 use Rattle.aat_run.specs.Budget.{paid, operations_left, potential, has_operations, has_overspent, extent}
 use Rattle.aat_run.specs.Context.{Moved}
 use Rattle.aat_kinds.specs.Insertion.{Entry, Registers, IsFit, fresh, inserted, run_for, put_in, at_mark, at_cursor, current_part, act, with_mark, marked_count, current_count}

@@ -9,9 +9,9 @@ use Rattle.aat_buffer.specs.Buffer.{Buffer, Is16Bit, glyph_at, no_glyph}
 use Rattle.aat_buffer.specs.Marks.{merge_out_clusters, with_line, cluster_at}
 use Rattle.aat_buffer.specs.Clusters.{IsSmall, ids}
 use Rattle.aat_glyph.specs.declared.glyph.hb_glyph_info_t.{hb_glyph_info_t}
-use Rattle.aat_font.specs.declared.plan.GlyphId.{GlyphId}
-use Rattle.aat_font.specs.declared.state_table.GenericStateEntry.{GenericStateEntry}
-use Rattle.aat_font.specs.Entries.{has_flag}
+use Rattle.aat_lookup.specs.declared.glyph_id.GlyphId.{GlyphId}
+use Rattle.aat_machine_tables.specs.declared.state_table.GenericStateEntry.{GenericStateEntry}
+use Rattle.aat_machine_tables.specs.Entries.{has_flag}
 use Rattle.aat_run.specs.Context.{Moved}
 use Rattle.aat_run.specs.Laws.{KeepsFit, PassesFit, FitsFresh, Pays, Bounded, Lengthens, KeepsLength, KeepsCursor, MakesNoPositions, KeepsSettings, SameSettings}
 use Rattle.aat_kinds.specs.Ligature.{Registers, IsFit, fresh, component, with_place_held, with_component, act, ligated, component_step, summed, stored_by, stored, later_deleted, deleted_at, deleted, with_ligature, Step, Stops, GoesOn, is_last, is_store, offset_of, element_at}

@@ -8,8 +8,8 @@ use Rattle.std.specs.Prelude.{slice_range, All, IsPermutation}
 use Rattle.aat_buffer.specs.Buffer.{model_at, Buffer, no_glyph}
 use Rattle.aat_buffer.specs.Marks.{clusters_stay_apart, on_span, cluster_at, merge_clusters}
 use Rattle.aat_glyph.specs.declared.glyph.hb_glyph_info_t.{hb_glyph_info_t}
-use Rattle.aat_font.specs.declared.plan.GlyphId.{GlyphId}
-use Rattle.aat_font.specs.declared.state_table.GenericStateEntry.{GenericStateEntry}
+use Rattle.aat_lookup.specs.declared.glyph_id.GlyphId.{GlyphId}
+use Rattle.aat_machine_tables.specs.declared.state_table.GenericStateEntry.{GenericStateEntry}
 use Rattle.aat_buffer.specs.Clusters.{ClustersMerge, IsOrdered, ComesFrom}
 use Rattle.aat_buffer.specs.facts.Clusters.{order_of_clusters}
 use Rattle.aat_buffer.specs.facts.Cases.{chosen}

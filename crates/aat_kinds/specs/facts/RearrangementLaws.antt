@@ -6,7 +6,7 @@ use Rattle.std.specs.Prelude.{slice_range}
 use Rattle.aat_buffer.specs.Buffer.{Buffer}
 use Rattle.aat_buffer.specs.Marks.{merge_clusters}
 use Rattle.aat_glyph.specs.declared.glyph.hb_glyph_info_t.{hb_glyph_info_t}
-use Rattle.aat_font.specs.Entries.{has_flag}
+use Rattle.aat_machine_tables.specs.Entries.{has_flag}
 use Rattle.aat_run.specs.Laws.{KeepsFit, PassesFit, FitsFresh, FitsWhereFresh, Pays, Bounded, Lengthens, KeepsLength, KeepsCursor, KeepsPositions, KeepsSettings, SameSettings}
 use Rattle.aat_kinds.specs.declared.verb.Part.{Part}
 use Rattle.aat_kinds.specs.declared.verb.Part.TheVariants.{Nothing, One, Two, TwoTurned}

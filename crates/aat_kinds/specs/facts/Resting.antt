@@ -1,10 +1,10 @@
 -- Entries that rest, by the kind of the machine: the law of `driver_context_t`, and of the contexts of runs.
 use Rattle.std.proofs.Common.{◌≡◌, ap, refl, ℕ, ◌&&◌, ◌||◌, ◌==◌, Bool, true, false, not, cond, Option, List, length}
 use Rattle.aat_buffer.specs.Buffer.{Buffer}
-use Rattle.aat_font.specs.Entries.{has_flag, is_present}
+use Rattle.aat_machine_tables.specs.Entries.{has_flag, is_present}
 use Rattle.aat_font.specs.Idle.{rearrangement_rests, contextual_rests, ligature_rests, insertion_rests}
-use Rattle.aat_font.specs.declared.plan.GlyphId.{GlyphId}
-use Rattle.aat_font.specs.declared.state_table.GenericStateEntry.{GenericStateEntry}
+use Rattle.aat_lookup.specs.declared.glyph_id.GlyphId.{GlyphId}
+use Rattle.aat_machine_tables.specs.declared.state_table.GenericStateEntry.{GenericStateEntry}
 use Rattle.aat_kinds.specs.Contextual as c
 use Rattle.aat_kinds.specs.Insertion as i
 use Rattle.aat_kinds.specs.Ligature as l

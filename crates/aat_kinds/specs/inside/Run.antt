@@ -1,7 +1,7 @@
 -- What the contracts of an insertion's parts say of a run of glyphs that goes in, or is refused.
 use Rattle.std.specs.Prelude.{◌≡◌, ◌≤◌, ◌+◌, List, length, true}
 use Rattle.aat_buffer.specs.Buffer.{Buffer}
-use Rattle.aat_font.specs.declared.plan.GlyphId.{GlyphId}
+use Rattle.aat_lookup.specs.declared.glyph_id.GlyphId.{GlyphId}
 use Rattle.aat_kinds.specs.Insertion.{put_in}
 use Rattle.aat_run.specs.Driven.{SameButFailed}
 

@@ -1,7 +1,7 @@
 -- What the contracts of a ligature machine's parts say of components that are taken in.
 use Rattle.std.specs.Prelude.{ℕ, slice_get}
 use Rattle.aat_buffer.specs.Buffer.{Buffer}
-use Rattle.aat_font.specs.Subtables.{LigatureTables}
+use Rattle.aat_machine_tables.specs.Subtables.{LigatureTables}
 use Rattle.aat_run.specs.Context.{Moved}
 use Rattle.aat_run.specs.inside.Places.{left_with}
 use Rattle.aat_kinds.specs.Ligature.{Registers, Step, component_step, ligated}

@@ -1,7 +1,7 @@
 -- Chains that are switched by lists, one after another.
 use Rattle.std.proofs.Common.{◌≡◌, ap, refl, ℕ, zero, suc, arith, ◌<◌, List, [], ◌∷◌, map, length, get_or}
 use Rattle.aat_run.specs.declared.ranges.range_flags_t.{range_flags_t}
-use Rattle.aat_font.specs.declared.morx.Chain.{Chain}
+use Rattle.aat_machine_tables.specs.declared.morx.Chain.{Chain}
 use Rattle.aat_run.specs.Switches.{always_on}
 use Rattle.aat_run.specs.Ranges.{switch_for}
 use Rattle.aat_map.specs.Map.{list_at}

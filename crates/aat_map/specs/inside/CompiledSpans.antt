@@ -10,7 +10,7 @@ use Rattle.aat_map.specs.Map.{AreStarts}
 use Rattle.aat_map.specs.Spans.{spans}
 use Rattle.aat_map.specs.declared.feature.feature_range_t.{feature_range_t}
 use Rattle.aat_run.specs.declared.ranges.range_flags_t.{range_flags_t}
-use Rattle.aat_font.specs.declared.morx.Chain.{Chain}
+use Rattle.aat_machine_tables.specs.declared.morx.Chain.{Chain}
 
 -- a chain's range over a span
 abbrev pub span_range : List feature_range_t → Chain → ℕ × ℕ → range_flags_t

@@ -1,6 +1,6 @@
 -- Where among groups the settings stand that chain features ask for.
 use Rattle.std.specs.Prelude.{◌≡◌, ℕ, ◌==◌, ◌||◌, Bool, true, false, not, List, map, length, take_while, slice_index_or, Option, Some, None, Vec}
-use Rattle.aat_font.specs.declared.morx.Chain.{Chain}
+use Rattle.aat_machine_tables.specs.declared.morx.Chain.{Chain}
 use Rattle.aat_map.specs.Live.{in_group}
 use Rattle.aat_map.specs.declared.feature.feature_info_t.{feature_info_t}
 

@@ -3,7 +3,7 @@ use Rattle.std.specs.Prelude.{◌≡◌, ◌/◌, ◌%◌, ◌<◌, ℕ, true, L
 use Rattle.std.specs.Int.{bit_at}
 use Rattle.aat_buffer.specs.Buffer.{glyph_at}
 use Rattle.aat_font.specs.Wakers.{word_of, IsAwakeIn}
-use Rattle.aat_font.specs.declared.morx.Subtable.{Subtable}
+use Rattle.aat_machine_tables.specs.declared.morx.Subtable.{Subtable}
 use Rattle.aat_font.specs.declared.wakers.GlyphWords.{GlyphWords}
 use Rattle.aat_glyph.specs.declared.glyph.hb_glyph_info_t.{hb_glyph_info_t}
 use Rattle.aat_kinds.specs.Idle.{IsIdleLineOf}

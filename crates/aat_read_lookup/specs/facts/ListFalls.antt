@@ -3,7 +3,7 @@ use Rattle.std.proofs.Common.{◌≡◌, ℕ, zero, suc, ◌+◌, ◌-◌, ◌<�
 use Rattle.std.specs.Prelude.{nat_lt, if◌then◌else◌}
 use Rattle.std.specs.List.{range_with_len}
 use Rattle.std.proofs.lemmas.Bool.{lt-ltb, le-ltb, cond-true, cond-false}
-use Rattle.aat_font.specs.Keys.{fall_after, first_fall}
+use Rattle.aat_lookup.specs.Keys.{fall_after, first_fall}
 
 module _ {X : Type 0} (key : X → ℕ) (f : ℕ → X) where
   -- the falls of the elements from one on

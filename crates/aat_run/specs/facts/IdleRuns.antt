@@ -3,10 +3,10 @@
 use Rattle.std.proofs.Common.{◌≡◌, ◌∙◌, ap, refl, ℕ, zero, suc, ◌+◌, ◌<◌, ◌&&◌, Bool, true, false, cond, ◌==◌, Option, Some, None, unwrap_or, List, length, arith}
 use Rattle.std.proofs.lemmas.Bool.Decides.{nat_tests}
 use Rattle.aat_buffer.specs.Buffer.{Buffer, with_cursor, without_positions, glyph_at}
-use Rattle.aat_font.specs.Entries.{goes_on}
+use Rattle.aat_machine_tables.specs.Entries.{goes_on}
 use Rattle.aat_font.specs.Idle.{has_entry, passes, is_idle_at_end, is_idle_class, is_idle_glyph}
-use Rattle.aat_font.specs.Table.{TableValue, class_of, entry_of}
-use Rattle.aat_font.specs.declared.state_table.GenericStateEntry.{GenericStateEntry}
+use Rattle.aat_machine_tables.specs.Table.{TableValue, class_of, entry_of}
+use Rattle.aat_machine_tables.specs.declared.state_table.GenericStateEntry.{GenericStateEntry}
 use Rattle.aat_glyph.specs.declared.glyph.hb_glyph_info_t.{hb_glyph_info_t}
 use Rattle.aat_run.specs.Budget.{potential}
 use Rattle.aat_run.specs.Context.{Context, Machine, Config, Moved, machine_of, machine_with, start, is_at_end, class_at, cluster_seen}

@@ -3,8 +3,8 @@ use Rattle.std.proofs.Common.{◌≡◌, ℕ, ◌+◌, ◌-◌, ◌≤◌, Bool,
 use Rattle.aat_buffer.specs.Buffer.{Buffer}
 use Rattle.aat_buffer.specs.Marks.{clusters_stay_apart}
 use Rattle.aat_buffer.specs.facts.Order.{Kept, kept_refl, kept_same, kept_unsafe, comes_trans}
-use Rattle.aat_font.specs.Table.{TableValue}
-use Rattle.aat_font.specs.declared.state_table.GenericStateEntry.{GenericStateEntry}
+use Rattle.aat_machine_tables.specs.Table.{TableValue}
+use Rattle.aat_machine_tables.specs.declared.state_table.GenericStateEntry.{GenericStateEntry}
 use Rattle.aat_run.specs.Context.{Context, Config, Machine, machine_of, start}
 use Rattle.aat_run.specs.Driven.{machine_run, outcome_of}
 use Rattle.aat_run.specs.Laws.{KeepsFit, PassesFit, Pays, KeepsSettings, KeepsClusterOrder, HasOrderOf}

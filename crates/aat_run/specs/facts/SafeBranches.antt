@@ -1,8 +1,8 @@
 -- The formula of a safe turn, as the nested branches of a body, and by entries alone.
 use Rattle.std.proofs.Common.{◌≡◌, ◌&&◌, ◌||◌, ◌==◌, not, Bool, true, false, cond, Option, Some, None, refl}
-use Rattle.aat_font.specs.Judged.{is_safe_by, leads_as}
-use Rattle.aat_font.specs.Truth.{is_some_and, is_alike}
-use Rattle.aat_font.specs.declared.state_table.GenericStateEntry.{GenericStateEntry}
+use Rattle.aat_machine_tables.specs.Judged.{is_safe_by, leads_as}
+use Rattle.aat_lookup.specs.Truth.{is_some_and, is_alike}
+use Rattle.aat_machine_tables.specs.declared.state_table.GenericStateEntry.{GenericStateEntry}
 use Rattle.aat_run.specs.Context.{Machine, Config}
 use Rattle.aat_run.specs.inside.Branches.{acts, does_alike, is_idle_at_end, safe_branches}
 use Rattle.aat_run.specs.Laws.{ActsByEntries}

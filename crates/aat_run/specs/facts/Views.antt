@@ -7,7 +7,7 @@ use Rattle.aat_run.specs.Safe.{is_safe}
 use Rattle.aat_run.specs.Budget.{potential}
 use Rattle.aat_run.specs.inside.Branches.{safe_branches, acts, does_alike, is_idle_at_end}
 use Rattle.aat_buffer.specs.facts.Cases.{chosen}
-use Rattle.aat_font.specs.Truth.{is_alike}
+use Rattle.aat_lookup.specs.Truth.{is_alike}
 use Rattle.aat_run.specs.facts.Runs.{OnGoes, mapped, run_maps}
 use Rattle.aat_run.specs.facts.SafeBranches.{safe_by_branches}
 use Rattle.aat_run.specs.facts.Turns.{settled_goes}

@@ -1,7 +1,7 @@
 -- The formula of a safe turn, as the branches that a body takes: SafeBranches of the facts shows that they are the
 -- formula.
 use Rattle.std.specs.Prelude.{◌==◌, ◌&&◌, not, Bool, true, false, Option, Some, None, length, if◌then◌else◌}
-use Rattle.aat_font.specs.Truth.{is_alike}
+use Rattle.aat_lookup.specs.Truth.{is_alike}
 use Rattle.aat_run.specs.Context.{Machine, Config}
 
 module _ {R E : Type 0} (m : Machine R E) (c : Config R) where

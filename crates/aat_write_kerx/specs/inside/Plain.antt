@@ -1,8 +1,8 @@
 -- A machine whose entries have numbers, as it is written without further offsets.
 use Rattle.std.specs.Prelude.{◌≡◌, ℕ, ◌+◌, ◌-◌, ◌*◌, List, [], ◌∷◌, ◌++◌, length, drop, map, Bool, None, Ok, position}
-use Rattle.aat_font.specs.Table.{Rule, TableValue}
-use Rattle.aat_font.specs.declared.entries.EntryData.{EntryData}
-use Rattle.aat_font.specs.declared.state_table.GenericStateEntry.{GenericStateEntry}
+use Rattle.aat_machine_tables.specs.Table.{Rule, TableValue}
+use Rattle.aat_machine_tables.specs.declared.entries.EntryData.{EntryData}
+use Rattle.aat_machine_tables.specs.declared.state_table.GenericStateEntry.{GenericStateEntry}
 use Rattle.aat_write_lookup.specs.Words.{long_bytes}
 use Rattle.aat_write_machine.specs.EntryWords.{one_word}
 use Rattle.aat_write_machine.specs.Machines as plain

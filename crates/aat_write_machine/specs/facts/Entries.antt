@@ -1,8 +1,8 @@
 -- What is written of an entry is read again, for each kind of machine.
 use Rattle.std.proofs.Common.{◌≡◌, ℕ, ◌+◌, ◌*◌, List, refl, ap, ◌∙◌, arith}
 use Rattle.aat_bytes.specs.Numbers.{be16}
-use Rattle.aat_font.specs.declared.entries.ContextualEntryData.{ContextualEntryData}
-use Rattle.aat_font.specs.declared.entries.InsertionEntryData.{InsertionEntryData}
+use Rattle.aat_machine_tables.specs.declared.entries.ContextualEntryData.{ContextualEntryData}
+use Rattle.aat_machine_tables.specs.declared.entries.InsertionEntryData.{InsertionEntryData}
 use Rattle.aat_read_machine.specs.Entries.{contextual_at, insertion_at}
 use Rattle.aat_write_machine.specs.EntryLaws.{HasSize, ReadsAgain}
 use Rattle.aat_write_machine.specs.EntryWords.{contextual_words, insertion_words, no_words, one_word}

@@ -1,5 +1,5 @@
 use Rattle.std.proofs.Common.{◌≡◌, Some, sym}
-use Rattle.aat_font.specs.Table.{entry_of}
+use Rattle.aat_machine_tables.specs.Table.{entry_of}
 use Rattle.aat_cuts.proofs.Gathered.{sound_more, kept_more, row_more}
 use Rattle.aat_cuts.proofs.cells.gather_row.Goals as goal
 

@@ -1,7 +1,7 @@
 use Rattle.std.proofs.Common.{◌≡◌, ◌<◌, ℕ, Some}
 use Rattle.std.specs.List.{All, Contains}
-use Rattle.aat_font.specs.Table.{Rule, entry_of}
-use Rattle.aat_font.specs.declared.state_table.GenericStateEntry.{GenericStateEntry}
+use Rattle.aat_machine_tables.specs.Table.{Rule, entry_of}
+use Rattle.aat_machine_tables.specs.declared.state_table.GenericStateEntry.{GenericStateEntry}
 use Rattle.aat_cuts.specs.Reached.{IsCell}
 use Rattle.aat_cuts.proofs.cells.gather_row.Given as goal
 

@@ -1,5 +1,5 @@
 use Rattle.std.proofs.Common.{◌≢◌, ◌<◌, ℕ, None}
-use Rattle.aat_font.specs.Table.{entry_of}
+use Rattle.aat_machine_tables.specs.Table.{entry_of}
 use Rattle.aat_cuts.proofs.cells.missing_class.Given as goal
 
 abbrev pub invariant-loop-class : goal.invariant-loop-class

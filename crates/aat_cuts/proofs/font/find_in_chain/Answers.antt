@@ -2,7 +2,7 @@ use Rattle.std.proofs.Common.{length, List, refl, subst}
 use Rattle.std.proofs.lemmas.List.{take_all}
 use Rattle.std.proofs.lemmas.List.Elements.{All-more}
 use Rattle.std.proofs.lemmas.Option.{slice_get_read}
-use Rattle.aat_font.specs.declared.morx.Subtable.{Subtable}
+use Rattle.aat_machine_tables.specs.declared.morx.Subtable.{Subtable}
 use Rattle.aat_cuts.specs.Fonts.{AreSettled}
 use Rattle.aat_cuts.specs.Kinds.{IsSettled}
 use Rattle.aat_cuts.proofs.Verdicts.{settled_of}

@@ -3,7 +3,7 @@ use Rattle.std.proofs.lemmas.List.{map_more, take_more_set}
 use Rattle.std.proofs.lemmas.List.Elements.{All-append, All-cons}
 use Rattle.aat_glyph.specs.declared.glyph.hb_glyph_info_t.{hb_glyph_info_t}
 use Rattle.aat_buffer.specs.Buffer.{Is16Bit}
-use Rattle.aat_font.specs.declared.plan.GlyphId.{GlyphId}
+use Rattle.aat_lookup.specs.declared.glyph_id.GlyphId.{GlyphId}
 use Rattle.aat_kinds.specs.Insertion.{copies}
 use Rattle.aat_kinds.proofs.insertion.records_of.Goals as goal
 

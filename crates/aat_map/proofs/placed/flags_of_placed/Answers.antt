@@ -1,6 +1,6 @@
 use Rattle.std.proofs.Common.{◌<◌, ℕ, length, slice_index_or}
 use Rattle.std.proofs.lemmas.List.{get_or_default, length-map}
-use Rattle.aat_font.specs.declared.morx.ChainFeature.{ChainFeature}
+use Rattle.aat_machine_tables.specs.declared.morx.ChainFeature.{ChainFeature}
 use Rattle.aat_map.specs.inside.Placed.{places_of}
 use Rattle.aat_map.proofs.PlacedLemmas.{asked_more}
 use Rattle.aat_map.proofs.placed.flags_of_placed.Goals as goal

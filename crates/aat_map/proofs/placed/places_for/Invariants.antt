@@ -1,6 +1,6 @@
 use Rattle.std.proofs.Common.{◌≡◌, take, map}
 use Rattle.aat_map.specs.inside.Placed.{places_of}
-use Rattle.aat_font.specs.declared.morx.ChainFeature.{ChainFeature}
+use Rattle.aat_machine_tables.specs.declared.morx.ChainFeature.{ChainFeature}
 use Rattle.aat_map.proofs.placed.places_for.Given as goal
 
 abbrev pub invariant-loop-feature : goal.invariant-loop-feature

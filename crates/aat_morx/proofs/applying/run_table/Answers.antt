@@ -3,7 +3,7 @@ use Rattle.std.proofs.lemmas.Grind.{common_steps}
 use Rattle.std.specs.Option.{option_copied}
 use Rattle.std.proofs.lemmas.Result.{err_from_is_err_and}
 use Rattle.aat_buffer.specs.Buffer.{Buffer}
-use Rattle.aat_font.specs.Chains.{subtable_count}
+use Rattle.aat_machine_tables.specs.Chains.{subtable_count}
 use Rattle.aat_font.specs.Face.{chains_in, tables_of}
 use Rattle.aat_kinds.specs.Kinds.{sizes_of}
 use Rattle.aat_map.specs.Map.{lists_for}

@@ -1,6 +1,6 @@
 use Rattle.std.proofs.Common.{◌≡◌, take}
 use Rattle.std.specs.Option.{option_copied}
-use Rattle.aat_font.specs.Chains.{subtable_count}
+use Rattle.aat_machine_tables.specs.Chains.{subtable_count}
 use Rattle.aat_run.specs.Driven.{StaysWithin}
 use Rattle.aat_run.specs.Outcome.{in_order}
 use Rattle.aat_kinds.specs.Kinds.{sizes_of}

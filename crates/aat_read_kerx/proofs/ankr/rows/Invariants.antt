@@ -1,5 +1,5 @@
 use Rattle.std.proofs.Common.{◌≡◌, ◌*◌, ◌≤◌, drop}
-use Rattle.aat_font.specs.AnchorPoints.{points_in_rows}
+use Rattle.aat_kerning_tables.specs.AnchorPoints.{points_in_rows}
 use Rattle.aat_read_kerx.specs.Anchors.{rows_within}
 use Rattle.aat_read_kerx.proofs.AnchorRows.{behind}
 use Rattle.aat_read_kerx.proofs.ankr.rows.Given as goal

@@ -1,5 +1,5 @@
 use Rattle.std.proofs.Common.{arith}
-use Rattle.aat_font.specs.FeatureNames.{kind_of}
+use Rattle.aat_lookup.specs.FeatureNames.{kind_of}
 use Rattle.aat_read_lookup.specs.Features.{feature_name}
 use Rattle.aat_read_lookup.specs.facts.ListFalls.{falls, from_second, goes_on, none_falls}
 use Rattle.aat_read_lookup.proofs.feat.first_fall.Goals as goal

@@ -1,6 +1,6 @@
 use Rattle.std.proofs.Common.{◌≡◌}
-use Rattle.aat_font.specs.FeatureNames.{kind_of}
-use Rattle.aat_font.specs.Keys.{first_fall}
+use Rattle.aat_lookup.specs.FeatureNames.{kind_of}
+use Rattle.aat_lookup.specs.Keys.{first_fall}
 use Rattle.aat_read_lookup.specs.Features.{feature_name, feature_names}
 use Rattle.aat_read_lookup.specs.facts.ListFalls.{falls_from}
 use Rattle.aat_read_lookup.proofs.feat.first_fall.Given as goal

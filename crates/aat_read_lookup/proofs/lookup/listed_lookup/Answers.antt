@@ -1,5 +1,5 @@
 use Rattle.std.proofs.Common.{ap, ◌∙◌}
-use Rattle.aat_font.specs.Keys.{first, first_fall}
+use Rattle.aat_lookup.specs.Keys.{first, first_fall}
 use Rattle.aat_read_lookup.specs.Kept.{kept_value}
 use Rattle.aat_read_lookup.proofs.LayoutsRise.{layout_pairs_rise}
 use Rattle.aat_read_lookup.proofs.lookup.listed_lookup.Goals as goal

@@ -1,5 +1,5 @@
 use Rattle.std.proofs.Common.{rules, ap, ◌∙◌}
-use Rattle.aat_font.specs.Segments.{first_segment_fall}
+use Rattle.aat_lookup.specs.Segments.{first_segment_fall}
 use Rattle.aat_read_lookup.proofs.KeptPairs.{spread_pairs}
 use Rattle.aat_read_lookup.proofs.LayoutsRise.{layout_segments_rise}
 use Rattle.aat_read_lookup.proofs.lookup.spread_lookup.Goals as goal

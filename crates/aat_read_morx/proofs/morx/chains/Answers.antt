@@ -1,8 +1,8 @@
 use Rattle.std.proofs.Common.{rules, ◌≡◌, ◌+◌, ◌-◌, [], ◌∷◌, ◌++◌, length, map, vec_len, Ok, ap, ◌∙◌, arith}
 use Rattle.std.proofs.lemmas.List.{map-append}
 use Rattle.std.proofs.lemmas.List.Sums.{sum_by_push}
-use Rattle.aat_font.specs.Chains.{subtable_count}
-use Rattle.aat_font.specs.declared.morx.Chain.{Chain}
+use Rattle.aat_machine_tables.specs.Chains.{subtable_count}
+use Rattle.aat_machine_tables.specs.declared.morx.Chain.{Chain}
 use Rattle.aat_read_machine.specs.Within.{RefusesWithin}
 use Rattle.aat_read_morx.specs.Chains.{ChainStart, chain_at, first_chain, start_behind, value_of_chain}
 use Rattle.aat_read_machine.specs.InTurn.{in_turn}

@@ -1,5 +1,5 @@
 use Rattle.std.proofs.Common.{◌≡◌, ◌+◌, ◌≤◌, length, map}
-use Rattle.aat_font.specs.Chains.{subtable_count}
+use Rattle.aat_machine_tables.specs.Chains.{subtable_count}
 use Rattle.aat_read_morx.specs.Chains.{ChainStart, chain_at, first_chain, value_of_chain}
 use Rattle.aat_read_machine.specs.InTurn.{in_turn}
 use Rattle.aat_read_machine.specs.facts.Turns.{behind}

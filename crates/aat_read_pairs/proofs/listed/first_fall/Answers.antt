@@ -1,5 +1,5 @@
 use Rattle.std.proofs.Common.{arith}
-use Rattle.aat_font.specs.Pairs.{key_of_pair}
+use Rattle.aat_kerning_tables.specs.Pairs.{key_of_pair}
 use Rattle.aat_read_lookup.specs.facts.ListFalls.{falls, from_second, goes_on, none_falls}
 use Rattle.aat_read_pairs.specs.ListedPairs.{pair_at}
 use Rattle.aat_read_pairs.proofs.listed.first_fall.Goals as goal

@@ -1,6 +1,6 @@
 use Rattle.std.proofs.Common.{◌≡◌}
-use Rattle.aat_font.specs.Keys.{first_fall}
-use Rattle.aat_font.specs.Pairs.{key_of_pair}
+use Rattle.aat_lookup.specs.Keys.{first_fall}
+use Rattle.aat_kerning_tables.specs.Pairs.{key_of_pair}
 use Rattle.aat_read_lookup.specs.facts.ListFalls.{falls_from}
 use Rattle.aat_read_pairs.specs.ListedPairs.{pair_at, pairs_at}
 use Rattle.aat_read_pairs.proofs.listed.first_fall.Given as goal

@@ -1,6 +1,6 @@
 use Rattle.std.proofs.Common.{◌≡◌, sym, ◌∙◌}
 use Rattle.std.specs.Prelude.{Some}
-use Rattle.aat_font.specs.Table.{class_of, entry_of}
+use Rattle.aat_machine_tables.specs.Table.{class_of, entry_of}
 use Rattle.aat_run.specs.Context.{class_at}
 use Rattle.aat_run.specs.Machine.{by_entry}
 use Rattle.aat_run.proofs.turns.act_by_entry.Goals as goal

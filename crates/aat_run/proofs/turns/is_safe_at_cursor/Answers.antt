@@ -1,5 +1,5 @@
 use Rattle.std.proofs.Common.{refl}
-use Rattle.aat_font.specs.Table.{entry_of}
+use Rattle.aat_machine_tables.specs.Table.{entry_of}
 use Rattle.aat_run.specs.Context.{machine_with}
 use Rattle.aat_run.specs.facts.SafeBranches.{safe_by_entries}
 use Rattle.aat_run.specs.inside.Places.{config}

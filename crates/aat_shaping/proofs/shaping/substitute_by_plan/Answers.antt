@@ -1,6 +1,6 @@
 use Rattle.std.proofs.Common.{◌≡◌, ◌≤◌, ◌<◌, ap, true, length, ℤ, subst, rules, arith}
 use Rattle.std.proofs.lemmas.Result.{IfOk-weaker, on_ok_weaker}
-use Rattle.aat_font.specs.Chains.{subtable_count}
+use Rattle.aat_machine_tables.specs.Chains.{subtable_count}
 use Rattle.aat_font.specs.Face.{chains_in, tables_of}
 use Rattle.aat_run.proofs.FewTurns.{few_operations, few_turns}
 use Rattle.aat_run.specs.Budget.{operations_left}

@@ -1,5 +1,5 @@
 use Rattle.std.proofs.Common.{arith}
-use Rattle.aat_font.specs.Classes.{ClassValues}
+use Rattle.aat_kerning_tables.specs.Classes.{ClassValues}
 use Rattle.aat_write_kern.proofs.ClassFacts.{are_fit}
 use Rattle.aat_write_kern.proofs.DenseFacts.{below_limit}
 use Rattle.aat_write_kern.proofs.classes.classes_bytes.Goals as goal

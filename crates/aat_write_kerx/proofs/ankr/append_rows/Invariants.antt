@@ -1,6 +1,6 @@
 use Rattle.std.proofs.Common.{◌≡◌, ◌++◌, take}
 use Rattle.std.specs.List.{flat_map}
-use Rattle.aat_font.specs.AnchorPoints.{points_in_rows}
+use Rattle.aat_kerning_tables.specs.AnchorPoints.{points_in_rows}
 use Rattle.aat_write_kerx.specs.AnkrBytes.{points_bytes}
 use Rattle.aat_write_kerx.proofs.ankr.append_rows.Given as goal
 

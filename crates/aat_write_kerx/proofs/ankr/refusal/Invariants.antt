@@ -1,5 +1,5 @@
 use Rattle.std.proofs.Common.{◌≡◌, drop}
-use Rattle.aat_font.specs.AnchorPoints.{points_in_rows}
+use Rattle.aat_kerning_tables.specs.AnchorPoints.{points_in_rows}
 use Rattle.aat_write_kerx.specs.AnkrBytes.{refusal_from}
 use Rattle.aat_write_kerx.proofs.ankr.refusal.Given as goal
 

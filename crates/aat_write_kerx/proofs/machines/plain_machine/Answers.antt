@@ -1,6 +1,6 @@
 use Rattle.std.proofs.Common.{rules, ◌≡◌, ℕ, [], position, Option, None, sym, subst}
-use Rattle.aat_font.specs.Table.{TableValue}
-use Rattle.aat_font.specs.declared.state_table.GenericStateEntry.{GenericStateEntry}
+use Rattle.aat_machine_tables.specs.Table.{TableValue}
+use Rattle.aat_machine_tables.specs.declared.state_table.GenericStateEntry.{GenericStateEntry}
 use Rattle.aat_write_machine.specs.EntryWords.{one_word}
 use Rattle.aat_write_machine.specs.Machines as plain
 use Rattle.aat_write_machine.specs.Machines.{class_table_written}

@@ -1,5 +1,5 @@
 use Rattle.std.proofs.Common.{sym, ap, ◌∙◌}
-use Rattle.aat_font.specs.Subtables.{ContextualTables}
+use Rattle.aat_machine_tables.specs.Subtables.{ContextualTables}
 use Rattle.aat_write_machine.specs.Machines.{class_table_written}
 use Rattle.aat_write_machine.proofs.Substituted.{lookups_refuse}
 use Rattle.aat_write_machine.proofs.contextual.write_contextual.Goals as goal

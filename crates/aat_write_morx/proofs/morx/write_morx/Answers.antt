@@ -1,5 +1,5 @@
 use Rattle.std.proofs.Common.{rules, ◌≡◌, ℕ, List, map, Result, Ok, sym, ap, ◌∙◌, subst}
-use Rattle.aat_font.specs.declared.morx.Chain.{Chain}
+use Rattle.aat_machine_tables.specs.declared.morx.Chain.{Chain}
 use Rattle.aat_read_morx.specs.Chains.{value_of_chain, values_of_morx}
 use Rattle.aat_write_morx.specs.ChainBytes.{chains_written}
 use Rattle.aat_write_morx.specs.ChainWriteErrors.{RefusesWithin, WritesWithin, error_of_subtable}

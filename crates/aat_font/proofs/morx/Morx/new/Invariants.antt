@@ -1,5 +1,5 @@
 use Rattle.std.proofs.Common.{◌≡◌, ◌≤◌, take}
-use Rattle.aat_font.specs.Chains.{subtable_count}
+use Rattle.aat_machine_tables.specs.Chains.{subtable_count}
 use Rattle.aat_font.proofs.morx.Morx.new.Given as goal
 
 abbrev pub invariant-loop-chain : goal.invariant-loop-chain

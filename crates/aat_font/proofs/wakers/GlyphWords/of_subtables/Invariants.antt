@@ -1,7 +1,7 @@
 use Rattle.std.proofs.Common.{◌≡◌, ℕ, ◌<◌, Some}
 use Rattle.std.specs.List.{slice_get}
 use Rattle.aat_font.specs.Wakers.{IsAwakeIn}
-use Rattle.aat_font.specs.declared.morx.Subtable.{Subtable}
+use Rattle.aat_machine_tables.specs.declared.morx.Subtable.{Subtable}
 use Rattle.aat_font.proofs.wakers.GlyphWords.of_subtables.Given as goal
 
 abbrev pub invariant-loop-bit : goal.invariant-loop-bit

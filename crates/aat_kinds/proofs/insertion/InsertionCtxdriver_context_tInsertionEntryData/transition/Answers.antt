@@ -3,7 +3,7 @@ use Rattle.std.proofs.lemmas.Bool.Decides.{nat_tests}
 use Rattle.std.proofs.lemmas.Int.{ints}
 use Rattle.std.proofs.lemmas.Result.{err_from_is_err_and}
 use Rattle.aat_buffer.specs.Buffer.{Buffer}
-use Rattle.aat_font.specs.Entries.{is_present}
+use Rattle.aat_machine_tables.specs.Entries.{is_present}
 use Rattle.aat_run.specs.Budget.{paid, has_operations}
 use Rattle.aat_kinds.specs.Insertion.{act, at_mark, marked_count}
 use Rattle.aat_kinds.specs.facts.InsertionLaws.{marked_within}

@@ -1,0 +1,49 @@
+//! The printed table of an inspector, on a font of two chains.
+use aat_inspection::{Table, inspect};
+use aat_layout::font::{
+    Chain, ChainFeature, Coverage, FaceTables, Feat, Feature, FeatureName, Lookup, Morx, Subtable,
+    SubtableKind, hb_font_t, hb_tag_t,
+};
+use std::alloc::Global;
+use std::process::Abort;
+use std::test::Fail;
+
+/// A chain with these default flags, in which common ligatures set the bit 2, and subtables with these flags.
+fn chain_of(alloc: Global, default_flags: u32, flags: &[u32]) -> Result<Chain, Fail> {
+    let mut subtables = Vec::new(alloc);
+    for feature_flags in flags {
+        let kind = SubtableKind::NonContextual(Lookup::new(alloc, &[(5, 9)])?);
+        subtables.push(Subtable::new(kind, Coverage::ALL_DIRECTIONS, *feature_flags))?;
+    }
+    let feature = ChainFeature::new(1, 2, 2, u32::MAX);
+    Ok(Chain::new(default_flags, vec![in alloc; feature]?, subtables))
+}
+
+/// A font of two chains.
+fn font_of(alloc: Global) -> Result<hb_font_t, Fail> {
+    let chains = vec![in alloc; chain_of(alloc, 1, &[1])?, chain_of(alloc, 0, &[4, 2, 6])?]?;
+    let tables = FaceTables::default()
+        .with_morx(Morx::new(chains)?)
+        .with_feat(Feat::new(alloc, &[FeatureName::new(1, 4, false)])?);
+    Ok(hb_font_t::from_tables(tables))
+}
+
+/// Ligatures are on over two clusters, and each chain has all clusters.
+const TEXT: &str = "\
+chain       first        last       flags  on
+    0           0           2  0x00000001  0
+    0           3           4  0x00000003  0
+    0           5         end  0x00000001  0
+    1           0           2  0x00000000
+    1           3           4  0x00000002  1  2
+    1           5         end  0x00000000";
+
+#[test]
+fn ranges_have_their_text(rt: HostRuntime) -> Result<(), Fail> {
+    let font = font_of(rt.alloc())?;
+    let ligatures = Feature::new(hb_tag_t::from_bytes(b"liga"), 1, 3..5);
+    let ranges = inspect(rt.alloc(), &font, &[ligatures])?;
+    let shown = format!(in rt.alloc(); "{}", Table(&ranges))?;
+    assert!(rt; shown.as_str() == TEXT, "{shown}");
+    Ok(())
+}

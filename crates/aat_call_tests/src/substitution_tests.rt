@@ -1,0 +1,131 @@
+//! Substitution of long lines, and at the ends of places, states, indexes and lists.
+
+use crate::cases::{ANY, AT_ENDS, Case, LONG, Left};
+use crate::machines::{drop_font, font_of, subtable_of};
+use aat_layout::buffer::{BufferError, hb_buffer_t, hb_glyph_info_t};
+use aat_layout::font::{Lookup, SubtableKind, hb_font_t, hb_ot_shape_plan_t};
+use aat_layout::hb_aat_layout_substitute;
+use std::alloc::Global;
+use std::process::Abort;
+use std::test::Fail;
+
+/// The budget of each line, in operations.
+const BUDGET: i32 = 16384;
+
+/// The id of the glyph at a place of the line of a case.
+fn id_at(case: &Case, place: usize) -> u32 {
+    let ids = if place < case.count {
+        case.ids
+    } else {
+        case.others
+    };
+    let place = if place < case.count {
+        place.checked_rem(ids.len()).unwrap_or(0)
+    } else {
+        place.saturating_sub(case.count)
+    };
+    ids.get(place).copied().unwrap_or(0)
+}
+
+/// The line of a case, in which each glyph has its place as its cluster.
+fn line_of(alloc: Global, case: &Case, level: u8) -> Result<hb_buffer_t, BufferError> {
+    let mut buffer = hb_buffer_t::new(alloc, 100_000, BUDGET);
+    buffer.set_cluster_level(level);
+    for place in 0..case.count.saturating_add(case.others.len()) {
+        let cluster = (place % 0x1_0000_0000) as u32;
+        buffer.add(hb_glyph_info_t::new(id_at(case, place), cluster))?;
+    }
+    Ok(buffer)
+}
+
+/// Substitutes a line, and answers the turns: nothing where that is refused.
+fn turns_of(alloc: Global, font: &hb_font_t, buffer: &mut hb_buffer_t) -> Option<u64> {
+    let plan = hb_ot_shape_plan_t::new(Vec::new(alloc));
+    if !buffer.all_glyphs_16() {
+        return None;
+    }
+    hb_aat_layout_substitute(alloc, &plan, font, buffer).ok()
+}
+
+/// Whether the glyph at a place is this, with its cluster counted from another one.
+fn is_glyph(buffer: &hb_buffer_t, place: usize, left: Left, from: usize) -> bool {
+    if place >= buffer.len() {
+        return false;
+    }
+    let glyph = buffer.info(place);
+    let cluster = (left.1 as usize).saturating_add(from);
+    glyph.glyph_id == left.0
+        && glyph.cluster as usize == cluster
+        && (left.2 == ANY || glyph.mask == left.2)
+}
+
+/// Whether glyphs stand at a place, with their clusters counted from another one.
+fn are_glyphs(buffer: &hb_buffer_t, place: usize, left: &[Left], from: usize) -> bool {
+    for (within, left) in left.iter().enumerate() {
+        if !is_glyph(buffer, place.saturating_add(within), *left, from) {
+            return false;
+        }
+    }
+    true
+}
+
+/// Whether a line is what is left of a case.
+fn is_left(buffer: &hb_buffer_t, case: &Case) -> bool {
+    let turns = case.count.checked_div(case.ids.len()).unwrap_or(0);
+    for turn in 0..turns {
+        let (place, from) = (
+            turn.saturating_mul(case.left.len()),
+            turn.saturating_mul(case.ids.len()),
+        );
+        if !are_glyphs(buffer, place, case.left, from) {
+            return false;
+        }
+    }
+    let end = turns.saturating_mul(case.left.len());
+    are_glyphs(buffer, end, case.ends, 0) && buffer.len() == end.saturating_add(case.ends.len())
+}
+
+/// Whether a case comes out as it says at a level.
+fn holds_at(alloc: Global, case: &Case, font: &hb_font_t, level: u8) -> Result<bool, Fail> {
+    let mut buffer = line_of(alloc, case, level)?;
+    let turns = turns_of(alloc, font, &mut buffer);
+    let is_paid = turns == Some(case.turns) && buffer.max_ops() == BUDGET.wrapping_sub(case.paid);
+    Ok(is_paid && is_left(&buffer, case))
+}
+
+/// Ends the test where a case comes out otherwise.
+fn check(rt: &impl Abort, alloc: Global, case: &Case) -> Result<(), Fail> {
+    let font = font_of(alloc, subtable_of(alloc, case.kind)?, 1)?;
+    for level in case.levels {
+        let holds = holds_at(alloc, case, &font, *level)?;
+        assert!(rt; holds, "{} at level {level}", case.name);
+    }
+    drop_font(font);
+    Ok(())
+}
+
+#[test]
+fn long_lines_and_ends(rt: HostRuntime) -> Result<(), Fail> {
+    for case in &LONG {
+        check(&rt, rt.alloc(), case)?;
+    }
+    for case in &AT_ENDS {
+        check(&rt, rt.alloc(), case)?;
+    }
+    Ok(())
+}
+
+/// The last of 65,535 subtables acts, and each looks at both glyphs.
+#[test]
+fn as_many_subtables_as_there_can_be(rt: HostRuntime) -> Result<(), Fail> {
+    let alloc = rt.alloc();
+    let last = SubtableKind::NonContextual(Lookup::new(alloc, &[(5, 9)])?);
+    let font = font_of(alloc, last, 65535)?;
+    let mut buffer = hb_buffer_t::new(alloc, 2, 0);
+    buffer.add(hb_glyph_info_t::new(5, 0))?;
+    buffer.add(hb_glyph_info_t::new(5, 1))?;
+    let turns = turns_of(alloc, &font, &mut buffer);
+    drop_font(font);
+    assert!(rt; turns == Some(131_070) && is_glyph(&buffer, 1, (9, 1, 0), 0));
+    Ok(())
+}

@@ -1,0 +1,37 @@
+//! The command `aat bench`.
+
+use crate::request::Request;
+use crate::session::Session;
+use crate::source::{FontSource, text_of_file};
+use aat_calls::{BenchFont, BenchText, measure};
+use anyhow::{Context, Result};
+use clap::ArgMatches;
+use std::io::Write;
+
+/// Tells what shaping the text of a file leaves, and how long it takes.
+pub(crate) fn bench<W: Write>(
+    rt: &HostRuntime,
+    out: &mut W,
+    session: &mut Session<'_>,
+    matches: &ArgMatches<'_>,
+) -> Result<()> {
+    let request = Request::of_matches(rt.alloc(), matches)?;
+    let source = FontSource::of_matches(matches)?;
+    let path = matches.get_str("file").context("a text is missing")?;
+    let text = text_of_file(rt, session.speaker, path)?;
+    let font = session.fonts.font(rt, &source)?;
+    font.tell_faults(rt, session.speaker)?;
+    let bench_font = BenchFont {
+        bytes: font.bytes,
+        index: source.index,
+        face: &font.face,
+    };
+    let bench_text = BenchText {
+        characters: text.as_str(),
+        length: matches.get_one::<u32>("length"),
+        direction: request.direction,
+        unit: request.unit,
+    };
+    let rounds = matches.get_one::<u32>("rounds").unwrap_or(0);
+    measure(rt, out, bench_font, request.features, bench_text, rounds)
+}

@@ -1,0 +1,4 @@
+pub mod AnchorRows
+pub mod ClassRows
+pub mod LeftParts
+pub mod RightBits

@@ -1,0 +1,6 @@
+pub mod AnchorPoints
+pub mod Classes
+pub mod KerningTableExamples
+pub mod KerningTables
+pub mod Pairs
+pub mod inside

@@ -1,0 +1,3 @@
+pub mod Lefts
+pub mod Rights
+pub mod Rows

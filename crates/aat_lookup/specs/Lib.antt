@@ -1,0 +1,9 @@
+pub mod FeatureNames
+pub mod Keys
+pub mod LookupExamples
+pub mod Moves
+pub mod Segments
+pub mod TableErrors
+pub mod Truth
+pub mod facts
+pub mod inside

@@ -1,0 +1,5 @@
+pub mod Falls
+pub mod Filling
+pub mod Rising
+pub mod Search
+pub mod Walks

@@ -1,0 +1,4 @@
+pub mod Dense
+pub mod GlyphSpans
+pub mod Ordered
+pub mod Walks

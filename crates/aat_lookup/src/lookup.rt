@@ -1,0 +1,193 @@
+//! Lookups: values of glyphs.
+ghost use Rattle.std.specs.Prelude.{◌≡◌, IfOk, IfErr, IfSome, OnOk, None, unwrap_or};
+ghost use Rattle.aat_lookup.specs.Keys.{first, first_fall, value_in, IsRising};
+ghost use Rattle.aat_lookup.specs.Moves.{AreMovesOf};
+ghost use Rattle.aat_lookup.specs.Segments.{first_segment_fall, pairs_of_segments};
+ghost use Rattle.aat_lookup.specs.TableErrors.{RefusesRising};
+ghost use Rattle.aat_lookup.specs.inside.Dense.{AnswersAsClasses, AnswersOver};
+
+use crate::class_array::ClassArray;
+use crate::dense::Dense;
+use crate::error::TableError;
+use crate::glyph_id::GlyphId;
+use crate::keys::first_fall;
+use crate::moves::GlyphMoves;
+use crate::segments::{LookupSegment, append_segments, first_segment_fall, value_in_segments};
+use std::alloc::{AllocError, Allocator, Global};
+use std::marker::Model;
+
+/// A table that gives some glyphs a value. A contract sees it as the list of its pairs.
+///
+/// Apple's TrueType Reference Manual, "Font Tables", section on lookup tables.
+#[derive(Drop)]
+pub struct Lookup<A: Allocator = Global> {
+    values: Values<A>,
+}
+
+/// How the values of a lookup are kept.
+#[derive(Drop)]
+pub(crate) enum Values<A: Allocator> {
+    /// Pairs of a glyph and its value, and how they are found.
+    Listed(Vec<(u16, u16), A>, Dense<A>),
+    /// Segments, which are searched.
+    Segments(Vec<LookupSegment, A>),
+}
+
+impl<A: Allocator> Model for Lookup<A> {
+    ghost use Rattle.std.specs.Prelude.{List, ℕ};
+    ghost use Rattle.aat_lookup.specs.inside.Ordered.{AreFound, pairs_of_values};
+
+    ghost Value = { List (ℕ × ℕ) };
+
+    ghost view = { λ m. pairs_of_values m.values };
+
+    ghost invariant = { λ m. AreFound m.values };
+}
+
+impl<A: Allocator + Copy> Lookup<A> {
+    /// Makes a lookup of pairs of a glyph and its value, which have to rise strictly by glyph.
+    ///
+    /// Refused as 1, `NotRising`, with the place of the first pair that is not above the one before
+    /// it, and else as 5, `OutOfMemory`, where the copy or the cells beside it get no memory.
+    pub fn new(alloc: A, pairs: &[(u16, u16)]) -> Result<Lookup<A>, TableError>
+        ensures ok { IfOk result (λ lookup. lookup ≡ pairs.now) }
+        ensures rising { OnOk result (first_fall first pairs.now ≡ None) }
+        ensures refused { IfErr result (RefusesRising (first_fall first pairs.now)) }
+    {
+        if let Some(place) = first_fall(pairs) {
+            return Err(TableError::NotRising(place));
+        }
+        Ok(Lookup::of_rising(alloc, pairs)?)
+    }
+
+    /// The lookup of pairs that rise strictly by glyph. Fails where the copy or the cells beside it get no memory.
+    pub fn of_rising(alloc: A, pairs: &[(u16, u16)]) -> Result<Lookup<A>, AllocError>
+        requires { IsRising first pairs.now }
+        ensures { IfOk result (λ lookup. lookup ≡ pairs.now) }
+    {
+        let copy = Vec::from_slice(alloc, pairs)?;
+        let dense = Dense::over(alloc, pairs)?;
+        Ok(Lookup {
+            values: Values::Listed(copy, dense),
+        })
+    }
+
+    /// Makes a lookup of segments, which have to rise: each has a glyph, and begins behind the end of the one before it.
+    /// It takes the memory of the segments, however many glyphs these have.
+    ///
+    /// Refused as 1, `NotRising`, with the place of the first segment whose last glyph is below its first one, or whose
+    /// first glyph is not above the last one of the segment before it, and else as 5, `OutOfMemory`, where the copy
+    /// gets no memory.
+    pub fn from_segments(alloc: A, segments: &[LookupSegment]) -> Result<Lookup<A>, TableError>
+        ensures ok { IfOk result (λ lookup. lookup ≡ pairs_of_segments segments.now) }
+        ensures rising { OnOk result (first_segment_fall segments.now ≡ None) }
+        ensures refused { IfErr result (RefusesRising (first_segment_fall segments.now)) }
+    {
+        if let Some(place) = first_segment_fall(segments) {
+            return Err(TableError::NotRising(place));
+        }
+        Ok(Lookup {
+            values: Values::Segments(Vec::from_slice(alloc, segments)?),
+        })
+    }
+}
+
+impl<A: Allocator + Copy> Lookup<A> {
+    /// The same values as classes: an array of them gives way to one of classes, with `missing` for glyphs without one.
+    /// Pages and segments stay. Fails where the cells get no memory.
+    pub fn with_class_array(self, alloc: A, missing: u16) -> Result<Lookup<A>, AllocError>
+        ensures { IfOk result (λ lookup. lookup ≡ self) }
+    {
+        match ClassArray::over(alloc, &self, missing)? {
+            Some(array) => Ok(self.found_in(array)),
+            None => Ok(self),
+        }
+    }
+}
+
+impl<A: Allocator> Lookup<A> {
+    /// The pairs of a glyph and its value, strictly rising by glyph, as a list of its own. Fails where it gets no
+    /// memory.
+    pub fn to_pairs<B: Allocator>(&self, alloc: B) -> Result<Vec<(u16, u16), B>, AllocError>
+        ensures { IfOk result (λ pairs. pairs.items ≡ self.now) }
+    {
+        match &self.values {
+            Values::Listed(pairs, _) => Vec::from_slice(alloc, pairs),
+            Values::Segments(segments) => {
+                let mut pairs = Vec::new(alloc);
+                append_segments(segments, &mut pairs)?;
+                Ok(pairs)
+            }
+        }
+    }
+
+    /// The value of a glyph, if it has one. Among pairs it is found in an array over the span of the glyphs where these
+    /// lie close, else on pages of 256 glyphs where these hold enough of them, and else by bisection; among segments by
+    /// bisection. In a state table, or in pairs by classes, an array has classes alone, and here pairs are searched.
+    pub fn value(&self, glyph: GlyphId) -> Option<u16>
+        ensures { result ≡ value_in self.now glyph.0 }
+    {
+        match &self.values {
+            Values::Listed(pairs, dense) => dense.value(pairs, glyph.0),
+            Values::Segments(segments) => value_in_segments(segments, glyph.0),
+        }
+    }
+
+    /// The value of a glyph, or the one that is given where it has none. It is found without a search where the values
+    /// are in an array of classes that was made with that one.
+    pub fn class(&self, glyph: GlyphId, missing: u16) -> u16
+        ensures { result ≡ unwrap_or (value_in self.now glyph.0) missing }
+    {
+        match &self.values {
+            // the number that the caller gives and not the array's own, which would have to be read
+            Values::Listed(_, Dense::Classes(array)) if array.missing == missing => {
+                array.class(glyph.0, missing)
+            }
+            _ => looked_up(self, missing, glyph),
+        }
+    }
+
+    /// The same values. Pairs get an array of classes.
+    fn found_in(self, array: ClassArray<A>) -> Lookup<A>
+        requires { AnswersAsClasses array.missing array.lowest array.cells.items self }
+        ensures { result ≡ self }
+    {
+        match self.values {
+            Values::Listed(pairs, _) => Lookup {
+                values: Values::Listed(pairs, Dense::Classes(array)),
+            },
+            values => Lookup { values },
+        }
+    }
+
+    /// The value of each glyph of a span, and its lowest glyph, where they stand in an array with none for a glyph
+    /// without a value.
+    pub fn span_values(&self) -> Option<(u16, &[Option<u16>])>
+        ensures { IfSome result (λ span. AnswersOver span.0 span.1.now self.now) }
+    {
+        match &self.values {
+            Values::Listed(pairs, dense) => dense.span_values(pairs),
+            Values::Segments(_) => None,
+        }
+    }
+
+    /// What each glyph becomes that gets its value here, for who asks for many glyphs: where the values stand in an array,
+    /// but not in one of classes, and none is that of its own glyph.
+    pub fn moves(&self) -> Option<GlyphMoves<'_>>
+        ensures { IfSome result (λ moves. AreMovesOf moves self.now) }
+    {
+        match &self.values {
+            Values::Listed(pairs, dense) => dense.moves(pairs),
+            Values::Segments(_) => None,
+        }
+    }
+}
+
+/// The class that a lookup has for a glyph, or the one that stands for a missing one. It stands apart, so that what is
+/// found in an array stays short.
+#[inline(never)]
+fn looked_up<A: Allocator>(classes: &Lookup<A>, missing: u16, glyph: GlyphId) -> u16
+    ensures { result ≡ unwrap_or (value_in classes.now glyph.0) missing }
+{
+    classes.value(glyph).unwrap_or(missing)
+}

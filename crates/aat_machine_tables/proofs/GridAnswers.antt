@@ -1,0 +1,73 @@
+-- A grid that is filled answers as the rules do.
+use Rattle.std.proofs.Common.{◌≡◌, ℕ, zero, suc, ◌+◌, ◌-◌, ◌*◌, ◌/◌, ◌%◌, ◌<◌, ◌≤◌, ◌⊎◌, inl, inr, List, length, get_or, Bool, Option, option_map, ◌∙◌, ap, sym, le_refl, arith}
+use Rattle.std.proofs.lemmas.Bool.{cases_lt}
+use Rattle.std.proofs.lemmas.List.{get_or_past, get_or_read}
+use Rattle.std.proofs.lemmas.Nat.{div-mul-add, mod-mul-add, mod_below, mul-add-lt, mul-le}
+use Rattle.std.proofs.Math.Nat.{div-add-mod, suc-mul}
+use Rattle.aat_lookup.specs.Keys.{IsRising}
+use Rattle.aat_machine_tables.specs.Table.{Rule, rule_key}
+use Rattle.aat_machine_tables.specs.declared.judged.JudgedEntry.{JudgedEntry}
+use Rattle.aat_machine_tables.specs.declared.judged.JudgedEntry.TheVariants.{Missing}
+use Rattle.aat_machine_tables.specs.declared.state_table.GenericStateEntry.{GenericStateEntry}
+use Rattle.aat_machine_tables.specs.inside.Grid.{judged, judged_rule, ruled_entry, RulesBelow, AnswersAsRules}
+use Rattle.aat_lookup.specs.facts.Rising.{keys_rise}
+use Rattle.aat_lookup.specs.facts.Search.{at_key_none}
+
+positive : (a b : ℕ) → 0 < a * b → 0 < a
+positive zero b h = omega arith
+positive (suc a) b h = omega arith
+
+module _ {T : Type 0} (acts : GenericStateEntry T → Bool) (count states : ℕ) (rules : List (Rule (GenericStateEntry T))) (cells : List (JudgedEntry T))
+    (long : length cells ≡ states * count)
+    (entries : (k : ℕ) → k < states * count → get_or cells k Missing ≡ judged_rule acts rules (k / count) (k % count))
+    (below : 0 < states → RulesBelow states rules) where
+  in_grid : (s k : ℕ) → k < count → s * count + k < states * count → get_or cells (s * count + k) Missing ≡ judged_rule acts rules s k
+  in_grid s k lt inside =
+      entries (s * count + k) inside
+      ∙ ap (λ a. judged_rule acts rules a ((s * count + k) % count)) (div-mul-add s count k lt)
+      ∙ ap (λ a. judged_rule acts rules s a) (mod-mul-add s count k lt)
+
+  none_ruled : (s k : ℕ) → 0 < states → states ≤ s → Missing ≡ judged_rule acts rules s k
+  none_ruled s k some past =
+      sym (ap (λ (o : Option (Rule (GenericStateEntry T))). judged acts s (option_map (λ (r : Rule (GenericStateEntry T)). r.2) o) (ruled_entry rules 0 k) (ruled_entry rules s 0)) (at_key_none rule_key rules (s * 65536 + k) (λ i d lt. λ e. omega (arith, e, below some i d lt))))
+
+  ruled : (s k : ℕ) → k < count → 0 < states → (s < states) ⊎ (states ≤ s) → get_or cells (s * count + k) Missing ≡ judged_rule acts rules s k
+  ruled s k lt some (inl inside) = in_grid s k lt (omega (arith, mul-add-lt s count k states inside lt))
+  ruled s k lt some (inr past) =
+      get_or_past cells (s * count + k) Missing (omega (arith, long, mul-le states count s count past (le_refl count)))
+      ∙ none_ruled s k some past
+
+  -- a grid with the entry of each class of all states that have a rule, judged
+  pub grid_answers : AnswersAsRules acts count cells rules
+  grid_answers some s k lt = ruled s k lt (positive states count (omega (arith, long))) (cases_lt s states)
+
+-- the cell behind one of a row, which may be the first of the next row
+next_cell :
+    (q r c : ℕ) → r < c → c ≤ 65536 → (r + 1 < c) ⊎ (c ≤ r + 1)
+    → q * 65536 + r ≤ (q * c + r + 1) / c * 65536 + (q * c + r + 1) % c
+next_cell q r c lt small (inl more) =
+    let row : (q * c + (r + 1)) / c ≡ q = div-mul-add q c (r + 1) more in
+    let column : (q * c + (r + 1)) % c ≡ r + 1 = mod-mul-add q c (r + 1) more in
+    let same : q * c + r + 1 ≡ q * c + (r + 1) = omega arith in
+    omega (arith, row, column, ap (λ n. n / c) same, ap (λ n. n % c) same)
+next_cell q r c lt small (inr last) =
+    let row : ((q + 1) * c + 0) / c ≡ q + 1 = div-mul-add (q + 1) c 0 (omega arith) in
+    let same : q * c + r + 1 ≡ (q + 1) * c + 0 = omega (arith, suc-mul q c) in
+    omega (arith, row, ap (λ n. n / c) same)
+
+-- the keys of a grid's cells rise
+pub cell_key_rises : (n c : ℕ) → 0 < c → c ≤ 65536 → n / c * 65536 + n % c ≤ (n + 1) / c * 65536 + (n + 1) % c
+cell_key_rises n c some small =
+    let parts : n / c * c + n % c ≡ n = omega (arith, div-add-mod n c) in
+    let rises = next_cell (n / c) (n % c) c (mod_below n c some) small (cases_lt (n % c + 1) c) in
+    omega (arith, rises, ap (λ k. (k + 1) / c) parts, ap (λ k. (k + 1) % c) parts)
+
+module _ {E : Type 0} where
+  -- each rule is of a state below a number that is above the state of the last one
+  pub rules_below :
+      (rules : List (Rule E)) (x : Rule E) (key states : ℕ) → IsRising rule_key rules → 0 < length rules
+      → x ≡ get_or rules (length rules - 1) x → key ≡ rule_key x → key < states * 65536 → RulesBelow states rules
+  rules_below rules x key states rising some read is above i d lt =
+      let high = keys_rise rule_key rules rising i (length rules - 1) d (omega arith) (omega arith) in
+      let last : key ≡ rule_key (get_or rules (length rules - 1) d) = is ∙ ap rule_key (get_or_read rules (length rules - 1) x (omega arith) read d) in
+      omega (arith, high, last, above)

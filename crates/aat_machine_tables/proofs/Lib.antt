@@ -1,0 +1,2 @@
+pub mod GridAnswers
+pub mod RuleFaults

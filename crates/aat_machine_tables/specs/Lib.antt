@@ -1,0 +1,9 @@
+pub mod Chains
+pub mod Coverage
+pub mod Entries
+pub mod Judged
+pub mod JudgedExamples
+pub mod Subtables
+pub mod Table
+pub mod TableExamples
+pub mod inside

@@ -1,0 +1,401 @@
+//! State tables: the class of each glyph, and what a machine does at a state and a class.
+ghost use Rattle.std.specs.Prelude.{◌≡◌, ◌+◌, ◌*◌, ◌/◌, ◌%◌, ◌<◌, ◌≤◌, ℕ, IfOk, IfErr, IfSome, OnOk, None, option_map, length, slice_index_or, unwrap_or};
+ghost use Rattle.aat_machine_tables.specs.Entries.{has_flag, goes_on};
+ghost use Rattle.aat_machine_tables.specs.Judged.{entry_in, is_judged_safe, is_safe_by};
+ghost use Rattle.aat_lookup.specs.Keys.{IsRising};
+ghost use Rattle.aat_machine_tables.specs.Table.{class_of, entry_of, known_class, rule_key, table_value};
+ghost use Rattle.aat_machine_tables.specs.Table.{first_out_of_range, count_and_rules_fault, earlier_fault, rules_fault, table_fault};
+ghost use Rattle.aat_lookup.specs.TableErrors.{RefusesFault};
+ghost use Rattle.aat_machine_tables.specs.declared.judged.JudgedEntry.TheVariants.{Missing};
+ghost use Rattle.aat_machine_tables.specs.inside.Grid.{judged_rule, ruled_entry, state_count, states_to, AnswersAsRules, RulesBelow};
+ghost use Rattle.aat_lookup.specs.inside.Walks.{AreBelow, AreNotBelow};
+
+use crate::entry_bits::{DONT_ADVANCE, anchor, class, stack};
+use crate::judged::{Acting, JudgedEntry, judged, judged_rule, ruled_entry};
+use aat_lookup::keys::{Keyed, first_fall};
+use aat_lookup::walk::{row_here, walk_to};
+use aat_lookup::{GlyphId, Lookup, TableError};
+use std::alloc::{AllocError, Allocator, Global};
+use std::marker::Model;
+
+/// The smallest number of classes. The manual gives the first four their meaning: 0 is the end of
+/// the text, 1 out of bounds, 2 the deleted glyph, 3 the end of a line.
+const MIN_CLASSES: u16 = 4;
+
+/// The deleted glyph: a machine deletes a glyph by putting this one in its place. The buffer's constant is not known
+/// here.
+const DELETED_GLYPH: u16 = 0xFFFF;
+
+/// The largest number of cells of a grid of states by classes. A table with more of them searches its rules.
+const MAX_CELLS: usize = 65536;
+
+/// What a machine does at a state and a class.
+///
+/// Apple's TrueType Reference Manual, "Font Tables", section on state tables.
+#[derive(Clone, Copy, PartialEq, Eq, Debug)]
+pub struct GenericStateEntry<T: Copy> {
+    /// The state that follows.
+    pub new_state: u16,
+    /// Bits that say what is done, most of which mean something else in each kind of machine.
+    pub flags: u16,
+    /// What the kind of machine adds.
+    pub extra: T,
+}
+
+impl<T: Copy> GenericStateEntry<T> {
+    /// Whether the glyph is put on the stack: the bit `PUSH` of a stack, `SET_COMPONENT` of ligatures.
+    pub fn has_push(&self) -> bool
+        ensures { result ≡ has_flag self.now 0x8000 }
+    {
+        self.flags & stack::PUSH != 0
+    }
+
+    /// Whether the glyph is marked: the bit `MARK` of anchors, `SET_MARK` of the other machines.
+    pub fn has_mark(&self) -> bool
+        ensures { result ≡ has_flag self.now 0x8000 }
+    {
+        self.flags & anchor::MARK != 0
+    }
+
+    /// Whether the machine goes on to the next glyph: the bit `DONT_ADVANCE` is clear.
+    pub fn has_advance(&self) -> bool
+        ensures { result ≡ goes_on self.now }
+    {
+        self.flags & DONT_ADVANCE == 0
+    }
+
+    /// Whether the stack is emptied: the bit `RESET`.
+    pub fn has_reset(&self) -> bool
+        ensures { result ≡ has_flag self.now 0x2000 }
+    {
+        self.flags & stack::RESET != 0
+    }
+}
+
+/// The classes and entries of a machine. A contract sees it as the record `TableValue`: the number
+/// of classes and the lists of classes and rules.
+///
+/// Apple's TrueType Reference Manual, "Font Tables", section on state tables.
+#[derive(Drop)]
+pub struct ExtendedStateTable<T: Acting, A: Allocator = Global> {
+    class_count: u16,
+    classes: Lookup<A>,
+    rules: Vec<(u16, u16, GenericStateEntry<T>), A>,
+    grid: Vec<JudgedEntry<T>, A>,
+}
+
+impl<T: Acting, A: Allocator> Model for ExtendedStateTable<T, A> {
+    ghost use Rattle.std.specs.Prelude.{◌<◌};
+    ghost use Rattle.aat_lookup.specs.Keys.{IsRising};
+    ghost use Rattle.aat_machine_tables.specs.Table.{TableValue, rule_key};
+    ghost use Rattle.aat_machine_tables.specs.inside.Grid.{AnswersAsRules};
+    ghost use Rattle.aat_machine_tables.specs.declared.state_table.GenericStateEntry.{GenericStateEntry};
+
+    ghost Value = { TableValue (GenericStateEntry T) };
+
+    ghost view = { λ m. record { class_count = m.class_count; classes = m.classes; rules = m.rules.items } };
+
+    ghost invariant = { λ m. (1 < m.class_count) × IsRising rule_key m.rules.items
+        × AnswersAsRules T.may_act m.class_count m.grid.items m.rules.items };
+}
+
+impl<T: Acting, A: Allocator + Copy> ExtendedStateTable<T, A> {
+    /// Makes a table of the number of its classes, pairs of a glyph and its class, which have to
+    /// rise strictly by glyph, and rules of a state, a class and an entry, which have to rise
+    /// strictly by state, then by class. A glyph may have a class that is not below the number.
+    ///
+    /// Refused as 2, `FewClasses`, where the number is below 4; else as 1, `NotRising`, with the
+    /// place of the first pair that is not above the one before it; else at the first rule that is
+    /// not above the one before it, as 1, `NotRising`, or whose class is not below the number, as
+    /// 3, `ClassOutOfRange`, with its place, 1 before 3 at one place; and else as 5, `OutOfMemory`,
+    /// where a copy, or an array or a grid beside it, gets no memory.
+    pub fn new(
+        alloc: A,
+        class_count: u16,
+        classes: &[(u16, u16)],
+        rules: &[(u16, u16, GenericStateEntry<T>)],
+    ) -> Result<ExtendedStateTable<T, A>, TableError>
+        ensures ok { IfOk result (λ table. table ≡ table_value class_count classes.now rules.now) }
+        ensures sound { OnOk result (table_fault class_count classes.now rules.now ≡ None) }
+        ensures refused { IfErr result (RefusesFault (table_fault class_count classes.now rules.now)) }
+    {
+        if class_count < MIN_CLASSES {
+            return Err(TableError::FewClasses);
+        }
+        if let Some(place) = first_fall(classes) {
+            return Err(TableError::NotRising(place));
+        }
+        if let Some(fault) = faulty_rule(class_count, rules) {
+            return Err(fault);
+        }
+        let rules = Vec::from_slice(alloc, rules)?;
+        let classes = Lookup::of_rising(alloc, classes)?;
+        Ok(ExtendedStateTable::over(alloc, class_count, classes, rules)?)
+    }
+
+    /// Makes a table of the number of its classes, a lookup of the classes of glyphs, and rules as for
+    /// [`ExtendedStateTable::new`]. The rules are kept as they are handed in, and the lookup too, but for an array of
+    /// its own: its classes stand then in one with two bytes for each glyph of their span.
+    ///
+    /// Refused as 2, `FewClasses`, where the number is below 4; else at the first rule that is not above the one before
+    /// it, as 1, `NotRising`, or whose class is not below the number, as 3, `ClassOutOfRange`, with its place, 1 before
+    /// 3 at one place; and else as 5, `OutOfMemory`, where a grid beside the rules or an array beside the classes gets no
+    /// memory. The lookup and the rules are then dropped.
+    pub fn with_classes(
+        alloc: A,
+        class_count: u16,
+        classes: Lookup<A>,
+        rules: Vec<(u16, u16, GenericStateEntry<T>), A>,
+    ) -> Result<ExtendedStateTable<T, A>, TableError>
+        ensures ok { IfOk result (λ table. table ≡ table_value class_count classes rules.items) }
+        ensures sound { OnOk result (count_and_rules_fault class_count rules.items ≡ None) }
+        ensures refused { IfErr result (RefusesFault (count_and_rules_fault class_count rules.items)) }
+    {
+        if class_count < MIN_CLASSES {
+            return Err(TableError::FewClasses);
+        }
+        if let Some(fault) = faulty_rule(class_count, &rules) {
+            return Err(fault);
+        }
+        Ok(ExtendedStateTable::over(alloc, class_count, classes, rules)?)
+    }
+
+    /// The table of a number of classes, which is above 1, the classes of glyphs, and rules that rise. Fails where a grid
+    /// beside the rules or an array of the classes gets no memory.
+    fn over(
+        alloc: A,
+        class_count: u16,
+        classes: Lookup<A>,
+        rules: Vec<(u16, u16, GenericStateEntry<T>), A>,
+    ) -> Result<ExtendedStateTable<T, A>, AllocError>
+        requires classes { 1 < class_count }
+        requires rising { IsRising rule_key rules.items }
+        ensures { IfOk result (λ table. table ≡ table_value class_count classes rules.items) }
+    {
+        let grid = grid_over(alloc, class_count, &rules)?;
+        let classes = classes.with_class_array(alloc, class::OUT_OF_BOUNDS)?;
+        Ok(ExtendedStateTable {
+            class_count,
+            classes,
+            rules,
+            grid,
+        })
+    }
+}
+
+impl<T: Acting, A: Allocator> ExtendedStateTable<T, A> {
+    /// The number of classes, of which the first four are those of the manual.
+    pub fn class_count(&self) -> u16
+        ensures { result ≡ self.now.class_count }
+    {
+        self.class_count
+    }
+
+    /// The classes of glyphs. Where they stand in an array, it is that of [`Self::class_or_out_of_bounds`], and here they
+    /// are searched.
+    pub fn classes(&self) -> &Lookup<A>
+        ensures { result.now ≡ self.now.classes }
+    {
+        &self.classes
+    }
+
+    /// The rules: state, class and entry, strictly rising by state, then by class.
+    pub fn rules(&self) -> &[(u16, u16, GenericStateEntry<T>)]
+        ensures { result.now ≡ self.now.rules }
+    {
+        &self.rules
+    }
+
+    /// The class of a glyph, if it has one, found as in [`ExtendedStateTable::classes`]. The class of the deleted glyph,
+    /// 0xFFFF, is always 2.
+    pub fn class(&self, glyph: GlyphId) -> Option<u16>
+        ensures { result ≡ class_of self.now glyph.0 }
+    {
+        if glyph.0 == DELETED_GLYPH {
+            return Some(class::DELETED_GLYPH);
+        }
+        self.classes.value(glyph)
+    }
+
+    /// The class of a glyph as a machine takes it: 1, out of bounds, where it has none. Where the classes stand in an
+    /// array, which no clause tells, it is found without a search.
+    pub fn class_or_out_of_bounds(&self, glyph: GlyphId) -> u16
+        ensures { result ≡ unwrap_or (class_of self.now glyph.0) 1 }
+    {
+        if glyph.0 == DELETED_GLYPH {
+            return class::DELETED_GLYPH;
+        }
+        self.classes.class(glyph, class::OUT_OF_BOUNDS)
+    }
+
+    /// The entry of a state and a class, if there is a rule for them, found in a grid of states by classes up to the
+    /// highest state with a rule, where that has at most 65,536 cells; by bisection where it has more, and for a state
+    /// above it. A class that is not below the number of classes is taken as 1.
+    pub fn entry(&self, state: u16, class: u16) -> Option<GenericStateEntry<T>>
+        ensures { result ≡ entry_of self.now state class }
+    {
+        let class = known_class(self.class_count, class);
+        let row = state as usize * self.class_count as usize;
+        match self.grid.get(row + class as usize) {
+            Some(cell) => cell.entry(),
+            None => ruled_entry(&self.rules, state, class),
+        }
+    }
+
+    /// The entry of a state and a class, found as in [`ExtendedStateTable::entry`], and whether the line gets a mark
+    /// before a glyph where it is taken, by the table's entries alone. A cell of the grid was judged when the table
+    /// was made; elsewhere up to two more entries are searched.
+    pub fn judged_entry(&self, state: u16, class: u16) -> JudgedEntry<T>
+        ensures entry { entry_in result ≡ entry_of self.now state class }
+        ensures safe { IfSome (entry_of self.now state class) (λ e. is_judged_safe result
+            ≡ is_safe_by T.may_act state e (entry_of self.now 0 class) (entry_of self.now state 0)) }
+    {
+        let class = known_class(self.class_count, class);
+        let place = state as usize * self.class_count as usize + class as usize;
+        match self.grid.get(place) {
+            Some(cell) => *cell,
+            None => judged_rule(&self.rules, state, class),
+        }
+    }
+}
+
+/// The class as which one is taken: itself where it is below the number of classes, and else 1.
+fn known_class(class_count: u16, class: u16) -> u16
+    ensures known { result ≡ known_class class_count class }
+    ensures below { 1 < class_count → result < class_count }
+{
+    if class < class_count {
+        class
+    } else {
+        class::OUT_OF_BOUNDS
+    }
+}
+
+/// The grid of rising rules, in which each state up to the highest with a rule has a cell for each class, or an empty
+/// one where these were more than `MAX_CELLS` cells.
+fn grid_over<T: Acting, A: Allocator>(
+    alloc: A,
+    class_count: u16,
+    rules: &[(u16, u16, GenericStateEntry<T>)],
+) -> Result<Vec<JudgedEntry<T>, A>, AllocError>
+    requires rising { IsRising rule_key rules.now }
+    requires classes { 0 < class_count }
+    ensures answers { IfOk result (λ grid. AnswersAsRules T.may_act class_count grid.items rules.now) }
+    ensures long { IfOk result (λ grid. length grid.items ≡ state_count class_count rules.now * class_count) }
+{
+    let states = state_count(class_count, rules);
+    let cells = cells_of(alloc, class_count, states, rules)?;
+    Ok(cells)
+}
+
+/// The number of states up to the highest with a rule, or 0 where there is no rule, and where they have more than
+/// `MAX_CELLS` cells.
+fn state_count<T: Copy>(class_count: u16, rules: &[(u16, u16, GenericStateEntry<T>)]) -> usize
+    requires { IsRising rule_key rules.now }
+    ensures count { result ≡ state_count class_count rules.now }
+    ensures small { result * class_count ≤ 65536 }
+    ensures below { 0 < result → RulesBelow result rules.now }
+{
+    if rules.is_empty() {
+        return 0;
+    }
+    states_to(class_count, rules[rules.len() - 1].key())
+}
+
+/// The number of states up to that of a rule's number, or 0 where they have more than `MAX_CELLS` cells.
+fn states_to(class_count: u16, key: u32) -> usize
+    ensures count { result ≡ states_to class_count key }
+    ensures small { result * class_count ≤ 65536 }
+    ensures above { 0 < result → key < result * 65536 }
+{
+    let states = key as usize / 65536 + 1;
+    if states * class_count as usize > MAX_CELLS {
+        return 0;
+    }
+    states
+}
+
+/// The judged entries that rising rules have for each class of so many states, state by state. Each is found in one
+/// walk over the rules, and what it is held against by bisection.
+fn cells_of<T: Acting, A: Allocator>(
+    alloc: A,
+    class_count: u16,
+    states: usize,
+    rules: &[(u16, u16, GenericStateEntry<T>)],
+) -> Result<Vec<JudgedEntry<T>, A>, AllocError>
+    requires rising { IsRising rule_key rules.now }
+    requires classes { 0 < class_count }
+    requires small { states * class_count ≤ 65536 }
+    ensures long { IfOk result (λ cells. length cells.items ≡ states * class_count) }
+    ensures entries { IfOk result (λ cells. (place : ℕ) → place < states * class_count
+        → slice_index_or cells.items place Missing
+        ≡ judged_rule T.may_act rules.now (place / class_count) (place % class_count)) }
+{
+    let width = class_count as usize;
+    let count = states * width;
+    let mut cells = Vec::with_capacity(alloc, count)?;
+    let mut at = 0;
+    for place in 0..count {
+        let state = (place / width) as u16;
+        let class = (place % width) as u16;
+        at = walk_to(rules, at, rule_key(state, class));
+        let entry = entry_here(rules, at, state, class);
+        cells.push(judged(rules, state, class, entry))?;
+    }
+    Ok(cells)
+}
+
+/// The entry that rising rules have for a state and a class, if they have one, at the place to which a walk to these
+/// has come.
+fn entry_here<T: Copy>(
+    rules: &[(u16, u16, GenericStateEntry<T>)],
+    place: usize,
+    state: u16,
+    class: u16,
+) -> Option<GenericStateEntry<T>>
+    requires rising { IsRising rule_key rules.now }
+    requires below { AreBelow rule_key rules.now place (state * 65536 + class) }
+    requires above { AreNotBelow rule_key rules.now place (state * 65536 + class) }
+    ensures { result ≡ ruled_entry rules.now state class }
+{
+    row_here(rules, place, rule_key(state, class)).map(|rule| rule.2)
+}
+
+/// The number by which rules rise.
+pub(crate) fn rule_key(state: u16, class: u16) -> u32
+    ensures { result ≡ state * 65536 + class }
+{
+    state as u32 * 65536 + class as u32
+}
+
+/// The place of the first rule whose class is not below the number of classes.
+fn first_out_of_range<T: Copy>(
+    class_count: u16,
+    rules: &[(u16, u16, GenericStateEntry<T>)],
+) -> Option<usize>
+    ensures { result ≡ first_out_of_range class_count rules.now }
+{
+    rules.iter().position(|rule| rule.1 >= class_count)
+}
+
+/// The earlier of a fall and a class out of range, the fall where both are at one place.
+fn earlier_fault(fall: Option<usize>, out_of_range: Option<usize>) -> Option<TableError>
+    ensures { result ≡ earlier_fault fall out_of_range }
+{
+    match (fall, out_of_range) {
+        (Some(fall), Some(place)) if place < fall => Some(TableError::ClassOutOfRange(place)),
+        (Some(fall), _) => Some(TableError::NotRising(fall)),
+        (None, Some(place)) => Some(TableError::ClassOutOfRange(place)),
+        (None, None) => None,
+    }
+}
+
+/// The first fault of rules.
+fn faulty_rule<T: Copy>(
+    class_count: u16,
+    rules: &[(u16, u16, GenericStateEntry<T>)],
+) -> Option<TableError>
+    ensures { result ≡ rules_fault class_count rules.now }
+{
+    earlier_fault(first_fall(rules), first_out_of_range(class_count, rules))
+}
