@@ -125,6 +125,9 @@ def over_budget(sums, counts):
             said.append(f"{name}: its first proof took {seconds[PROOF]:.0f} s of a processor, and has {most}")
         if counts.get(name, 0) > functions:
             said.append(f"{name}: it has {counts[name]} functions, and may have {functions}")
+    tests = sum(sum(it.values()) for name, it in sums.items() if name.endswith("_tests"))
+    if tests > limits["test_seconds"]:
+        said.append(f"the crates of tests took {tests:.0f} s of a processor, and have {limits['test_seconds']}")
     sorts = {
         "tests": [it for it in os.listdir(f"{TOP}/crates") if it.endswith("_tests")],
         "programs": crates_with("src/main.rt"),

@@ -119,42 +119,85 @@ fn has_glyph(buffer: &hb_buffer_t, place: usize, cluster: u32, mask: u32) -> boo
     has_cluster(buffer, place, cluster) && place < buffer.len() && buffer.info(place).mask == mask
 }
 
-/// Ten thousand glyphs are passed with marks, and every second one goes. Kept glyphs join ever longer runs, while glyphs
-/// that go behind them have ever lower clusters.
-#[test]
-fn removals_from_long_lines(rt: HostRuntime) -> Result<(), Fail> {
-    let mut buffer = hb_buffer_t::new(rt.alloc(), 1_000_000, 0);
-    fill(&mut buffer, Sort::Turns, 10_000)?;
-    mark_all(&mut buffer, 10_000);
+/// Ten thousand glyphs are passed with marks, and every second one goes.
+fn removes_turns(buffer: &mut hb_buffer_t) -> Result<bool, BufferError> {
+    fill(buffer, Sort::Turns, 10_000)?;
+    mark_all(buffer, 10_000);
     buffer.delete_glyphs_inplace(|glyph| glyph.glyph_id == 1);
-    assert!(&rt; buffer.len() == 5_000 && has_glyph(&buffer, 4_999, 9_998, 3));
-    let mut buffer = hb_buffer_t::new(rt.alloc(), 1_000_000, 0);
-    fill(&mut buffer, Sort::Kept, 4_000)?;
-    fill(&mut buffer, Sort::Falling, 3_000)?;
-    fill(&mut buffer, Sort::Twos, 3_000)?;
-    buffer.delete_glyphs_inplace(|glyph| glyph.glyph_id == 0xFFFF);
-    assert!(rt; buffer.len() == 5_000 && has_cluster(&buffer, 0, 26_000));
-    Ok(())
+    Ok(buffer.len() == 5_000 && has_glyph(buffer, 4_999, 9_998, 3))
 }
 
-/// Ten thousand glyphs get a copy each, and as many at the end; all but one go, and it is turned round. And runs go in
-/// along a hundred thousand, and along ten thousand with the cursor sent to the front between, whose moves cost their way.
+/// Kept glyphs join ever longer runs, while glyphs that go behind them have ever lower clusters.
+fn removes_falling(buffer: &mut hb_buffer_t) -> Result<bool, BufferError> {
+    fill(buffer, Sort::Kept, 4_000)?;
+    fill(buffer, Sort::Falling, 3_000)?;
+    fill(buffer, Sort::Twos, 3_000)?;
+    buffer.delete_glyphs_inplace(|glyph| glyph.glyph_id == 0xFFFF);
+    Ok(buffer.len() == 5_000 && has_cluster(buffer, 0, 26_000))
+}
+
+/// Ten thousand glyphs get a copy each, and as many at the end; all but one go, and it is turned round.
+fn grows_and_goes(buffer: &mut hb_buffer_t) -> Result<bool, BufferError> {
+    fill(buffer, Sort::Turns, 10_000)?;
+    lengthen(buffer, 10_000, true)?;
+    buffer.sync();
+    lengthen(buffer, 10_000, false)?;
+    let is_long = buffer.len() == 30_000 && buffer.backtrack_len() == 10_000;
+    buffer.sync();
+    shorten(buffer, 29_999);
+    Ok(is_long && buffer.len() == 1)
+}
+
+/// Runs go in along a hundred thousand glyphs.
+fn grows_by_runs(buffer: &mut hb_buffer_t) -> Result<bool, BufferError> {
+    fill(buffer, Sort::Turns, 100_000)?;
+    put_runs(buffer, 10_000, false)?;
+    Ok(has_runs(buffer, 10_000))
+}
+
+/// Runs go in along ten thousand glyphs, with the cursor sent to the front between, whose moves cost their way.
+fn grows_from_front(buffer: &mut hb_buffer_t) -> Result<bool, BufferError> {
+    fill(buffer, Sort::Turns, 10_000)?;
+    put_runs(buffer, 1_000, true)?;
+    Ok(has_runs(buffer, 1_000))
+}
+
+/// What is done with a long line.
+#[derive(Clone, Copy)]
+enum Long {
+    RemovesTurns,
+    RemovesFalling,
+    GrowsAndGoes,
+    GrowsByRuns,
+    GrowsFromFront,
+}
+
+const LONG: [Long; 5] = [
+    Long::RemovesTurns,
+    Long::RemovesFalling,
+    Long::GrowsAndGoes,
+    Long::GrowsByRuns,
+    Long::GrowsFromFront,
+];
+
+/// Whether a long line comes out right.
+fn holds(alloc: Global, long: Long) -> Result<bool, BufferError> {
+    let mut buffer = hb_buffer_t::new(alloc, 1_000_000, 0);
+    match long {
+        Long::RemovesTurns => removes_turns(&mut buffer),
+        Long::RemovesFalling => removes_falling(&mut buffer),
+        Long::GrowsAndGoes => grows_and_goes(&mut buffer),
+        Long::GrowsByRuns => grows_by_runs(&mut buffer),
+        Long::GrowsFromFront => grows_from_front(&mut buffer),
+    }
+}
+
+/// Each call of a long line ends in time.
 #[test]
-fn long_lines_that_grow(rt: HostRuntime) -> Result<(), Fail> {
-    let mut buffer = hb_buffer_t::new(rt.alloc(), 1_000_000, 0);
-    fill(&mut buffer, Sort::Turns, 10_000)?;
-    lengthen(&mut buffer, 10_000, true)?;
-    buffer.sync();
-    lengthen(&mut buffer, 10_000, false)?;
-    assert!(&rt; buffer.len() == 30_000 && buffer.backtrack_len() == 10_000);
-    buffer.sync();
-    shorten(&mut buffer, 29_999);
-    assert!(&rt; buffer.len() == 1);
-    for (runs, goes_back) in [(10_000u32, false), (1_000, true)] {
-        let mut buffer = hb_buffer_t::new(rt.alloc(), 1_000_000, 0);
-        fill(&mut buffer, Sort::Turns, 10 * runs)?;
-        put_runs(&mut buffer, runs as usize, goes_back)?;
-        assert!(&rt; has_runs(&buffer, runs as usize), "{runs} runs");
+fn long_lines(rt: HostRuntime) -> Result<(), Fail> {
+    for (number, long) in LONG.iter().enumerate() {
+        let holds = holds(rt.alloc(), *long)?;
+        assert!(&rt; holds, "long line {number}");
     }
     Ok(())
 }

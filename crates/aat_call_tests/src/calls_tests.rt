@@ -1,5 +1,6 @@
 //! A caller of the layer call by call: a font's tables, a line of glyphs, a request over a part of it, substitution,
 //! and what comes out. Its one error takes those of all calls by `?`.
+use crate::machines::drop_font;
 use aat_layout::buffer::{BufferError, hb_buffer_t, hb_glyph_info_t};
 use aat_layout::font::{
     Chain, ChainFeature, Coverage, FaceTables, Feat, Feature, FeatureName, Lookup, Morx, Subtable,
@@ -49,17 +50,20 @@ const GIVEN: Given = Given {
     glyphs: &[5, 5, 6, 5],
 };
 
-/// A font whose only chain is turned on by small capitals.
-fn font_of(alloc: Global, values: &[(u16, u16)]) -> Result<hb_font_t, CallerError> {
+/// A chain that is turned on by small capitals.
+fn chain_of(alloc: Global, values: &[(u16, u16)]) -> Result<Chain, CallerError> {
+    let features = vec![in alloc; ChainFeature::new(37, 1, 1, u32::MAX)]?;
     let kind = SubtableKind::NonContextual(Lookup::new(alloc, values)?);
     let subtables = vec![in alloc; Subtable::new(kind, Coverage::ALL_DIRECTIONS, 1)]?;
-    let features = vec![in alloc; ChainFeature::new(37, 1, 1, u32::MAX)]?;
-    let morx = Morx::new(vec![in alloc; Chain::new(0, features, subtables)]?)?;
+    Ok(Chain::new(0, features, subtables))
+}
+
+/// A font of that chain alone.
+fn font_of(alloc: Global, values: &[(u16, u16)]) -> Result<hb_font_t, CallerError> {
     let names = [FeatureName::new(17, 1, true), FeatureName::new(37, 2, true)];
-    let tables = FaceTables::default()
-        .with_morx(morx)
-        .with_feat(Feat::new(alloc, &names)?);
-    Ok(hb_font_t::from_tables(tables))
+    let tables = FaceTables::default().with_feat(Feat::new(alloc, &names)?);
+    let morx = Morx::new(vec![in alloc; chain_of(alloc, values)?]?)?;
+    Ok(hb_font_t::from_tables(tables.with_morx(morx)))
 }
 
 /// The line.
@@ -75,22 +79,48 @@ fn line_of(alloc: Global, given: &Given) -> Result<hb_buffer_t, CallerError> {
     }
 }
 
-/// Substitutes the line, and answers the turns and the glyph at the cluster 1.
-fn substituted(alloc: Global, given: &Given) -> Result<(u64, u32), CallerError> {
-    let font = font_of(alloc, given.values)?;
+/// The request.
+fn plan_of(alloc: Global, given: &Given) -> Result<hb_ot_shape_plan_t, CallerError> {
     let feature = Feature::new(hb_tag_t::from_bytes(given.tag), given.value, 1..3);
-    let plan = hb_ot_shape_plan_t::new(vec![in alloc; feature]?);
-    let mut buffer = line_of(alloc, given)?;
+    Ok(hb_ot_shape_plan_t::new(vec![in alloc; feature]?))
+}
+
+/// Substitutes a line under the request, and answers the turns and the glyph at the cluster 1.
+fn turns_and_glyph(
+    alloc: Global,
+    given: &Given,
+    font: &hb_font_t,
+    buffer: &mut hb_buffer_t,
+) -> Result<(u64, u32), CallerError> {
+    let plan = plan_of(alloc, given)?;
     if !buffer.all_glyphs_16() {
         return Err(CallerError::LargeGlyph);
     }
-    let turns = hb_aat_layout_substitute(alloc, &plan, &font, &mut buffer)?;
+    let turns = hb_aat_layout_substitute(alloc, &plan, font, buffer)?;
     let glyph_id = if buffer.len() > 1 {
         buffer.info(1).glyph_id
     } else {
         0
     };
     Ok((turns, glyph_id))
+}
+
+/// Substitutes the line in a font.
+fn substituted_in(
+    alloc: Global,
+    given: &Given,
+    font: &hb_font_t,
+) -> Result<(u64, u32), CallerError> {
+    let mut buffer = line_of(alloc, given)?;
+    turns_and_glyph(alloc, given, font, &mut buffer)
+}
+
+/// Substitutes the line in the font.
+fn substituted(alloc: Global, given: &Given) -> Result<(u64, u32), CallerError> {
+    let font = font_of(alloc, given.values)?;
+    let answer = substituted_in(alloc, given, &font);
+    drop_font(font);
+    answer
 }
 
 /// The failures of the caller, one for each call that can refuse, each with its error and the text of that.

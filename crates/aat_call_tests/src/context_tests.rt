@@ -65,18 +65,42 @@ fn driven(
     }
 }
 
+/// Whether a short line has its marks, and the context its count and its turns.
+fn is_short_line_driven(
+    alloc: Global,
+    face: &hb_font_t,
+    machine: &ExtendedStateTable<u16>,
+) -> Result<bool, BufferError> {
+    let mut buffer = line_of(alloc, &[(5, 0), (5, 3), (6, 4), (5, 8)], 1)?;
+    let few = driven(face, machine, &mut buffer);
+    Ok(
+        few == Some((7, 105))
+            && buffer.len() == 4
+            && buffer.info(3).mask == 259
+            && buffer.info(1).mask == 0,
+    )
+}
+
+/// Whether the context has its count and its turns behind a long line.
+fn is_long_line_driven(
+    alloc: Global,
+    face: &hb_font_t,
+    machine: &ExtendedStateTable<u16>,
+) -> Result<bool, BufferError> {
+    let mut buffer = line_of(alloc, &[(5, 0), (5, 3)], 5_000)?;
+    Ok(driven(face, machine, &mut buffer) == Some((5_005, 10_101)))
+}
+
 /// It acts where a cluster is on, the turns are added, and an act marks its glyph.
 #[test]
 fn a_context_of_a_caller(rt: HostRuntime) -> Result<(), Fail> {
+    let alloc = rt.alloc();
+    let machine = ExtendedStateTable::new(alloc, 6, &[(5, 4), (6, 5)], &RULES)?;
     let face = hb_font_t::from_tables(FaceTables::default());
-    let machine = ExtendedStateTable::new(rt.alloc(), 6, &[(5, 4), (6, 5)], &RULES)?;
-    let mut buffer = line_of(rt.alloc(), &[(5, 0), (5, 3), (6, 4), (5, 8)], 1)?;
-    let few = driven(&face, &machine, &mut buffer);
-    let mut long = line_of(rt.alloc(), &[(5, 0), (5, 3)], 5_000)?;
-    let many = driven(&face, &machine, &mut long);
+    let is_short = is_short_line_driven(alloc, &face, &machine);
+    let is_long = is_long_line_driven(alloc, &face, &machine);
     drop_font(face);
-    assert!(&rt; few == Some((7, 105)) && buffer.len() == 4);
-    assert!(&rt; buffer.info(3).mask == 259 && buffer.info(1).mask == 0);
-    assert!(rt; many == Some((5_005, 10_101)));
+    drop(machine);
+    assert!(rt; is_short? && is_long?);
     Ok(())
 }

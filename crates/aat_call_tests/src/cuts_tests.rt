@@ -55,12 +55,16 @@ fn chain(alloc: Global) -> Result<Vec<Rule<ContextualEntryData>>, Fail> {
     Ok(rules)
 }
 
-/// What is found of a contextual machine of five classes with these rules.
+/// A contextual machine of five classes with these rules.
+fn machine_of(alloc: Global, rules: &[Rule<ContextualEntryData>]) -> Result<SubtableKind, Fail> {
+    let lookups = vec![in alloc; Lookup::new(alloc, &[(1, 2)])?]?;
+    let state = ExtendedStateTable::new(alloc, 5, &[(3, 4)], rules)?;
+    Ok(SubtableKind::Contextual(ContextualSubtable { state, lookups }))
+}
+
+/// What is found of such a machine.
 fn found_of(alloc: Global, rules: &[Rule<ContextualEntryData>]) -> Result<Option<Unsettled>, Fail> {
-    let kind = SubtableKind::Contextual(ContextualSubtable {
-        state: ExtendedStateTable::new(alloc, 5, &[(3, 4)], rules)?,
-        lookups: vec![in alloc; Lookup::new(alloc, &[(1, 2)])?]?,
-    });
+    let kind = machine_of(alloc, rules)?;
     Ok(find_unsettled(alloc, &kind)?)
 }
 

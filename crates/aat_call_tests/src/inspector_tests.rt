@@ -1,4 +1,5 @@
 //! The printed table of an inspector, on a font of two chains.
+use crate::machines::drop_font;
 use aat_inspection::{Table, inspect};
 use aat_layout::font::{
     Chain, ChainFeature, Coverage, FaceTables, Feat, Feature, FeatureName, Lookup, Morx, Subtable,
@@ -21,11 +22,20 @@ fn chain_of(alloc: Global, default_flags: u32, flags: &[u32]) -> Result<Chain, F
 
 /// A font of two chains.
 fn font_of(alloc: Global) -> Result<hb_font_t, Fail> {
-    let chains = vec![in alloc; chain_of(alloc, 1, &[1])?, chain_of(alloc, 0, &[4, 2, 6])?]?;
-    let tables = FaceTables::default()
-        .with_morx(Morx::new(chains)?)
-        .with_feat(Feat::new(alloc, &[FeatureName::new(1, 4, false)])?);
-    Ok(hb_font_t::from_tables(tables))
+    let feat = Feat::new(alloc, &[FeatureName::new(1, 4, false)])?;
+    let tables = FaceTables::default().with_feat(feat);
+    let mut chains = Vec::new(alloc);
+    for (default_flags, flags) in [(1, &[1][..]), (0, &[4, 2, 6])] {
+        chains.push(chain_of(alloc, default_flags, flags)?)?;
+    }
+    Ok(hb_font_t::from_tables(tables.with_morx(Morx::new(chains)?)))
+}
+
+/// What is printed of ligatures over two clusters.
+fn shown_in(alloc: Global, font: &hb_font_t) -> Result<String, Fail> {
+    let ligatures = Feature::new(hb_tag_t::from_bytes(b"liga"), 1, 3..5);
+    let ranges = inspect(alloc, font, &[ligatures])?;
+    Ok(format!(in alloc; "{}", Table(&ranges))?)
 }
 
 /// Ligatures are on over two clusters, and each chain has all clusters.
@@ -41,9 +51,9 @@ chain       first        last       flags  on
 #[test]
 fn ranges_have_their_text(rt: HostRuntime) -> Result<(), Fail> {
     let font = font_of(rt.alloc())?;
-    let ligatures = Feature::new(hb_tag_t::from_bytes(b"liga"), 1, 3..5);
-    let ranges = inspect(rt.alloc(), &font, &[ligatures])?;
-    let shown = format!(in rt.alloc(); "{}", Table(&ranges))?;
+    let shown = shown_in(rt.alloc(), &font);
+    drop_font(font);
+    let shown = shown?;
     assert!(rt; shown.as_str() == TEXT, "{shown}");
     Ok(())
 }

@@ -95,11 +95,13 @@ pub(crate) fn kern_machines(
 ) -> Result<Kern, Fail> {
     let mut subtables = Vec::new(alloc);
     for _ in 0..count {
-        let machine = KernMachine {
-            state_table: machine_of(alloc, rules)?,
-            values: values_of(alloc, values)?,
-        };
-        subtables.push(KernSubtable::new(KernKind::Machine(machine), true))?;
+        let values = values_of(alloc, values)?;
+        let state_table = machine_of(alloc, rules)?;
+        let kind = KernKind::Machine(KernMachine {
+            state_table,
+            values,
+        });
+        subtables.push(KernSubtable::new(kind, true))?;
     }
     Ok(Kern::new(subtables)?)
 }
@@ -122,42 +124,60 @@ fn ankr_of(alloc: Global) -> Result<Ankr, Fail> {
 fn format_of(alloc: Global, way: Way) -> Result<KerxFormat, Fail> {
     match way {
         Way::KerxPairs(pairs) => Ok(KerxFormat::Format0(Pairs::new(alloc, pairs)?)),
-        Way::KerxStack(rules, values, _) => Ok(KerxFormat::Format1(Subtable1 {
-            state_table: machine_of(alloc, rules)?,
-            values: values_of(alloc, values)?,
-        })),
-        Way::Anchors(rules) => Ok(KerxFormat::Format4(Subtable4 {
-            state_table: machine_of(alloc, rules)?,
-            anchor_points: Vec::from_slice(alloc, &[(0, 0)])?,
-        })),
+        Way::KerxStack(rules, values, _) => {
+            let values = values_of(alloc, values)?;
+            let state_table = machine_of(alloc, rules)?;
+            Ok(KerxFormat::Format1(Subtable1 {
+                state_table,
+                values,
+            }))
+        }
+        Way::Anchors(rules) => {
+            let anchor_points = Vec::from_slice(alloc, &[(0, 0)])?;
+            let state_table = machine_of(alloc, rules)?;
+            Ok(KerxFormat::Format4(Subtable4 {
+                state_table,
+                anchor_points,
+            }))
+        }
         _ => Err(Fail::new("no format of kerx")),
     }
 }
 
+/// A `kern` table of pairs.
+fn kern_pairs(alloc: Global, pairs: &[(u16, u16, i16)]) -> Result<Kern, Fail> {
+    let kind = KernKind::Pairs(Pairs::new(alloc, pairs)?);
+    Ok(Kern::new(vec![in alloc; KernSubtable::new(kind, true)]?)?)
+}
+
+/// A `kerx` table of one subtable.
+fn kerx_of(alloc: Global, way: Way) -> Result<Kerx, Fail> {
+    let tuple_count = match way {
+        Way::KerxStack(_, _, count) => count,
+        _ => 0,
+    };
+    let subtable = KerxSubtable {
+        tuple_count,
+        ..KerxSubtable::new(format_of(alloc, way)?, true)
+    };
+    Ok(Kerx::new(vec![in alloc; subtable]?)?)
+}
+
 /// The tables of a font of one subtable.
 fn tables_of(alloc: Global, way: Way) -> Result<FaceTables, Fail> {
-    let tables = FaceTables::default();
     match way {
         Way::KernPairs(pairs) => {
-            let pairs = KernKind::Pairs(Pairs::new(alloc, pairs)?);
-            let subtables = vec![in alloc; KernSubtable::new(pairs, true)]?;
-            Ok(tables.with_kern(Kern::new(subtables)?))
+            let kern = kern_pairs(alloc, pairs)?;
+            Ok(FaceTables::default().with_kern(kern))
         }
         Way::KernStack(rules, values) => {
-            Ok(tables.with_kern(kern_machines(alloc, rules, values, 1)?))
+            let kern = kern_machines(alloc, rules, values, 1)?;
+            Ok(FaceTables::default().with_kern(kern))
         }
         _ => {
-            let tuple_count = if let Way::KerxStack(_, _, count) = way {
-                count
-            } else {
-                0
-            };
-            let subtable = KerxSubtable {
-                tuple_count,
-                ..KerxSubtable::new(format_of(alloc, way)?, true)
-            };
-            let kerx = Kerx::new(vec![in alloc; subtable]?)?;
-            Ok(tables.with_kerx(kerx).with_ankr(ankr_of(alloc)?))
+            let ankr = ankr_of(alloc)?;
+            let kerx = kerx_of(alloc, way)?;
+            Ok(FaceTables::default().with_kerx(kerx).with_ankr(ankr))
         }
     }
 }
@@ -264,9 +284,15 @@ fn is_seen(buffer: &hb_buffer_t, seen: &Seen) -> bool {
 /// Whether a line is kerned as it says.
 pub(crate) fn is_kerned(alloc: Global, line: &Line) -> Result<bool, Fail> {
     let font = hb_font_t::from_tables(tables_of(alloc, line.way)?);
-    let mut buffer = buffer_of(alloc, line)?;
-    let answer = kern(alloc, line.way, &font, &mut buffer);
+    let is_kerned = is_kerned_in(alloc, &font, line);
     drop_font(font);
+    Ok(is_kerned?)
+}
+
+/// Whether a line is kerned in a font as it says.
+fn is_kerned_in(alloc: Global, font: &hb_font_t, line: &Line) -> Result<bool, BufferError> {
+    let mut buffer = buffer_of(alloc, line)?;
+    let answer = kern(alloc, line.way, font, &mut buffer);
     for seen in line.seen {
         if !is_seen(&buffer, seen) {
             return Ok(false);

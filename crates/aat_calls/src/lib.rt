@@ -1,15 +1,20 @@
-//! The calls of the layer over a text, one by one: traced, for who makes a font, and timed.
+//! A font in an arena, and the calls of the layer over a text, one by one: traced, for who makes a font, and timed.
 //!
 //! ```
-//! write_trace(&mut out, &font, &trace_of(alloc, &font, direction, &text, &features)?)?;
+//! let font = read_face(alloc, &arena, &bytes, 0)?.font();
+//! write_trace(&mut out, font, &trace_of(alloc, font, direction, &text, &features)?)?;
 //! ```
 #![tactic(auto)]
 
 mod bench;
+mod example;
+mod face;
 mod line;
 mod names;
 mod trace;
 
 pub use bench::{BenchFont, BenchText, measure};
+pub use example::write_example;
+pub use face::read_face;
 pub use names::subtable_names;
 pub use trace::{trace_of, write_trace};

@@ -24,7 +24,7 @@ pub(crate) fn bench<W: Write>(
     let bench_font = BenchFont {
         bytes: font.bytes,
         index: source.index,
-        face: &font.face,
+        face: font.face,
     };
     let bench_text = BenchText {
         characters: text.as_str(),

@@ -3,7 +3,6 @@
 use crate::batch::batch;
 use crate::bench::bench;
 use crate::dump::dump;
-use crate::example::write_example;
 use crate::faults::faults;
 use crate::inspect::inspect;
 use crate::make::make;
@@ -12,6 +11,7 @@ use crate::session::Session;
 use crate::settled::settled;
 use crate::shape::shape;
 use crate::words::command;
+use aat_calls::write_example;
 use anyhow::{Context, Result, bail};
 use bumpalo::Bump;
 use clap::{ArgMatches, Error};

@@ -33,11 +33,11 @@ fn dump_tables<W: Write>(
     table: Option<&str>,
 ) -> Result<()> {
     let Some(table) = table else {
-        return write_face(alloc, out, &font.face).context(OUTPUT);
+        return write_face(alloc, out, font.face).context(OUTPUT);
     };
     let tag = tag_at(table.as_bytes(), 0).context("a tag has four characters")?;
     find_table(font, tag)?;
-    write_dump(alloc, out, &font.face, table).context(OUTPUT)?;
+    write_dump(alloc, out, font.face, table).context(OUTPUT)?;
     Ok(())
 }
 
@@ -52,7 +52,7 @@ pub(crate) fn dump<W: Write>(
     let font = session.fonts.font(rt, &source)?;
     dump_tables(rt.alloc(), out, font, matches.get_str("table"))?;
     match matches.get_str("characters") {
-        Some(text) => write_characters(out, &font.face, text).context(OUTPUT),
+        Some(text) => write_characters(out, font.face, text).context(OUTPUT),
         None => Ok(()),
     }
 }

@@ -17,7 +17,7 @@ pub(crate) fn faults<W: Write>(
 ) -> Result<()> {
     let source = FontSource::of_matches(matches)?;
     let font = session.fonts.font(rt, &source)?;
-    if !write_faults(out, &font.face).context(OUTPUT)? {
+    if !write_faults(out, font.face).context(OUTPUT)? {
         writeln!(out, "no fault").context(OUTPUT)?;
     }
     Ok(())

@@ -17,7 +17,7 @@ pub(crate) struct Font<'b> {
     /// The bytes of its file, with their changes.
     pub(crate) bytes: &'b [u8],
     /// What is read of it.
-    pub(crate) face: Face<'b>,
+    pub(crate) face: &'b Face<'b>,
     /// Whether its faults are told.
     is_told: Cell<bool>,
 }
@@ -72,7 +72,7 @@ impl<'b> Fonts<'b> {
         let arena = self.arena;
         let source = source.kept_in(arena)?;
         let bytes: &'b Vec<u8> = arena.try_alloc(source.bytes(rt)?)?;
-        let face = source.face(rt.alloc(), bytes)?;
+        let face = source.face(rt.alloc(), arena, bytes)?;
         let font = Font {
             source,
             bytes,

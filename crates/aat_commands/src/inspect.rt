@@ -17,6 +17,6 @@ pub(crate) fn inspect<W: Write>(
 ) -> Result<()> {
     let source = FontSource::of_matches(matches)?;
     let font = session.fonts.font(rt, &source)?;
-    write_inspection(rt.alloc(), out, font.bytes, source.index, &font.face).context(OUTPUT)?;
+    write_inspection(rt.alloc(), out, font.bytes, source.index, font.face).context(OUTPUT)?;
     Ok(())
 }

@@ -11,7 +11,6 @@ mod bench;
 mod change;
 mod command_line;
 mod dump;
-mod example;
 mod faults;
 mod filling;
 mod fonts;
@@ -30,4 +29,3 @@ mod source;
 mod words;
 
 pub use command_line::{Answer, run};
-pub use example::write_example;

@@ -2,7 +2,7 @@
 
 use crate::filling::{Filling, part};
 use crate::fonts::Font;
-use crate::line::{Context, shape_line};
+use crate::line::{Context, ShapedLine, shape_line};
 use crate::output::{OUTPUT, write_line, write_picture};
 use crate::paragraph::{Paragraph, tell_missing};
 use crate::progress::Progress;
@@ -46,6 +46,22 @@ fn line_ends_of(
     filling.ends(alloc, paragraph)
 }
 
+/// Writes a line, or keeps it for a picture.
+fn show_line<W: Write>(
+    alloc: Global,
+    out: &mut W,
+    context: &Context<'_, '_>,
+    shaped: ShapedLine,
+    kept: &mut Vec<DrawnLine>,
+) -> Result<()> {
+    if context.request.output.is_picture() {
+        kept.push(shaped.drawn)?;
+        Ok(())
+    } else {
+        write_line(alloc, out, context, &shaped).context(OUTPUT)
+    }
+}
+
 /// Shapes a paragraph, and writes the lines that it is broken into, or keeps them for a picture.
 fn shape_paragraph<W: Write>(
     alloc: Global,
@@ -60,11 +76,7 @@ fn shape_paragraph<W: Write>(
         let text = part(&paragraph.text, start, *end);
         let ends = paragraph.ends.as_slice();
         let shaped = shape_line(alloc, context, shaper, paragraph.direction, text, ends)?;
-        if context.request.output.is_picture() {
-            kept.push(shaped.drawn)?;
-        } else {
-            write_line(alloc, out, context, &shaped).context(OUTPUT)?;
-        }
+        show_line(alloc, out, context, shaped, kept)?;
         start = *end;
     }
     Ok(())
@@ -83,6 +95,23 @@ fn shape_text_line<W: Write>(
     shape_paragraph(alloc, out, context, shaper, &paragraph, kept)
 }
 
+/// Shapes the line of a number, and tells how far the work is.
+fn shape_told_line<W: Write>(
+    rt: &HostRuntime,
+    out: &mut W,
+    context: &Context<'_, '_>,
+    progress: &mut Progress,
+    shaper: &mut Shaper<'_>,
+    (number, line): (usize, &str),
+    kept: &mut Vec<DrawnLine>,
+) -> Result<()> {
+    tell_missing(rt, progress, context, number, line)?;
+    let shaped = shape_text_line(rt.alloc(), out, context, shaper, line, kept);
+    shaped.with_context(|| anyhow!("line {number}"))?;
+    progress.add(rt, line.len())?;
+    Ok(())
+}
+
 /// Shapes each line of a text, and tells how far the work is.
 fn shape_told_lines<W: Write>(
     rt: &HostRuntime,
@@ -91,17 +120,13 @@ fn shape_told_lines<W: Write>(
     progress: &mut Progress,
     text: &str,
 ) -> Result<Vec<DrawnLine>> {
-    let alloc = rt.alloc();
-    let mut shaper = shaper_of(alloc, context.face, &context.request);
-    let mut kept = Vec::new(alloc);
+    let mut shaper = shaper_of(rt.alloc(), context.face, &context.request);
+    let mut kept = Vec::new(rt.alloc());
     let mut number = 0usize;
     for line in text.lines() {
         number = number.saturating_add(1);
-        tell_missing(rt, progress, context, number, line)?;
-        shape_text_line(alloc, out, context, &mut shaper, line, &mut kept).with_context(|| anyhow!(
-            "line {number}"
-        ))?;
-        progress.add(rt, line.len())?;
+        let numbered = (number, line);
+        shape_told_line(rt, out, context, progress, &mut shaper, numbered, &mut kept)?;
     }
     Ok(kept)
 }
@@ -154,17 +179,11 @@ fn shape_in<W: Write>(
         Text::Lines(text) => shape_lines(rt, out, context, text)?,
         Text::Glyphs(list) => shape_glyphs(rt.alloc(), out, context, list)?,
     };
-    if context.request.output.is_picture() {
-        write_picture(
-            rt.alloc(),
-            out,
-            font.source.path,
-            context,
-            &font.file()?,
-            &kept,
-        )?;
+    if !context.request.output.is_picture() {
+        return Ok(());
     }
-    Ok(())
+    let file = font.file()?;
+    write_picture(rt.alloc(), out, font.source.path, context, &file, &kept)
 }
 
 /// Shapes a text as the command line asks.
@@ -185,7 +204,7 @@ fn shape_text<W: Write>(
         Vec::new(alloc)
     };
     let context = Context {
-        face: &font.face,
+        face: font.face,
         request,
         subtables,
         speaker: session.speaker,

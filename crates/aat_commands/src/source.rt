@@ -3,6 +3,7 @@
 use crate::change::change_bytes;
 use crate::session::Speaker;
 use aat_bytes::{Fault, ReadError};
+use aat_calls::read_face;
 use aat_face::Face;
 use aat_read_sfnt::FontFile;
 use anyhow::{Context, Error, Result, anyhow, ensure};
@@ -65,10 +66,15 @@ impl<'a> FontSource<'a> {
         anyhow!("{path}: font {index}: {fault}")
     }
 
-    /// The font of the file's bytes.
-    pub(crate) fn face<'b>(&self, alloc: Global, bytes: &'b [u8]) -> Result<Face<'b>> {
+    /// The font of the file's bytes, read into an arena.
+    pub(crate) fn face<'b>(
+        &self,
+        alloc: Global,
+        arena: &'b Bump,
+        bytes: &'b [u8],
+    ) -> Result<&'b Face<'b>> {
         let path = self.path;
-        match Face::read(alloc, bytes, self.index) {
+        match read_face(alloc, arena, bytes, self.index) {
             Ok(face) => Ok(face),
             Err(ReadError::Fault(fault)) => Err(self.fault(fault)),
             Err(ReadError::OutOfMemory) => Err(anyhow!("{path}: out of memory")),

@@ -1,7 +1,7 @@
 //! The classes of a machine.
 
 use crate::known::Known;
-use crate::values::{Told, object};
+use crate::values::{Told, items, object};
 use anyhow::{Context, Result, bail};
 use serde_json::Value;
 
@@ -40,6 +40,15 @@ impl Classes {
         self.names.len().min(65531) as u16 + 4
     }
 
+    /// Gives the glyphs of a list a class.
+    fn put_all(&mut self, known: &mut Known, class: u16, list: &Value) -> Result<()> {
+        for (place, item) in items(list)?.iter().enumerate() {
+            let glyph = u16::of(known, item).context(format_args!("[{place}]"))?;
+            self.put(glyph, class)?;
+        }
+        Ok(())
+    }
+
     /// Gives a glyph a class.
     fn put(&mut self, glyph: u16, class: u16) -> Result<()> {
         match self.glyphs.binary_search_by_key(&glyph, |pair| pair.0) {
@@ -62,9 +71,9 @@ impl Told for Classes {
                 classes.names.push(key.clone()?)?;
             }
             let class = classes.number(key.as_str())?;
-            for glyph in Vec::<u16>::of(known, value).context(format_args!("{key}"))? {
-                classes.put(glyph, class).context(format_args!("{key}"))?;
-            }
+            classes
+                .put_all(known, class, value)
+                .context(format_args!("{key}"))?;
         }
         Ok(classes)
     }

@@ -84,6 +84,20 @@ impl Extra for KernEntryData {
     }
 }
 
+/// The entry that goes to state 0 and does nothing.
+pub(crate) fn nothing<T: Extra>() -> GenericStateEntry<T> {
+    let named = Named {
+        mark: NO_INDEX,
+        current: NO_INDEX,
+        action: None,
+    };
+    GenericStateEntry {
+        new_state: 0,
+        flags: 0,
+        extra: T::extra(named),
+    }
+}
+
 /// The flags of an entry, with the numbers that stand among them.
 fn flags(known: &mut Known, members: &Members) -> Result<u16> {
     let verb: u16 = at(known, members, "verb", 0)?;

@@ -1,7 +1,7 @@
 //! The table `feat` of a description.
 
 use crate::known::Known;
-use crate::values::{Told, at, list, members, need};
+use crate::values::{Told, at, list, members, need, word};
 use aat_write_sfnt::{NamedFeature, NamedSetting, write_named_feat};
 use anyhow::Result;
 use serde_json::Value;
@@ -18,10 +18,9 @@ pub(crate) struct NumberedFeature {
 impl Told for NamedSetting {
     fn of(known: &mut Known, value: &Value) -> Result<NamedSetting> {
         let members = members(value, "setting name")?;
-        let name: String = need(known, members, "name")?;
         Ok(NamedSetting {
             setting: need(known, members, "setting")?,
-            name: known.add_name(name.as_str())?,
+            name: known.add_name(word(members, "name")?)?,
         })
     }
 }
@@ -30,11 +29,10 @@ impl Told for NumberedFeature {
     /// A feature, whose name gets the next number before the names of its settings.
     fn of(known: &mut Known, value: &Value) -> Result<NumberedFeature> {
         let members = members(value, "type exclusive name settings")?;
-        let name: String = need(known, members, "name")?;
         Ok(NumberedFeature {
             kind: need(known, members, "type")?,
             exclusive: at(known, members, "exclusive", false)?,
-            name: known.add_name(name.as_str())?,
+            name: known.add_name(word(members, "name")?)?,
             settings: list(known, members, "settings")?,
         })
     }

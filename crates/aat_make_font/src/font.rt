@@ -47,48 +47,77 @@ fn long_head(known: &Known, units_per_em: u16) -> Result<Vec<u8>> {
     Ok(head)
 }
 
+/// Adds a table, if there is one.
+fn put(tables: &mut Tables, tag: Tag, bytes: Option<Vec<u8>>) -> Result<()> {
+    if let Some(bytes) = bytes {
+        tables.insert(tag, bytes)?;
+    }
+    Ok(())
+}
+
+/// The bytes of `glyf`: the data of the glyphs, one behind the other.
+fn glyf_table(known: &Known, glyphs: &[Glyph]) -> Result<Vec<u8>> {
+    let mut glyf = Vec::new(known.alloc);
+    for glyph in glyphs {
+        if let Some(data) = &glyph.data {
+            glyf.extend_from_slice(data)?;
+        }
+    }
+    Ok(glyf)
+}
+
+/// The bytes of `loca`: where the data of each glyph ends, behind the start of the first.
+fn loca_table(known: &Known, glyphs: &[Glyph]) -> Result<Vec<u8>> {
+    let mut loca = vec![in known.alloc; 0; 4]?;
+    let mut end = 0usize;
+    for glyph in glyphs {
+        end = end.saturating_add(glyph.data.as_ref().map_or(0, |data| data.len()));
+        let end = u32::try_from(end).context("glyf is too long")?;
+        append_longs(&mut loca, &[end])?;
+    }
+    Ok(loca)
+}
+
 /// Adds the outlines of glyphs, if any has one.
 fn add_outlines(known: &Known, tables: &mut Tables, units: u16, glyphs: &[Glyph]) -> Result<()> {
     if !glyphs.iter().any(|glyph| glyph.data.is_some()) {
         return Ok(());
     }
-    let mut glyf = Vec::new(known.alloc);
-    let mut loca = vec![in known.alloc; 0; 4]?;
+    put(tables, GLYF, Some(glyf_table(known, glyphs)?))?;
+    put(tables, LOCA, Some(loca_table(known, glyphs)?))?;
+    put(tables, HEAD, Some(long_head(known, units)?))
+}
+
+/// The bytes of `hmtx`.
+fn hmtx_table(known: &Known, glyphs: &[Glyph]) -> Result<Vec<u8>> {
+    let mut metrics = Vec::new(known.alloc);
     for glyph in glyphs {
-        if let Some(data) = &glyph.data {
-            glyf.extend_from_slice(data)?;
-        }
-        append_longs(
-            &mut loca,
-            &[u32::try_from(glyf.len()).context("glyf is too long")?],
-        )?;
+        let metric = [glyph.advance, glyph.bearing.cast_unsigned()];
+        append_words(&mut metrics, &metric)?;
     }
-    tables.insert(GLYF, glyf)?;
-    tables.insert(LOCA, loca)?;
-    tables.insert(HEAD, long_head(known, units)?)?;
-    Ok(())
+    Ok(metrics)
+}
+
+/// The bytes of `GDEF`, if a glyph has a class.
+fn gdef_table(known: &Known, glyphs: &[Glyph]) -> Result<Option<Vec<u8>>> {
+    if glyphs.iter().all(|glyph| glyph.class == 0) {
+        return Ok(None);
+    }
+    let mut classes = Vec::new(known.alloc);
+    for glyph in glyphs {
+        classes.push(glyph.class)?;
+    }
+    Ok(Some(write_gdef(known.alloc, &classes)?))
 }
 
 /// Adds the headers, the metrics and the classes of glyphs.
 fn add_metrics(known: &Known, tables: &mut Tables, units: u16, glyphs: &[Glyph]) -> Result<()> {
-    let mut metrics = Vec::new(known.alloc);
-    let mut classes = Vec::new(known.alloc);
-    for glyph in glyphs {
-        append_words(
-            &mut metrics,
-            &[glyph.advance, glyph.bearing.cast_unsigned()],
-        )?;
-        classes.push(glyph.class)?;
-    }
     let count = u16::try_from(glyphs.len()).context("there are too many glyphs")?;
-    tables.insert(HEAD, write_head(known.alloc, units)?)?;
-    tables.insert(HHEA, write_hhea(known.alloc, count)?)?;
-    tables.insert(HMTX, metrics)?;
-    tables.insert(MAXP, write_maxp(known.alloc, count)?)?;
-    if classes.iter().any(|class| *class != 0) {
-        tables.insert(GDEF, write_gdef(known.alloc, &classes)?)?;
-    }
-    Ok(())
+    put(tables, HEAD, Some(write_head(known.alloc, units)?))?;
+    put(tables, HHEA, Some(write_hhea(known.alloc, count)?))?;
+    put(tables, HMTX, Some(hmtx_table(known, glyphs)?))?;
+    put(tables, MAXP, Some(write_maxp(known.alloc, count)?))?;
+    put(tables, GDEF, gdef_table(known, glyphs)?)
 }
 
 /// Adds what tells of the glyphs, whose names are known from then on.
@@ -116,51 +145,91 @@ fn name_table(known: &Known) -> Result<Vec<u8>> {
     Ok(write_name(known.alloc, &names)?)
 }
 
-/// Adds the tables that have names, and the names: those of the font, of features and of tracks.
-fn add_named(known: &mut Known, tables: &mut Tables, description: &Members) -> Result<()> {
+/// Takes in the names of the font.
+fn add_names(known: &mut Known, description: &Members) -> Result<()> {
     for (number, text) in list::<(u16, String)>(known, description, "names")? {
         known.put_name(number, text.as_str())?;
     }
-    if let Some(features) = maybe::<Vec<NumberedFeature>>(known, description, "features")? {
-        tables.insert(FEAT, feat(known, &features)?)?;
+    Ok(())
+}
+
+/// The bytes of `feat`, if the description tells of it.
+fn feat_table(known: &mut Known, description: &Members) -> Result<Option<Vec<u8>>> {
+    match maybe::<Vec<NumberedFeature>>(known, description, "features")? {
+        Some(features) => Ok(Some(feat(known, &features)?)),
+        None => Ok(None),
     }
-    if let Some(tracking) = maybe::<Tracking>(known, description, "trak")? {
-        tables.insert(TRAK, write_trak(known.alloc, &tracking)?)?;
+}
+
+/// The bytes of `trak`, if the description tells of it.
+fn trak_table(known: &mut Known, description: &Members) -> Result<Option<Vec<u8>>> {
+    match maybe::<Tracking>(known, description, "trak")? {
+        Some(tracking) => Ok(Some(write_trak(known.alloc, &tracking)?)),
+        None => Ok(None),
     }
+}
+
+/// Adds the tables that have names, and the names: those of the font, of features and of tracks.
+fn add_named(known: &mut Known, tables: &mut Tables, description: &Members) -> Result<()> {
+    add_names(known, description)?;
+    put(tables, FEAT, feat_table(known, description)?)?;
+    put(tables, TRAK, trak_table(known, description)?)?;
     if !known.names.is_empty() {
         tables.insert(NAME, name_table(known)?)?;
     }
     Ok(())
 }
 
+/// The bytes of `morx`, if the description tells of it.
+fn morx_table(known: &mut Known, description: &Members) -> Result<Option<Vec<u8>>> {
+    match maybe::<Vec<Chain>>(known, description, "morx")? {
+        Some(chains) => {
+            let bytes = write_morx(known.alloc, &Morx::new(chains)?).context("morx")?;
+            Ok(Some(bytes))
+        }
+        None => Ok(None),
+    }
+}
+
+/// The bytes of `kerx`, if the description tells of it.
+fn kerx_table(known: &mut Known, description: &Members) -> Result<Option<Vec<u8>>> {
+    match maybe::<Vec<KerxSubtable>>(known, description, "kerx")? {
+        Some(subtables) => {
+            let bytes = write_kerx(known.alloc, &Kerx::new(subtables)?).context("kerx")?;
+            Ok(Some(bytes))
+        }
+        None => Ok(None),
+    }
+}
+
+/// The bytes of `kern`, if the description tells of it.
+fn kern_table(known: &mut Known, description: &Members) -> Result<Option<Vec<u8>>> {
+    match maybe::<Vec<KernSubtable>>(known, description, "kern")? {
+        Some(subtables) => {
+            let bytes = write_kern(known.alloc, &Kern::new(subtables)?).context("kern")?;
+            Ok(Some(bytes))
+        }
+        None => Ok(None),
+    }
+}
+
+/// The bytes of `ankr`, if the description tells of it.
+fn ankr_table(known: &mut Known, description: &Members) -> Result<Option<Vec<u8>>> {
+    match maybe::<ByGlyph<Vec<Point>>>(known, description, "ankr")? {
+        Some(rows) => {
+            let bytes = write_ankr(known.alloc, &Ankr::new(rows.0)?).context("ankr")?;
+            Ok(Some(bytes))
+        }
+        None => Ok(None),
+    }
+}
+
 /// Adds the tables that shape.
 fn add_shaping(known: &mut Known, tables: &mut Tables, description: &Members) -> Result<()> {
-    let alloc = known.alloc;
-    if let Some(chains) = maybe::<Vec<Chain>>(known, description, "morx")? {
-        tables.insert(
-            MORX,
-            write_morx(alloc, &Morx::new(chains)?).context("morx")?,
-        )?;
-    }
-    if let Some(subtables) = maybe::<Vec<KerxSubtable>>(known, description, "kerx")? {
-        tables.insert(
-            KERX,
-            write_kerx(alloc, &Kerx::new(subtables)?).context("kerx")?,
-        )?;
-    }
-    if let Some(subtables) = maybe::<Vec<KernSubtable>>(known, description, "kern")? {
-        tables.insert(
-            KERN,
-            write_kern(alloc, &Kern::new(subtables)?).context("kern")?,
-        )?;
-    }
-    if let Some(rows) = maybe::<ByGlyph<Vec<Point>>>(known, description, "ankr")? {
-        tables.insert(
-            ANKR,
-            write_ankr(alloc, &Ankr::new(rows.0)?).context("ankr")?,
-        )?;
-    }
-    Ok(())
+    put(tables, MORX, morx_table(known, description)?)?;
+    put(tables, KERX, kerx_table(known, description)?)?;
+    put(tables, KERN, kern_table(known, description)?)?;
+    put(tables, ANKR, ankr_table(known, description)?)
 }
 
 /// Puts in tables that are told as numbers, in place of what is there.
@@ -175,23 +244,33 @@ fn add_raw(known: &mut Known, tables: &mut Tables, value: &Value) -> Result<()> 
     Ok(())
 }
 
+/// The tables that a description tells of.
+fn tables_of(known: &mut Known, description: &Members) -> Result<Tables> {
+    let mut tables = BTreeMap::new(known.alloc);
+    add_glyphs(known, &mut tables, description)?;
+    add_named(known, &mut tables, description)?;
+    add_shaping(known, &mut tables, description)?;
+    if let Some(raw) = description.get("tables") {
+        add_raw(known, &mut tables, raw).context("tables")?;
+    }
+    Ok(tables)
+}
+
+/// The file of these tables.
+fn file_of(alloc: Global, tables: &Tables) -> Result<Vec<u8>> {
+    let mut views = Vec::new(alloc);
+    for (tag, bytes) in tables {
+        views.push(FontTable { tag: *tag, bytes })?;
+    }
+    Ok(write_font(alloc, &views)?)
+}
+
 /// The file of the font that a text in JSON describes. A table that the description does not tell of is not there.
 ///
 /// An error has the way to what is wrong: the keys, and the places in lists, from 0 on.
 pub fn make_font(alloc: Global, text: &str) -> Result<Vec<u8>> {
     let value = Value::from_str(alloc, text)?;
-    let description = members(&value, KEYS)?;
     let mut known = Known::new(alloc);
-    let mut tables = BTreeMap::new(alloc);
-    add_glyphs(&mut known, &mut tables, description)?;
-    add_named(&mut known, &mut tables, description)?;
-    add_shaping(&mut known, &mut tables, description)?;
-    if let Some(raw) = description.get("tables") {
-        add_raw(&mut known, &mut tables, raw).context("tables")?;
-    }
-    let mut views = Vec::new(alloc);
-    for (tag, bytes) in &tables {
-        views.push(FontTable { tag: *tag, bytes })?;
-    }
-    Ok(write_font(alloc, &views)?)
+    let tables = tables_of(&mut known, members(&value, KEYS)?)?;
+    file_of(alloc, &tables)
 }

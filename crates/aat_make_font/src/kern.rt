@@ -4,7 +4,7 @@ use crate::kerx::{COVERAGE, CROSS_STREAM, VERTICAL};
 use crate::known::Known;
 use crate::machines::machine;
 use crate::pairs::class_pairs;
-use crate::values::{Told, bits, list, members, need, object};
+use crate::values::{Told, bits, list, members, need, object, word};
 use aat_kerning_tables::{KernKind, KernMachine, KernSubtable};
 use anyhow::{Result, bail};
 use serde_json::Value;
@@ -16,25 +16,29 @@ const KEYS: &str =
 impl Told for KernKind {
     fn of(known: &mut Known, value: &Value) -> Result<KernKind> {
         let members = members(value, KEYS)?;
-        let kind: String = need(known, members, "kind")?;
-        match kind.as_str() {
+        match word(members, "kind")? {
             "pairs" => Ok(KernKind::Pairs(need(known, members, "pairs")?)),
             "classes" => Ok(KernKind::Classes(class_pairs(known, members)?)),
-            "machine" => Ok(KernKind::Machine(KernMachine {
-                state_table: machine(known, members)?,
-                values: list(known, members, "values")?,
-            })),
-            _ => bail!("{kind}: there is no such kind"),
+            "machine" => {
+                let values = list(known, members, "values")?;
+                let state_table = machine(known, members)?;
+                Ok(KernKind::Machine(KernMachine {
+                    state_table,
+                    values,
+                }))
+            }
+            kind => bail!("{kind}: there is no such kind"),
         }
     }
 }
 
 impl Told for KernSubtable {
     fn of(known: &mut Known, value: &Value) -> Result<KernSubtable> {
-        let kind = KernKind::of(known, value)?;
         let coverage = bits(object(value)?, "coverage", &COVERAGE, 0)?;
-        let mut subtable = KernSubtable::new(kind, coverage & VERTICAL == 0);
-        subtable.has_cross_stream = coverage & CROSS_STREAM != 0;
-        Ok(subtable)
+        let kind = KernKind::of(known, value)?;
+        Ok(KernSubtable {
+            has_cross_stream: coverage & CROSS_STREAM != 0,
+            ..KernSubtable::new(kind, coverage & VERTICAL == 0)
+        })
     }
 }

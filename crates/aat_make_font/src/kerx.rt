@@ -31,15 +31,23 @@ impl Told for KerxFormat {
         let members = members(value, KEYS)?;
         match need::<u16>(known, members, "format")? {
             0 => Ok(KerxFormat::Format0(need(known, members, "pairs")?)),
-            1 => Ok(KerxFormat::Format1(Subtable1 {
-                state_table: machine(known, members)?,
-                values: list(known, members, "values")?,
-            })),
+            1 => {
+                let values = list(known, members, "values")?;
+                let state_table = machine(known, members)?;
+                Ok(KerxFormat::Format1(Subtable1 {
+                    state_table,
+                    values,
+                }))
+            }
             2 => Ok(KerxFormat::Format2Classes(class_pairs(known, members)?)),
-            4 => Ok(KerxFormat::Format4(Subtable4 {
-                state_table: machine(known, members)?,
-                anchor_points: list(known, members, "points")?,
-            })),
+            4 => {
+                let anchor_points = list(known, members, "points")?;
+                let state_table = machine(known, members)?;
+                Ok(KerxFormat::Format4(Subtable4 {
+                    state_table,
+                    anchor_points,
+                }))
+            }
             6 => Ok(KerxFormat::Format6Classes(class_pairs(known, members)?)),
             other => bail!("there is no format {other}"),
         }
@@ -48,14 +56,16 @@ impl Told for KerxFormat {
 
 impl Told for KerxSubtable {
     fn of(known: &mut Known, value: &Value) -> Result<KerxSubtable> {
-        let format = KerxFormat::of(known, value)?;
         let members = object(value)?;
         let coverage = bits(members, "coverage", &COVERAGE, 0)?;
-        let mut subtable = KerxSubtable::new(format, coverage & VERTICAL == 0);
-        subtable.has_cross_stream = coverage & CROSS_STREAM != 0;
-        subtable.is_last_to_first = coverage & LAST_TO_FIRST != 0;
-        subtable.tuple_count = at(known, members, "tuple_count", 0)?;
-        Ok(subtable)
+        let tuple_count = at(known, members, "tuple_count", 0)?;
+        let format = KerxFormat::of(known, value)?;
+        Ok(KerxSubtable {
+            has_cross_stream: coverage & CROSS_STREAM != 0,
+            is_last_to_first: coverage & LAST_TO_FIRST != 0,
+            tuple_count,
+            ..KerxSubtable::new(format, coverage & VERTICAL == 0)
+        })
     }
 }
 

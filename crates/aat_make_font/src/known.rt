@@ -70,17 +70,27 @@ impl Told for GlyphId {
 #[derive(Drop)]
 pub(crate) struct ByGlyph<T: Drop>(pub(crate) Vec<(u16, T)>);
 
-impl<T: Told> Told for ByGlyph<T> {
-    fn of(known: &mut Known, value: &Value) -> Result<ByGlyph<T>> {
-        let mut rows: Vec<(u16, T)> = Vec::new(known.alloc);
-        for (name, value) in object(value)? {
-            let glyph = known.glyph(name.as_str())?;
-            let told = T::of(known, value).context(format_args!("{name}"))?;
-            match rows.binary_search_by_key(&glyph, |row| row.0) {
-                Ok(_) => bail!("{name}: the glyph is told twice"),
-                Err(place) => rows.insert(place, (glyph, told))?,
+impl<T: Told> ByGlyph<T> {
+    /// Puts in what a value tells of a glyph.
+    fn put(&mut self, known: &mut Known, glyph: u16, value: &Value) -> Result<()> {
+        match self.0.binary_search_by_key(&glyph, |row| row.0) {
+            Ok(_) => bail!("the glyph is told twice"),
+            Err(place) => {
+                let told = T::of(known, value)?;
+                Ok(self.0.insert(place, (glyph, told))?)
             }
         }
-        Ok(ByGlyph(rows))
+    }
+}
+
+impl<T: Told> Told for ByGlyph<T> {
+    fn of(known: &mut Known, value: &Value) -> Result<ByGlyph<T>> {
+        let mut rows = ByGlyph(Vec::new(known.alloc));
+        for (name, value) in object(value)? {
+            let glyph = known.glyph(name.as_str())?;
+            rows.put(known, glyph, value)
+                .context(format_args!("{name}"))?;
+        }
+        Ok(rows)
     }
 }

@@ -1,15 +1,30 @@
 //! The machines of a description.
 
 use crate::classes::Classes;
-use crate::entries::Extra;
+use crate::entries::{Extra, nothing};
 use crate::known::Known;
 use crate::values::{Members, Told, at, items, need, object};
 use aat_machine_tables::{ExtendedStateTable, GenericStateEntry};
 use anyhow::{Context, Result, bail};
-use serde_json::{Map, Value};
+use serde_json::Value;
 
 /// The key of the entry that a state has at classes that it does not name.
 const ELSE: &str = "else";
+
+/// Puts in the entry of a class.
+fn put<T: Extra>(
+    known: &mut Known,
+    entries: &mut [GenericStateEntry<T>],
+    class: u16,
+    value: &Value,
+) -> Result<()> {
+    let count = entries.len();
+    match entries.get_mut(class as usize) {
+        Some(entry) => *entry = GenericStateEntry::of(known, value)?,
+        None => bail!("there are {count} classes"),
+    }
+    Ok(())
+}
 
 /// The entries of a state, one for each of so many classes. At a class that is not named it is the one for such classes,
 /// or else one that goes to state 0 and does nothing.
@@ -19,19 +34,12 @@ fn entries<T: Extra>(
     count: u16,
     row: &Members,
 ) -> Result<Vec<GenericStateEntry<T>>> {
-    let nothing = GenericStateEntry::of(known, &Value::Object(Map::new(known.alloc)))?;
-    let other: GenericStateEntry<T> = at(known, row, ELSE, nothing)?;
+    let other = at(known, row, ELSE, nothing::<T>())?;
     let mut entries = vec![in known.alloc; other; count as usize]?;
     for (key, value) in row {
-        if key.as_str() == ELSE {
-            continue;
-        }
-        let class = classes.number(key.as_str())?;
-        match entries.get_mut(class as usize) {
-            Some(place) => {
-                *place = GenericStateEntry::of(known, value).context(format_args!("{key}"))?;
-            }
-            None => bail!("{key}: there are {count} classes"),
+        if key.as_str() != ELSE {
+            let class = classes.number(key.as_str())?;
+            put(known, &mut entries, class, value).context(format_args!("{key}"))?;
         }
     }
     Ok(entries)

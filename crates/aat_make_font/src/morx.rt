@@ -32,11 +32,11 @@ impl Told for ChainFeature {
 
 impl Told for Subtable {
     fn of(known: &mut Known, value: &Value) -> Result<Subtable> {
-        let kind = SubtableKind::of(known, value)?;
         let members = object(value)?;
         let coverage = bits(members, "coverage", &COVERAGE, ALL_DIRECTIONS)?;
         let coverage = Coverage::from_bits_retain(coverage.min(255) as u8);
-        Ok(Subtable::new(kind, coverage, at(known, members, "flags", 1)?))
+        let flags = at(known, members, "flags", 1)?;
+        Ok(Subtable::new(SubtableKind::of(known, value)?, coverage, flags))
     }
 }
 

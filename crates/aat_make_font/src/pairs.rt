@@ -1,7 +1,7 @@
 //! Kerning by pairs, listed or by classes.
 
 use crate::known::{ByGlyph, Known};
-use crate::values::{Members, Told, at, list, need, object};
+use crate::values::{Members, Told, at, items, need, object};
 use aat_kerning_tables::{ClassPairs, Pairs};
 use anyhow::{Context, Result, bail};
 use serde_json::Value;
@@ -28,16 +28,38 @@ impl Told for Pairs {
     }
 }
 
+/// Rows of values, one behind the other.
+#[derive(Drop)]
+struct Rows {
+    /// The length of the longest one.
+    width: u16,
+    values: Vec<i16>,
+}
+
+impl Told for Rows {
+    fn of(known: &mut Known, value: &Value) -> Result<Rows> {
+        let mut rows = Rows {
+            width: 0,
+            values: Vec::new(known.alloc),
+        };
+        for item in items(value)? {
+            let row = Vec::<i16>::of(known, item)?;
+            rows.width = rows.width.max(row.len().min(65535) as u16);
+            rows.values.extend_from_slice(&row)?;
+        }
+        Ok(rows)
+    }
+}
+
 /// The pairs by classes of an object with the classes of left and of right glyphs and rows of values.
 pub(crate) fn class_pairs(known: &mut Known, members: &Members) -> Result<ClassPairs> {
+    let nothing = Rows {
+        width: 0,
+        values: Vec::new(known.alloc),
+    };
+    let rows = at(known, members, "rows", nothing)?;
+    let count = at(known, members, "right_count", rows.width)?;
     let left: ByGlyph<u16> = need(known, members, "left")?;
     let right: ByGlyph<u16> = need(known, members, "right")?;
-    let rows: Vec<Vec<i16>> = list(known, members, "rows")?;
-    let width = rows.iter().map(|row| row.len()).max().unwrap_or(0);
-    let count = at(known, members, "right_count", width.min(65535) as u16)?;
-    let mut values = Vec::new(known.alloc);
-    for row in &rows {
-        values.extend_from_slice(row)?;
-    }
-    Ok(ClassPairs::new(known.alloc, &left.0, &right.0, count, &values)?)
+    Ok(ClassPairs::new(known.alloc, &left.0, &right.0, count, &rows.values)?)
 }

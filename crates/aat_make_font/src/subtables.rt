@@ -2,7 +2,7 @@
 
 use crate::known::{ByGlyph, Known};
 use crate::machines::machine;
-use crate::values::{Told, list, members, need};
+use crate::values::{Members, Told, items, list, members, need, word};
 use aat_lookup::Lookup;
 use aat_machine_tables::entry_bits::ligature::{
     LIG_ACTION_LAST, LIG_ACTION_OFFSET, LIG_ACTION_STORE,
@@ -32,17 +32,38 @@ fn action_bits(word: &str) -> Result<u32> {
     }
 }
 
-/// The actions of ligatures, each of words that spaces part.
-fn actions(known: &Known, texts: &[String]) -> Result<Vec<u32>> {
+/// An action of ligatures, of words that spaces part.
+fn action(value: &Value) -> Result<u32> {
+    let mut action = 0;
+    for word in value.as_str().unwrap_or("?").split_ascii_whitespace() {
+        action |= action_bits(word).context(format_args!("actions: {word}"))?;
+    }
+    Ok(action)
+}
+
+/// The actions of ligatures.
+fn actions(known: &Known, members: &Members) -> Result<Vec<u32>> {
     let mut actions = Vec::new(known.alloc);
-    for text in texts {
-        let mut action = 0;
-        for word in text.as_str().split_ascii_whitespace() {
-            action |= action_bits(word).context(format_args!("actions: {text}"))?;
+    if let Some(value) = members.get("actions") {
+        for item in items(value)? {
+            actions.push(action(item)?)?;
         }
-        actions.push(action)?;
     }
     Ok(actions)
+}
+
+/// A ligature subtable.
+fn ligature(known: &mut Known, members: &Members) -> Result<LigatureSubtable> {
+    let ligature_actions = actions(known, members)?;
+    let components = list(known, members, "components")?;
+    let ligatures = list(known, members, "ligatures")?;
+    let state = machine(known, members)?;
+    Ok(LigatureSubtable {
+        state,
+        ligature_actions,
+        components,
+        ligatures,
+    })
 }
 
 /// The keys of subtables of all kinds.
@@ -52,28 +73,21 @@ const KEYS: &str =
 impl Told for SubtableKind {
     fn of(known: &mut Known, value: &Value) -> Result<SubtableKind> {
         let members = members(value, KEYS)?;
-        let kind: String = need(known, members, "kind")?;
-        match kind.as_str() {
+        match word(members, "kind")? {
             "noncontextual" => Ok(SubtableKind::NonContextual(need(known, members, "lookup")?)),
             "rearrangement" => Ok(SubtableKind::Rearrangement(machine(known, members)?)),
-            "contextual" => Ok(SubtableKind::Contextual(ContextualSubtable {
-                state: machine(known, members)?,
-                lookups: list(known, members, "lookups")?,
-            })),
-            "ligature" => {
-                let texts: Vec<String> = list(known, members, "actions")?;
-                Ok(SubtableKind::Ligature(LigatureSubtable {
-                    state: machine(known, members)?,
-                    ligature_actions: actions(known, &texts)?,
-                    components: list(known, members, "components")?,
-                    ligatures: list(known, members, "ligatures")?,
-                }))
+            "contextual" => {
+                let lookups = list(known, members, "lookups")?;
+                let state = machine(known, members)?;
+                Ok(SubtableKind::Contextual(ContextualSubtable { state, lookups }))
             }
-            "insertion" => Ok(SubtableKind::Insertion(InsertionSubtable {
-                state: machine(known, members)?,
-                glyphs: list(known, members, "glyphs")?,
-            })),
-            _ => bail!("{kind}: there is no such kind"),
+            "ligature" => Ok(SubtableKind::Ligature(ligature(known, members)?)),
+            "insertion" => {
+                let glyphs = list(known, members, "glyphs")?;
+                let state = machine(known, members)?;
+                Ok(SubtableKind::Insertion(InsertionSubtable { state, glyphs }))
+            }
+            kind => bail!("{kind}: there is no such kind"),
         }
     }
 }

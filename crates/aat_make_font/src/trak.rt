@@ -1,7 +1,7 @@
 //! The tracks of a description.
 
 use crate::known::Known;
-use crate::values::{Told, list, maybe, members, need};
+use crate::values::{Told, list, maybe, members, need, word};
 use aat_placement::{Track, TrackData, Tracking};
 use anyhow::Result;
 use serde_json::Value;
@@ -17,9 +17,8 @@ impl Told for ValuedTrack {
     /// A track, whose name gets the next number.
     fn of(known: &mut Known, value: &Value) -> Result<ValuedTrack> {
         let members = members(value, "value name values")?;
-        let name: String = need(known, members, "name")?;
         let value = need(known, members, "value")?;
-        let name = known.add_name(name.as_str())?;
+        let name = known.add_name(word(members, "name")?)?;
         Ok(ValuedTrack {
             track: Track { value, name },
             values: list(known, members, "values")?,

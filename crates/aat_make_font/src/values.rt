@@ -152,6 +152,15 @@ pub(crate) fn need<T: Told>(known: &mut Known, members: &Members, key: &str) -> 
     }
 }
 
+/// The word at a key, which has to be there.
+pub(crate) fn word<'v>(members: &'v Members, key: &str) -> Result<&'v str> {
+    match members.get(key).map(|value| value.as_str()) {
+        Some(Some(word)) => Ok(word),
+        Some(None) => bail!("{key}: a text is wanted"),
+        None => bail!("{key} is missing"),
+    }
+}
+
 /// What the list at a key tells, which is empty where the key is absent.
 pub(crate) fn list<T: Told>(known: &mut Known, members: &Members, key: &str) -> Result<Vec<T>> {
     let nothing = Vec::new(known.alloc);

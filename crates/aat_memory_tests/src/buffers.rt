@@ -53,9 +53,20 @@ fn is_grown(buffer: &Line, growth: Growth) -> bool {
     buffer.len() == len && buffer.has_positions() == is_placed
 }
 
-/// Makes a call many times while so many blocks are left of the heap of a line, with the cursor at the second of two
-/// glyphs, and the rest of them with memory where one was refused: then the line has failed, and has what the calls
-/// before it put in.
+/// Makes a call many times while the heap of a line is full but for some blocks, and the rest of them with memory where
+/// one was refused: then the line has failed, and has what the calls before it put in.
+fn grow_beside<'h>(hoard: Hoard<'h>, growth: Growth, buffer: &mut Line<'h>) -> Outcome {
+    let answer = repeat(buffer, growth, TIMES);
+    let is_successful = buffer.is_successful();
+    if !hoard.give_back() || answer != Err(BufferError::OutOfMemory) {
+        return done_if(answer == Ok(()) && is_successful && is_grown(buffer, growth));
+    }
+    let rest = (2 + TIMES).saturating_sub(buffer.len());
+    let is_done = repeat(buffer, growth, rest) == Ok(());
+    refused_if(is_done && !is_successful && is_grown(buffer, growth))
+}
+
+/// What comes of a call while so many blocks are left of the heap of a line, with the cursor at the second of two glyphs.
 pub(crate) fn outcome_of_growth(
     alloc: Global,
     growth: Growth,
@@ -66,12 +77,5 @@ pub(crate) fn outcome_of_growth(
     repeat(&mut buffer, Growth::Add, 2)?;
     buffer.move_to(1.min(buffer.len()));
     let hoard = Hoard::but(alloc, &heap, blocks)?;
-    let answer = repeat(&mut buffer, growth, TIMES);
-    let is_successful = buffer.is_successful();
-    if !hoard.give_back() || answer != Err(BufferError::OutOfMemory) {
-        return Ok(done_if(answer == Ok(()) && is_successful && is_grown(&buffer, growth)));
-    }
-    let rest = (2 + TIMES).saturating_sub(buffer.len());
-    let is_done = repeat(&mut buffer, growth, rest) == Ok(());
-    Ok(refused_if(is_done && !is_successful && is_grown(&buffer, growth)))
+    Ok(grow_beside(hoard, growth, &mut buffer))
 }

@@ -47,17 +47,21 @@ fn inserting_morx(alloc: Global) -> Result<Morx, Fail> {
     Ok(Morx::new(vec![in alloc; chain]?)?)
 }
 
-/// A font that puts glyphs 5 in behind each glyph 6, and attaches each glyph to the one before it, by pairs across the
-/// line none of which it has. Both glyphs are 100 wide.
-pub(crate) fn inserting(alloc: Global) -> Result<hb_font_t, Fail> {
+/// A table of pairs across the line, none of which a line has.
+fn attaching_kern(alloc: Global) -> Result<Kern, Fail> {
     let pairs = KernKind::Pairs(Pairs::new(alloc, &[(8, 9, 1)])?);
     let across = KernSubtable {
         has_cross_stream: true,
         ..KernSubtable::new(pairs, true)
     };
-    let tables = FaceTables::default()
-        .with_morx(inserting_morx(alloc)?)
-        .with_kern(Kern::new(vec![in alloc; across]?)?);
+    Ok(Kern::new(vec![in alloc; across]?)?)
+}
+
+/// A font that puts glyphs 5 in behind each glyph 6, and attaches each glyph to the one before it, by pairs across the
+/// line none of which it has. Both glyphs are 100 wide.
+pub(crate) fn inserting(alloc: Global) -> Result<hb_font_t, Fail> {
     let advances = Lookup::new(alloc, &[(5, 100), (6, 100)])?;
+    let tables = FaceTables::default().with_kern(attaching_kern(alloc)?);
+    let tables = tables.with_morx(inserting_morx(alloc)?);
     Ok(hb_font_t::new(tables, None, Some(advances)))
 }

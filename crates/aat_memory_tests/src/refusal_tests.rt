@@ -2,7 +2,7 @@
 
 use crate::buffers::{Growth, outcome_of_growth};
 use crate::calls::{Outcome, outcome_of};
-use crate::fonts::inserting;
+use crate::fonts::{inserting, row_font};
 use crate::hoard::{Hoard, MOST, new_heap};
 use crate::readers::{Reader, is_read};
 use crate::requests::{Asking, outcome_of_asking};
@@ -13,7 +13,8 @@ use crate::texts::{FILE, Text, is_answered};
 use aat_bytes::ReadError;
 use aat_face::Face;
 use aat_layout::AatError;
-use aat_layout::font::{TableError, hb_ot_shape_plan_t};
+use aat_layout::font::{TableError, hb_font_t, hb_ot_shape_plan_t};
+use aat_shape::described::drop_font;
 use aat_text::TextError;
 use linked_list_allocator::LocalHeap;
 use std::alloc::Global;
@@ -51,25 +52,55 @@ fn outcome_over(alloc: Global, heap: &LocalHeap, call: Call) -> Result<Outcome, 
     })
 }
 
+/// What comes of a call in a font while so many blocks are left of its heap.
+fn outcome_in(alloc: Global, font: &hb_font_t, call: Call, blocks: usize) -> Result<Outcome, Fail> {
+    match call {
+        Call::Asked(asking) => outcome_of_asking(alloc, asking, font, blocks),
+        Call::Runs => outcome_of_runs(alloc, font, blocks),
+        Call::Map => outcome_of_map(alloc, font, blocks),
+        Call::Beside => outcome_beside(alloc, font, blocks),
+        Call::Within => outcome_within(alloc, font, blocks),
+        Call::Shaped(before, count) => {
+            outcome_of_text(alloc, font, before, count, blocks.saturating_mul(4))
+        }
+        _ => Ok(Outcome::Wrong),
+    }
+}
+
+/// The font of a call: that of the part of a worked row, or the one that puts glyphs in.
+fn font_of(alloc: Global, call: Call) -> Result<hb_font_t, Fail> {
+    match call {
+        Call::Asked(_) => row_font(alloc, "5"),
+        Call::Map => row_font(alloc, "13a"),
+        Call::Beside | Call::Within => row_font(alloc, "38a"),
+        _ => inserting(alloc),
+    }
+}
+
+/// What comes of a call in its font while so many blocks are left of its heap.
+fn outcome_in_font(alloc: Global, call: Call, blocks: usize) -> Result<Outcome, Fail> {
+    let font = font_of(alloc, call)?;
+    let outcome = outcome_in(alloc, &font, call, blocks);
+    drop_font(font);
+    outcome
+}
+
+/// What comes of a call that leaves nothing while so many blocks are left of its heap, which is empty afterwards.
+fn outcome_on_heap(alloc: Global, call: Call, blocks: usize) -> Result<Outcome, Fail> {
+    let heap = new_heap(alloc)?;
+    let hoard = Hoard::but(alloc, &heap, blocks)?;
+    let outcome = outcome_over(alloc, &heap, call);
+    let is_empty = hoard.give_back() && heap.used() == 0;
+    let outcome = outcome?;
+    Ok(if is_empty { outcome } else { Outcome::Wrong })
+}
+
 /// What comes of a call while so many blocks are left of its heap.
 fn outcome_within_blocks(alloc: Global, call: Call, blocks: usize) -> Result<Outcome, Fail> {
     match call {
         Call::Grown(growth) => outcome_of_growth(alloc, growth, blocks),
-        Call::Asked(asking) => outcome_of_asking(alloc, asking, blocks),
-        Call::Runs => outcome_of_runs(alloc, blocks),
-        Call::Map => outcome_of_map(alloc, blocks),
-        Call::Beside => outcome_beside(alloc, blocks),
-        Call::Within => outcome_within(alloc, blocks),
-        Call::Shaped(before, count) => {
-            outcome_of_text(alloc, before, count, blocks.saturating_mul(4))
-        }
-        _ => {
-            let heap = new_heap(alloc)?;
-            let hoard = Hoard::but(alloc, &heap, blocks)?;
-            let outcome = outcome_over(alloc, &heap, call)?;
-            let is_empty = hoard.give_back() && heap.used() == 0;
-            Ok(if is_empty { outcome } else { Outcome::Wrong })
-        }
+        Call::Made(_) | Call::Read(_) | Call::Answered(_) => outcome_on_heap(alloc, call, blocks),
+        _ => outcome_in_font(alloc, call, blocks),
     }
 }
 
@@ -136,11 +167,10 @@ fn each_request_for_memory_is_refused(rt: HostRuntime) -> Result<(), Fail> {
 
 /// Whether a line that may grow by so many glyphs is refused before the run that it has no room for, and keeps those
 /// before that.
-fn is_too_long(alloc: Global, room: usize) -> Result<bool, Fail> {
-    let font = inserting(alloc)?;
-    let plan = hb_ot_shape_plan_t::new(Vec::new(alloc));
+fn is_too_long(alloc: Global, font: &hb_font_t, room: usize) -> Result<bool, Fail> {
     let mut buffer = sixes(alloc, 4 + room.min(200))?;
-    let answer = substitute(alloc, &plan, &font, &mut buffer);
+    let plan = hb_ot_shape_plan_t::new(Vec::new(alloc));
+    let answer = substitute(alloc, &plan, font, &mut buffer);
     let is_answer = if room < 124 {
         answer == Err(AatError::TooLong) && !buffer.is_successful()
     } else {
@@ -152,8 +182,11 @@ fn is_too_long(alloc: Global, room: usize) -> Result<bool, Fail> {
 /// The greatest length is looked at before memory is asked for.
 #[test]
 fn a_run_that_is_too_long_leaves_the_line(rt: HostRuntime) -> Result<(), Fail> {
+    let font = inserting(rt.alloc())?;
     for room in [0, 1, 30, 31, 61, 62, 93, 123, 124] {
-        assert!(&rt; is_too_long(rt.alloc(), room)?, "room for {room}");
+        let is_right = is_too_long(rt.alloc(), &font, room)?;
+        assert!(&rt; is_right, "room for {room}");
     }
+    drop_font(font);
     Ok(())
 }

@@ -1,7 +1,6 @@
 //! The calls of a builder and of a map, over a heap.
 
 use crate::calls::{Outcome, done_if, outcome_of, refused_if};
-use crate::fonts::row_font;
 use crate::hoard::{Hoard, new_heap};
 use aat_layout::font::{Feature, hb_font_t, hb_ot_shape_plan_t, hb_tag_t};
 use aat_layout::{AatError, compile_flags, compiled_map, hb_aat_map_builder_t, hb_aat_map_t};
@@ -44,19 +43,24 @@ fn add(builder: &mut Builder, font: &hb_font_t, times: usize) -> Result<(), AatE
     Ok(())
 }
 
-/// Adds many requests while so many blocks are left of the heap of a builder, and the rest with memory where one was
+/// Adds many requests while the heap of a builder is full but for some blocks, and the rest with memory where one was
 /// refused: then those before it are there.
+fn add_beside<'h>(hoard: Hoard<'h>, font: &hb_font_t, builder: &mut Builder<'h>) -> Outcome {
+    let answer = add(builder, font, TIMES);
+    if !hoard.give_back() || answer != Err(AatError::OutOfMemory) {
+        return done_if(answer == Ok(()) && builder.features().len() == TIMES);
+    }
+    let rest = TIMES.saturating_sub(builder.features().len());
+    let is_done = add(builder, font, rest) == Ok(());
+    refused_if(is_done && builder.features().len() == TIMES)
+}
+
+/// What comes of adding requests while so many blocks are left of the heap of a builder.
 fn outcome_of_adding(alloc: Global, font: &hb_font_t, blocks: usize) -> Result<Outcome, Fail> {
     let heap = new_heap(alloc)?;
     let mut builder = hb_aat_map_builder_t::default(&heap);
     let hoard = Hoard::but(alloc, &heap, blocks)?;
-    let answer = add(&mut builder, font, TIMES);
-    if !hoard.give_back() || answer != Err(AatError::OutOfMemory) {
-        return Ok(done_if(answer == Ok(()) && builder.features().len() == TIMES));
-    }
-    let rest = TIMES.saturating_sub(builder.features().len());
-    let is_done = add(&mut builder, font, rest) == Ok(());
-    Ok(refused_if(is_done && builder.features().len() == TIMES))
+    Ok(add_beside(hoard, font, &mut builder))
 }
 
 /// Compiles the requests of a builder into a map, or the flags of its range, where that is the whole text and the map
@@ -86,8 +90,25 @@ fn is_compiled(asking: Asking, map: &Map) -> bool {
     (map.flags_at(0, 4), map.flags_at(0, 5)) == flags && map.chain_flags().len() == 1
 }
 
-/// Compiles the requests of row 5 while so many blocks are left of a heap, and again with memory where that is refused:
-/// then the map is empty, and the requests are there.
+/// Compiles the requests of row 5 while a heap is full, and again with memory where that is refused: then the map is
+/// empty, and the requests are there.
+fn compile_beside<'h>(
+    asking: Asking,
+    font: &hb_font_t,
+    hoard: Hoard<'h>,
+    builder: &mut Builder<'h>,
+    map: &mut Map<'h>,
+) -> Outcome {
+    let answer = compile(asking, font, builder, map);
+    if !hoard.give_back() || answer != Err(AatError::OutOfMemory) {
+        return done_if(answer == Ok(()) && is_compiled(asking, map));
+    }
+    let is_left = map.chain_flags().is_empty() && builder.features().len() == 3;
+    let is_done = compile(asking, font, builder, map) == Ok(());
+    refused_if(is_left && is_done && is_compiled(asking, map))
+}
+
+/// What comes of compiling the requests of row 5 while so many blocks are left of a heap.
 fn outcome_of_compiling(
     alloc: Global,
     asking: Asking,
@@ -98,13 +119,7 @@ fn outcome_of_compiling(
     let mut builder = hb_aat_map_builder_t::with_features(&heap, font, &features())?;
     let mut map = hb_aat_map_t::default(&heap);
     let hoard = Hoard::but(alloc, &heap, blocks)?;
-    let answer = compile(asking, font, &mut builder, &mut map);
-    if !hoard.give_back() || answer != Err(AatError::OutOfMemory) {
-        return Ok(done_if(answer == Ok(()) && is_compiled(asking, &map)));
-    }
-    let is_left = map.chain_flags().is_empty() && builder.features().len() == 3;
-    let is_done = compile(asking, font, &mut builder, &mut map) == Ok(());
-    Ok(refused_if(is_left && is_done && is_compiled(asking, &map)))
+    Ok(compile_beside(asking, font, hoard, &mut builder, &mut map))
 }
 
 /// Whether the features of row 5 make their requests, or a map.
@@ -125,24 +140,32 @@ fn is_asked(
     }
 }
 
-/// What comes of a call while so many blocks are left of its heap.
+/// What comes of making requests or a map of features while so many blocks are left of its heap.
+fn outcome_of_making(
+    alloc: Global,
+    asking: Asking,
+    font: &hb_font_t,
+    blocks: usize,
+) -> Result<Outcome, Fail> {
+    let heap = new_heap(alloc)?;
+    let hoard = Hoard::but(alloc, &heap, blocks)?;
+    let answer = is_asked(alloc, asking, font, &heap);
+    drop(hoard);
+    Ok(outcome_of(answer, AatError::OutOfMemory))
+}
+
+/// What comes of a call while so many blocks are left of its heap, in the font of row 5.
 pub(crate) fn outcome_of_asking(
     alloc: Global,
     asking: Asking,
+    font: &hb_font_t,
     blocks: usize,
 ) -> Result<Outcome, Fail> {
-    let font = row_font(alloc, "5")?;
     match asking {
-        Asking::Add => outcome_of_adding(alloc, &font, blocks),
+        Asking::Add => outcome_of_adding(alloc, font, blocks),
         Asking::Compile | Asking::CompileFlags => {
-            outcome_of_compiling(alloc, asking, &font, blocks)
+            outcome_of_compiling(alloc, asking, font, blocks)
         }
-        _ => {
-            let heap = new_heap(alloc)?;
-            let hoard = Hoard::but(alloc, &heap, blocks)?;
-            let answer = is_asked(alloc, asking, &font, &heap);
-            drop(hoard);
-            Ok(outcome_of(answer, AatError::OutOfMemory))
-        }
+        _ => outcome_of_making(alloc, asking, font, blocks),
     }
 }

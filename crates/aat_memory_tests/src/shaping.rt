@@ -1,7 +1,7 @@
 //! Shaping, with a heap for the map or for the line, and the shaper over a heap.
 
 use crate::calls::{Outcome, done_if, refused_if};
-use crate::fonts::{INSERTED, inserting, row_font};
+use crate::fonts::INSERTED;
 use crate::hoard::{Hoard, new_heap};
 use crate::requests::liga;
 use aat_layout::AatError;
@@ -62,40 +62,68 @@ fn is_line<A: Allocator + Copy>(
     buffer.info(0).glyph_id == first && buffer.len() == len && is_placed
 }
 
-/// What comes of shaping row 38a while so many blocks are left of the heap of the map. A refusal leaves the line as it
-/// was.
-pub(crate) fn outcome_beside(alloc: Global, blocks: usize) -> Result<Outcome, Fail> {
-    let font = row_font(alloc, "38a")?;
+/// Shapes the line while the heap of the map is full but for some blocks. A refusal leaves the line as it was, and it is
+/// shaped again with the memory back.
+fn shape_beside<'h>(
+    heap: &'h LocalHeap,
+    hoard: Hoard<'h>,
+    plan: &hb_ot_shape_plan_t,
+    font: &hb_font_t,
+    buffer: &mut hb_buffer_t,
+) -> Outcome {
+    let answer = shaped(heap, plan, font, buffer);
+    drop(hoard);
+    if answer != Err(AatError::OutOfMemory) {
+        return done_if(answer == Ok(4) && is_line(buffer, 20, 2, true));
+    }
+    let is_left = buffer.is_successful() && is_line(buffer, 10, 3, false);
+    let again = shaped(heap, plan, font, buffer);
+    refused_if(is_left && again == Ok(4) && is_line(buffer, 20, 2, true))
+}
+
+/// What comes of shaping row 38a while so many blocks are left of the heap of the map.
+pub(crate) fn outcome_beside(
+    alloc: Global,
+    font: &hb_font_t,
+    blocks: usize,
+) -> Result<Outcome, Fail> {
     let plan = plan_of(alloc)?;
     let mut buffer = line_of(alloc)?;
     let heap = new_heap(alloc)?;
     let hoard = Hoard::but(alloc, &heap, blocks)?;
-    let answer = shaped(&heap, &plan, &font, &mut buffer);
-    drop(hoard);
-    if answer != Err(AatError::OutOfMemory) {
-        return Ok(done_if(answer == Ok(4) && is_line(&buffer, 20, 2, true)));
-    }
-    let is_left = buffer.is_successful() && is_line(&buffer, 10, 3, false);
-    let again = shaped(&heap, &plan, &font, &mut buffer);
-    Ok(refused_if(is_left && again == Ok(4) && is_line(&buffer, 20, 2, true)))
+    Ok(shape_beside(&heap, hoard, &plan, font, &mut buffer))
 }
 
-/// What comes of shaping row 38a while so many blocks are left of the heap of the line. A refusal of its positions leaves
-/// it substituted, failed and without them, and it is refused from then on.
-pub(crate) fn outcome_within(alloc: Global, blocks: usize) -> Result<Outcome, Fail> {
-    let font = row_font(alloc, "38a")?;
+/// Shapes the line while its heap is full but for some blocks. A refusal of its positions leaves it substituted, failed
+/// and without them, and it is refused from then on.
+fn shape_within<'h>(
+    alloc: Global,
+    hoard: Hoard<'h>,
+    plan: &hb_ot_shape_plan_t,
+    font: &hb_font_t,
+    buffer: &mut hb_buffer_t<&'h LocalHeap>,
+) -> Outcome {
+    let answer = shaped(alloc, plan, font, buffer);
+    drop(hoard);
+    if answer != Err(AatError::OutOfMemory) {
+        return done_if(answer == Ok(4) && is_line(buffer, 20, 2, true));
+    }
+    let is_left = !buffer.is_successful() && is_line(buffer, 20, 3, false);
+    let again = shaped(alloc, plan, font, buffer);
+    refused_if(is_left && again == Err(AatError::BufferFailed))
+}
+
+/// What comes of shaping row 38a while so many blocks are left of the heap of the line.
+pub(crate) fn outcome_within(
+    alloc: Global,
+    font: &hb_font_t,
+    blocks: usize,
+) -> Result<Outcome, Fail> {
     let plan = plan_of(alloc)?;
     let heap = new_heap(alloc)?;
     let mut buffer = line_of(&heap)?;
     let hoard = Hoard::but(alloc, &heap, blocks)?;
-    let answer = shaped(alloc, &plan, &font, &mut buffer);
-    drop(hoard);
-    if answer != Err(AatError::OutOfMemory) {
-        return Ok(done_if(answer == Ok(4) && is_line(&buffer, 20, 2, true)));
-    }
-    let is_left = !buffer.is_successful() && is_line(&buffer, 20, 3, false);
-    let again = shaped(alloc, &plan, &font, &mut buffer);
-    Ok(refused_if(is_left && again == Err(AatError::BufferFailed)))
+    Ok(shape_within(alloc, hoard, &plan, font, &mut buffer))
 }
 
 /// A text of so many glyphs 6, of a cluster each.
@@ -132,26 +160,49 @@ fn draws(shaper: &mut Shaper<&LocalHeap>, text: &[TextGlyph]) -> Option<bool> {
     }
 }
 
+/// Shapes a text while the heap of a shaper is full but for some blocks. Where it is refused, the text before is shaped
+/// over the full heap, and the text with the memory back.
+fn draw_beside<'h>(
+    hoard: Hoard<'h>,
+    shaper: &mut Shaper<'_, &'h LocalHeap>,
+    shorter: &[TextGlyph],
+    text: &[TextGlyph],
+) -> Outcome {
+    let answer = draws(shaper, text);
+    let is_shorter = shorter.is_empty() || draws(shaper, shorter) == Some(true);
+    drop(hoard);
+    if answer == Some(true) {
+        return done_if(is_shorter);
+    }
+    let is_done = answer == Some(false) && draws(shaper, text) == Some(true);
+    refused_if(is_done && is_shorter)
+}
+
 /// What comes of a text while so many blocks are left of the heap of a shaper, which has shaped the text before or none.
-/// Where the text is refused, the one before is shaped over the full heap, and the text with the memory back.
+fn outcome_behind(
+    alloc: Global,
+    font: &hb_font_t,
+    shorter: &[TextGlyph],
+    text: &[TextGlyph],
+    blocks: usize,
+) -> Result<Outcome, Fail> {
+    let heap = new_heap(alloc)?;
+    let mut shaper = Shaper::new_in(alloc, &heap, font);
+    let is_first = shorter.is_empty() || draws(&mut shaper, shorter) == Some(true);
+    let hoard = Hoard::but(alloc, &heap, blocks)?;
+    let outcome = draw_beside(hoard, &mut shaper, shorter, text);
+    Ok(if is_first { outcome } else { Outcome::Wrong })
+}
+
+/// What comes of a text of so many glyphs behind one of so many others, or none.
 pub(crate) fn outcome_of_text(
     alloc: Global,
+    font: &hb_font_t,
     before: u32,
     count: u32,
     blocks: usize,
 ) -> Result<Outcome, Fail> {
-    let font = inserting(alloc)?;
-    let heap = new_heap(alloc)?;
-    let mut shaper = Shaper::new_in(alloc, &heap, &font);
-    let (shorter, text) = (text_of_sixes(alloc, before)?, text_of_sixes(alloc, count)?);
-    let is_first = before == 0 || draws(&mut shaper, &shorter) == Some(true);
-    let hoard = Hoard::but(alloc, &heap, blocks)?;
-    let answer = draws(&mut shaper, &text);
-    let is_shorter = before == 0 || draws(&mut shaper, &shorter) == Some(true);
-    drop(hoard);
-    if answer == Some(true) {
-        return Ok(done_if(is_first && is_shorter));
-    }
-    let is_done = answer == Some(false) && draws(&mut shaper, &text) == Some(true);
-    Ok(refused_if(is_done && is_first && is_shorter))
+    let shorter = text_of_sixes(alloc, before)?;
+    let text = text_of_sixes(alloc, count)?;
+    outcome_behind(alloc, font, &shorter, &text, blocks)
 }

@@ -1,12 +1,13 @@
 //! Substitution and shaping, with a heap for the map or for the line.
 
 use crate::calls::{Outcome, done_if, refused_if};
-use crate::fonts::{INSERTED, inserting, row_font};
+use crate::fonts::INSERTED;
 use crate::hoard::{Hoard, new_heap};
 use crate::requests::liga;
 use aat_layout::buffer::{BufferError, hb_buffer_t, hb_glyph_info_t};
 use aat_layout::font::{hb_font_t, hb_ot_shape_plan_t};
 use aat_layout::{AatError, hb_aat_layout_substitute};
+use linked_list_allocator::LocalHeap;
 use std::alloc::{AllocError, Allocator, Global};
 use std::test::Fail;
 
@@ -70,41 +71,67 @@ pub(crate) fn runs_in<A: Allocator + Copy>(buffer: &hb_buffer_t<A>) -> Option<us
     }
 }
 
-/// What comes of the runs of an insertion while so many blocks are left of the heap of the line. A run that is refused
-/// leaves the line as it was before that run, with those before it in it, and a buffer that is refused from then on.
-pub(crate) fn outcome_of_runs(alloc: Global, blocks: usize) -> Result<Outcome, Fail> {
-    let font = inserting(alloc)?;
+/// Puts the runs in while the heap of the line is full but for some blocks. A run that is refused leaves the line as it
+/// was before that run, with those before it in it, and a buffer that is refused from then on.
+fn put_runs<'h>(
+    alloc: Global,
+    hoard: Hoard<'h>,
+    font: &hb_font_t,
+    buffer: &mut hb_buffer_t<&'h LocalHeap>,
+) -> Outcome {
     let plan = hb_ot_shape_plan_t::new(Vec::new(alloc));
+    let answer = substitute(alloc, &plan, font, buffer);
+    drop(hoard);
+    let runs = runs_in(buffer);
+    if answer != Err(AatError::OutOfMemory) {
+        return done_if(answer == Ok(5) && buffer.is_successful() && runs == Some(LINE));
+    }
+    let again = substitute(alloc, &plan, font, buffer);
+    let is_left = runs.is_some_and(|runs| runs < LINE) && !buffer.is_successful();
+    refused_if(is_left && again == Err(AatError::BufferFailed) && runs_in(buffer) == runs)
+}
+
+/// What comes of the runs of an insertion while so many blocks are left of the heap of the line.
+pub(crate) fn outcome_of_runs(
+    alloc: Global,
+    font: &hb_font_t,
+    blocks: usize,
+) -> Result<Outcome, Fail> {
     let heap = new_heap(alloc)?;
     let mut buffer = sixes(&heap, 1000)?;
     let hoard = Hoard::but(alloc, &heap, blocks)?;
-    let answer = substitute(alloc, &plan, &font, &mut buffer);
-    drop(hoard);
-    let runs = runs_in(&buffer);
-    if answer != Err(AatError::OutOfMemory) {
-        let is_done = answer == Ok(5) && buffer.is_successful() && runs == Some(LINE);
-        return Ok(done_if(is_done));
-    }
-    let again = substitute(alloc, &plan, &font, &mut buffer);
-    let is_left = runs.is_some_and(|runs| runs < LINE) && !buffer.is_successful();
-    Ok(refused_if(is_left && again == Err(AatError::BufferFailed) && runs_in(&buffer) == runs))
+    Ok(put_runs(alloc, hoard, font, &mut buffer))
 }
 
-/// What comes of substitution by row 13 with a request, while so many blocks are left of the heap of the map. A refusal
-/// leaves the line as it was.
-pub(crate) fn outcome_of_map(alloc: Global, blocks: usize) -> Result<Outcome, Fail> {
-    let font = row_font(alloc, "13a")?;
+/// Substitutes a line while the heap of the map is full but for some blocks. A refusal leaves the line as it was, and it
+/// is substituted again with the memory back.
+fn substitute_beside<'h>(
+    heap: &'h LocalHeap,
+    hoard: Hoard<'h>,
+    plan: &hb_ot_shape_plan_t,
+    font: &hb_font_t,
+    buffer: &mut hb_buffer_t,
+) -> Outcome {
+    let answer = substitute(heap, plan, font, buffer);
+    drop(hoard);
+    if answer != Err(AatError::OutOfMemory) {
+        return done_if(answer == Ok(2) && buffer.len() == 3 && buffer.max_ops() == 0);
+    }
+    let is_left = buffer.is_successful() && buffer.len() == 1 && buffer.max_ops() == 2;
+    let again = substitute(heap, plan, font, buffer);
+    refused_if(is_left && again == Ok(2) && buffer.len() == 3)
+}
+
+/// What comes of substitution by row 13 with a request, while so many blocks are left of the heap of the map.
+pub(crate) fn outcome_of_map(
+    alloc: Global,
+    font: &hb_font_t,
+    blocks: usize,
+) -> Result<Outcome, Fail> {
     let plan = hb_ot_shape_plan_t::new(vec![in alloc; liga(0, 1, 2)]?);
     let mut buffer = hb_buffer_t::new(alloc, 100, 2);
     buffer.add(hb_glyph_info_t::new(5, 3))?;
     let heap = new_heap(alloc)?;
     let hoard = Hoard::but(alloc, &heap, blocks)?;
-    let answer = substitute(&heap, &plan, &font, &mut buffer);
-    drop(hoard);
-    if answer != Err(AatError::OutOfMemory) {
-        return Ok(done_if(answer == Ok(2) && buffer.len() == 3 && buffer.max_ops() == 0));
-    }
-    let is_left = buffer.is_successful() && buffer.len() == 1 && buffer.max_ops() == 2;
-    let again = substitute(&heap, &plan, &font, &mut buffer);
-    Ok(refused_if(is_left && again == Ok(2) && buffer.len() == 3))
+    Ok(substitute_beside(&heap, hoard, &plan, font, &mut buffer))
 }

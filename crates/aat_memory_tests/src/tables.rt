@@ -78,6 +78,29 @@ pub(crate) enum Table {
     Rules,
 }
 
+/// Whether a lookup of pairs is made over a heap, and has the value of a glyph.
+fn is_lookup_made(
+    heap: &LocalHeap,
+    pairs: &[(u16, u16)],
+    glyph: u16,
+    value: u16,
+) -> Result<bool, TableError> {
+    let lookup = Lookup::new(heap, pairs)?;
+    Ok(lookup.value(GlyphId(glyph)) == Some(value))
+}
+
+/// Whether a lookup of segments is made over a heap, and has the value of a glyph.
+fn is_segment_lookup_made(heap: &LocalHeap) -> Result<bool, TableError> {
+    let lookup = Lookup::from_segments(heap, &SEGMENTS)?;
+    Ok(lookup.value(GlyphId(60001)) == Some(8))
+}
+
+/// Whether pairs are made over a heap, and have the value of two glyphs.
+fn are_pairs_made(heap: &LocalHeap) -> Result<bool, TableError> {
+    let pairs = Pairs::new(heap, &KERNING)?;
+    Ok(pairs.glyphs_kerning(GlyphId(2), GlyphId(1)) == Some(5))
+}
+
 /// Whether a table by classes is made over a heap, and has the value of two glyphs.
 fn is_class_table_made(heap: &LocalHeap) -> Result<bool, TableError> {
     let pairs = ClassPairs::new(heap, &[(1, 1)], &[(2, 1)], 2, &[0, 0, 0, -25])?;
@@ -99,16 +122,11 @@ fn is_machine_made(
 /// Whether a table is made over a heap, and answers what it was made of.
 pub(crate) fn is_made(heap: &LocalHeap, table: Table) -> Result<bool, TableError> {
     match table {
-        Table::CloseLookup => Ok(Lookup::new(heap, &CLOSE)?.value(GlyphId(6)) == Some(9)),
-        Table::FarLookup => Ok(Lookup::new(heap, &FAR)?.value(GlyphId(60000)) == Some(8)),
-        Table::Segments => {
-            Ok(Lookup::from_segments(heap, &SEGMENTS)?.value(GlyphId(60001)) == Some(8))
-        }
+        Table::CloseLookup => is_lookup_made(heap, &CLOSE, 6, 9),
+        Table::FarLookup => is_lookup_made(heap, &FAR, 60000, 8),
+        Table::Segments => is_segment_lookup_made(heap),
         Table::Names => Ok(Feat::new(heap, &NAMES)?.find(3) == Some(NAMES[3])),
-        Table::Pairs => {
-            let pairs = Pairs::new(heap, &KERNING)?;
-            Ok(pairs.glyphs_kerning(GlyphId(2), GlyphId(1)) == Some(5))
-        }
+        Table::Pairs => are_pairs_made(heap),
         Table::ClassPairs => is_class_table_made(heap),
         Table::Grid => is_machine_made(heap, &CLOSE, 1),
         Table::Rules => is_machine_made(heap, &FAR, 65535),

@@ -4,7 +4,6 @@ mod build;
 mod data;
 mod kerning;
 mod kinds;
-mod tables;
 
 pub use build::{drop_font, font_of};
 pub use data::{
@@ -12,4 +11,3 @@ pub use data::{
     Rule, SubtableData, Value,
 };
 pub use kinds::machine_of;
-pub use tables::{kerning_in, name_in, states_in, value_in};

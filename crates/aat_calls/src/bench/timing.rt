@@ -20,7 +20,7 @@ use std::time::{Duration, Instant};
 const LINES_AT_ONCE: usize = 32;
 
 /// Reads the font from the bytes of its file, and lets it go.
-fn read_face(alloc: Global, font: BenchFont<'_, '_>) -> Result<()> {
+fn read_and_drop(alloc: Global, font: BenchFont<'_, '_>) -> Result<()> {
     match Face::read(alloc, font.bytes, font.index) {
         Ok(face) => drop(face),
         Err(ReadError::Fault(fault)) => bail!("{fault}"),
@@ -159,7 +159,7 @@ fn round(
 ) -> Result<Duration> {
     let start = Instant::now(rt)?;
     match step {
-        Step::Reading => read_face(rt.alloc(), work.font)?,
+        Step::Reading => read_and_drop(rt.alloc(), work.font)?,
         Step::Text => make_texts(rt.alloc(), work)?,
         Step::Compiling => compile_all(rt.alloc(), work)?,
         Step::Substitution => return time_substitution(rt, work),
