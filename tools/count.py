@@ -7,7 +7,8 @@
 For each public call it counts the definitions behind its contract: the words of crates/*/specs that its clauses cite,
 and those that their definitions cite, and so on. It follows the names that `use` and `ghost use` bring in. Behind them
 it says how many stand behind `Shaper::shape`, behind all public calls, behind these and the laws, and how many there are
-in all: those besides are of worked examples and of contracts inside the crates. Then it prints the README's sentence.
+in all: those besides are of worked examples and of contracts inside the crates. Then it prints the README's sentence,
+and how many definitions there are in all.
 
 - A public call is a `pub fn`, a function or a method, or a method of a trait's impl that has clauses. The crates are
   those of the layer and of its callers: no crate of tests, no program, no rows, and no module `laws` or `worked`.

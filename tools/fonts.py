@@ -21,7 +21,6 @@ import subprocess
 import sys
 
 TOP = os.path.dirname(os.path.dirname(os.path.abspath(__file__)))
-DESCRIPTIONS = os.path.join(TOP, "crates/aat/data")
 DATA = os.path.join(TOP, "crates/aat/data")
 
 
@@ -270,8 +269,8 @@ def variants(fonts):
 def described(program):
     """The fonts of the descriptions, by their names."""
     fonts = {}
-    for name in sorted(os.listdir(DESCRIPTIONS)):
-        path = os.path.join(DESCRIPTIONS, name)
+    for name in sorted(it for it in os.listdir(DATA) if it.endswith(".json")):
+        path = os.path.join(DATA, name)
         run = subprocess.run([*shlex.split(program), "make", path], stdout=subprocess.PIPE, check=False)
         if run.returncode != 0:
             sys.exit(f"{path} is not made")

@@ -74,7 +74,7 @@ def job_of(words, parent):
     if "--crate-name" not in words:
         return parent
     name = words[words.index("--crate-name") + 1]
-    line = " ".join(words)
+    line = " ".join(words).replace(TOP, "")
     if "must-fail" in line or "/edit" in line or "seed" in line:
         return name, EDITS
     return name, PROOF if words[1:2] == ["build"] and "--test" not in words else OTHER

@@ -6,6 +6,7 @@ use Rattle.aat_machine_tables.specs.declared.state_table.GenericStateEntry.{Gene
 use Rattle.aat_run.specs.Context.{Moved}
 use Rattle.aat_call_tests.specs.declared.counting.CountingCtx.{CountingCtx}
 
+-- an entry, whose extra is the number of an act
 abbrev pub Entry : Type 0
 Entry = GenericStateEntry ℕ
 
@@ -13,13 +14,16 @@ Entry = GenericStateEntry ℕ
 abbrev pub IsFresh : CountingCtx → Type 0
 IsFresh r = r.count ≡ 0
 
+-- an entry with a number acts at each glyph
 abbrev pub actionable : Entry → CountingCtx → ℕ → ℕ → Bool
 actionable e r p n = is_present e.extra && nat_lt p n
 
+-- the glyph at the cursor gets the bit 256
 abbrev pub masked : Buffer → Buffer
 masked b =
     with_info b b.cursor (record (glyph_at b.line b.cursor) { mask = bit_or (glyph_at b.line b.cursor).mask 256 })
 
+-- an act is counted, and marks its glyph
 abbrev pub act : Entry → CountingCtx → Buffer → Moved CountingCtx
 act e r b =
     if actionable e r b.cursor (length b.line)

@@ -1,6 +1,6 @@
 //! Where the lines of contextual, insertion and noncontextual subtables can be cut: the run over a line leaves there
-//! what the runs over its two parts leave. So do subtables of which `aat_cuts` finds no reason why they are not settled
-//! (of insertion that is not plain but for masks). And which of the examples of cuts are settled.
+//! what the runs over its two parts leave. So do subtables that `aat_cuts` finds settled (of insertion that is not plain
+//! but for masks).
 //!
 //! ```
 //! laws::settled_contextual_cut(); // Its clause, the theorem, is known from here on. The call does nothing.

@@ -1,7 +1,7 @@
 //! Where the line of a state machine can be cut: the theorem of the driver, over the laws of a machine alone.
 //!
 //! ```
-//! unmarked_cut_leaves_parts::<T, C>();
+//! laws::unmarked_cut_leaves_parts::<T, C>();
 //! ```
 #![tactic(auto)]
 

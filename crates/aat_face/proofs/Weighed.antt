@@ -18,7 +18,7 @@ use Rattle.aat_bytes.specs.declared.tags.TheConstants.{ANKR, FEAT, KERN, KERX, M
 use Rattle.aat_lookup.specs.FeatureNames.{kind_of}
 use Rattle.aat_lookup.specs.Keys.{first, first_fall}
 use Rattle.aat_lookup.specs.declared.feat.FeatureName.{FeatureName}
-use Rattle.aat_lookup.specs.inside.GlyphSpans.{glyph_span}
+use Rattle.aat_lookup.specs.GlyphSpans.{glyph_span}
 use Rattle.aat_read_kern.specs.Kern.{KernValue, kern_of}
 use Rattle.aat_read_kern.specs.Weights.{kern_weight}
 use Rattle.aat_read_kern.proofs.TableBounded.{kern_bounded}

@@ -1,6 +1,6 @@
-//! What a person reads of a font: the tables of its file, its features, its chains and its kerning, a line for each
-//! fact; all that its tables have ([`write_face`]); and which flags each chain has over which clusters for a font and
-//! requests, and which of its subtables are on there ([`inspect`]), also as a table ([`Table`]).
+//! What a person reads of a font: its tables, features, chains and kerning, a line for each fact; all that its tables
+//! have ([`write_face`]); and which flags each chain has over which clusters for a font and requests, and which of its
+//! subtables are on there ([`inspect`], [`Table`]).
 //!
 //! ```
 //! write_inspection(alloc, &mut out, &file, 0, &face)?;

@@ -2,7 +2,8 @@
 ghost use Rattle.std.specs.Prelude.{◌≡◌, ◌+◌, ◌*◌, ◌<◌, ◌≤◌, ℕ, IfOk, length, slice_range};
 ghost use Rattle.aat_lookup.specs.Keys.{IsRising};
 ghost use Rattle.aat_kerning_tables.specs.Pairs.{key_of_pair};
-ghost use Rattle.aat_kerning_tables.specs.inside.Lefts.{left_count, AreLeftStarts, BeginAt, KernsAlike, LeftsWithin};
+ghost use Rattle.aat_kerning_tables.specs.LeftGlyphs.{left_count};
+ghost use Rattle.aat_kerning_tables.specs.inside.Lefts.{AreLeftStarts, BeginAt, KernsAlike, LeftsWithin};
 ghost use Rattle.aat_kerning_tables.specs.inside.Rights.{may_have, TellRights};
 
 use crate::rights::{may_have, rights_from};

@@ -1,3 +1,4 @@
+-- The first row that is not above the one before it, by how far rows were compared.
 use Rattle.std.proofs.Common.{◌≡◌, ℕ, ◌-◌, ◌≤◌, List, [], ◌∷◌, length, get_or, drop, None, refl, sym}
 use Rattle.std.proofs.lemmas.List.{drop_all}
 use Rattle.aat_lookup.specs.Keys.{first_fall, fall_after}

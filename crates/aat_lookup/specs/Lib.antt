@@ -1,4 +1,5 @@
 pub mod FeatureNames
+pub mod GlyphSpans
 pub mod Keys
 pub mod LookupExamples
 pub mod Moves

@@ -1,4 +1,3 @@
 pub mod Dense
-pub mod GlyphSpans
 pub mod Ordered
 pub mod Walks

@@ -2,7 +2,8 @@
 ghost use Rattle.std.specs.Prelude.{◌≡◌, ◌+◌, ◌<◌, ◌≤◌, IfOk, IfSome, length};
 ghost use Rattle.aat_lookup.specs.Keys.{first, value_in, IsRising};
 ghost use Rattle.aat_lookup.specs.Moves.{AreMovesOf};
-ghost use Rattle.aat_lookup.specs.inside.Dense.{span_count, value_over, AnswersAsPairs, AnswersOver, PairsWithin};
+ghost use Rattle.aat_lookup.specs.GlyphSpans.{span_count};
+ghost use Rattle.aat_lookup.specs.inside.Dense.{value_over, AnswersAsPairs, AnswersOver, PairsWithin};
 
 use crate::cells::{append_values, cell_at};
 use crate::class_array::ClassArray;

@@ -1,7 +1,6 @@
-//! Fonts made of a description in JSON, by the writers: for tests, and for a person who tries a table out.
-//!
-//! A description is an object. `units_per_em` and `glyphs` have to be there; what else is absent is not written. A glyph
-//! is named by its name or its number, and glyphs have their numbers in the order of the list. docs/MAKE.md has the keys.
+//! Fonts made of a description in JSON, by the writers: for tests, and for a person who tries a table out. What a
+//! description has of a font is written, and nothing else; `units_per_em` and `glyphs` have to be there. docs/MAKE.md
+//! leads through it.
 //!
 //! ```
 //! let bytes = make_font(alloc, description)?;

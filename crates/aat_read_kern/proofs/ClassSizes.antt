@@ -7,7 +7,7 @@ use Rattle.std.proofs.Math.Nat.{div-le_self}
 use Rattle.std.proofs.lemmas.Bool.{le-leb}
 use Rattle.std.proofs.lemmas.List.FromFn.{get_or-map-range_with_len, length-map-range_with_len}
 use Rattle.aat_lookup.specs.Keys.{first}
-use Rattle.aat_lookup.specs.inside.GlyphSpans.{glyph_span}
+use Rattle.aat_lookup.specs.GlyphSpans.{glyph_span}
 use Rattle.aat_read_lookup.specs.Sizes.{cells_beside, pairs_size}
 use Rattle.aat_read_lookup.proofs.ReadLayouts.{at_most}
 

@@ -8,7 +8,7 @@ use Rattle.aat_bytes.specs.Faults.{after}
 use Rattle.aat_bytes.specs.declared.error.Fault.{Fault}
 use Rattle.aat_bytes.specs.declared.tag.Tag.{Tag}
 use Rattle.aat_lookup.specs.Keys.{first, first_fall}
-use Rattle.aat_lookup.specs.inside.GlyphSpans.{glyph_span}
+use Rattle.aat_lookup.specs.GlyphSpans.{glyph_span}
 use Rattle.aat_read_lookup.specs.Kept.{kept_count, layout_segments}
 use Rattle.aat_read_lookup.specs.Layouts.{glyphs_of, has_offset, layout_at, record_size, segments_of, unit_bytes}
 use Rattle.aat_read_lookup.specs.LongLaws as long

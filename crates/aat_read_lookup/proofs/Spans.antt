@@ -5,7 +5,7 @@ use Rattle.std.proofs.lemmas.List.{append-nil, get_or-append-add, length-append}
 use Rattle.std.proofs.lemmas.List.Sums.{sum_by-cons}
 use Rattle.std.proofs.lemmas.List.FromFn.{get_or-map-range_with_len, length-map-range_with_len}
 use Rattle.aat_lookup.specs.Keys.{first}
-use Rattle.aat_lookup.specs.inside.GlyphSpans.{glyph_span}
+use Rattle.aat_lookup.specs.GlyphSpans.{glyph_span}
 use Rattle.aat_read_lookup.specs.Layouts.{end_before, glyphs_of, segment_of, unit_segments}
 use Rattle.aat_read_lookup.specs.Lookups.{pairs_of}
 use Rattle.aat_read_lookup.specs.Segments.{end_of, segment_pairs, value_at}

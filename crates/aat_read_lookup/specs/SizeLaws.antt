@@ -2,7 +2,7 @@
 use Rattle.std.specs.Prelude.{◌≡◌, ℕ, ◌+◌, ◌*◌, ◌-◌, ◌≤◌, List, length, Ok, None}
 use Rattle.aat_bytes.specs.declared.tag.Tag.{Tag}
 use Rattle.aat_lookup.specs.Keys.{first, first_fall}
-use Rattle.aat_lookup.specs.inside.Dense.{span_count}
+use Rattle.aat_lookup.specs.GlyphSpans.{span_count}
 use Rattle.aat_read_lookup.specs.Lookups.{lookup_at}
 use Rattle.aat_read_lookup.specs.Sizes.{lookup_bytes_at, lookup_size_at, pairs_size}
 

@@ -4,7 +4,7 @@ use Rattle.aat_bytes.specs.Faults.{after}
 use Rattle.aat_bytes.specs.declared.error.Fault.{Fault}
 use Rattle.aat_bytes.specs.declared.tag.Tag.{Tag}
 use Rattle.aat_lookup.specs.Keys.{first}
-use Rattle.aat_lookup.specs.inside.GlyphSpans.{glyph_span}
+use Rattle.aat_lookup.specs.GlyphSpans.{glyph_span}
 use Rattle.aat_read_lookup.specs.Kept.{layout_segments}
 use Rattle.aat_read_lookup.specs.Layouts.{layout_at, unit_bytes}
 use Rattle.aat_read_lookup.specs.Lookups.{pairs_of}

@@ -1,8 +1,6 @@
-//! Readers of lookups and of the feature name table.
-//!
-//! A lookup is checked before any memory is asked for. Whatever its bytes say, it has at most 65,536 glyphs, and takes
-//! at most 7 bytes of memory for each byte that it is read from. Values have 16 bits, or 32 in the calls whose names say
-//! `long`.
+//! Readers of lookups and of the feature name table. A lookup is checked before any memory is asked for: it has at most
+//! 65,536 glyphs, and takes at most 7 bytes of memory for each byte that it is read from. Values have 16 bits, or 32 in
+//! the calls whose names say `long`.
 //!
 //! ```
 //! let lookup = read_lookup(alloc, table, &bytes, place, glyph_count)?;

@@ -1,7 +1,7 @@
 //! How much memory a lookup that is read takes, and how many bytes it is read from.
 ghost use Rattle.std.specs.Prelude.{◌≡◌, ◌+◌, ◌*◌, ◌^◌, ◌≤◌, ◌<◌};
 ghost use Rattle.aat_lookup.specs.Keys.{first};
-ghost use Rattle.aat_lookup.specs.inside.GlyphSpans.{glyph_span};
+ghost use Rattle.aat_lookup.specs.GlyphSpans.{glyph_span};
 ghost use Rattle.aat_read_lookup.specs.LongSizes.{long_bytes_at};
 ghost use Rattle.aat_read_lookup.specs.Lookups.{pairs_of};
 ghost use Rattle.aat_read_lookup.specs.Sizes.{bytes_of, cells_beside, is_spread, layout_size, lookup_bytes_at, lookup_size_at, pairs_size};

@@ -1,6 +1,6 @@
 -- What pairs weigh that are read: the bytes of memory that they take.
 use Rattle.std.specs.Prelude.{ℕ, ℤ, ◌+◌, ◌*◌, List, length}
-use Rattle.aat_kerning_tables.specs.inside.Lefts.{left_count}
+use Rattle.aat_kerning_tables.specs.LeftGlyphs.{left_count}
 use Rattle.aat_read_pairs.specs.declared.weights.TheConstants.{PAIR_SIZE, START_SIZE}
 
 -- pairs that are listed, and the starts and words beside them

@@ -1,7 +1,6 @@
-//! A shaper, which is what a program takes for texts: glyphs with clusters go in, with features over ranges of
-//! clusters, and the glyphs to be drawn come out, with their positions, and with where the text may be broken. A
-//! program that makes the calls one by one takes `aat_layout`, and [`line_breaker`] for where a line that it kerned may
-//! be cut.
+//! A shaper, which is what a program takes for texts: glyphs with clusters and features go in, and the glyphs to be drawn
+//! come out, with their positions, and with where the text may be broken. A program that makes the calls one by one
+//! takes `aat_layout`, and [`line_breaker`].
 //!
 //! ```
 //! shaper.shape(Direction::LeftToRight, &text, &features)?;

@@ -29,6 +29,16 @@ use std::alloc::{AllocError, Allocator, Global};
 use std::marker::Model;
 
 /// A shaper of texts of a font. It is made once for a font, shapes many texts, and keeps its memory between them.
+///
+/// ```
+/// let font = hb_font_t::new(tables, None, Some(advances));
+/// let mut shaper = Shaper::new(alloc, &font);
+/// let text = [(5, 0), (5, 1), (6, 2), (5, 3)].map(|(id, cluster)| TextGlyph::new(id, cluster));
+/// shaper.shape(Direction::LeftToRight, &text, &[parse_feature("smcp")?])?;
+/// for glyph in shaper.glyphs() {
+///     writeln!(out, "{} {}", glyph.glyph_id, glyph.x_advance)?;
+/// }
+/// ```
 #[derive(Drop)]
 pub struct Shaper<'f, A: Allocator + Copy = Global> {
     font: &'f hb_font_t,

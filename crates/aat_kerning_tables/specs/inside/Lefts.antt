@@ -1,7 +1,6 @@
 -- Where the pairs of each left glyph begin. No contract but those of the pairs and their starts cites this.
-use Rattle.std.specs.Prelude.{◌≡◌, ◌+◌, ◌*◌, ◌/◌, ◌<◌, ◌≤◌, ℕ, ℤ, pos, List, length, slice_index_or}
+use Rattle.std.specs.Prelude.{◌≡◌, ◌+◌, ◌*◌, ◌<◌, ◌≤◌, ℕ, ℤ, List, length, slice_index_or}
 use Rattle.aat_kerning_tables.specs.Pairs.{key_of_pair, kerning_of}
-use Rattle.aat_lookup.specs.inside.GlyphSpans.{cell_count}
 use Rattle.aat_lookup.specs.inside.Walks.{Parts}
 
 -- the left glyph of each pair is one of so many from the lowest on
@@ -24,11 +23,3 @@ KernsAlike left xs ys = (right : ℕ) → right < 65536 → kerning_of xs left r
 abbrev pub AreLeftStarts : ℕ → List ℕ → List (ℕ × ℕ × ℤ) → Type 0
 AreLeftStarts lowest starts pairs =
     BeginAt lowest starts (length starts) pairs × (0 < length starts → LeftsWithin lowest (length starts) pairs)
-
--- the left glyph of a pair
-abbrev pub left_glyph : ℕ × ℕ × ℤ → ℕ
-left_glyph p = key_of_pair p / 65536
-
--- the number of starts over the left glyphs of pairs, at most about 8 for each pair
-abbrev pub left_count : List (ℕ × ℕ × ℤ) → ℕ
-left_count pairs = cell_count left_glyph (0, 0, pos 0) 8 pairs

@@ -5,7 +5,6 @@ use Rattle.aat_lookup.specs.declared.dense.Dense.{Dense}
 use Rattle.aat_lookup.specs.declared.dense.Dense.TheVariants.{Array, Moves, Classes, Pages, Search}
 use Rattle.aat_lookup.specs.Keys.{first, value_in}
 use Rattle.aat_lookup.specs.Moves.{place_over, AreMoved}
-use Rattle.aat_lookup.specs.inside.GlyphSpans.{cell_count}
 
 -- the value of a glyph in an array over the glyphs from the lowest on, none outside it
 abbrev pub value_over : ℕ → List (Option ℕ) → ℕ → Option ℕ
@@ -59,10 +58,6 @@ AnswersAsPairs (Moves array) pairs = AreMoved array.lowest array.cells.items pai
 AnswersAsPairs (Classes array) pairs = AnswersAsClasses array.missing array.lowest array.cells.items pairs
 AnswersAsPairs (Pages pages) pairs = AnswersOnPages pages.starts.items pages.cells.items pairs
 AnswersAsPairs Search pairs = Unit
-
--- the number of cells of an array over the glyphs of pairs, at most about 32 for each pair
-abbrev pub span_count : List (ℕ × ℕ) → ℕ
-span_count pairs = cell_count first (0, 0) 32 pairs
 
 -- the glyph of each pair is one of so many from the lowest on
 abbrev pub PairsWithin : ℕ → ℕ → List (ℕ × ℕ) → Type 0

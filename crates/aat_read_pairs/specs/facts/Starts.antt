@@ -2,8 +2,8 @@
 use Rattle.std.proofs.Common.{◌≡◌, ℕ, ℤ, ◌+◌, ◌*◌, ◌/◌, ◌≤◌, List, length, Bool, true, false, cond, refl, arith, ◌==◌}
 use Rattle.std.specs.Prelude.{nat_lt}
 use Rattle.std.proofs.lemmas.Bool.{ltb-false}
-use Rattle.aat_lookup.specs.inside.GlyphSpans.{glyph_span}
-use Rattle.aat_kerning_tables.specs.inside.Lefts.{left_count, left_glyph}
+use Rattle.aat_lookup.specs.GlyphSpans.{glyph_span}
+use Rattle.aat_kerning_tables.specs.LeftGlyphs.{left_count, left_glyph}
 
 starts_by : (b c : Bool) (n span : ℕ) → (n == 0) ≡ b → nat_lt n (span / 8) ≡ c
     → cond b 0 (cond c 0 span) ≤ 8 * n + 7
