@@ -90,7 +90,8 @@ class Meter:
         found = processes()
         for pid in below(self.root, found):
             parent, seconds, words = found.get(pid, (0, 0, []))
-            job = self.jobs.setdefault(pid, job_of(words, self.jobs.get(parent)))
+            job = job_of(words, self.jobs.get(parent)) or self.jobs.get(pid)
+            self.jobs[pid] = job
             if job is not None:
                 self.seconds[pid] = (job, max(seconds, self.seconds.get(pid, (job, 0))[1]))
 
