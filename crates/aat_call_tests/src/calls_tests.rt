@@ -1,12 +1,12 @@
 //! A caller of the layer call by call: a font's tables, a line of glyphs, a request over a part of it, substitution,
 //! and what comes out. Its one error takes those of all calls by `?`.
-use crate::machines::drop_font;
 use aat_layout::buffer::{BufferError, hb_buffer_t, hb_glyph_info_t};
 use aat_layout::font::{
     Chain, ChainFeature, Coverage, FaceTables, Feat, Feature, FeatureName, Lookup, Morx, Subtable,
     SubtableKind, TableError, hb_font_t, hb_ot_shape_plan_t, hb_tag_t,
 };
 use aat_layout::{AatError, hb_aat_layout_substitute};
+use aat_shape::described::drop_font;
 use std::alloc::{AllocError, Global};
 use std::process::Abort;
 use std::test::Fail;

@@ -1,10 +1,11 @@
 //! A context of a caller, driven over ranges, and over a long line.
 
 use crate::counting::CountingCtx;
-use crate::machines::{Rule, drop_font, rule};
+use crate::machines::{Rule, rule};
 use aat_layout::buffer::{BufferError, hb_buffer_t, hb_glyph_info_t};
 use aat_layout::font::{ExtendedStateTable, FaceTables, GenericStateEntry, hb_font_t};
 use aat_layout::{drive, hb_aat_apply_context_t, range_flags_t};
+use aat_shape::described::drop_font;
 use std::alloc::Global;
 use std::process::Abort;
 use std::test::Fail;

@@ -1,10 +1,10 @@
 //! The printed table of an inspector, on a font of two chains.
-use crate::machines::drop_font;
 use aat_inspection::{Table, inspect};
 use aat_layout::font::{
     Chain, ChainFeature, Coverage, FaceTables, Feat, Feature, FeatureName, Lookup, Morx, Subtable,
     SubtableKind, hb_font_t, hb_tag_t,
 };
+use aat_shape::described::drop_font;
 use std::alloc::Global;
 use std::process::Abort;
 use std::test::Fail;

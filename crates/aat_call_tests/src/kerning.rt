@@ -1,6 +1,5 @@
 //! How a line is kerned, as data, and the fonts of that.
 
-use crate::machines::drop_font;
 use aat_layout::buffer::{BufferError, Direction, GlyphPosition, hb_buffer_t, hb_glyph_info_t};
 use aat_layout::font::{
     Acting, Ankr, EntryData, ExtendedStateTable, FaceTables, GenericStateEntry, Kern,
@@ -8,6 +7,7 @@ use aat_layout::font::{
     Point, Subtable1, Subtable4, hb_font_t, hb_ot_shape_plan_t,
 };
 use aat_layout::{AatError, hb_aat_layout_position, hb_ot_layout_kern};
+use aat_shape::described::drop_font;
 use std::alloc::Global;
 use std::test::Fail;
 

@@ -139,8 +139,3 @@ pub(crate) fn font_of(alloc: Global, last: SubtableKind, count: usize) -> Result
     let morx = Morx::new(vec![in alloc; chain]?)?;
     Ok(hb_font_t::from_tables(FaceTables::default().with_morx(morx)))
 }
-
-/// Drops a font. Who drops fonts by this need not prove how.
-pub(crate) fn drop_font(font: hb_font_t) {
-    drop(font);
-}

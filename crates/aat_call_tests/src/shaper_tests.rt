@@ -1,10 +1,10 @@
 //! A long text of a shaper, and its budget.
 
 use crate::kerning::{Values, kern_machines};
-use crate::machines::drop_font;
 use aat_layout::AatError;
 use aat_layout::buffer::Direction;
 use aat_layout::font::{FaceTables, Lookup, hb_font_t};
+use aat_shape::described::drop_font;
 use aat_shaper::{Shaper, TextGlyph};
 use std::alloc::Global;
 use std::process::Abort;

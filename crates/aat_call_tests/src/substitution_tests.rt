@@ -1,10 +1,11 @@
 //! Substitution of long lines, and at the ends of places, states, indexes and lists.
 
 use crate::cases::{ANY, AT_ENDS, Case, LONG, Left};
-use crate::machines::{drop_font, font_of, subtable_of};
+use crate::machines::{font_of, subtable_of};
 use aat_layout::buffer::{BufferError, hb_buffer_t, hb_glyph_info_t};
 use aat_layout::font::{Lookup, SubtableKind, hb_font_t, hb_ot_shape_plan_t};
 use aat_layout::hb_aat_layout_substitute;
+use aat_shape::described::drop_font;
 use std::alloc::Global;
 use std::process::Abort;
 use std::test::Fail;
