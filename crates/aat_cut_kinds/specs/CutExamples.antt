@@ -6,7 +6,7 @@ use Rattle.aat_buffer.specs.Examples.{buffer_at}
 use Rattle.aat_machine_tables.specs.Table.{Rule, TableValue}
 use Rattle.aat_kinds.specs.Contextual.{Entry}
 use Rattle.aat_kinds.specs.Kinds.{contextual_run}
-use Rattle.aat_cut_laws.specs.Parts.{back_part, front_part}
+use Rattle.aat_cut_kinds.specs.Parts.{back_part, front_part}
 
 -- a line of these glyphs, with a budget
 abbrev pub line_with_budget : ℤ → List (ℕ × ℕ) → Buffer

@@ -11,8 +11,8 @@ use Rattle.aat_run.specs.Outcome.{Outcome}
 use Rattle.aat_kinds.specs.Contextual.{Entry}
 use Rattle.aat_kinds.specs.Insertion as insertion
 use Rattle.aat_kinds.specs.Kinds.{contextual_run, insertion_run, noncontextual_run, reversed_run}
-use Rattle.aat_cut_laws.specs.Greater.{IsUnflagged, greater_at}
-use Rattle.aat_cut_laws.specs.Parts.{LeftInParts, back_part, front_part}
+use Rattle.aat_cut_kinds.specs.Greater.{IsUnflagged, greater_at}
+use Rattle.aat_cut_kinds.specs.Parts.{LeftInParts, back_part, front_part}
 use Rattle.aat_cut_kinds.specs.Settled.{HasEntries, IsPlain, IsSettled}
 
 -- a glyph without its mask

@@ -1,8 +1,13 @@
+pub mod Cut
 pub mod CutExamples
+pub mod CutLaws
 pub mod Cuts
 pub mod EmptyRunExamples
 pub mod FallExamples
+pub mod Greater
+pub mod Open
 pub mod OtherCutExamples
+pub mod Parts
 pub mod PremiseExamples
 pub mod Settled
 pub mod SettledCuts

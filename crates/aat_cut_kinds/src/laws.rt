@@ -1,7 +1,29 @@
 //! Laws of the definitions as theorems. These calls do nothing: what is proved is their contracts.
 
+ghost use Rattle.std.specs.Prelude.{ℕ, Bool};
+ghost use Rattle.aat_buffer.specs.Buffer.{Buffer};
 ghost use Rattle.aat_cut_kinds.specs.Cuts.{AnyBackwardInsertionLeavesParts, AnyInsertionLeavesParts, AnyInsertionLeavesPartsAtFall, BackwardInsertionLeavesParts, ContextualLeavesParts, InsertionLeavesParts, InsertionLeavesPartsAtFall, NoncontextualLeavesParts, ReversedLeavesParts};
 ghost use Rattle.aat_cut_kinds.specs.SettledCuts.{AnySettledBackwardInsertionLeavesParts, AnySettledInsertionLeavesParts, AnySettledInsertionLeavesPartsAtFall, SettledBackwardInsertionLeavesParts, SettledContextualLeavesParts, SettledInsertionLeavesParts, SettledInsertionLeavesPartsAtFall};
+ghost use Rattle.aat_cut_kinds.specs.Cut.{CutLabels, IsLabelledCut, LeavesItsParts, MeetsCutLaws};
+ghost use Rattle.aat_machine_tables.specs.Table.{TableValue};
+ghost use Rattle.aat_machine_tables.specs.declared.state_table.GenericStateEntry.{GenericStateEntry};
+ghost use Rattle.aat_run.specs.Context.{machine_with};
+ghost use Rattle.aat_run.specs.Driven.{context_from};
+
+use aat_machine_tables::Acting;
+use aat_run::driver_context_t;
+
+/// Where a machine meets the laws of a cut by labels of its states, which admit the line and its two parts, and its run
+/// from fresh registers is on at a place inside the line, comes to the end of the line, and leaves the cut there without
+/// a mark by the labels, and some of the budget, the line that the run leaves is that which its front part leaves, and behind it that
+/// which its back part leaves, and no less of the budget is left of either part.
+pub fn unmarked_cut_leaves_parts<T: Acting, C: driver_context_t<T>>()
+    ensures { (on : ℕ → Bool) (table : TableValue (GenericStateEntry T)) (r : C) (labels : CutLabels C)
+        (q : ℕ) (b : Buffer) → C.is_fresh r
+        → MeetsCutLaws (machine_with on table C.advances C.actionable C.act) C.fits r labels
+        → IsLabelledCut on table (context_from C.stays_in_place C.advances C.actionable C.act r) labels q b
+        → LeavesItsParts on table (context_from C.stays_in_place C.advances C.actionable C.act r) q b }
+{}
 
 /// Where a settled contextual subtable is on at a start of a cluster, and leaves, of the two glyphs there, the one with
 /// the greater cluster without the mark, and some of the budget, it leaves the glyphs that it leaves of the line up to

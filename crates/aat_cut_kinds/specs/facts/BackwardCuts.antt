@@ -7,7 +7,7 @@ use Rattle.aat_buffer.specs.Marks.{cluster_at}
 use Rattle.aat_glyph.specs.declared.glyph.hb_glyph_info_t.{hb_glyph_info_t}
 use Rattle.aat_kinds.specs.Kinds.{reversed_run}
 use Rattle.aat_run.specs.Outcome.{Outcome}
-use Rattle.aat_cut_laws.specs.Parts.{LeftInParts, back_part, front_part}
+use Rattle.aat_cut_kinds.specs.Parts.{LeftInParts, back_part, front_part}
 use Rattle.aat_cut_kinds.specs.Cuts.{IsUnmarkedBackwardRise, IsUnmarkedFall, LeavesParts}
 
 -- the parts of a line turned round
@@ -18,18 +18,18 @@ module _ {A : Type 0} (q : ℕ) (line : List A) where
   long : length (reverse (drop q line)) ≡ length line - q
   long = length-reverse (drop q line) ∙ length-drop q line
 
-  front_turned : take (length line - q) (reverse line) ≡ reverse (drop q line)
+  pub front_turned : take (length line - q) (reverse line) ≡ reverse (drop q line)
   front_turned = ap (take (length line - q)) turned ∙ take_at (reverse (drop q line)) (reverse (take q line)) (length line - q) long
 
-  back_turned : drop (length line - q) (reverse line) ≡ reverse (take q line)
+  pub back_turned : drop (length line - q) (reverse line) ≡ reverse (take q line)
   back_turned = ap (drop (length line - q)) turned ∙ drop_at (reverse (drop q line)) (reverse (take q line)) (length line - q) long
 
-all_turned : {A : Type 0} (P : A → Type 0) (xs : List A) → All P xs → All P (reverse xs)
+pub all_turned : {A : Type 0} (P : A → Type 0) (xs : List A) → All P xs → All P (reverse xs)
 all_turned P xs all k d within =
     let same = length-reverse xs in
     rw (get_or-reverse xs k d (omega (arith, same, within))) (all (length xs - 1 - k) d (omega (arith, same, within)))
 
-parts_turned : (whole front back : Buffer) → LeftInParts whole front back → LeftInParts (reversed whole) (reversed back) (reversed front)
+pub parts_turned : (whole front back : Buffer) → LeftInParts whole front back → LeftInParts (reversed whole) (reversed back) (reversed front)
 parts_turned whole front back parts =
     record { line = ap reverse parts.line ∙ reverse-append front.line back.line; front_budget = parts.back_budget; back_budget = parts.front_budget }
 

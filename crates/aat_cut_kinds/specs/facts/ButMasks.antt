@@ -10,7 +10,7 @@ use Rattle.aat_run.specs.Budget.{operations_left}
 use Rattle.aat_run.specs.Outcome.{Outcome}
 use Rattle.aat_kinds.specs.Insertion.{Entry}
 use Rattle.aat_kinds.specs.Kinds.{insertion_run, reversed_run}
-use Rattle.aat_cut_laws.specs.Parts.{back_part, front_part}
+use Rattle.aat_cut_kinds.specs.Parts.{back_part, front_part}
 use Rattle.aat_cut_kinds.specs.Cuts.{IsUnmarkedBackwardRise, IsUnmarkedFall, IsUnmarkedRise, LeavesParts, LeavesPartsButMasks, unmasked, without_masks}
 use Rattle.aat_cut_kinds.specs.Settled.{HasEntries}
 use Rattle.aat_cut_kinds.specs.facts.BackwardCuts.{fall_of_rise, turned_leaves_parts}

@@ -14,8 +14,8 @@ use Rattle.aat_lookup.specs.Keys.{value_in}
 use Rattle.aat_run.specs.Context.{Moved}
 use Rattle.aat_kinds.specs.Contextual.{Entry, Registers, act, answer_of, at_cursor, at_mark, behind_cursor, behind_mark, can_act, changed_by, replaced_at, with_mark}
 use Rattle.aat_kinds.specs.Values.{with_value}
-use Rattle.aat_cut_laws.specs.Parts.{followed_by, moved_on}
-use Rattle.aat_cut_laws.specs.facts.Spans.{unsafe_in_back, unsafe_in_front}
+use Rattle.aat_cut_kinds.specs.Parts.{followed_by, moved_on}
+use Rattle.aat_cut_kinds.specs.facts.Spans.{unsafe_in_back, unsafe_in_front}
 use Rattle.aat_cut_kinds.specs.Settled.{is_answered, sets_mark}
 
 -- inside a line an act is done
@@ -127,6 +127,13 @@ module _ (classes : Option (List (ℕ × ℕ))) (lookups : List (List (ℕ × �
     pub registers_of : can_act r b.cursor (length b.line) ≡ true → (act classes lookups e r b).registers ≡ cond (sets_mark lookups e) (record { mark = b.cursor; is_set = true }) r
     unfolding act marked_here
     registers_of can = rw can (by_answers (is_answered lookups e.extra.mark_index) (is_answered lookups e.extra.current_index) is_first is_second)
+
+  -- an entry that names a missing lookup for the marked glyph leaves the buffer
+  pub missing_act : (e : Entry) (r : Registers) (b : Buffer) → is_answered lookups e.extra.mark_index ≡ false → (act classes lookups e r b).buffer ≡ b
+  unfolding act
+  missing_act e r b missing =
+      let none : at_mark classes lookups e r b ≡ None = is_first e r b ∙ ap (λ (t : Bool). cond t (Some (first e r b)) None) missing in
+      rw none (chosen (λ (left : Moved Registers). left.buffer ≡ b) (can_act r b.cursor (length b.line)) (record { registers = r; buffer = b }) (record { registers = r; buffer = b }) (λ _. refl) (λ _. refl))
 
   -- a buffer that is seen otherwise
   module _ (W : Buffer → Buffer) where

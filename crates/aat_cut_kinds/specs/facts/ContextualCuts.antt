@@ -2,6 +2,8 @@
 use Rattle.std.proofs.Common.{◌≡◌, ◌≢◌, ◌∙◌, ◌⊎◌, inl, inr, ℕ, ℤ, ◌+◌, ◌-◌, ◌<◌, ◌≤◌, ◌&&◌, ◌||◌, Bool, true, false, cond, List, ◌++◌, length, nat_lt, Option, Some, refl, ap, subst, sym, arith, length-append, length-take}
 use Rattle.std.proofs.Math.Seq.{map-set_same}
 use Rattle.std.proofs.lemmas.Bool.{cases_lt}
+use Rattle.std.proofs.lemmas.Bool.Decides.{nat_tests}
+use Rattle.std.specs.Prelude.{unwrap_or}
 use Rattle.aat_buffer.specs.Buffer.{Buffer, glyph_at, no_glyph}
 use Rattle.aat_buffer.specs.Marks.{cluster_at}
 use Rattle.aat_buffer.specs.facts.Lines.{length_unsafe}
@@ -16,18 +18,20 @@ use Rattle.aat_run.specs.facts.MachineRuns.{buffer_kept}
 use Rattle.aat_kinds.specs.Contextual.{Entry, IsFit, Registers, act, can_act, context, fresh}
 use Rattle.aat_kinds.specs.Kinds.{contextual_run}
 use Rattle.aat_kinds.specs.facts.ContextualLaws as laws
-use Rattle.aat_cut_laws.specs.CutLaws.{ActsOnBoth, IsClosed, IsCutLawful, IsIdle, IsLocal, IsMovedOn, KeepsLine, KeepsMarks, MovesOn}
-use Rattle.aat_cut_laws.specs.Greater.{IsFlaggedAt, clusters}
-use Rattle.aat_cut_laws.specs.Parts.{moved_on}
-use Rattle.aat_cut_laws.specs.facts.ContextCuts.{leaves_its_parts}
-use Rattle.aat_cut_laws.specs.facts.Flags.{IsCalm, calm_masks, calm_unsafe, cut_flags, flag_stays}
-use Rattle.aat_cut_laws.specs.facts.Inside.{at_its_end, not_at_end}
-use Rattle.aat_cut_laws.specs.facts.MarksOnly.{of_unsafe}
+use Rattle.aat_cut_kinds.specs.Cut.{comes_to_end}
+use Rattle.aat_cut_kinds.specs.CutLaws.{ActsOnBoth, IsClosed, IsCutLawful, IsIdle, IsLocal, IsMovedOn, KeepsLine, KeepsMarks, KeepsSound, MovesOn}
+use Rattle.aat_cut_kinds.specs.Greater.{IsFlaggedAt, clusters}
+use Rattle.aat_cut_kinds.specs.Parts.{moved_on}
+use Rattle.aat_cut_kinds.specs.facts.Complete.{complete_runs_through}
+use Rattle.aat_cut_kinds.specs.facts.ContextCuts.{leaves_its_parts}
+use Rattle.aat_cut_kinds.specs.facts.Flags.{IsCalm, calm_masks, calm_unsafe, cut_flags, flag_stays}
+use Rattle.aat_cut_kinds.specs.facts.Inside.{at_its_end, not_at_end}
+use Rattle.aat_cut_kinds.specs.facts.MarksOnly.{of_unsafe}
 use Rattle.aat_cut_kinds.specs.Cuts.{IsUnmarkedCut, LeavesParts}
 use Rattle.aat_cut_kinds.specs.Settled.{IsClassOfGlyph, IsSettledBy, Labels, may_replace, sets_mark}
 use Rattle.aat_cut_kinds.specs.facts.ContextualActs.{act_in_back, act_in_front, acts_inside, idle_act, registers_of}
 
-neither : (a b : Bool) → (a || b) ≡ false → (a ≡ false) × (b ≡ false)
+pub neither : (a b : Bool) → (a || b) ≡ false → (a ≡ false) × (b ≡ false)
 neither true b e = absurd (cc)
 neither false b e = (refl, e)
 
@@ -39,7 +43,7 @@ first : (a b : Bool) → (a || b) ≡ true → b ≡ false → a ≡ true
 first true b e f = refl
 first false b e f = absurd (cc)
 
-set_acts : (r : Registers) (p n : ℕ) → r.is_set ≡ true → can_act r p n ≡ true
+pub set_acts : (r : Registers) (p n : ℕ) → r.is_set ≡ true → can_act r p n ≡ true
 set_acts r p n set = rw set (by_place (nat_lt p n))
   where
     by_place : (t : Bool) → (t || true) ≡ true
@@ -47,25 +51,25 @@ set_acts r p n set = rw set (by_place (nat_lt p n))
     by_place false = refl
 
 -- registers that fit mark a place within a line that is not empty
-mark_within : (r : Registers) (p n : ℕ) → IsFit r p n → 0 < n → r.mark < n
+pub mark_within : (r : Registers) (p n : ℕ) → IsFit r p n → 0 < n → r.mark < n
 mark_within r p n fit some = by_set r.is_set refl
   where
     by_set : (t : Bool) → r.is_set ≡ t → r.mark < n
     by_set true is = fit.0 is
     by_set false is = let none = fit.1 is in omega (arith, none, some)
 
-by_equation : (gs : List hb_glyph_info_t) (z : ℤ) (whole part : Buffer) → whole ≡ moved_on gs z part → operations_left z ≤ operations_left part.max_ops → IsMovedOn gs whole part
+pub by_equation : (gs : List hb_glyph_info_t) (z : ℤ) (whole part : Buffer) → whole ≡ moved_on gs z part → operations_left z ≤ operations_left part.max_ops → IsMovedOn gs whole part
 by_equation gs z whole part is low =
     let budget : whole.max_ops ≡ z = ap (λ (b : Buffer). b.max_ops) is in
     record { buffer = is ∙ ap (λ y. moved_on gs y part) (sym budget); budget = rw budget low }
 
 module _ (classes : Option (List (ℕ × ℕ))) (lookups : List (List (ℕ × ℕ))) where
   -- clusters stay, and flags
-  record IsSteady (old new : Buffer) : Type 0 where
-    clusters_kept : clusters new.line ≡ clusters old.line
-    calm : IsCalm old.line new.line
+  pub record IsSteady (old new : Buffer) : Type 0 where
+    pub clusters_kept : clusters new.line ≡ clusters old.line
+    pub calm : IsCalm old.line new.line
 
-  steady : (e : Entry) (r : Registers) (b : Buffer) → IsSteady b (act classes lookups e r b).buffer
+  pub steady : (e : Entry) (r : Registers) (b : Buffer) → IsSteady b (act classes lookups e r b).buffer
   steady e r b =
       laws.of_act classes lookups (IsSteady b)
       (λ d i j k. record {
@@ -87,13 +91,13 @@ module _ (classes : Option (List (ℕ × ℕ))) (lookups : List (List (ℕ × �
     unfolding m
     names_none e quiet = neither (is_present e.extra.mark_index) (is_present e.extra.current_index) (quiet.quiet fresh 0 1 (omega arith))
 
-    is_local : IsLocal m IsFit
+    is_local : (Left Right : List hb_glyph_info_t → Type 0) → IsLocal m IsFit Left Right
     unfolding m
-    is_local = record {
+    is_local Left Right = record {
       tested = λ e r s p n i k below within. rw (acts_inside r p n below, acts_inside s i k within) refl;
       inside = λ e r b fit below. let kept = laws.keeps classes lookups e r b fit in rw (kept.cursor, kept.length) below;
-      unseen = λ e r b gs fit below. act_in_front classes lookups gs e r b below (mark_within r b.cursor (length b.line) fit (omega (arith, below)));
-      idle = λ e r b quiet. let none = names_none e quiet in idle_act classes lookups e r b none.0 none.1;
+      unseen = λ e r b gs fit below left right. act_in_front classes lookups gs e r b below (mark_within r b.cursor (length b.line) fit (omega (arith, below)));
+      idle = λ e r b quiet. let none = names_none e quiet in inl (idle_act classes lookups e r b none.0 none.1);
     }
 
     module _ (labels : Labels) (settled : IsSettledBy labels table lookups) where
@@ -108,12 +112,22 @@ module _ (classes : Option (List (ℕ × ℕ))) (lookups : List (List (ℕ × �
       Right : List hb_glyph_info_t → Type 0
       Right line = Unit {0}
 
+      -- and so may the whole line
+      Sound : ℕ → List hb_glyph_info_t → Type 0
+      Sound level line = Unit {0}
+
       dead : labels.is_live 0 ≡ true → ⊥
       dead live = let first = settled.tidy.first in absurd (cc)
 
       is_closed : IsClosed m IsFit Reached
       unfolding m Reached
-      is_closed = record { first = settled.complete.first; entries = settled.complete.entries }
+      is_closed = record {
+        first = settled.complete.first;
+        entries = λ t k e known is.
+            let there = settled.complete.entries t k known in
+            let same : there.0 ≡ e = ap (λ (o : Option Entry). unwrap_or o e) (sym there.1 ∙ is) in
+            subst (λ (x : Entry). labels.is_reached x.new_state ≡ true) same there.2;
+      }
 
       -- the class at a glyph is that of a glyph
       of_glyph : (b : Buffer) → b.cursor < length b.line → IsClassOfGlyph table (class_at (class_of table) b)
@@ -121,7 +135,7 @@ module _ (classes : Option (List (ℕ × ℕ))) (lookups : List (List (ℕ × �
 
       module _ (gs : List hb_glyph_info_t) (Marked : List hb_glyph_info_t → Type 0) where
         On : ℕ → Entry → Registers → Registers → ℤ → Buffer → Type 0
-        On t e r s z b = ActsOnBoth m IsFit gs Reached (Alike gs) Marked Right t e r s z b
+        On t e r s z b = ActsOnBoth m IsFit gs Reached fresh (Alike gs) Marked Right Sound t e r s z b
 
         both_live : (t : ℕ) (e : Entry) (r s : Registers) (z : ℤ) (b : Buffer) → On t e r s z b → labels.is_live t ≡ true
             → (act classes lookups e r (moved_on gs z b)).buffer ≡ moved_on gs z (act classes lookups e s b).buffer
@@ -212,10 +226,10 @@ module _ (classes : Option (List (ℕ × ℕ))) (lookups : List (List (ℕ × �
             quietly : (y : Entry) → is_present y.extra.mark_index ≡ false → is_present y.extra.current_index ≡ false → may_replace y ≡ false
             quietly y no_mark no_current = rw (no_mark, no_current) refl
 
-        moves : MovesOn m IsFit gs Reached (Alike gs) Marked Right
+        moves : MovesOn m IsFit gs Reached fresh (Alike gs) Marked Right Sound
         unfolding On Alike m Reached
         moves = record {
-          begun = λ r s n k fit fit_part live. absurd (dead live);
+          begun = λ r n k arrived fit fit_part live. absurd (dead live);
           passed = λ t r s alike live. absurd (dead live);
           moved = λ t e r s z b on.
               let kept = laws.keeps classes lookups e s b on.fits_part in
@@ -223,8 +237,9 @@ module _ (classes : Option (List (ℕ × ℕ))) (lookups : List (List (ℕ × �
           alike = λ t e r s z b on inside.
               let kept = laws.keeps classes lookups e s b on.fits_part in
               registers_alike t e r s z b on (rw (kept.cursor, kept.length) at inside);
-          agreed = λ t e f r s z b on below.
-              agreed_alike t e f r s z b on.is_reached on.front (let front = on.front in omega (arith, front, below)) on.entry on.from_start on.idle on.idle_start on.next on.advances;
+          homed = λ t e r z b at stays home live. absurd (dead live);
+          agreed = λ t e f r z b at same.
+              agreed_alike t e f r fresh z b at.is_reached at.front (let front = at.front in let below = at.more in omega (arith, front, below)) at.entry same.from_start at.idle same.idle_start same.next same.advances;
         }
 
       -- the mark at a cut of a line
@@ -232,10 +247,10 @@ module _ (classes : Option (List (ℕ × ℕ))) (lookups : List (List (ℕ × �
         Left : List hb_glyph_info_t → Type 0
         Left gs = length gs ≡ q
 
-        flags : (gs : List hb_glyph_info_t) → length gs ≡ q → KeepsMarks m IsFit gs (IsFlaggedAt q old) Right
+        flags : (gs : List hb_glyph_info_t) → length gs ≡ q → KeepsMarks m IsFit gs (IsFlaggedAt q old) Right Sound
         unfolding m
         flags gs long = record {
-          cut = λ z b some front more right.
+          cut = λ z b some front more right sound.
               let place : length gs + b.cursor ≡ q = omega (arith, long, front) in
               let within : length gs + b.cursor < length (gs ++ b.line) = omega (arith, front, more, length-append gs b.line) in
               subst (λ (p : ℕ). IsFlaggedAt p old (break_marked_at (moved_on gs z b)).line) place
@@ -243,7 +258,7 @@ module _ (classes : Option (List (ℕ × ℕ))) (lookups : List (List (ℕ × �
           marks = λ b flagged.
               flag_stays q old b.line (break_marked_at b).line (of_unsafe (λ (g : hb_glyph_info_t). g.cluster) (λ bits g. refl) b (Some (b.cursor - 1)) (Some (b.cursor + 1)))
               (calm_unsafe b (Some (b.cursor - 1)) (Some (b.cursor + 1))) flagged;
-          acts = λ e r b fit flagged.
+          acts = λ e r b fit sound flagged.
               let kept = steady e r b in
               flag_stays q old b.line (act classes lookups e r b).buffer.line kept.clusters_kept kept.calm flagged;
           spends = λ e r b fit. let kept = laws.keeps classes lookups e r b fit in rw kept.budget (omega arith);
@@ -260,12 +275,16 @@ module _ (classes : Option (List (ℕ × ℕ))) (lookups : List (List (ℕ × �
         unfolding Right
         back_stays = record { marks = λ b right. tt; acts = λ e r b fit right. tt }
 
+        sound_stays : KeepsSound m IsFit Sound
+        unfolding Sound
+        sound_stays = record { marks = λ b sound. tt; acts = λ e r b fit sound. tt }
+
         -- the laws of a cut
-        is_lawful : IsCutLawful m IsFit Reached Alike (IsFlaggedAt q old) Left Right
+        is_lawful : IsCutLawful m IsFit Reached fresh Alike (IsFlaggedAt q old) Left Right Sound
         unfolding Left
         is_lawful = record {
           front = front_stays;
-          behind = λ gs long. record { local = is_local; closed = is_closed; moves = moves gs (IsFlaggedAt q old); marks = flags gs long; back = back_stays };
+          behind = λ gs long. record { local = is_local Left Right; closed = is_closed; moves = moves gs (IsFlaggedAt q old); marks = flags gs long; back = back_stays; sound = sound_stays };
         }
 
       -- a run keeps the clusters
@@ -277,13 +296,20 @@ module _ (classes : Option (List (ℕ × ℕ))) (lookups : List (List (ℕ × �
           (λ e r d fit same. (steady e r d).clusters_kept ∙ same)
           (λ d same. same) (λ d same. same) (start true b fresh) (laws.fits_fresh (length b.line)) refl
 
+      -- and comes to the end of the line
+      through : (b : Buffer) → comes_to_end on table (context classes lookups) b ≡ true
+      unfolding comes_to_end m Reached
+      through b =
+          let past = complete_runs_through m IsFit (laws.keeps_fit classes lookups) laws.passes_fit (laws.pays classes lookups) Reached settled.complete.first settled.complete.entries (start true b fresh) (laws.fits_fresh (length b.line)) settled.complete.first in
+          grind (arith, nat_tests, past)
+
       -- at an unmarked cut the run leaves the parts
       pub leaves_parts : (q : ℕ) (b : Buffer) → IsUnmarkedCut (contextual_run on classes table lookups) q b on → LeavesParts (contextual_run on classes table lookups) q b
-      unfolding contextual_run m Left Right
+      unfolding contextual_run m Left Right Sound
       leaves_parts q b cut =
           leaves_its_parts on table (context classes lookups) IsFit (laws.keeps_fit classes lookups) laws.passes_fit (laws.pays classes lookups) (laws.keeps_settings classes lookups) (laws.lengthens classes lookups)
           (λ e r d fit none. laws.keeps_positions classes lookups e r d fit ∙ none) laws.fits_fresh
           (λ _. record { length = laws.keeps_length classes lookups; cursor = laws.keeps_cursor classes lookups; positions = laws.keeps_positions classes lookups })
-          Reached Alike (IsFlaggedAt q b.line) (Left q b.line cut.behind_first cut.starts) Right (is_lawful q b.line cut.behind_first cut.starts) q b
-          (let within = cut.before_end in length-take q b.line ∙ omega (arith, within)) tt
-          (record { behind_first = cut.behind_first; before_end = cut.before_end; is_on = cut.is_on; budget = cut.budget; unmarked = λ flagged. flagged (run_keeps_clusters b) cut.unflagged })
+          Reached Alike (IsFlaggedAt q b.line) (Left q b.line cut.behind_first cut.starts) Right Sound (is_lawful q b.line cut.behind_first cut.starts) q b
+          (let within = cut.before_end in length-take q b.line ∙ omega (arith, within)) tt tt
+          (record { behind_first = cut.behind_first; before_end = cut.before_end; is_on = cut.is_on; through = through b; budget = cut.budget; unmarked = λ flagged. flagged (run_keeps_clusters b) cut.unflagged })

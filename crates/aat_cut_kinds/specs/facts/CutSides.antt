@@ -13,8 +13,8 @@ use Rattle.aat_buffer.specs.facts.Lines.{length_slice, range_at}
 use Rattle.aat_lookup.specs.declared.glyph_id.GlyphId.{GlyphId}
 use Rattle.aat_glyph.specs.declared.glyph.hb_glyph_info_t.{hb_glyph_info_t}
 use Rattle.aat_kinds.specs.Insertion.{copies, inserted}
-use Rattle.aat_cut_laws.specs.Greater.{IsUnflagged, clusters}
-use Rattle.aat_cut_laws.specs.facts.Flags.{IsCalm, flagged}
+use Rattle.aat_cut_kinds.specs.Greater.{IsUnflagged, clusters}
+use Rattle.aat_cut_kinds.specs.facts.Flags.{IsCalm, flagged}
 
 -- a line that is not empty, each of whose clusters is such a one
 abbrev pub IsOf : (ℕ → Type 0) → List hb_glyph_info_t → Type 0

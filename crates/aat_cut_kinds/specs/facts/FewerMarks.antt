@@ -9,9 +9,9 @@ use Rattle.aat_lookup.specs.declared.glyph_id.GlyphId.{GlyphId}
 use Rattle.aat_glyph.specs.declared.glyph.hb_glyph_info_t.{hb_glyph_info_t}
 use Rattle.aat_kinds.specs.Insertion.{copies, inserted}
 use Rattle.aat_run.specs.Context.{class_at, cluster_seen, is_at_end, is_inside}
-use Rattle.aat_cut_laws.specs.Greater.{IsUnflagged}
-use Rattle.aat_cut_laws.specs.facts.Flags.{IsCalm, calm_unsafe, flagged}
-use Rattle.aat_cut_laws.specs.facts.MarksOnly.{of_unsafe}
+use Rattle.aat_cut_kinds.specs.Greater.{IsUnflagged}
+use Rattle.aat_cut_kinds.specs.facts.Flags.{IsCalm, calm_unsafe, flagged}
+use Rattle.aat_cut_kinds.specs.facts.MarksOnly.{of_unsafe}
 use Rattle.aat_cut_kinds.specs.Cuts.{IsUnflaggedFrom, unmasked}
 
 -- a glyph that is g but for its mask, and is without the flag where g is

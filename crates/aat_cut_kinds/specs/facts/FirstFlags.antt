@@ -9,8 +9,8 @@ use Rattle.aat_buffer.specs.facts.Order.{same_unsafe}
 use Rattle.aat_lookup.specs.declared.glyph_id.GlyphId.{GlyphId}
 use Rattle.aat_glyph.specs.declared.glyph.hb_glyph_info_t.{hb_glyph_info_t}
 use Rattle.aat_kinds.specs.Insertion.{copies, inserted}
-use Rattle.aat_cut_laws.specs.Greater.{IsUnflagged, clusters}
-use Rattle.aat_cut_laws.specs.facts.Flags.{IsCalm}
+use Rattle.aat_cut_kinds.specs.Greater.{IsUnflagged, clusters}
+use Rattle.aat_cut_kinds.specs.facts.Flags.{IsCalm}
 use Rattle.aat_cut_kinds.specs.facts.CutSides.{IsSided, inserted_cases, put_at, unsafe_flags}
 
 module _ (c : ℕ) where

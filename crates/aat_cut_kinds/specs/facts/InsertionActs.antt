@@ -16,9 +16,9 @@ use Rattle.aat_run.specs.Budget.{has_operations, has_overspent, operations_left,
 use Rattle.aat_run.specs.Context.{Moved}
 use Rattle.aat_kinds.specs.Insertion.{Entry, Registers, act, at_cursor, at_mark, copies, current_count, current_part, inserted, marked_count, put_in, run_for, with_mark}
 use Rattle.aat_kinds.specs.facts.InsertionLaws.{length_inserted}
-use Rattle.aat_cut_laws.specs.CutLaws.{IsMovedOn, left_before}
-use Rattle.aat_cut_laws.specs.Parts.{followed_by, moved_on}
-use Rattle.aat_cut_laws.specs.facts.Spans.{unsafe_in_back, unsafe_in_front}
+use Rattle.aat_cut_kinds.specs.CutLaws.{IsMovedOn, left_before}
+use Rattle.aat_cut_kinds.specs.Parts.{followed_by, moved_on}
+use Rattle.aat_cut_kinds.specs.facts.Spans.{unsafe_in_back, unsafe_in_front}
 
 -- what is left behind a payment
 abbrev pub pay : ℕ → ℤ → ℤ

@@ -1,0 +1,38 @@
+//! Laws of the definitions as theorems. These calls do nothing: what is proved is their contracts.
+
+ghost use Rattle.aat_closing.specs.ClosingCuts.{KindsLeavePartsAtFall, KindsLeavePartsAtRise, ListsLeaveParts};
+ghost use Rattle.aat_closing.specs.Unflagged.{ClosingFlagsAlone, ListsFlagAlone};
+
+/// Whatever its table, with a slot for components: where all clusters before a place inside the line are below some c,
+/// none from there on is, the clusters never fall along the line and merge at its level, the subtable is on at the place,
+/// and its closing run comes to the end of the line, and leaves c open and some of the budget, this run leaves what it
+/// leaves of the line up to there, and behind it what it leaves of the rest, with their masks, and of neither part less of
+/// the budget; and both of these runs come to their ends.
+pub fn open_rise_leaves_parts()
+    ensures { KindsLeavePartsAtRise }
+{}
+
+/// The same where no cluster before the place is below c, all from there on are, and the clusters never rise along the
+/// line, unless the subtable is one of rearrangement.
+pub fn open_fall_leaves_parts()
+    ensures { KindsLeavePartsAtFall }
+{}
+
+/// With a slot for components, the closing runs of subtables in a row, each on at every cluster and in the order of its
+/// coverage, leave the parts of a line as in `open_rise_leaves_parts`, without positions, the cursor at its front, where
+/// all come to their ends, the last leaves c open and some of the budget, and none of rearrangement runs from the other end
+/// of the line. Those of the parts come to their ends too.
+pub fn subtables_leave_parts()
+    ensures { ListsLeaveParts }
+{}
+
+/// The closing run of a subtable leaves what its run leaves, but for the flags of the glyphs, in the same number of turns,
+/// whatever flags stood before.
+pub fn closing_flags_alone()
+    ensures { ClosingFlagsAlone }
+{}
+
+/// The same of subtables one after another, each in the order of its coverage.
+pub fn closing_lists_flag_alone()
+    ensures { ListsFlagAlone }
+{}

@@ -1,5 +1,0 @@
-pub mod Cut
-pub mod CutLaws
-pub mod Greater
-pub mod Parts
-pub mod facts
