@@ -1,8 +1,9 @@
 -- What a run that tells of its open clusters leaves of a line and of its parts.
-use Rattle.std.specs.Prelude.{◌≡◌, ℕ, ◌<◌, ◌≤◌, Bool, true, length, take, drop, None, All}
+use Rattle.std.specs.Prelude.{◌≡◌, ℕ, ◌<◌, ◌≤◌, Bool, true, List, length, take, drop, None, All}
 use Rattle.aat_buffer.specs.Buffer.{Buffer}
 use Rattle.aat_buffer.specs.Clusters.{ClustersMerge, IsFallingLine, IsRisingLine}
 use Rattle.aat_buffer.specs.Marks.{cluster_at}
+use Rattle.aat_glyph.specs.declared.glyph.hb_glyph_info_t.{hb_glyph_info_t}
 use Rattle.aat_run.specs.Budget.{operations_left}
 use Rattle.aat_cut_kinds.specs.Open.{is_open}
 use Rattle.aat_cut_kinds.specs.Parts.{LeftInParts, back_part, front_part}
@@ -52,9 +53,13 @@ module _ (run : Buffer → Told) (on : ℕ → Bool) where
       (c q : ℕ) (b : Buffer) → IsFall c q b → on (cluster_at b.line q) ≡ true → TellsOpen c (run b)
       → ToldInParts (run b) (run (front_part q b)) (run (back_part q b))
 
--- At each rise of a line without positions, the cursor at its front, a run leaves the parts, and tells of them, where it
--- tells that c is open, and leaves some of the budget.
-abbrev pub PartsOfText : (Buffer → Told) → Type 0
-PartsOfText run =
-    (c q : ℕ) (b : Buffer) → b.cursor ≡ 0 → b.positions ≡ None → IsRise c q b → TellsOpen c (run b)
-    → ToldInParts (run b) (run (front_part q b)) (run (back_part q b))
+-- some glyph of a line has a cluster from low on, and below c
+abbrev pub HasBetween : ℕ → ℕ → List hb_glyph_info_t → Type 0
+HasBetween low c line = (k : ℕ) × (k < length line) × (low ≤ cluster_at line k) × (cluster_at line k < c)
+
+-- At each rise to c of a line without positions, the cursor at its front, a run leaves the parts, and tells of them, where
+-- it tells that c is open, and leaves some of the budget, and a glyph whose cluster is from low on and below c.
+abbrev pub PartsOfText : ℕ → ℕ → (Buffer → Told) → Type 0
+PartsOfText low c run =
+    (q : ℕ) (b : Buffer) → b.cursor ≡ 0 → b.positions ≡ None → IsRise c q b → TellsOpen c (run b)
+    → HasBetween low c (run b).buffer.line → ToldInParts (run b) (run (front_part q b)) (run (back_part q b))

@@ -68,6 +68,6 @@ ClosingFlagsAlone =
 -- and so do those of subtables one after another, each in the order of its coverage
 abbrev pub ListsFlagAlone : Type 0
 ListsFlagAlone =
-    (z : Sizes) (on : ℕ → Bool) (subtables : List (Coverage × SubtableKind))
-    → IsBlindTold (told_in_order (λ s. closing_ordered z on s.0 s.1) subtables)
-    (in_order (λ s. ordered_run s.0 (kind_run z on s.1)) subtables)
+    (z : Sizes) (subtables : List ((ℕ → Bool) × Coverage × SubtableKind))
+    → IsBlindTold (told_in_order (λ s. closing_ordered z s.0 s.1 s.2) subtables)
+    (in_order (λ s. ordered_run s.1 (kind_run z s.0 s.2)) subtables)

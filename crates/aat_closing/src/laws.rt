@@ -18,10 +18,11 @@ pub fn open_fall_leaves_parts()
     ensures { KindsLeavePartsAtFall }
 {}
 
-/// With a slot for components, the closing runs of subtables in a row, each on at every cluster and in the order of its
-/// coverage, leave the parts of a line as in `open_rise_leaves_parts`, without positions, the cursor at its front, where
-/// all come to their ends, the last leaves c open and some of the budget, and none of rearrangement runs from the other end
-/// of the line. Those of the parts come to their ends too.
+/// With a slot for components, the closing runs of subtables in a row, each in the order of its coverage, leave the parts of
+/// a line as in `open_rise_leaves_parts`, without positions, the cursor at its front, where all come to their ends, the
+/// last leaves c open, some of the budget, and a glyph with a cluster from some `low` on and below c, all are on at each
+/// cluster from `low` through c, and none of rearrangement runs from the other end of the line. Those of the parts come to
+/// their ends too.
 pub fn subtables_leave_parts()
     ensures { ListsLeaveParts }
 {}

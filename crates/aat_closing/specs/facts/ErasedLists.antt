@@ -50,5 +50,6 @@ ordered_alike z on coverage kind a b same =
     by_order false true e = absurd (cc)
 
 pub lists_alike : ListsFlagAlone
-lists_alike z on subtables =
-    in_order_alike (λ (s : Coverage × SubtableKind). closing_ordered z on s.0 s.1) (λ s. ordered_run s.0 (kind_run z on s.1)) (λ s. ordered_alike z on s.0 s.1) subtables
+lists_alike z subtables =
+    in_order_alike (λ (s : (ℕ → Bool) × Coverage × SubtableKind). closing_ordered z s.0 s.1 s.2) (λ s. ordered_run s.1 (kind_run z s.0 s.2))
+    (λ s. ordered_alike z s.0 s.1 s.2) subtables

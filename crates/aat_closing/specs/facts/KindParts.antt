@@ -53,13 +53,13 @@ told_parts on table x q b it =
     }
 
 -- glyphs of the two parts
-behind_at : (P : ℕ → Type 0) (q k : ℕ) (line : List hb_glyph_info_t) → q ≤ k → k < length line → All (λ (g : hb_glyph_info_t). P g.cluster) (drop q line) → P (cluster_at line k)
+pub behind_at : (P : ℕ → Type 0) (q k : ℕ) (line : List hb_glyph_info_t) → q ≤ k → k < length line → All (λ (g : hb_glyph_info_t). P g.cluster) (drop q line) → P (cluster_at line k)
 behind_at P q k line low within all =
     let place : q + (k - q) ≡ k = omega (arith, low) in
     let read : cluster_at (drop q line) (k - q) ≡ cluster_at line k = ap (λ (g : hb_glyph_info_t). g.cluster) (get_or-drop q line (k - q) no_glyph) ∙ ap (cluster_at line) place in
     rw (← read) (all (k - q) no_glyph (omega (arith, low, within, length-drop q line)))
 
-before_at : (P : ℕ → Type 0) (q k : ℕ) (line : List hb_glyph_info_t) → k < q → q ≤ length line → All (λ (g : hb_glyph_info_t). P g.cluster) (take q line) → P (cluster_at line k)
+pub before_at : (P : ℕ → Type 0) (q k : ℕ) (line : List hb_glyph_info_t) → k < q → q ≤ length line → All (λ (g : hb_glyph_info_t). P g.cluster) (take q line) → P (cluster_at line k)
 before_at P q k line low within all =
     let read : cluster_at (take q line) k ≡ cluster_at line k = ap (λ (g : hb_glyph_info_t). g.cluster) (get_or-take q line k no_glyph low) in
     rw (← read) (all k no_glyph (omega (arith, low, within, length-take q line)))

@@ -1,7 +1,10 @@
--- The closing runs of subtables that are on everywhere are steady, in the order of any coverage.
-use Rattle.std.proofs.Common.{◌≡◌, ℕ, ℤ, ◌<◌, ◌≤◌, Bool, true, false, cond, length, None, refl}
+-- The closing runs of subtables that are on about a place are steady, in the order of any coverage.
+use Rattle.std.proofs.Common.{◌≡◌, ◌∙◌, ◌⊎◌, ℕ, ℤ, ◌<◌, ◌≤◌, Bool, true, false, cond, length, None, inl, inr, sym, arith}
+use Rattle.std.proofs.lemmas.Bool.{cases_lt}
+use Rattle.std.specs.Prelude.{slice_index_or}
 use Rattle.aat_buffer.specs.Buffer.{Buffer, with_max_ops}
 use Rattle.aat_buffer.specs.Clusters.{ClustersMerge, IsRisingLine}
+use Rattle.aat_buffer.specs.Marks.{cluster_at}
 use Rattle.aat_machine_tables.specs.declared.morx.Coverage.{Coverage}
 use Rattle.aat_machine_tables.specs.declared.morx.SubtableKind.{SubtableKind}
 use Rattle.aat_run.specs.Budget.{operations_left}
@@ -9,25 +12,61 @@ use Rattle.aat_run.specs.Laws.{HasOrderOf, SameSettings}
 use Rattle.aat_kinds.specs.Kinds.{Sizes, is_reversed}
 use Rattle.aat_cut_kinds.specs.Open.{is_open}
 use Rattle.aat_cut_kinds.specs.Parts.{back_part, front_part}
-use Rattle.aat_closing.specs.ClosingCuts.{ListsLeaveParts}
+use Rattle.aat_cut_kinds.specs.facts.Opens.{along, opened}
+use Rattle.aat_closing.specs.ClosingCuts.{IsOnAbout, ListsLeaveParts}
 use Rattle.aat_closing.specs.ClosingRuns.{Told, closing_ordered, closing_run, may_split, turned}
 use Rattle.aat_closing.specs.facts.Steady.{IsSteady}
-use Rattle.aat_closing.specs.ToldParts.{IsRise, TellsOpen, ToldInParts}
+use Rattle.aat_closing.specs.ToldParts.{HasBetween, IsFall, IsRise, TellsOpen, ToldInParts}
 use Rattle.aat_closing.specs.facts.AllKinds.{kinds_at_fall, kinds_at_rise}
+use Rattle.aat_closing.specs.facts.KindParts.{before_at, behind_at}
 use Rattle.aat_closing.specs.facts.RicherKinds.{closing_runs_richer}
 use Rattle.aat_closing.specs.facts.ToldKeepsKinds.{closing_runs_keep}
 use Rattle.aat_closing.specs.facts.ToldLists.{steady_leave_parts}
 use Rattle.aat_closing.specs.facts.ToldMore.{closing_runs_keep_more}
 use Rattle.aat_closing.specs.facts.TurnedSteady.{FallsSteady, turned_steady}
 
-abbrev everywhere : ℕ → Bool
-everywhere c = true
+module _ (z : Sizes) (slots : 0 < z.slots) (kind : SubtableKind) (low c : ℕ) (on : ℕ → Bool) (is_on : IsOnAbout low c on) where
+  -- at a rise the place is that of c
+  on_at_rise : (q : ℕ) (b : Buffer) → IsRise c q b → HasBetween low c b.line → is_open c (closing_run z on kind b).buffer.line ≡ true → on (cluster_at b.line q) ≡ true
+  on_at_rise q b rise between is =
+      let within = rise.before_end in
+      let high : c ≤ cluster_at b.line q = behind_at (λ n. c ≤ n) q q b.line (omega arith) within rise.behind in
+      let o = opened c (closing_run z on kind b).buffer.line is in
+      let source = ((closing_runs_keep z on kind slots).order b).clusters o.place o.inside in
+      let some = between.2 in
+      let below = between.3 in
+      let least = up_to q b rise source.0 source.1 (sym source.2 ∙ o.at) (cases_lt source.0 q) in
+      is_on (cluster_at b.line q) (omega (arith, some, below, high)) least
+    where
+      up_to : (q : ℕ) (b : Buffer) → IsRise c q b → (p : ℕ) → p < length b.line → cluster_at b.line p ≡ c → ((p < q) ⊎ (q ≤ p)) → cluster_at b.line q ≤ c
+      up_to q b rise p inside at (inl front) =
+          let within = rise.before_end in
+          let below : cluster_at b.line p < c = before_at (λ n. n < c) q p b.line front (omega (arith, within)) rise.before in
+          absurd (omega (arith, below, at))
+      up_to q b rise p inside at (inr back) =
+          let up : cluster_at b.line q ≤ cluster_at b.line p = along (λ n k. n ≤ k) (λ n. omega arith) b.line rise.ordered q p back inside in
+          omega (arith, up, at)
 
-module _ (z : Sizes) (slots : 0 < z.slots) (kind : SubtableKind) where
-  rises : IsSteady (closing_run z everywhere kind)
+  -- at a fall it has the greatest cluster below c
+  on_at_fall : (q : ℕ) (b : Buffer) → IsFall c q b → HasBetween low c b.line → on (cluster_at b.line q) ≡ true
+  on_at_fall q b fall between =
+      let within = fall.before_end in
+      let below : cluster_at b.line q < c = behind_at (λ n. n < c) q q b.line (omega arith) within fall.behind in
+      let some = between.2 in
+      let up = from_place q b fall between.0 between.1 between.3 (cases_lt between.0 q) in
+      is_on (cluster_at b.line q) (omega (arith, some, up)) (omega (arith, below))
+    where
+      from_place : (q : ℕ) (b : Buffer) → IsFall c q b → (p : ℕ) → p < length b.line → cluster_at b.line p < c → ((p < q) ⊎ (q ≤ p)) → cluster_at b.line p ≤ cluster_at b.line q
+      from_place q b fall p inside below (inl front) =
+          let within = fall.before_end in
+          let high : c ≤ cluster_at b.line p = before_at (λ n. c ≤ n) q p b.line front (omega (arith, within)) fall.before in
+          absurd (omega (arith, below, high))
+      from_place q b fall p inside below (inr back) = along (λ n k. k ≤ n) (λ n. omega arith) b.line fall.ordered q p back inside
+
+  rises : IsSteady low c (closing_run z on kind)
   rises =
-      let keeps = closing_runs_keep z everywhere kind slots in
-      let more = closing_runs_keep_more z everywhere kind slots in
+      let keeps = closing_runs_keep z on kind slots in
+      let more = closing_runs_keep_more z on kind slots in
       record {
         order = keeps.order;
         settings = keeps.settings;
@@ -35,15 +74,15 @@ module _ (z : Sizes) (slots : 0 < z.slots) (kind : SubtableKind) where
         positions = more.positions;
         budget = keeps.budget;
         longer = more.longer;
-        opens = λ c b ordered merges told is. keeps.rising b ordered merges c is;
-        richer = closing_runs_richer z everywhere kind slots;
-        parts = λ c q b rise tells. kinds_at_rise z everywhere kind slots c q b rise refl tells;
+        opens = λ d b ordered merges told is. keeps.rising b ordered merges d is;
+        richer = closing_runs_richer z on kind slots;
+        parts = λ q b rise between tells. kinds_at_rise z on kind slots c q b rise (on_at_rise q b rise between tells.opens) tells;
       }
 
-  falls : FallsSteady (closing_run z everywhere kind) (may_split kind)
+  falls : FallsSteady low c (closing_run z on kind) (may_split kind)
   falls =
-      let keeps = closing_runs_keep z everywhere kind slots in
-      let more = closing_runs_keep_more z everywhere kind slots in
+      let keeps = closing_runs_keep z on kind slots in
+      let more = closing_runs_keep_more z on kind slots in
       record {
         order = keeps.order;
         settings = keeps.settings;
@@ -51,14 +90,14 @@ module _ (z : Sizes) (slots : 0 < z.slots) (kind : SubtableKind) where
         positions = more.positions;
         budget = keeps.budget;
         longer = more.longer;
-        opens = λ never c b ordered merges is. keeps.falling never b ordered merges c is;
-        richer = closing_runs_richer z everywhere kind slots;
-        parts = λ never c q b fall tells. kinds_at_fall z everywhere kind slots never c q b fall refl tells;
+        opens = λ never d b ordered merges is. keeps.falling never b ordered merges d is;
+        richer = closing_runs_richer z on kind slots;
+        parts = λ never q b fall between tells. kinds_at_fall z on kind slots never c q b fall (on_at_fall q b fall between) tells;
       }
 
 -- of two steady runs, the one that the coverage names
-module _ (coverage : Coverage) (x y : Buffer → Told) (there : IsSteady x) (here : IsSteady y) where
-  named_steady : IsSteady (λ b. cond (is_reversed coverage b.direction) (x b) (y b))
+module _ (low c : ℕ) (coverage : Coverage) (x y : Buffer → Told) (there : IsSteady low c x) (here : IsSteady low c y) where
+  named_steady : IsSteady low c (λ b. cond (is_reversed coverage b.direction) (x b) (y b))
   named_steady = record {
     order = λ b. by_order b (is_reversed coverage b.direction);
     settings = λ b. by_settings b (is_reversed coverage b.direction);
@@ -66,9 +105,9 @@ module _ (coverage : Coverage) (x y : Buffer → Told) (there : IsSteady x) (her
     positions = λ b. by_positions b (is_reversed coverage b.direction);
     budget = λ b. by_budget b (is_reversed coverage b.direction);
     longer = λ b. by_longer b (is_reversed coverage b.direction);
-    opens = λ c b. by_opens c b (is_reversed coverage b.direction);
+    opens = λ d b. by_opens d b (is_reversed coverage b.direction);
     richer = λ b. by_richer b (is_reversed coverage b.direction);
-    parts = λ c q b. by_parts c q b (is_reversed coverage b.direction);
+    parts = λ q b. by_parts q b (is_reversed coverage b.direction);
   }
     where
       by_order : (b : Buffer) (t : Bool) → HasOrderOf b (cond t (x b) (y b)).buffer
@@ -95,9 +134,9 @@ module _ (coverage : Coverage) (x y : Buffer → Told) (there : IsSteady x) (her
       by_longer b true = there.longer b
       by_longer b false = here.longer b
 
-      by_opens : (c : ℕ) (b : Buffer) (t : Bool) → IsRisingLine b.line → ClustersMerge b.cluster_level → (cond t (x b) (y b)).is_told ≡ true → is_open c (cond t (x b) (y b)).buffer.line ≡ true → is_open c b.line ≡ true
-      by_opens c b true = there.opens c b
-      by_opens c b false = here.opens c b
+      by_opens : (d : ℕ) (b : Buffer) (t : Bool) → IsRisingLine b.line → ClustersMerge b.cluster_level → (cond t (x b) (y b)).is_told ≡ true → is_open d (cond t (x b) (y b)).buffer.line ≡ true → is_open d b.line ≡ true
+      by_opens d b true = there.opens d b
+      by_opens d b false = here.opens d b
 
       by_richer : (b : Buffer) (t : Bool) (n : ℤ) → operations_left b.max_ops ≤ operations_left n → 0 < operations_left (cond t (x b) (y b)).buffer.max_ops
           → ((cond t (x (with_max_ops b n)) (y (with_max_ops b n))).buffer.line ≡ (cond t (x b) (y b)).buffer.line)
@@ -107,13 +146,14 @@ module _ (coverage : Coverage) (x y : Buffer → Told) (there : IsSteady x) (her
       by_richer b true = there.richer b
       by_richer b false = here.richer b
 
-      by_parts : (c q : ℕ) (b : Buffer) (t : Bool) → IsRise c q b → TellsOpen c (cond t (x b) (y b))
+      by_parts : (q : ℕ) (b : Buffer) (t : Bool) → IsRise c q b → HasBetween low c b.line → TellsOpen c (cond t (x b) (y b))
           → ToldInParts (cond t (x b) (y b)) (cond t (x (front_part q b)) (y (front_part q b))) (cond t (x (back_part q b)) (y (back_part q b)))
-      by_parts c q b true = there.parts c q b
-      by_parts c q b false = here.parts c q b
+      by_parts q b true = there.parts q b
+      by_parts q b false = here.parts q b
 
 -- lists of subtables
 pub lists_leave_parts : ListsLeaveParts
-lists_leave_parts z subtables slots =
-    steady_leave_parts (λ (s : Coverage × SubtableKind). closing_ordered z everywhere s.0 s.1)
-    (λ s. named_steady s.0 (turned (may_split s.1) (closing_run z everywhere s.1)) (closing_run z everywhere s.1) (turned_steady (closing_run z everywhere s.1) (may_split s.1) (falls z slots s.1)) (rises z slots s.1)) subtables
+lists_leave_parts z low c subtables slots on =
+    steady_leave_parts (λ (s : (ℕ → Bool) × Coverage × SubtableKind). closing_ordered z s.0 s.1 s.2) low c subtables
+    (λ k d within. let s = slice_index_or subtables k d in let about = on k d within in
+    named_steady low c s.1 (turned (may_split s.2) (closing_run z s.0 s.2)) (closing_run z s.0 s.2) (turned_steady low c (closing_run z s.0 s.2) (may_split s.2) (falls z slots s.2 low c s.0 about)) (rises z slots s.2 low c s.0 about))

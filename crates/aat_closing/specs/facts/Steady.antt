@@ -8,12 +8,12 @@ use Rattle.aat_cut_kinds.specs.Open.{is_open}
 use Rattle.aat_cut_kinds.specs.Parts.{back_part, front_part}
 use Rattle.aat_closing.specs.ClosingRuns.{Told}
 use Rattle.aat_closing.specs.facts.Richer.{RicherTold}
-use Rattle.aat_closing.specs.ToldParts.{IsRise, TellsOpen, ToldInParts}
+use Rattle.aat_closing.specs.ToldParts.{HasBetween, IsRise, TellsOpen, ToldInParts}
 
 -- A run keeps the order of the clusters, the settings, a cursor at the front and that there are no positions; it adds
 -- nothing to the budget, takes no glyph away, opens no cluster of a line of text where it tells what is open, and leaves
 -- its parts at an open one.
-pub record IsSteady (run : Buffer → Told) : Type 0 where
+pub record IsSteady (low c : ℕ) (run : Buffer → Told) : Type 0 where
   pub order : (b : Buffer) → HasOrderOf b (run b).buffer
   pub settings : (b : Buffer) → SameSettings b (run b).buffer
   pub cursor : (b : Buffer) → b.cursor ≡ 0 → (run b).buffer.cursor ≡ 0
@@ -21,9 +21,9 @@ pub record IsSteady (run : Buffer → Told) : Type 0 where
   pub budget : (b : Buffer) → operations_left (run b).buffer.max_ops ≤ operations_left b.max_ops
   pub longer : (b : Buffer) → length b.line ≤ length (run b).buffer.line
   pub opens :
-      (c : ℕ) (b : Buffer) → IsRisingLine b.line → ClustersMerge b.cluster_level → (run b).is_told ≡ true
-      → is_open c (run b).buffer.line ≡ true → is_open c b.line ≡ true
+      (d : ℕ) (b : Buffer) → IsRisingLine b.line → ClustersMerge b.cluster_level → (run b).is_told ≡ true
+      → is_open d (run b).buffer.line ≡ true → is_open d b.line ≡ true
   pub richer : RicherTold run
   pub parts :
-      (c q : ℕ) (b : Buffer) → IsRise c q b → TellsOpen c (run b)
+      (q : ℕ) (b : Buffer) → IsRise c q b → HasBetween low c b.line → TellsOpen c (run b)
       → ToldInParts (run b) (run (front_part q b)) (run (back_part q b))

@@ -1,10 +1,11 @@
 -- Runs that are steady leave the parts of a line of text one after another.
 use Rattle.std.proofs.Common.{◌≡◌, ◌∙◌, ℕ, ◌+◌, ◌<◌, ◌≤◌, true, List, [], ◌∷◌, ◌++◌, length, take, drop, None, refl, ap, sym, arith, length-append, length-drop, length-take}
 use Rattle.std.proofs.lemmas.Bool.{and_parts}
+use Rattle.std.proofs.lemmas.List.Elements.{All-head, All-tail}
 use Rattle.std.proofs.lemmas.List.{drop_at, take-append-drop, take_at}
 use Rattle.std.specs.Prelude.{All}
 use Rattle.aat_buffer.specs.Buffer.{Buffer, with_max_ops}
-use Rattle.aat_buffer.specs.Clusters.{ClustersMerge, IsRisingLine}
+use Rattle.aat_buffer.specs.Clusters.{ClustersMerge, ComesFrom, IsRisingLine}
 use Rattle.aat_buffer.specs.Marks.{clusters_stay_apart}
 use Rattle.aat_glyph.specs.declared.glyph.hb_glyph_info_t.{hb_glyph_info_t}
 use Rattle.aat_run.specs.Budget.{operations_left}
@@ -13,7 +14,7 @@ use Rattle.aat_cut_kinds.specs.Parts.{back_part, front_part}
 use Rattle.aat_cut_kinds.specs.facts.CutSides.{all_from}
 use Rattle.aat_closing.specs.ClosingRuns.{Told, told_in_order}
 use Rattle.aat_closing.specs.facts.Steady.{IsSteady}
-use Rattle.aat_closing.specs.ToldParts.{IsRise, PartsOfText, TellsOpen, ToldInParts}
+use Rattle.aat_closing.specs.ToldParts.{HasBetween, IsRise, PartsOfText, TellsOpen, ToldInParts}
 
 -- a line of text, and the parts of it in buffers that are else the same, with no smaller budgets
 record IsSplit (c : ℕ) (whole front back : Buffer) : Type 0 where
@@ -31,7 +32,7 @@ record IsSplit (c : ℕ) (whole front back : Buffer) : Type 0 where
   cursor : whole.cursor ≡ 0
   positions : whole.positions ≡ None
 
-module _ (c : ℕ) (run : Buffer → Told) (steady : IsSteady run) (w f g : Buffer) (split : IsSplit c w f g) (tells : TellsOpen c (run w)) where
+module _ (low c : ℕ) (run : Buffer → Told) (steady : IsSteady low c run) (w f g : Buffer) (split : IsSplit c w f g) (between : HasBetween low c w.line) (tells : TellsOpen c (run w)) where
   q : ℕ
   q = length f.line
 
@@ -56,7 +57,7 @@ module _ (c : ℕ) (run : Buffer → Told) (steady : IsSteady run) (w f g : Buff
 
   -- the parts, with the budget of the whole
   parts : ToldInParts (run w) (run (front_part q w)) (run (back_part q w))
-  parts = steady.parts c q w rise tells
+  parts = steady.parts q w rise between tells
 
   front_is : f ≡ with_max_ops (front_part q w) f.max_ops
   front_is = split.front_rest ∙ ap (λ (line : List hb_glyph_info_t). record w { line = line; max_ops = f.max_ops }) (sym is_front)
@@ -147,53 +148,77 @@ module _ (c : ℕ) (run : Buffer → Told) (steady : IsSteady run) (w f g : Buff
         gl.told ∙ parts.back_told,
       )
 
--- what runs one after another add to no budget, and open no cluster
-module _ {X : Type 0} (run : X → Buffer → Told) (steady : (x : X) → IsSteady (run x)) (c : ℕ) where
-  lower : (xs : List X) (b : Buffer) → operations_left (told_in_order run xs b).buffer.max_ops ≤ operations_left b.max_ops
-  unfolding told_in_order
-  lower [] b = omega arith
-  lower (x ∷ xs) b = let first = (steady x).budget b in let rest = lower xs (run x b).buffer in omega (arith, first, rest)
+-- a glyph that is between two clusters was on the old line too
+between_came : (low c : ℕ) (old new : List hb_glyph_info_t) → ComesFrom old new → HasBetween low c new → HasBetween low c old
+between_came low c old new from it =
+    let source = from it.0 it.1 in
+    let high = it.2 in
+    let below = it.3 in
+    let same = source.2 in
+    (source.0, source.1, omega (arith, high, same), omega (arith, below, same))
 
-  opens : (xs : List X) (b : Buffer) → IsRisingLine b.line → ClustersMerge b.cluster_level → (told_in_order run xs b).is_told ≡ true → is_open c (told_in_order run xs b).buffer.line ≡ true → is_open c b.line ≡ true
+-- what runs one after another add to no budget, open no cluster, and leave parts
+module _ {X : Type 0} (run : X → Buffer → Told) (low c : ℕ) where
+  abbrev AllSteady : List X → Type 0
+  AllSteady xs = All (λ x. IsSteady low c (run x)) xs
+
+  first : (x : X) (xs : List X) → AllSteady (x ∷ xs) → IsSteady low c (run x)
+  first x xs all = All-head (λ y. IsSteady low c (run y)) x xs all
+
+  rest : (x : X) (xs : List X) → AllSteady (x ∷ xs) → AllSteady xs
+  rest x xs all = All-tail (λ y. IsSteady low c (run y)) x xs all
+
+  lower : (xs : List X) → AllSteady xs → (b : Buffer) → operations_left (told_in_order run xs b).buffer.max_ops ≤ operations_left b.max_ops
   unfolding told_in_order
-  opens [] b ordered merges told is = is
-  opens (x ∷ xs) b ordered merges told is =
-      let level = ((steady x).settings b).cluster_level in
+  lower [] all b = omega arith
+  lower (x ∷ xs) all b = let here = (first x xs all).budget b in let later = lower xs (rest x xs all) (run x b).buffer in omega (arith, here, later)
+
+  opens : (xs : List X) → AllSteady xs → (b : Buffer) → IsRisingLine b.line → ClustersMerge b.cluster_level → (told_in_order run xs b).is_told ≡ true → is_open c (told_in_order run xs b).buffer.line ≡ true → is_open c b.line ≡ true
+  unfolding told_in_order
+  opens [] all b ordered merges told is = is
+  opens (x ∷ xs) all b ordered merges told is =
+      let steady = first x xs all in
+      let level = (steady.settings b).cluster_level in
       let flags = and_parts (run x b).is_told (told_in_order run xs (run x b).buffer).is_told told in
-      (steady x).opens c b ordered merges flags.0 (opens xs (run x b).buffer (((steady x).order b).rising merges ordered) (λ two. merges (ap clusters_stay_apart (sym level) ∙ two)) flags.1 is)
+      steady.opens c b ordered merges flags.0 (opens xs (rest x xs all) (run x b).buffer ((steady.order b).rising merges ordered) (λ two. merges (ap clusters_stay_apart (sym level) ∙ two)) flags.1 is)
 
-  -- they leave the parts
-  in_parts : (xs : List X) (w f g : Buffer) → IsSplit c w f g → TellsOpen c (told_in_order run xs w) → ToldInParts (told_in_order run xs w) (told_in_order run xs f) (told_in_order run xs g)
+  between : (xs : List X) → AllSteady xs → (b : Buffer) → HasBetween low c (told_in_order run xs b).buffer.line → HasBetween low c b.line
   unfolding told_in_order
-  in_parts [] w f g split tells = record {
+  between [] all b it = it
+  between (x ∷ xs) all b it = between_came low c b.line (run x b).buffer.line ((first x xs all).order b).clusters (between xs (rest x xs all) (run x b).buffer it)
+
+  in_parts : (xs : List X) → AllSteady xs → (w f g : Buffer) → IsSplit c w f g → TellsOpen c (told_in_order run xs w) → HasBetween low c (told_in_order run xs w).buffer.line
+      → ToldInParts (told_in_order run xs w) (told_in_order run xs f) (told_in_order run xs g)
+  unfolding told_in_order
+  in_parts [] all w f g split tells has = record {
     parts = record { line = split.line; front_budget = split.front_budget; back_budget = split.back_budget };
     front_told = refl;
     back_told = refl;
   }
-  in_parts (x ∷ xs) w f g split tells =
+  in_parts (x ∷ xs) all w f g split tells has =
+      let steady = first x xs all in
       let flags = and_parts (run x w).is_told (told_in_order run xs (run x w).buffer).is_told tells.told in
-      let level = ((steady x).settings w).cluster_level in
+      let level = (steady.settings w).cluster_level in
       let some = tells.budget in
-      let less = lower xs (run x w).buffer in
+      let less = lower xs (rest x xs all) (run x w).buffer in
       let here : TellsOpen c (run x w) = record {
         told = flags.0;
-        opens = opens xs (run x w).buffer (((steady x).order w).rising split.merges split.ordered) (λ two. split.merges (ap clusters_stay_apart (sym level) ∙ two)) flags.1 tells.opens;
+        opens = opens xs (rest x xs all) (run x w).buffer ((steady.order w).rising split.merges split.ordered) (λ two. split.merges (ap clusters_stay_apart (sym level) ∙ two)) flags.1 tells.opens;
         budget = omega (arith, some, less);
       } in
-      let behind = next c (run x) (steady x) w f g split here in
-      let rest = in_parts xs (run x w).buffer (run x f).buffer (run x g).buffer behind.0 (record { told = flags.1; opens = tells.opens; budget = tells.budget }) in
+      let behind = next low c (run x) steady w f g split (between (x ∷ xs) all w has) here in
+      let later = in_parts xs (rest x xs all) (run x w).buffer (run x f).buffer (run x g).buffer behind.0 (record { told = flags.1; opens = tells.opens; budget = tells.budget }) has in
       record {
-        parts = record { line = rest.parts.line; front_budget = rest.parts.front_budget; back_budget = rest.parts.back_budget };
-        front_told = rw behind.1 rest.front_told;
-        back_told = rw behind.2 rest.back_told;
+        parts = record { line = later.parts.line; front_budget = later.parts.front_budget; back_budget = later.parts.back_budget };
+        front_told = rw behind.1 later.front_told;
+        back_told = rw behind.2 later.back_told;
       }
 
-  pub told_parts_of_text : (xs : List X) → (q : ℕ) (b : Buffer) → b.cursor ≡ 0 → b.positions ≡ None → IsRise c q b → TellsOpen c (told_in_order run xs b)
-      → ToldInParts (told_in_order run xs b) (told_in_order run xs (front_part q b)) (told_in_order run xs (back_part q b))
-  told_parts_of_text xs q b cursor none rise tells =
+  pub steady_leave_parts : (xs : List X) → AllSteady xs → PartsOfText low c (told_in_order run xs)
+  steady_leave_parts xs all q b cursor none rise tells has =
       let within = rise.before_end in
       let some = rise.behind_first in
-      in_parts xs b (front_part q b) (back_part q b)
+      in_parts xs all b (front_part q b) (back_part q b)
       (record {
         line = sym (take-append-drop q b.line);
         front_rest = refl;
@@ -208,7 +233,4 @@ module _ {X : Type 0} (run : X → Buffer → Told) (steady : (x : X) → IsStea
         merges = rise.merges;
         cursor = cursor;
         positions = none;
-      }) tells
-
-pub steady_leave_parts : {X : Type 0} (run : X → Buffer → Told) → ((x : X) → IsSteady (run x)) → (xs : List X) → PartsOfText (told_in_order run xs)
-steady_leave_parts run steady xs c q b cursor none rise tells = told_parts_of_text run steady c xs q b cursor none rise tells
+      }) tells has

@@ -5,6 +5,7 @@ use Rattle.std.proofs.lemmas.List.{get_or-reverse, length-reverse, reverse-rever
 use Rattle.std.specs.Prelude.{option_map}
 use Rattle.aat_buffer.specs.Buffer.{Buffer, no_glyph, reversed}
 use Rattle.aat_buffer.specs.Clusters.{ClustersMerge, ComesFrom, IsFallingLine}
+use Rattle.aat_buffer.specs.Marks.{cluster_at}
 use Rattle.aat_glyph.specs.declared.glyph.GlyphPosition.{GlyphPosition}
 use Rattle.aat_glyph.specs.declared.glyph.hb_glyph_info_t.{hb_glyph_info_t}
 use Rattle.aat_run.specs.Budget.{operations_left}
@@ -15,11 +16,11 @@ use Rattle.aat_cut_kinds.specs.facts.BackwardCuts.{all_turned, back_turned, fron
 use Rattle.aat_closing.specs.ClosingRuns.{Told, turned}
 use Rattle.aat_closing.specs.facts.Richer.{RicherTold}
 use Rattle.aat_closing.specs.facts.Steady.{IsSteady}
-use Rattle.aat_closing.specs.ToldParts.{IsFall, IsRise, TellsOpen, ToldInParts}
+use Rattle.aat_closing.specs.ToldParts.{HasBetween, IsFall, IsRise, TellsOpen, ToldInParts}
 use Rattle.aat_closing.specs.facts.FirstOpen.{falling_turned, open_turned, rising_turned}
 
 -- what is asked of the run
-pub record FallsSteady (run : Buffer → Told) (splits : Bool) : Type 0 where
+pub record FallsSteady (low c : ℕ) (run : Buffer → Told) (splits : Bool) : Type 0 where
   pub order : (b : Buffer) → HasOrderOf b (run b).buffer
   pub settings : (b : Buffer) → SameSettings b (run b).buffer
   pub cursor : (b : Buffer) → b.cursor ≡ 0 → (run b).buffer.cursor ≡ 0
@@ -27,11 +28,11 @@ pub record FallsSteady (run : Buffer → Told) (splits : Bool) : Type 0 where
   pub budget : (b : Buffer) → operations_left (run b).buffer.max_ops ≤ operations_left b.max_ops
   pub longer : (b : Buffer) → length b.line ≤ length (run b).buffer.line
   pub opens :
-      splits ≡ false → (c : ℕ) (b : Buffer) → IsFallingLine b.line → ClustersMerge b.cluster_level
-      → is_open c (run b).buffer.line ≡ true → is_open c b.line ≡ true
+      splits ≡ false → (d : ℕ) (b : Buffer) → IsFallingLine b.line → ClustersMerge b.cluster_level
+      → is_open d (run b).buffer.line ≡ true → is_open d b.line ≡ true
   pub richer : RicherTold run
   pub parts :
-      splits ≡ false → (c q : ℕ) (b : Buffer) → IsFall c q b → TellsOpen c (run b)
+      splits ≡ false → (q : ℕ) (b : Buffer) → IsFall c q b → HasBetween low c b.line → TellsOpen c (run b)
       → ToldInParts (run b) (run (front_part q b)) (run (back_part q b))
 
 unsplit : (a : Bool) → not a ≡ true → a ≡ false
@@ -51,11 +52,23 @@ comes_turned old new from k within =
       ap (λ (g : hb_glyph_info_t). g.cluster) (get_or-reverse new k no_glyph first) ∙ (source.2 ∙ ap (λ (g : hb_glyph_info_t). g.cluster) (get_or-reverse old source.0 no_glyph there)),
     )
 
+between_turned : (low c : ℕ) (line : List hb_glyph_info_t) → HasBetween low c line → HasBetween low c (reverse line)
+between_turned low c line it =
+    let within = it.1 in
+    let high = it.2 in
+    let below = it.3 in
+    let long = length-reverse line in
+    let there : length line - 1 - it.0 < length (reverse line) = omega (arith, within, long) in
+    let back : length line - 1 - (length line - 1 - it.0) ≡ it.0 = omega (arith, within) in
+    let same : cluster_at (reverse line) (length line - 1 - it.0) ≡ cluster_at line it.0 =
+    ap (λ (g : hb_glyph_info_t). g.cluster) (get_or-reverse line (length line - 1 - it.0) no_glyph (omega (arith, within))) ∙ ap (cluster_at line) back in
+    (length line - 1 - it.0, there, omega (arith, high, same), omega (arith, below, same))
+
 none_turned : (b : Buffer) → b.positions ≡ None → (reversed b).positions ≡ None
 none_turned b none = ap (λ (p : Option (List GlyphPosition)). option_map reverse p) none
 
-module _ (run : Buffer → Told) (splits : Bool) (falls : FallsSteady run splits) where
-  module _ (c q : ℕ) (b : Buffer) (rise : IsRise c q b) where
+module _ (low c : ℕ) (run : Buffer → Told) (splits : Bool) (falls : FallsSteady low c run splits) where
+  module _ (q : ℕ) (b : Buffer) (rise : IsRise c q b) (between : HasBetween low c b.line) where
     n : ℕ
     n = length b.line - q
 
@@ -84,7 +97,7 @@ module _ (run : Buffer → Told) (splits : Bool) (falls : FallsSteady run splits
           opens = rw (reverse-reverse (run (reversed b)).buffer.line) at (open_turned c (reverse (run (reversed b)).buffer.line) tells.opens);
           budget = tells.budget;
         } in
-        let it = falls.parts none c (length b.line - q) (reversed b) fall here in
+        let it = falls.parts none (length b.line - q) (reversed b) fall (between_turned low c b.line between) here in
         let front : reversed (front_part q b) ≡ back_part (length b.line - q) (reversed b) = ap (λ (line : List hb_glyph_info_t). record (reversed b) { line = line }) (sym (back_turned q b.line)) in
         let back : reversed (back_part q b) ≡ front_part (length b.line - q) (reversed b) = ap (λ (line : List hb_glyph_info_t). record (reversed b) { line = line }) (sym (front_turned q b.line)) in
         rw (front, back)
@@ -94,7 +107,7 @@ module _ (run : Buffer → Told) (splits : Bool) (falls : FallsSteady run splits
           back_told = rw (it.front_told, flags.1) refl;
         })
 
-  pub turned_steady : IsSteady (turned splits run)
+  pub turned_steady : IsSteady low c (turned splits run)
   turned_steady = record {
     order = λ b.
         let kept = falls.order (reversed b) in
@@ -108,13 +121,13 @@ module _ (run : Buffer → Told) (splits : Bool) (falls : FallsSteady run splits
     positions = λ b none. none_turned (run (reversed b)).buffer (falls.positions (reversed b) (none_turned b none));
     budget = λ b. falls.budget (reversed b);
     longer = λ b. let more = falls.longer (reversed b) in let old = length-reverse b.line in let new = length-reverse (run (reversed b)).buffer.line in omega (arith, more, old, new);
-    opens = λ c b ordered merges told is.
+    opens = λ d b ordered merges told is.
         let flags = and_parts (run (reversed b)).is_told (not splits) told in
         let none = unsplit splits flags.1 in
-        let here = rw (reverse-reverse (run (reversed b)).buffer.line) at (open_turned c (reverse (run (reversed b)).buffer.line) is) in
-        rw (reverse-reverse b.line) at (open_turned c (reverse b.line) (falls.opens none c (reversed b) (falling_turned b.line ordered) merges here));
+        let here = rw (reverse-reverse (run (reversed b)).buffer.line) at (open_turned d (reverse (run (reversed b)).buffer.line) is) in
+        rw (reverse-reverse b.line) at (open_turned d (reverse b.line) (falls.opens none d (reversed b) (falling_turned b.line ordered) merges here));
     richer = λ b y more some.
         let it = falls.richer (reversed b) y more some in
         (ap reverse it.0, rw it.1 refl, it.2, ap reversed it.3);
-    parts = λ c q b rise tells. turned_parts c q b rise tells;
+    parts = λ q b rise between tells. turned_parts q b rise between tells;
   }
