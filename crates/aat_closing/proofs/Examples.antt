@@ -1,13 +1,12 @@
 -- The examples of closing runs, by computing.
 use Rattle.std.proofs.Common.{refl}
 use Rattle.aat_buffer.specs.Marks.{merged, merged_out}
-use Rattle.aat_run.specs.Driven.{machine_run}
+use Rattle.aat_run.specs.Driven.{comes_to_end, machine_run}
 use Rattle.aat_run.specs.Machine.{acted, by_entry, marked, off, run, run_to_end, turn}
 use Rattle.aat_run.specs.Safe.{is_safe}
 use Rattle.aat_kinds.specs.Contextual.{act, answer_of, at_cursor, at_mark}
 use Rattle.aat_kinds.specs.Ligature as l
 use Rattle.aat_kinds.specs.Rearrangement as r
-use Rattle.aat_cut_kinds.specs.Cut.{comes_to_end}
 use Rattle.aat_closing.specs.Closing.{are_in_order}
 use Rattle.aat_closing.specs.ClosingExamples.{ClosingExamples}
 use Rattle.aat_closing.specs.ClosingRuns.{told_run}

@@ -1,7 +1,6 @@
 -- What closing runs tell of lines: of one that can be cut, and of lines whose parts leave something else though the first
 -- glyph left behind the cut has no mark.
 use Rattle.std.specs.Prelude.{◌≡◌, ◌&&◌, ℕ, Bool, true, false, List, [], ◌∷◌, None}
-use Rattle.aat_buffer.specs.Buffer.{Buffer}
 use Rattle.aat_machine_tables.specs.Table.{TableValue}
 use Rattle.aat_machine_tables.specs.declared.state_table.GenericStateEntry.{GenericStateEntry}
 use Rattle.aat_machine_tables.specs.declared.morx.SubtableKind.{SubtableKind}

@@ -1,5 +1,5 @@
 -- The runs of the kinds that close what they look at. TrueType Reference Manual: The 'morx' table.
-use Rattle.std.specs.Prelude.{ℕ, ◌+◌, ◌&&◌, not, Bool, true, false, List, [], ◌∷◌, Option, if◌then◌else◌}
+use Rattle.std.specs.Prelude.{◌≡◌, ℕ, ◌+◌, ◌&&◌, not, Bool, true, false, List, [], ◌∷◌, Option, if◌then◌else◌}
 use Rattle.aat_buffer.specs.Buffer.{Buffer, reversed}
 use Rattle.aat_lookup.specs.declared.glyph_id.GlyphId.{GlyphId}
 use Rattle.aat_machine_tables.specs.Entries.{goes_on}
@@ -10,13 +10,13 @@ use Rattle.aat_machine_tables.specs.declared.state_table.GenericStateEntry.{Gene
 use Rattle.aat_machine_tables.specs.declared.morx.SubtableKind.{SubtableKind}
 use Rattle.aat_machine_tables.specs.declared.morx.SubtableKind.TheVariants.{Rearrangement, Contextual, Ligature, NonContextual, Insertion}
 use Rattle.aat_run.specs.Context.{Context}
-use Rattle.aat_run.specs.Driven.{context_from, machine_run}
+use Rattle.aat_run.specs.Driven.{comes_to_end, context_from, machine_run}
+use Rattle.aat_run.specs.declared.driver.MachineRun.{MachineRun}
 use Rattle.aat_kinds.specs.Contextual as contextual
 use Rattle.aat_kinds.specs.Insertion as insertion
 use Rattle.aat_kinds.specs.Kinds.{Sizes, is_reversed, noncontextual_run}
 use Rattle.aat_kinds.specs.Ligature as ligature
 use Rattle.aat_kinds.specs.Rearrangement as rearrangement
-use Rattle.aat_cut_kinds.specs.Cut.{comes_to_end}
 use Rattle.aat_closing.specs.Closing.{closing, contextual_from, insertion_from, insertion_may_act, ligature_from, rearrangement_from}
 
 -- The contexts. An entry of rearrangement is actionable where it has a verb, and one of insertion where it has an index,
@@ -47,6 +47,10 @@ pub record Told : Type 0 where
   pub buffer : Buffer
   pub turns : ℕ
   pub is_told : Bool
+
+-- it is what a closing run left: this buffer, in so many turns, and whether it told
+abbrev pub IsTold : Told → Buffer → MachineRun → Type 0
+IsTold t b o = ◌≡◌ {A = Told} (record { buffer = b; turns = o.turns; is_told = o.is_through }) t
 
 -- nothing was run
 abbrev pub nothing_run : Buffer → Told

@@ -1,7 +1,11 @@
 pub mod Closing
+pub mod ClosingChains
 pub mod ClosingCuts
 pub mod ClosingExamples
 pub mod ClosingRuns
+pub mod Held
+pub mod Laws
 pub mod ToldParts
 pub mod Unflagged
+pub mod Watched
 pub mod facts

@@ -18,8 +18,10 @@ pub mod LigatureClosing
 pub mod LigatureParts
 pub mod LigatureStacks
 pub mod OrderedSteady
+pub mod PushedComponents
 pub mod RearrangementActs
 pub mod RearrangementClosing
+pub mod RestOpen
 pub mod Richer
 pub mod RicherKinds
 pub mod RicherRuns
@@ -30,3 +32,5 @@ pub mod ToldKeepsKinds
 pub mod ToldLists
 pub mod ToldMore
 pub mod TurnedSteady
+pub mod WatchedLaws
+pub mod WatchedRuns

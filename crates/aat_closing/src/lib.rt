@@ -6,7 +6,17 @@
 //! ```
 #![tactic(auto)]
 
+mod closes;
+mod context;
+mod kinds;
 #[doc(hidden)]
 pub mod laws;
+mod ligature;
+mod machines;
+mod runs;
 #[doc(hidden)]
 pub mod worked;
+
+pub use closes::Closes;
+pub use context::Closing;
+pub use runs::close_kind;

@@ -7,9 +7,8 @@ use Rattle.aat_machine_tables.specs.Table.{TableValue}
 use Rattle.aat_machine_tables.specs.declared.state_table.GenericStateEntry.{GenericStateEntry}
 use Rattle.aat_glyph.specs.declared.glyph.hb_glyph_info_t.{hb_glyph_info_t}
 use Rattle.aat_run.specs.Budget.{operations_left}
-use Rattle.aat_run.specs.Context.{Context, Machine, is_at_end, machine_of, start}
-use Rattle.aat_run.specs.Driven.{machine_run}
-use Rattle.aat_run.specs.Machine.{run_to_end}
+use Rattle.aat_run.specs.Context.{Context, Machine}
+use Rattle.aat_run.specs.Driven.{comes_to_end, machine_run}
 use Rattle.aat_cut_kinds.specs.CutLaws.{IsCutLawful}
 use Rattle.aat_cut_kinds.specs.Parts.{LeftInParts, back_part, front_part}
 
@@ -30,12 +29,6 @@ MeetsCutLaws m fits fresh labels =
     IsCutLawful m fits (λ t. labels.is_reached t ≡ true) fresh (λ gs t r s. labels.is_alike gs t r s ≡ true)
     (λ line. labels.is_marked line ≡ true) (λ line. labels.is_left line ≡ true)
     (λ line. labels.is_right line ≡ true) (λ level line. labels.is_sound level line ≡ true)
-
--- whether a run comes to the end of the line: a missing entry may end it before
-unfoldable pub comes_to_end : {T R : Type 0} → (ℕ → Bool) → TableValue (GenericStateEntry T)
-    → Context R (GenericStateEntry T) → Buffer → Bool
-comes_to_end on table context b =
-    is_at_end (run_to_end (machine_of on table context) (start context.in_place b context.fresh)).buffer
 
 module _ {T R : Type 0} (on : ℕ → Bool) (table : TableValue (GenericStateEntry T))
     (context : Context R (GenericStateEntry T))

@@ -62,6 +62,13 @@ impl<'a> ContextualCtx<'a> {
         }
     }
 
+    /// The marked place: how many glyphs stand before it. 0 where none was ever marked.
+    pub fn marked_place(&self) -> usize
+        ensures { result ≡ self.now.registers.mark }
+    {
+        self.mark
+    }
+
     /// Gives the marked glyph its value of the lookup that an entry names for it, and makes the line unsafe from there
     /// to the cursor. Answers whether the lookup stands.
     #[tactic(auto, unfolding(crate::specs::Contextual::at_mark))]
@@ -122,30 +129,6 @@ impl<'a> ContextualCtx<'a> {
             None => false,
         }
     }
-
-    /// Does what an entry says. At the end nothing happens while no mark is set, and a missing lookup ends the act.
-    #[tactic(auto, unfolding(crate::specs::Contextual::act))]
-    fn act<A: Allocator + Copy>(
-        &mut self,
-        entry: &GenericStateEntry<ContextualEntryData>,
-        buffer: &mut hb_buffer_t<A>,
-    )
-        requires fit { held_fit self.old buffer.old.cursor (length buffer.old.line) }
-        requires ids { IsSmall buffer.old }
-        ensures act { record { registers = self.new; buffer = buffer.new } ≡ held_act entry.now self.old buffer.old }
-        ensures ids { IsSmall buffer.new }
-    {
-        if !buffer.has_current() && !self.is_set {
-            return;
-        }
-        if !self.replace_marked(entry, buffer) || !self.replace_current(entry, buffer) {
-            return;
-        }
-        if entry.has_mark() {
-            self.mark = buffer.backtrack_len();
-            self.is_set = true;
-        }
-    }
 }
 
 impl<'a> driver_context_t<ContextualEntryData> for ContextualCtx<'a> {
@@ -199,8 +182,10 @@ impl<'a> driver_context_t<ContextualEntryData> for ContextualCtx<'a> {
         can_act & ((entry.extra.mark_index != NO_LOOKUP) | (entry.extra.current_index != NO_LOOKUP))
     }
 
-    /// Does what the entry says. The number of glyphs stays. Never refused. The registers have to fit, and each glyph
-    /// id has to be at most 0xFFFF, and is so again.
+    /// Does what the entry says. At the end nothing happens while no mark is set, and a missing lookup ends the act.
+    /// The number of glyphs stays. Never refused. The registers have to fit, and each glyph id has to be at most
+    /// 0xFFFF, and is so again.
+    #[tactic(auto, unfolding(crate::specs::Contextual::act))]
     fn transition<A: Allocator + Copy>(
         &mut self,
         entry: &GenericStateEntry<ContextualEntryData>,
@@ -216,7 +201,16 @@ impl<'a> driver_context_t<ContextualEntryData> for ContextualCtx<'a> {
         ensures refused { OnErr result (IsRefused buffer.old buffer.new) }
         ensures count { length buffer.new.line ≡ length buffer.old.line }
     {
-        self.act(entry, buffer);
+        if !buffer.has_current() && !self.is_set {
+            return Ok(());
+        }
+        if !self.replace_marked(entry, buffer) || !self.replace_current(entry, buffer) {
+            return Ok(());
+        }
+        if entry.has_mark() {
+            self.mark = buffer.backtrack_len();
+            self.is_set = true;
+        }
         Ok(())
     }
 

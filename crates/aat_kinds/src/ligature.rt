@@ -279,28 +279,21 @@ impl<'a, const SLOTS: usize> LigatureCtx<'a, SLOTS> {
         }
     }
 
-    /// Does what an entry says.
-    #[tactic(auto, unfolding(crate::specs::Ligature::act))]
-    fn act<A: Allocator + Copy>(
-        &mut self,
-        entry: &GenericStateEntry<u16>,
-        buffer: &mut hb_buffer_t<A>,
-    )
-        requires fit { IsHeldFit self.old buffer.old.cursor (length buffer.old.line) }
-        requires ids { IsSmall buffer.old }
-        ensures act { record { registers = self.new; buffer = buffer.new } ≡ held_act entry.now self.old buffer.old }
-        ensures ids { IsSmall buffer.new }
-        ensures successful { buffer.new.successful ≡ buffer.old.successful }
-        ensures count { length buffer.new.line ≡ length buffer.old.line }
+    /// How many components are held.
+    pub fn component_count(&self) -> usize
+        ensures count { result ≡ self.now.registers.count }
+        ensures slots { length self.now.registers.slots ≡ SLOTS }
     {
-        let cursor = buffer.backtrack_len();
-        let length = buffer.len();
-        if entry.has_push() {
-            self.held.push(cursor);
-        }
-        if entry.flags & PERFORM_ACTION != 0 && cursor < length {
-            self.held.ligate(self.subtable, entry.extra, buffer);
-        }
+        self.held.count
+    }
+
+    /// The place of component `j`, the oldest of them 0: how many glyphs stand before it. There has to be a slot.
+    /// Behind the newest component, and of one whose slot was written over, it is what the slot has.
+    pub fn component(&self, j: usize) -> usize
+        requires { 0 < length self.now.registers.slots }
+        ensures { result ≡ component self.now.registers j }
+    {
+        self.held.place(j)
     }
 }
 
@@ -358,6 +351,7 @@ impl<'a, const SLOTS: usize> driver_context_t<u16> for LigatureCtx<'a, SLOTS> {
     ///
     /// Holding a component is O(1); taking components in is O(of their number, and for each ligature that is stored of
     /// the glyphs that its merge makes one cluster).
+    #[tactic(auto, unfolding(crate::specs::Ligature::act))]
     fn transition<A: Allocator + Copy>(
         &mut self,
         entry: &GenericStateEntry<u16>,
@@ -374,7 +368,14 @@ impl<'a, const SLOTS: usize> driver_context_t<u16> for LigatureCtx<'a, SLOTS> {
         ensures count { length buffer.new.line ≡ length buffer.old.line }
         ensures deleted { DeletesLater entry.now self.old buffer.old buffer.new.line }
     {
-        self.act(entry, buffer);
+        let cursor = buffer.backtrack_len();
+        let length = buffer.len();
+        if entry.has_push() {
+            self.held.push(cursor);
+        }
+        if entry.flags & PERFORM_ACTION != 0 && cursor < length {
+            self.held.ligate(self.subtable, entry.extra, buffer);
+        }
         Ok(())
     }
 

@@ -17,19 +17,6 @@ use aat_lookup::{GlyphId, GlyphMoves, Lookup};
 use aat_run::{Stretch, range_flags_t, ranges_to_ask};
 use std::alloc::Allocator;
 
-/// Whether it is known that a glyph does not wake a subtable.
-fn is_asleep(run: &SubtableRun, glyph: &hb_glyph_info_t) -> bool
-    requires bit { IfSome run.now.wakers (λ wakers. wakers.bit < 64) }
-    requires id { Is16Bit glyph.now }
-    ensures { (test : ℕ → Bool) → IfSome run.now.wakers (SleepOthers test) → result ≡ true
-        → test glyph.now.glyph_id ≡ true }
-{
-    match run.wakers {
-        Some(wakers) => !wakers.wakes(glyph),
-        None => false,
-    }
-}
-
 /// A glyph with what it becomes, where the subtable is on and the font has no classes of glyphs.
 fn moved_alone(moves: GlyphMoves, glyph: hb_glyph_info_t) -> hb_glyph_info_t
     requires cells { HasCells moves }
@@ -69,7 +56,7 @@ fn replacement(
     }
 }
 
-/// A glyph with its value of a lookup, where it has one.
+/// A glyph with its value of a lookup, where it has one. A glyph that is known not to wake the subtable has none.
 fn looked_up(run: &SubtableRun, lookup: &Lookup, glyph: hb_glyph_info_t) -> hb_glyph_info_t
     requires wakers { IfSome run.now.wakers (SleepOthers (has_no_value lookup.now)) }
     requires id { Is16Bit glyph }
@@ -77,7 +64,9 @@ fn looked_up(run: &SubtableRun, lookup: &Lookup, glyph: hb_glyph_info_t) -> hb_g
         → result ≡ with_looked_up_value on (glyph_classes_of run.now.face.now) lookup.now glyph }
     ensures small { Is16Bit result }
 {
-    if is_asleep(run, &glyph) {
+    if let Some(wakers) = run.wakers
+        && !wakers.wakes(&glyph)
+    {
         return glyph;
     }
     match lookup.value(GlyphId(glyph.glyph_id as u16)) {

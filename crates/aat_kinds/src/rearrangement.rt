@@ -61,6 +61,15 @@ impl<const LONGEST: usize> RearrangementCtx<LONGEST> {
         RearrangementCtx { start: 0, end: 0 }
     }
 
+    /// The span that the entries have marked: how many glyphs stand before its first one, and before the one behind its
+    /// last. It has no glyph where the second number is not above the first.
+    pub fn span(&self) -> (usize, usize)
+        ensures start { result.0 ≡ self.now.start }
+        ensures end { result.1 ≡ self.now.end }
+    {
+        (self.start, self.end)
+    }
+
     /// Sets the marks that an entry asks for: the start at the cursor, the end behind the glyph at it.
     fn set_marks(&mut self, entry: &GenericStateEntry<()>, cursor: usize, len: usize)
         requires { len ≤ 0x3FFFFFFF }
@@ -114,23 +123,6 @@ impl<const LONGEST: usize> RearrangementCtx<LONGEST> {
     {
         self.merge_marked(buffer);
         move_span(verb, buffer, self.start, self.end);
-    }
-
-    /// Does what an entry says.
-    #[tactic(auto, unfolding(crate::specs::Rearrangement::act))]
-    fn act<A: Allocator + Copy>(
-        &mut self,
-        entry: &GenericStateEntry<()>,
-        buffer: &mut hb_buffer_t<A>,
-    )
-        requires { IsFit self.old buffer.old.cursor (length buffer.old.line) }
-        ensures { record { registers = self.new; buffer = buffer.new } ≡ act LONGEST entry.now self.old buffer.old }
-    {
-        self.set_marks(entry, buffer.backtrack_len(), buffer.len());
-        let verb = verb_of(entry);
-        if self.is_actionable(entry, buffer) && self.is_within(verb) {
-            self.move_marked(verb, buffer);
-        }
     }
 }
 
@@ -187,6 +179,7 @@ impl<const LONGEST: usize> driver_context_t<()> for RearrangementCtx<LONGEST> {
 
     /// Does what the entry says. The glyph ids are permuted. Never refused. The registers have to fit, and each glyph
     /// id has to be at most 0xFFFF, and is so again.
+    #[tactic(auto, unfolding(crate::specs::Rearrangement::act))]
     fn transition<A: Allocator + Copy>(
         &mut self,
         entry: &GenericStateEntry<()>,
@@ -202,7 +195,11 @@ impl<const LONGEST: usize> driver_context_t<()> for RearrangementCtx<LONGEST> {
         ensures refused { OnErr result (IsRefused buffer.old buffer.new) }
         ensures permutes { IsPermutation (ids buffer.old.line) (ids buffer.new.line) }
     {
-        self.act(entry, buffer);
+        self.set_marks(entry, buffer.backtrack_len(), buffer.len());
+        let verb = verb_of(entry);
+        if self.is_actionable(entry, buffer) && self.is_within(verb) {
+            self.move_marked(verb, buffer);
+        }
         Ok(())
     }
 

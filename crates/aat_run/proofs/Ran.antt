@@ -3,7 +3,7 @@ use Rattle.std.proofs.Common.{◌≡◌, ℕ, ◌+◌, ◌≤◌, Bool, true, fa
 use Rattle.aat_buffer.specs.Buffer.{Buffer, with_cursor, without_positions}
 use Rattle.aat_machine_tables.specs.Table.{TableValue}
 use Rattle.aat_machine_tables.specs.declared.state_table.GenericStateEntry.{GenericStateEntry}
-use Rattle.aat_run.specs.Context.{Context, Machine, first_config, machine_of, start}
+use Rattle.aat_run.specs.Context.{Context, Machine, first_config, is_at_end, machine_of, start}
 use Rattle.aat_run.specs.Driven.{machine_run, outcome_of, IsRefusal}
 use Rattle.aat_run.specs.Laws.{KeepsFit, PassesFit, Pays, KeepsLength}
 use Rattle.aat_run.specs.Machine.{run_to_end}
@@ -36,6 +36,10 @@ ran_past m b r n nowhere front count =
 -- and the registers
 pub kept_past : {R E : Type 0} (m : Machine R E) (b : Buffer) (r : R) → ((x : ℕ) → m.on x ≡ false) → b.cursor ≡ 0 → r ≡ (run_to_end m (first_config b r)).registers
 kept_past m b r nowhere front = sym (passed_over m nowhere (first_config b r) front).registers
+
+-- and comes to the end
+pub through_past : {R E : Type 0} (m : Machine R E) (b : Buffer) (r : R) → ((x : ℕ) → m.on x ≡ false) → b.cursor ≡ 0 → true ≡ is_at_end (run_to_end m (first_config b r)).buffer
+through_past m b r nowhere front = sym (passed_over m nowhere (first_config b r) front).at_end
 
 -- a context that keeps the number of glyphs, over a line that has at most its greatest length, is never refused
 module _ {T R : Type 0} (on : ℕ → Bool) (table : TableValue (GenericStateEntry T)) (x : Context R (GenericStateEntry T)) (fits : R → ℕ → ℕ → Type 0)

@@ -7,7 +7,7 @@ use Rattle.aat_glyph.specs.declared.glyph.GlyphPosition.{GlyphPosition}
 use Rattle.aat_machine_tables.specs.Table.{TableValue}
 use Rattle.aat_machine_tables.specs.declared.state_table.GenericStateEntry.{GenericStateEntry}
 use Rattle.aat_run.specs.Budget.{extent}
-use Rattle.aat_run.specs.Context.{Context, Config, Moved, first_config, machine_of, machine_with, start}
+use Rattle.aat_run.specs.Context.{Context, Config, Moved, first_config, is_at_end, machine_of, machine_with, start}
 use Rattle.aat_run.specs.Laws.{SameSettings}
 use Rattle.aat_run.specs.Machine.{run_to_end}
 use Rattle.aat_run.specs.Outcome.{Outcome}
@@ -37,6 +37,12 @@ unfoldable pub machine_run : {T R : Type 0} → (ℕ → Bool) → TableValue (G
 machine_run on table context b =
     outcome_of (run_to_end (machine_of on table context) (start context.in_place b context.fresh))
 
+-- whether the same run comes to the end of the line: a missing entry may end it before
+unfoldable pub comes_to_end : {T R : Type 0} → (ℕ → Bool) → TableValue (GenericStateEntry T)
+    → Context R (GenericStateEntry T) → Buffer → Bool
+comes_to_end on table context b =
+    is_at_end (run_to_end (machine_of on table context) (start context.in_place b context.fresh)).buffer
+
 -- the registers that the same run leaves
 unfoldable pub registers_behind : {T R : Type 0} → (ℕ → Bool) → TableValue (GenericStateEntry T)
     → Context R (GenericStateEntry T) → Buffer → R
@@ -57,6 +63,13 @@ module _ {T R : Type 0} (ranges : List range_flags_t) (feature_flags : ℕ) (tab
         → (GenericStateEntry T → R → Buffer → Moved R) → R → Buffer → Outcome
     driven_run in_place advances actionable act fresh b =
         machine_run (is_driven_on ranges feature_flags) table (context_from in_place advances actionable act fresh) b
+
+    -- whether it comes to the end of the line
+    abbrev pub driven_through : Bool → (GenericStateEntry T → Bool) → (GenericStateEntry T → R → ℕ → ℕ → Bool)
+        → (GenericStateEntry T → R → Buffer → Moved R) → R → Buffer → Bool
+    driven_through in_place advances actionable act fresh b =
+        let context = context_from in_place advances actionable act fresh in
+        comes_to_end (is_driven_on ranges feature_flags) table context b
 
     -- the registers that it leaves
     abbrev pub driven_registers : Bool → (GenericStateEntry T → Bool) → (GenericStateEntry T → R → ℕ → ℕ → Bool)

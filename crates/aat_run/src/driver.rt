@@ -8,8 +8,8 @@ ghost use Rattle.aat_buffer.specs.Clusters.{IsSmall};
 ghost use Rattle.aat_font.specs.Idle.{has_entry};
 ghost use Rattle.aat_machine_tables.specs.Table.{entry_of};
 ghost use Rattle.aat_run.specs.Budget.{potential, rest};
-ghost use Rattle.aat_run.specs.Context.{machine_with};
-ghost use Rattle.aat_run.specs.Driven.{IsRefusal, IsRefused, driven_registers, driven_run, driven_to_end, outcome_of, positions_behind};
+ghost use Rattle.aat_run.specs.Context.{is_at_end, machine_with};
+ghost use Rattle.aat_run.specs.Driven.{IsRefusal, IsRefused, driven_registers, driven_run, driven_through, driven_to_end, outcome_of, positions_behind};
 ghost use Rattle.aat_run.specs.Laws.{IsBounded, SameSettings};
 ghost use Rattle.aat_run.specs.Outcome.{IsOutcome};
 ghost use Rattle.aat_run.specs.Ranges.{IsGapless, is_driven_on, ranges_of};
@@ -29,6 +29,15 @@ use aat_buffer::{hb_buffer_t, hb_mask_t};
 use aat_machine_tables::entry_bits::state::START_OF_TEXT;
 use aat_machine_tables::{Acting, ExtendedStateTable};
 use std::alloc::Allocator;
+
+/// What a run of a state table answers.
+#[derive(Clone, Copy, PartialEq, Eq, Debug)]
+pub struct MachineRun {
+    /// How many turns it took.
+    pub turns: u64,
+    /// Whether it came to the end of the line: a missing entry may end it before.
+    pub is_through: bool,
+}
 
 /// Whether glyphs may be passed: the machine is on everywhere, since it has fewer than two ranges, and at rest at the end.
 fn may_pass<T: Acting, C: driver_context_t<T>>(
@@ -75,7 +84,7 @@ fn pass_on<T: Acting, C: driver_context_t<T>, A: Allocator + Copy>(
     }
 }
 
-/// Takes turns until one ends, and answers their number.
+/// Takes turns until one ends, and answers their number and whether they came to the end of the line.
 #[tactic(auto, using(crate::specs::facts::Settings::refused_behind))]
 fn run_turns<T: Acting, C: driver_context_t<T>, A: Allocator + Copy>(
     machine: &ExtendedStateTable<T>,
@@ -84,14 +93,16 @@ fn run_turns<T: Acting, C: driver_context_t<T>, A: Allocator + Copy>(
     buffer: &mut hb_buffer_t<A>,
     ranges: &[range_flags_t],
     feature_flags: hb_mask_t,
-) -> Result<u64, AatError>
+) -> Result<MachineRun, AatError>
     requires others { IfSome wakers (PassesOthers C.advances C.resting machine.now) }
     requires fit { C.fits context.old buffer.old.cursor (length buffer.old.line) }
     requires ids { IsSmall buffer.old }
     requires gapless { IsGapless ranges.now }
-    ensures run { IfOk result (IsRun (driven_to_end ranges.now feature_flags machine.now
-        C.advances C.actionable C.act buffer.old context.old) buffer.new context.new) }
-    ensures few { IfOk result (λ turns. turns ≤ potential buffer.old + 1) }
+    ensures run { IfOk result (λ o. IsRun (driven_to_end ranges.now feature_flags machine.now
+        C.advances C.actionable C.act buffer.old context.old) buffer.new context.new o.turns) }
+    ensures through { IfOk result (λ o. o.is_through ≡ is_at_end (driven_to_end ranges.now feature_flags machine.now
+        C.advances C.actionable C.act buffer.old context.old).buffer) }
+    ensures few { IfOk result (λ o. o.turns ≤ potential buffer.old + 1) }
     ensures ids { OnOk result (IsSmall buffer.new) }
     ensures reason { IfErr result (IsRefusal buffer.old (driven_to_end ranges.now feature_flags machine.now
         C.advances C.actionable C.act buffer.old context.old).buffer) }
@@ -127,7 +138,10 @@ fn run_turns<T: Acting, C: driver_context_t<T>, A: Allocator + Copy>(
         );
         was_at_start = run_state.state == START_OF_TEXT;
     }
-    Ok(run_state.turns)
+    Ok(MachineRun {
+        turns: run_state.turns,
+        is_through: !buffer.has_current(),
+    })
 }
 
 /// Puts the cursor at the front. A context that is not in place drops the positions.
@@ -140,9 +154,9 @@ fn begin<A: Allocator + Copy>(buffer: &mut hb_buffer_t<A>, in_place: bool)
     buffer.sync();
 }
 
-/// Takes turns from the front until one ends, and answers their number. Where there are two ranges or more and none
-/// switches the machine on, each turn would pass a glyph: then there is one for each glyph and one more, and the line
-/// is passed over.
+/// Takes turns from the front until one ends, and answers as `run_turns` does. Where there are two ranges or more and
+/// none switches the machine on, each turn would pass a glyph: then there is one for each glyph and one more, and the
+/// line is passed over.
 fn take_turns<T: Acting, C: driver_context_t<T>, A: Allocator + Copy>(
     machine: &ExtendedStateTable<T>,
     wakers: Option<Wakers>,
@@ -150,27 +164,76 @@ fn take_turns<T: Acting, C: driver_context_t<T>, A: Allocator + Copy>(
     buffer: &mut hb_buffer_t<A>,
     ranges: &[range_flags_t],
     feature_flags: hb_mask_t,
-) -> Result<u64, AatError>
+) -> Result<MachineRun, AatError>
     requires others { IfSome wakers (PassesOthers C.advances C.resting machine.now) }
     requires front { buffer.old.cursor ≡ 0 }
     requires fit { C.fits context.old 0 (length buffer.old.line) }
     requires ids { IsSmall buffer.old }
     requires gapless { IsGapless ranges.now }
-    ensures run { IfOk result (IsOutcome (outcome_of (driven_to_end ranges.now feature_flags machine.now
-        C.advances C.actionable C.act buffer.old context.old)) (with_cursor buffer.new 0)) }
+    ensures run { IfOk result (λ o. IsOutcome (outcome_of (driven_to_end ranges.now feature_flags machine.now
+        C.advances C.actionable C.act buffer.old context.old)) (with_cursor buffer.new 0) o.turns) }
+    ensures through { IfOk result (λ o. o.is_through ≡ is_at_end (driven_to_end ranges.now feature_flags machine.now
+        C.advances C.actionable C.act buffer.old context.old).buffer) }
     ensures registers { OnOk result (context.new ≡ (driven_to_end ranges.now feature_flags machine.now
         C.advances C.actionable C.act buffer.old context.old).registers) }
-    ensures few { IfOk result (λ turns. turns ≤ potential buffer.old + 1) }
+    ensures few { IfOk result (λ o. o.turns ≤ potential buffer.old + 1) }
     ensures ids { OnOk result (IsSmall buffer.new) }
     ensures reason { IfErr result (IsRefusal buffer.old (driven_to_end ranges.now feature_flags machine.now
         C.advances C.actionable C.act buffer.old context.old).buffer) }
     ensures refused { OnErr result (IsRefused buffer.old buffer.new) }
 {
     if ranges.len() > 1 && is_nowhere_on(ranges, feature_flags) {
-        return Ok(buffer.len() as u64 + 1);
+        return Ok(MachineRun {
+            turns: buffer.len() as u64 + 1,
+            is_through: true,
+        });
     }
     let asked = ranges_to_ask(ranges, feature_flags);
     run_turns(machine, wakers, context, buffer, asked, feature_flags)
+}
+
+/// Does as `run_machine`, and answers besides the number of turns whether the run came to the end of the line.
+#[tactic(auto, unfolding(crate::specs::Driven::machine_run, crate::specs::Driven::comes_to_end, crate::specs::Driven::registers_behind))]
+pub fn run_machine_through<T: Acting, C: driver_context_t<T>, A: Allocator + Copy>(
+    machine: &ExtendedStateTable<T>,
+    wakers: Option<Wakers>,
+    context: &mut C,
+    buffer: &mut hb_buffer_t<A>,
+    ranges: &[range_flags_t],
+    feature_flags: hb_mask_t,
+) -> Result<MachineRun, AatError>
+    requires others { IfSome wakers (PassesOthers C.advances C.resting machine.now) }
+    requires fit { C.fits context.old 0 (length buffer.old.line) }
+    requires ids { IsSmall buffer.old }
+    requires gapless { IsGapless ranges.now }
+    ensures run { IfOk result (λ o. IsOutcome (driven_run ranges.now feature_flags machine.now C.stays_in_place
+        C.advances C.actionable C.act context.old buffer.old) buffer.new o.turns) }
+    ensures through { IfOk result (λ o. o.is_through ≡ driven_through ranges.now feature_flags machine.now
+        C.stays_in_place C.advances C.actionable C.act context.old buffer.old) }
+    ensures registers { OnOk result (context.new ≡
+        driven_registers ranges.now feature_flags machine.now C.stays_in_place
+        C.advances C.actionable C.act context.old buffer.old) }
+    ensures bounded { IfOk result (λ o. IsBounded buffer.old (record { buffer = buffer.new; turns = o.turns })) }
+    ensures few { IfOk result (λ o. o.turns < 2 ^ 62) }
+    ensures ids { OnOk result (IsSmall buffer.new) }
+    ensures settings { OnOk result (SameSettings buffer.old buffer.new) }
+    ensures positions { OnOk result (buffer.new.positions ≡ positions_behind C.stays_in_place buffer.old) }
+    ensures longer { OnErr result (length buffer.old.line < length
+        (driven_run ranges.now feature_flags machine.now C.stays_in_place
+        C.advances C.actionable C.act context.old buffer.old).buffer.line) }
+    ensures reason { IfErr result (IsRefusal buffer.old
+        (driven_run ranges.now feature_flags machine.now C.stays_in_place
+        C.advances C.actionable C.act context.old buffer.old).buffer) }
+    ensures refused { OnErr result (IsRefused buffer.old buffer.new) }
+    ensures in_place { C.stays_in_place ≡ true → IsOk result }
+    ensures kept { C.keeps_length ≡ true → IsOk result }
+{
+    let _most = buffer.max_len();
+    let _budget = buffer.max_ops();
+    begin(buffer, context.in_place());
+    let outcome = take_turns(machine, wakers, context, buffer, ranges, feature_flags)?;
+    buffer.sync();
+    Ok(outcome)
 }
 
 /// Runs a state table over a line in a context, from the front, and answers the number of turns. `drive` has the
@@ -179,7 +242,6 @@ fn take_turns<T: Acting, C: driver_context_t<T>, A: Allocator + Copy>(
 /// The ranges have to follow one another from 0 without a gap. With fewer than two of them the machine is on at each
 /// cluster. Where it is said which glyphs may wake the machine, it has to pass each other one in state 0, and need not
 /// be asked at them.
-#[tactic(auto, unfolding(crate::specs::Driven::machine_run, crate::specs::Driven::registers_behind))]
 pub fn run_machine<T: Acting, C: driver_context_t<T>, A: Allocator + Copy>(
     machine: &ExtendedStateTable<T>,
     wakers: Option<Wakers>,
@@ -212,12 +274,8 @@ pub fn run_machine<T: Acting, C: driver_context_t<T>, A: Allocator + Copy>(
     ensures in_place { C.stays_in_place ≡ true → IsOk result }
     ensures kept { C.keeps_length ≡ true → IsOk result }
 {
-    let _most = buffer.max_len();
-    let _budget = buffer.max_ops();
-    begin(buffer, context.in_place());
-    let turns = take_turns(machine, wakers, context, buffer, ranges, feature_flags)?;
-    buffer.sync();
-    Ok(turns)
+    let outcome = run_machine_through(machine, wakers, context, buffer, ranges, feature_flags)?;
+    Ok(outcome.turns)
 }
 
 /// Runs a state table over the line of `c` in a context, from the front, in state 0 and with the registers that it

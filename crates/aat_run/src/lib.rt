@@ -20,7 +20,7 @@ mod wakers;
 pub mod worked;
 
 pub use aat_layout_common::hb_aat_apply_context_t;
-pub use driver::{drive, run_machine};
+pub use driver::{MachineRun, drive, run_machine, run_machine_through};
 pub use driver_context::driver_context_t;
 pub use error::AatError;
 pub use ranges::{

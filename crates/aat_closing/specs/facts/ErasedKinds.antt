@@ -9,7 +9,7 @@ use Rattle.aat_machine_tables.specs.Entries.{goes_on}
 use Rattle.aat_machine_tables.specs.declared.morx.Coverage.{Coverage}
 use Rattle.aat_machine_tables.specs.Table.{TableValue}
 use Rattle.aat_machine_tables.specs.declared.state_table.GenericStateEntry.{GenericStateEntry}
-use Rattle.aat_run.specs.Driven.{context_from, machine_run}
+use Rattle.aat_run.specs.Driven.{comes_to_end, context_from, machine_run}
 use Rattle.aat_run.specs.Outcome.{Outcome}
 use Rattle.aat_kinds.specs.Contextual as contextual
 use Rattle.aat_kinds.specs.Insertion as insertion
@@ -17,7 +17,6 @@ use Rattle.aat_kinds.specs.Kinds.{contextual_run, insertion_run, ligature_run, i
 use Rattle.aat_kinds.specs.Ligature as ligature
 use Rattle.aat_kinds.specs.Rearrangement as rearrangement
 use Rattle.aat_kinds.specs.Values.{noncontextual, with_answer, with_looked_up_value}
-use Rattle.aat_cut_kinds.specs.Cut.{comes_to_end}
 use Rattle.aat_closing.specs.Closing.{closing}
 use Rattle.aat_closing.specs.Unflagged.{AreBlind, IsBlindRun, LeftAlike, SameButFlags, erased, unflagged}
 use Rattle.aat_closing.specs.facts.BlindBuffers.{closing_is_blind, erased_of, erased_reversed, same_length, same_of}

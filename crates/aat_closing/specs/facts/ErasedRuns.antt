@@ -7,11 +7,10 @@ use Rattle.aat_machine_tables.specs.Table.{TableValue}
 use Rattle.aat_machine_tables.specs.declared.state_table.GenericStateEntry.{GenericStateEntry}
 use Rattle.aat_run.specs.Budget.{has_operations, operations_left, paid, potential}
 use Rattle.aat_run.specs.Context.{Config, Context, Machine, Moved, class_at, cluster_seen, is_at_end, is_inside, machine_of, start}
-use Rattle.aat_run.specs.Driven.{context_from, machine_run}
+use Rattle.aat_run.specs.Driven.{comes_to_end, context_from, machine_run}
 use Rattle.aat_run.specs.Machine.{Ends, Goes, Turn, acted, behind_act, break_marked_at, by_entry, counted, left_by, marked, off, passed, run, run_to_end, settled_by, stepped, turn}
 use Rattle.aat_run.specs.Safe.{is_safe}
 use Rattle.aat_run.specs.facts.Runs.{followed, mapped, run_step}
-use Rattle.aat_cut_kinds.specs.Cut.{comes_to_end}
 use Rattle.aat_closing.specs.Unflagged.{AreBlind, IsBlindRun, SameButFlags, erased, erased_config, erased_left}
 use Rattle.aat_closing.specs.facts.BlindBuffers.{erased_of, erased_unsafe, left_of, same_of}
 use Rattle.aat_closing.specs.facts.BlindLines.{bare_at, bare_length, same_choice}

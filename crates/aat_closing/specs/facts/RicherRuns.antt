@@ -7,14 +7,13 @@ use Rattle.aat_machine_tables.specs.Table.{TableValue}
 use Rattle.aat_machine_tables.specs.declared.state_table.GenericStateEntry.{GenericStateEntry}
 use Rattle.aat_run.specs.Budget.{has_operations, operations_left, paid, potential}
 use Rattle.aat_run.specs.Context.{Config, Context, Machine, Moved, class_at, is_at_end, is_inside, machine_of, start}
-use Rattle.aat_run.specs.Driven.{machine_run}
+use Rattle.aat_run.specs.Driven.{comes_to_end, machine_run}
 use Rattle.aat_run.specs.Laws.{FitsFresh, KeepsFit, PassesFit, Pays, Stands}
 use Rattle.aat_run.specs.Machine.{Ends, Goes, OnGoes, Turn, acted, behind_act, break_marked_at, by_entry, counted, left_by, marked, off, passed, run_to_end, settled_by, stepped, turn}
 use Rattle.aat_run.specs.Safe.{is_safe}
 use Rattle.aat_run.specs.facts.MachineRuns.{buffer_kept, budget_of_marked, cursor_of_marked, length_of_marked, paid_less, turn_falls, whole_step}
 use Rattle.aat_run.specs.facts.Runs.{followed}
 use Rattle.aat_run.specs.facts.Turns.{Lower, settled_keeps}
-use Rattle.aat_cut_kinds.specs.Cut.{comes_to_end}
 use Rattle.aat_cut_kinds.specs.facts.BackRuns.{has_paid}
 use Rattle.aat_cut_kinds.specs.facts.InsertionActs.{pay, pays_alike}
 use Rattle.aat_closing.specs.ClosingRuns.{told_run}

@@ -8,10 +8,10 @@ use Rattle.aat_machine_tables.specs.declared.state_table.GenericStateEntry.{Gene
 use Rattle.aat_glyph.specs.declared.glyph.hb_glyph_info_t.{hb_glyph_info_t}
 use Rattle.aat_run.specs.Budget.{operations_left}
 use Rattle.aat_run.specs.Context.{Context, Machine, machine_of, start}
-use Rattle.aat_run.specs.Driven.{machine_run}
+use Rattle.aat_run.specs.Driven.{comes_to_end, machine_run}
 use Rattle.aat_run.specs.Laws.{FitsFresh, KeepsFit, KeepsPlaceWhere, KeepsSettings, Lengthens, MakesNoPositions, PassesFit, Pays}
 use Rattle.aat_run.specs.Machine.{run_to_end}
-use Rattle.aat_cut_kinds.specs.Cut.{IsCutPlace, LeavesItsParts, comes_to_end}
+use Rattle.aat_cut_kinds.specs.Cut.{IsCutPlace, LeavesItsParts}
 use Rattle.aat_cut_kinds.specs.CutLaws.{IsCutLawful}
 use Rattle.aat_cut_kinds.specs.Parts.{LeftInParts, back_part, front_part}
 use Rattle.aat_cut_kinds.specs.facts.CutRuns.{parted}

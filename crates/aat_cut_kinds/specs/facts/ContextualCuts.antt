@@ -12,13 +12,12 @@ use Rattle.aat_machine_tables.specs.Table.{TableValue, class_of, entry_of}
 use Rattle.aat_glyph.specs.declared.glyph.hb_glyph_info_t.{hb_glyph_info_t}
 use Rattle.aat_run.specs.Budget.{operations_left}
 use Rattle.aat_run.specs.Context.{Machine, class_at, machine_of, start}
-use Rattle.aat_run.specs.Driven.{machine_run}
+use Rattle.aat_run.specs.Driven.{comes_to_end, machine_run}
 use Rattle.aat_run.specs.Machine.{break_marked_at}
 use Rattle.aat_run.specs.facts.MachineRuns.{buffer_kept}
 use Rattle.aat_kinds.specs.Contextual.{Entry, IsFit, Registers, act, can_act, context, fresh}
 use Rattle.aat_kinds.specs.Kinds.{contextual_run}
 use Rattle.aat_kinds.specs.facts.ContextualLaws as laws
-use Rattle.aat_cut_kinds.specs.Cut.{comes_to_end}
 use Rattle.aat_cut_kinds.specs.CutLaws.{ActsOnBoth, IsClosed, IsCutLawful, IsIdle, IsLocal, IsMovedOn, KeepsLine, KeepsMarks, KeepsSound, MovesOn}
 use Rattle.aat_cut_kinds.specs.Greater.{IsFlaggedAt, clusters}
 use Rattle.aat_cut_kinds.specs.Parts.{moved_on}

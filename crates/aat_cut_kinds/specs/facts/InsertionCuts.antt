@@ -17,7 +17,7 @@ use Rattle.aat_lookup.specs.declared.glyph_id.GlyphId.{GlyphId}
 use Rattle.aat_glyph.specs.declared.glyph.hb_glyph_info_t.{hb_glyph_info_t}
 use Rattle.aat_run.specs.Budget.{has_operations, has_overspent, operations_left, paid}
 use Rattle.aat_run.specs.Context.{Context, Machine, Moved, machine_of, machine_with, start}
-use Rattle.aat_run.specs.Driven.{context_from}
+use Rattle.aat_run.specs.Driven.{comes_to_end, context_from}
 use Rattle.aat_run.specs.Laws.{FitsFresh, KeepsFit, KeepsPlaceWhere, PassesFit}
 use Rattle.aat_run.specs.Machine.{break_marked_at}
 use Rattle.aat_run.specs.facts.MachineRuns.{paid_less}
@@ -25,7 +25,7 @@ use Rattle.aat_kinds.specs.Insertion.{Entry, Registers, act, actionable, at_curs
 use Rattle.aat_kinds.specs.Kinds.{insertion_run}
 use Rattle.aat_kinds.specs.facts.InsertionLaws as laws
 use Rattle.aat_kinds.specs.facts.OrderHolds.{insertion_kept}
-use Rattle.aat_cut_kinds.specs.Cut.{IsCutPlace, LeavesItsParts, comes_to_end}
+use Rattle.aat_cut_kinds.specs.Cut.{IsCutPlace, LeavesItsParts}
 use Rattle.aat_cut_kinds.specs.CutLaws.{ActsOnBoth, AgreesWith, IdlesAtCut, IsClosed, IsCutLawful, IsIdle, IsLocal, IsMovedOn, KeepsLine, KeepsMarks, KeepsSound, MovesOn}
 use Rattle.aat_cut_kinds.specs.Parts.{moved_on}
 use Rattle.aat_cut_kinds.specs.facts.Complete.{complete_runs_through}

@@ -116,13 +116,13 @@ module _ {R T : Type 0} (on : ℕ → Bool) (table : TableValue (GenericStateEnt
     unfolding off
     idle_at_end c start there f at_end f_rests false is_off =
         let end : is_at_end c.buffer ≡ true = grind (arith, nat_tests, there) in
-        (counted m c, turn_when_off m c is_off ∙ rw end refl, record { buffer = refl; registers = refl; counted = refl })
+        (counted m c, turn_when_off m c is_off ∙ rw end refl, record { buffer = refl; registers = refl; counted = refl; at_end = end })
     idle_at_end c start there f at_end f_rests true is_on =
         let end : is_at_end c.buffer ≡ true = grind (arith, nat_tests, there) in
         let class : class_at (class_of table) c.buffer ≡ 0 = rw end refl in (
           record (counted m c) { state = f.new_state },
           by_entry_of c f 0 start class at_end is_on ∙ acted_at_end f (counted m c) start end at_end f_rests,
-          record { buffer = refl; registers = refl; counted = refl },
+          record { buffer = refl; registers = refl; counted = refl; at_end = end },
         )
 
     module _ (goes_on_advances : (e : GenericStateEntry T) → goes_on e ≡ true → advances e ≡ true) (f : GenericStateEntry T) (at_end : entry_of table 0 0 ≡ Some f) (f_rests : rests f ≡ true) where
@@ -144,7 +144,8 @@ module _ {R T : Type 0} (on : ℕ → Bool) (table : TableValue (GenericStateEnt
           let parts = parts_of rests e.0 e.2 in
           let goes = idle_inside c start below e.0 e.1 parts.0 (goes_on_advances e.0 parts.1) parts.2 f at_end f_rests (on (cluster_seen c.buffer c.last)) refl in
           let rest = idle_by n k d refl (omega (arith, there)) (omega (arith, enough)) idle in
-          rw (run_step (turn m) n c, goes) (record { buffer = rest.buffer; registers = rest.registers; counted = omega (arith, rest.counted) })
+          rw (run_step (turn m) n c, goes)
+          (record { buffer = rest.buffer; registers = rest.registers; counted = omega (arith, rest.counted); at_end = rest.at_end })
 
 -- the whole run from the front
 module _ {R T : Type 0} (on : ℕ → Bool) (table : TableValue (GenericStateEntry T)) (x : Context R (GenericStateEntry T))

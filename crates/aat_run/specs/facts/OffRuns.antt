@@ -8,11 +8,12 @@ use Rattle.aat_run.specs.Machine.{Ends, Goes, counted, off, passed, run, turn, r
 use Rattle.aat_run.specs.facts.MachineRuns.{turn_when_off}
 use Rattle.aat_run.specs.facts.Runs.{run_step}
 
--- so many turns pass the glyphs that are left: but for the cursor the buffer stays, and so do the registers
+-- so many turns pass the glyphs that are left: the cursor comes to the end, and else the buffer stays, as the registers do
 pub record IsPassedOver {R : Type 0} (c d : Config R) (turns : ℕ) : Type 0 where
   pub buffer : with_cursor d.buffer 0 ≡ with_cursor c.buffer 0
   pub registers : d.registers ≡ c.registers
   pub counted : d.turns ≡ c.turns + turns
+  pub at_end : is_at_end d.buffer ≡ true
 
 module _ {R E : Type 0} (m : Machine R E) (nowhere : (x : ℕ) → m.on x ≡ false) where
   -- a turn before the end passes a glyph
@@ -33,12 +34,13 @@ module _ {R E : Type 0} (m : Machine R E) (nowhere : (x : ℕ) → m.on x ≡ fa
   passed_by : (n k : ℕ) (c : Config R) → c.buffer.cursor + k ≡ length c.buffer.line → k < n → IsPassedOver c (run (turn m) n c) (k + 1)
   passed_by zero k c there enough = absurd (omega arith)
   passed_by (suc n) zero c there enough =
-      rw (run_step (turn m) n c, off_at_end c (omega (arith, there))) (record { buffer = refl; registers = refl; counted = refl })
+      let end : is_at_end c.buffer ≡ true = grind (arith, nat_tests, there) in
+      rw (run_step (turn m) n c, off_at_end c (omega (arith, there))) (record { buffer = refl; registers = refl; counted = refl; at_end = end })
   passed_by (suc n) (suc k) c there enough =
       let d : Config R = record (counted m c) { buffer = passed c.buffer; state = 0 } in
       let rest = passed_by n k d (omega (arith, there)) (omega (arith, enough)) in
       rw (run_step (turn m) n c, off_inside c (omega (arith, there)))
-      (record { buffer = rest.buffer; registers = rest.registers; counted = omega (arith, rest.counted) })
+      (record { buffer = rest.buffer; registers = rest.registers; counted = omega (arith, rest.counted); at_end = rest.at_end })
 
   -- the whole run from the front
   pub passed_over : (c : Config R) → c.buffer.cursor ≡ 0 → IsPassedOver c (run_to_end m c) (length c.buffer.line + 1)

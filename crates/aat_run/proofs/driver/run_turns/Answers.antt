@@ -1,6 +1,6 @@
-use Rattle.std.proofs.Common.{◌≡◌, ◌<◌, ap, arith}
+use Rattle.std.proofs.Common.{◌≡◌, ◌∙◌, ◌<◌, not, ap, arith}
 use Rattle.std.proofs.lemmas.Result.{err_from_is_err_and}
-use Rattle.aat_run.specs.Context.{Config, first_config, machine_with}
+use Rattle.aat_run.specs.Context.{Config, first_config, is_at_end, machine_with}
 use Rattle.aat_run.specs.Machine.{Goes, Ends, turn}
 use Rattle.aat_run.specs.Ranges.{is_driven_on}
 use Rattle.aat_run.specs.inside.Places.{config}
@@ -67,6 +67,17 @@ returns-clause-run g c =
     let last : turn m old ≡ Ends new = rw c.if-branch.false at c.in_ok-turn_once.ensures.turn in
     let done = (ends m context.fits laws.keeps_fit laws.passes_fit laws.pays (first_config c.args.buffer.now c.args.context.now) old c.loop-wakers.invariant.come new last).0 in
     record { buffer = ap (λ (d : Config _). d.buffer) done; registers = ap (λ (d : Config _). d.registers) done; counted = ap (λ (d : Config _). d.turns) done }
+
+pub returns-clause-through : goal.returns-clause-through
+returns-clause-through g c =
+    let context = g.C.driver_context_t in
+    let laws = g.met.C.driver_context_t in
+    let m = machine_with (is_driven_on c.args.ranges.now c.args.feature_flags) c.args.machine.now context.advances context.actionable context.act in
+    let old = config c.loop-wakers.buffer c.loop-wakers.context c.loop-wakers.run_state in
+    let new = config c.turn_once.new.buffer c.turn_once.new.context c.turn_once.new.run_state in
+    let last : turn m old ≡ Ends new = rw c.if-branch.false at c.in_ok-turn_once.ensures.turn in
+    let done = (ends m context.fits laws.keeps_fit laws.passes_fit laws.pays (first_config c.args.buffer.now c.args.context.now) old c.loop-wakers.invariant.come new last).0 in
+    ap not c.has_current.ensures.current ∙ ap (λ (d : Config _). is_at_end d.buffer) done
 
 pub returns-clause-few : goal.returns-clause-few
 returns-clause-few g c =

@@ -1,9 +1,8 @@
-use Rattle.std.proofs.Common.{◌∙◌, ap, length}
-use Rattle.aat_run.specs.Context.{Moved}
-use Rattle.aat_kinds.specs.Contextual.{Held}
-use Rattle.aat_kinds.specs.facts.ContextualHeld.{keeps_place}
+use Rattle.std.proofs.Common.{rules}
+use Rattle.aat_kinds.specs.Contextual.{act}
 use Rattle.aat_kinds.proofs.contextual.ContextualCtxdriver_context_tContextualEntryData.transition.Goals as goal
 
-pub returns-clause-count : goal.returns-clause-count
-returns-clause-count g c =
-    ap (λ (m : Moved Held). length m.buffer.line) c.act.ensures.act ∙ keeps_place.length c.args.entry.now c.args.self.now c.args.buffer.now c.requires.fit
+-- answered here, so that a wrong body is refused sooner
+pub returns-then-has_mark-clause-act : goal.returns-then-has_mark-clause-act
+unfolding act
+returns-then-has_mark-clause-act g c = search rules
