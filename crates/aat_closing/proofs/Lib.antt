@@ -1,2 +1,7 @@
+pub mod AsleepClosing
+pub mod ClosingChained
+pub mod ClosingRoom
 pub mod Examples
+pub mod IdleClosing
 pub mod Ran
+pub mod ToldInOrder

@@ -1,4 +1,5 @@
 pub mod Closing
+pub mod ClosingApplied
 pub mod ClosingChains
 pub mod ClosingCuts
 pub mod ClosingExamples

@@ -7,7 +7,10 @@ use Rattle.aat_run.specs.Context.{Config, Moved}
 use Rattle.aat_machine_tables.specs.declared.morx.Coverage.{Coverage}
 use Rattle.aat_machine_tables.specs.declared.morx.SubtableKind.{SubtableKind}
 use Rattle.aat_run.specs.Outcome.{Outcome, in_order}
+use Rattle.aat_map.specs.SwitchedChains.{SwitchedChain}
 use Rattle.aat_kinds.specs.Kinds.{Sizes, kind_run, ordered_run}
+use Rattle.aat_morx.specs.Substitution.{substituted}
+use Rattle.aat_closing.specs.ClosingChains.{closing_substituted}
 use Rattle.aat_closing.specs.ClosingRuns.{Told, closing_ordered, closing_run, told_in_order}
 
 -- a glyph without the DEFINED flags (7)
@@ -71,3 +74,8 @@ ListsFlagAlone =
     (z : Sizes) (subtables : List ((ℕ → Bool) × Coverage × SubtableKind))
     → IsBlindTold (told_in_order (λ s. closing_ordered z s.0 s.1 s.2) subtables)
     (in_order (λ s. ordered_run s.1 (kind_run z s.0 s.2)) subtables)
+
+-- and so do those of all chains: they leave what substitution leaves, but for the flags
+abbrev pub ChainsFlagAlone : Type 0
+ChainsFlagAlone =
+    (z : Sizes) (chains : List SwitchedChain) → IsBlindTold (closing_substituted z chains) (substituted z chains)

@@ -5,6 +5,8 @@ pub mod BlindInsertion
 pub mod BlindLigature
 pub mod BlindLines
 pub mod BlindRearrangement
+pub mod ChainsErased
+pub mod ChainsSteady
 pub mod ClosedLaws
 pub mod ContextualClosing
 pub mod ErasedClosing
@@ -17,14 +19,14 @@ pub mod LigatureActs
 pub mod LigatureClosing
 pub mod LigatureParts
 pub mod LigatureStacks
+pub mod Limited
+pub mod LimitedKinds
+pub mod LimitedRuns
 pub mod OrderedSteady
 pub mod PushedComponents
 pub mod RearrangementActs
 pub mod RearrangementClosing
 pub mod RestOpen
-pub mod Richer
-pub mod RicherKinds
-pub mod RicherRuns
 pub mod Steady
 pub mod ToldKeeps
 pub mod ToldKeepsActs

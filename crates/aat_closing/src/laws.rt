@@ -1,7 +1,7 @@
 //! Laws of the definitions as theorems. These calls do nothing: what is proved is their contracts.
 
-ghost use Rattle.aat_closing.specs.ClosingCuts.{KindsLeavePartsAtFall, KindsLeavePartsAtRise, ListsLeaveParts};
-ghost use Rattle.aat_closing.specs.Unflagged.{ClosingFlagsAlone, ListsFlagAlone};
+ghost use Rattle.aat_closing.specs.ClosingCuts.{ChainsLeaveLimitedParts, ChainsLeaveParts, KindsLeavePartsAtFall, KindsLeavePartsAtRise, ListsLeaveParts};
+ghost use Rattle.aat_closing.specs.Unflagged.{ChainsFlagAlone, ClosingFlagsAlone, ListsFlagAlone};
 
 /// Whatever its table, with a slot for components: where all clusters before a place inside the line are below some c,
 /// none from there on is, the clusters never fall along the line and merge at its level, the subtable is on at the place,
@@ -27,6 +27,21 @@ pub fn subtables_leave_parts()
     ensures { ListsLeaveParts }
 {}
 
+/// With a slot for components, the closing runs of all chains over a line of text, as in `open_rise_leaves_parts`, of a
+/// direction, the cursor at its front, no marks against joining asked for: where all come to their ends, and leave c open,
+/// some of the budget, and a glyph with a cluster below c, they leave its parts. Each subtable is left out of texts of
+/// the direction, or substitutes each glyph by itself, or is on at each cluster, or at none; none of rearrangement runs
+/// from the other end of the line.
+pub fn chains_leave_parts()
+    ensures { ChainsLeaveParts }
+{}
+
+/// The same of parts with budgets and greatest lengths of their own, where the runs over the whole take less of its budget
+/// than either part has: the line is that of the one part, and behind it that of the other, with their masks.
+pub fn chains_leave_limited_parts()
+    ensures { ChainsLeaveLimitedParts }
+{}
+
 /// The closing run of a subtable leaves what its run leaves, but for the flags of the glyphs, in the same number of turns,
 /// whatever flags stood before.
 pub fn closing_flags_alone()
@@ -36,4 +51,9 @@ pub fn closing_flags_alone()
 /// The same of subtables one after another, each in the order of its coverage.
 pub fn closing_lists_flag_alone()
     ensures { ListsFlagAlone }
+{}
+
+/// The same of all chains: their closing runs leave what substitution leaves, but for those flags.
+pub fn closing_chains_flag_alone()
+    ensures { ChainsFlagAlone }
 {}

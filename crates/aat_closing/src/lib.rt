@@ -6,6 +6,7 @@
 //! ```
 #![tactic(auto)]
 
+mod chains;
 mod closes;
 mod context;
 mod kinds;
@@ -14,9 +15,12 @@ pub mod laws;
 mod ligature;
 mod machines;
 mod runs;
+mod subtable;
+mod table;
 #[doc(hidden)]
 pub mod worked;
 
 pub use closes::Closes;
 pub use context::Closing;
 pub use runs::close_kind;
+pub use table::close_table;

@@ -12,7 +12,7 @@ use Rattle.aat_kinds.specs.Idle.{IsIdleLineOf, at_rest, passed_over}
 use Rattle.aat_kinds.specs.Kinds.{Sizes, kind_run, reversed_run, is_reversed}
 use Rattle.aat_kinds.specs.facts.IdleKinds.{idle_kind}
 use Rattle.aat_morx.specs.Substitution.{is_skipped, subtable_run}
-use Rattle.aat_morx.specs.inside.LineWords.{IsAsleep}
+use Rattle.aat_morx.specs.LineWords.{IsAsleep}
 use Rattle.aat_run.specs.Outcome.{Outcome}
 use Rattle.aat_run.specs.Switches.{Switch}
 
@@ -34,7 +34,7 @@ module _ (b : Buffer) where
   turned_none = rw (length-reverse b.line, line_back, turned_positions b.positions) refl
 
 -- what a sleeping subtable leaves is the same in either order
-turned_rest : (kind : SubtableKind) (b : Buffer) → reversed_run (at_rest kind) b ≡ at_rest kind b
+pub turned_rest : (kind : SubtableKind) (b : Buffer) → reversed_run (at_rest kind) b ≡ at_rest kind b
 turned_rest (Rearrangement table) b = turned_over b
 turned_rest (Contextual s) b = turned_over b
 turned_rest (Ligature s) b = turned_without b
@@ -50,7 +50,7 @@ rest_line (NonContextual lookup) b = refl
 rest_line (Insertion s) b = refl
 
 -- it sleeps on the reversed line too
-turned_idle : (kind : SubtableKind) (gs : List hb_glyph_info_t) → IsIdleLineOf kind gs → IsIdleLineOf kind (reverse gs)
+pub turned_idle : (kind : SubtableKind) (gs : List hb_glyph_info_t) → IsIdleLineOf kind gs → IsIdleLineOf kind (reverse gs)
 turned_idle kind gs idle k low =
     let inside : k < length gs = omega (arith, low, length-reverse gs) in
     ap (λ (g : hb_glyph_info_t). is_idle kind g.glyph_id) (get_or-reverse gs k no_glyph inside) ∙ idle (length gs - 1 - k) (omega (arith, inside))

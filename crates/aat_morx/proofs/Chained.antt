@@ -25,7 +25,7 @@ use Rattle.aat_run.specs.facts.InOrder.{in_order_more}
 use Rattle.aat_run.specs.facts.Settings.{settings_then}
 
 -- subtables under ranges, as a chain that is switched
-abbrev switched_over : List range_flags_t → List Subtable → SwitchedChain
+abbrev pub switched_over : List range_flags_t → List Subtable → SwitchedChain
 switched_over ranges subtables = record { switch = switch_for ranges; subtables = subtables }
 
 module _ (z : Sizes) (chains : List Chain) (lists : List (List range_flags_t)) (b : Buffer) (i : ℕ) (chain : Chain) (ranges : List range_flags_t) (subtables : List Subtable)

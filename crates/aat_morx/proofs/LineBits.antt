@@ -10,7 +10,7 @@ use Rattle.aat_machine_tables.specs.declared.morx.Subtable.{Subtable}
 use Rattle.aat_font.specs.declared.wakers.GlyphWords.{GlyphWords}
 use Rattle.aat_glyph.specs.declared.glyph.hb_glyph_info_t.{hb_glyph_info_t}
 use Rattle.aat_morx.specs.declared.waking.LineWord.{LineWord}
-use Rattle.aat_morx.specs.inside.LineWords.{HasBitsOf, IsAsleep, TellsOf, WakeAt}
+use Rattle.aat_morx.specs.LineWords.{HasBitsOf, IsAsleep, TellsOf, WakeAt}
 
 -- a subtable whose bit is clear sleeps
 pub asleep_by :

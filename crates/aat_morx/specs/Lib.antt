@@ -15,7 +15,7 @@ pub mod Isolation
 pub mod Kept
 pub mod Lawful
 pub mod LigatureRows
+pub mod LineWords
 pub mod RearrangementRows
 pub mod Rows
 pub mod Substitution
-pub mod inside

@@ -156,8 +156,9 @@ pub fn apply_with<const SLOTS: usize, const LONGEST: usize>(
     }
 }
 
-/// Drops the positions, and marks the whole line against joining, where the buffer asks for it.
-fn prepare<A: Allocator + Copy>(buffer: &mut hb_buffer_t<A>)
+/// Makes a buffer ready for a run of the table: drops the positions, and marks the whole line against joining, where the
+/// buffer asks for it.
+pub fn prepare<A: Allocator + Copy>(buffer: &mut hb_buffer_t<A>)
     ensures { buffer.new ≡ prepared buffer.old }
 {
     buffer.drop_positions();

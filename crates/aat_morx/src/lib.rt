@@ -12,8 +12,9 @@ pub mod laws;
 mod subtable;
 mod waking;
 
-pub use applying::{apply, apply_with, run_table};
+pub use applying::{apply, apply_with, prepare, run_table};
 pub use subtable::{is_for, is_reversed, is_skipped};
+pub use waking::{LineWord, wakers_at};
 
 #[doc(hidden)]
 pub mod worked;

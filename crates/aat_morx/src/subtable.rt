@@ -6,7 +6,7 @@ ghost use Rattle.aat_kinds.specs.Idle.{SleepOthers};
 ghost use Rattle.aat_kinds.specs.Kinds.{is_for, is_reversed, kind_run, ordered_run, reversed_run, sizes_of};
 ghost use Rattle.aat_kinds.specs.Runs.{is_on_in};
 ghost use Rattle.aat_morx.specs.Substitution.{is_skipped, subtable_run};
-ghost use Rattle.aat_morx.specs.inside.LineWords.{TellsOf, WakeAt};
+ghost use Rattle.aat_morx.specs.LineWords.{TellsOf, WakeAt};
 ghost use Rattle.aat_run.specs.Driven.{IsRefusal, IsRefused, StaysWithin};
 ghost use Rattle.aat_run.specs.Outcome.{IsOutcome};
 ghost use Rattle.aat_run.specs.Ranges.{IsGapless, is_whole_list, switch_for};

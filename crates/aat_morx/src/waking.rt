@@ -7,7 +7,7 @@ ghost use Rattle.aat_font.specs.Idle.{is_idle};
 ghost use Rattle.aat_font.specs.Wakers.{word_of};
 ghost use Rattle.aat_machine_tables.specs.declared.morx.Subtable.{Subtable};
 ghost use Rattle.aat_kinds.specs.Idle.{SleepOthers};
-ghost use Rattle.aat_morx.specs.inside.LineWords.{HasBitsOf, IsAsleep, TellsOf, WakeAt};
+ghost use Rattle.aat_morx.specs.LineWords.{HasBitsOf, IsAsleep, KnowsNothing, TellsOf, WakeAt};
 
 use aat_buffer::{hb_buffer_t, hb_glyph_info_t};
 use aat_font::{GlyphWords, word_at};
@@ -18,9 +18,12 @@ use std::alloc::Allocator;
 /// The number of subtables that have a bit in a word.
 const WORD: usize = 64;
 
-/// The bits of all glyphs of a line for 64 subtables, as long as they are known, and those of an earlier line behind that.
+/// Which subtables of a chain the glyphs of a line may wake: the bits of all of its glyphs for 64 subtables, as long as they
+/// are known, and those of an earlier line behind that.
+///
+/// Each chain begins with one that knows nothing of the line, and forgets what is known where a subtable has run.
 #[derive(Clone, Copy)]
-pub(crate) struct LineWord {
+pub struct LineWord {
     /// Which 64 subtables these are: their first one has this number times 64.
     block: usize,
     /// The bits.
@@ -31,8 +34,8 @@ pub(crate) struct LineWord {
 
 impl LineWord {
     /// Nothing is known of a line.
-    pub(crate) fn unknown() -> LineWord
-        ensures { result.is_known ≡ false }
+    pub fn unknown() -> LineWord
+        ensures { KnowsNothing result }
     {
         LineWord {
             block: 0,
@@ -41,9 +44,9 @@ impl LineWord {
         }
     }
 
-    /// The bits are no longer known to be those of the line.
-    pub(crate) fn forget(&mut self)
-        ensures { self.new.is_known ≡ false }
+    /// The bits are no longer known to be those of the line, which may have changed.
+    pub fn forget(&mut self)
+        ensures { KnowsNothing self.new }
     {
         self.is_known = false;
     }
@@ -51,8 +54,11 @@ impl LineWord {
     /// Whether a glyph of a line may wake subtable i, by the words of the subtables. It looks at the glyphs of the line
     /// only where their bits for these 64 subtables are not known. Where a glyph of an earlier line may wake it, and the
     /// line's own bits are not known, it answers that one may: to run the subtable costs little more than to look.
+    ///
+    /// Each glyph id has to be at most 0xFFFF, and what is known has to hold of the line. Where it answers that none may,
+    /// the line has a glyph, and the subtable does nothing over each of its glyphs.
     #[tactic(auto, using(crate::proofs::LineBits::asleep_by, crate::proofs::LineBits::tells_of))]
-    pub(crate) fn wakes<A: Allocator + Copy>(
+    pub fn wakes<A: Allocator + Copy>(
         &mut self,
         words: &[GlyphWords],
         i: usize,
@@ -149,8 +155,8 @@ fn bits_of(listed: &[u64], glyphs: &[hb_glyph_info_t]) -> u64
     word
 }
 
-/// Which glyphs may wake subtable i, by the words of the subtables, where these tell.
-pub(crate) fn wakers_at(words: &[GlyphWords], i: usize) -> Option<Wakers<'_>>
+/// Which glyphs may wake subtable i of a chain, by the words of its subtables (`Morx::wakers`), where these tell.
+pub fn wakers_at(words: &[GlyphWords], i: usize) -> Option<Wakers<'_>>
     ensures { (s : Subtable) → WakeAt s words.now i → IfSome result (SleepOthers (is_idle s.kind)) }
 {
     match words.get(i / WORD) {

@@ -13,7 +13,7 @@ module _ (m : ℕ) where
   from_bits : (a : ℕ) → ((i : ℕ) → min (bit_at a i) (bit_at m i) ≡ 0) → bit_and a m ≡ 0
   from_bits a each = same_from_bits (bit_and a m) 0 (λ i. bit_at_and a m i ∙ (each i ∙ sym (bit_at-zero i)))
 
-  or_left : (a b : ℕ) → bit_and (bit_or a b) m ≡ 0 → bit_and a m ≡ 0
+  pub or_left : (a b : ℕ) → bit_and (bit_or a b) m ≡ 0 → bit_and a m ≡ 0
   or_left a b e = from_bits a (λ i. below (bit_at a i) (bit_at b i) (bit_at m i) (bit_at (bit_or a b) i) (bit_at_or a b i) (apart_bits (bit_or a b) e i))
     where
       below : (x y z w : ℕ) → w ≡ max x y → min w z ≡ 0 → min x z ≡ 0

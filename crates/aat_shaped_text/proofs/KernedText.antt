@@ -2,6 +2,7 @@
 use Rattle.std.proofs.Common.{◌≡◌, ◌∙◌, sym, ap, refl, ◌&&◌, ◌||◌, Bool, true, false, not, cond, List, [], ◌∷◌, map, fold, true≢false, is_some, get_or}
 use Rattle.std.specs.List.{list_all}
 use Rattle.std.specs.Prelude.{Option, None}
+use Rattle.std.proofs.lemmas.Bool.{and_parts}
 use Rattle.std.proofs.lemmas.List.Folds.{list_all_at}
 use Rattle.aat_buffer.specs.Buffer.{Buffer}
 use Rattle.aat_buffer.specs.Marks.{unsafe_to_concat}
@@ -21,7 +22,6 @@ use Rattle.aat_shaped_text.specs.Breaks.{kernings_of, kerns_apart, kerns_pairs_a
 use Rattle.aat_shaped_text.specs.TextFeatures.{requests_kerning}
 use Rattle.aat_shaped_text.specs.ShapedText.{text_kerning}
 use Rattle.aat_shaped_text.proofs.KernedApart.{IsPlainFrom, RunsPlain, kern_plain, kerx_plain, ordered_plain, plain_same, plain_then, step_plain}
-use Rattle.aat_shaped_text.proofs.SubstitutedApart.{and_first, and_second}
 
 module _ {X : Type 0} (h : X → Kerning) (runs : (x : X) → RunsPlain (h x)) (requested : Bool) where
   fold_plain :
@@ -30,8 +30,8 @@ module _ {X : Type 0} (h : X → Kerning) (runs : (x : X) → RunsPlain (h x)) (
   fold_plain [] s all = plain_same s.buffer
   fold_plain (x ∷ xs) s all =
       let t : Positioned = positioned requested (h x) s in
-      let first = step_plain requested (h x) s (runs x) (and_first (kerns_pairs_along s.buffer.direction (h x)) (list_all (kerns_pairs_along s.buffer.direction) (map h xs)) all) in
-      let rest = fold_plain xs t (ap (λ e. list_all (kerns_pairs_along e) (map h xs)) first.direction ∙ and_second (kerns_pairs_along s.buffer.direction (h x)) (list_all (kerns_pairs_along s.buffer.direction) (map h xs)) all) in
+      let first = step_plain requested (h x) s (runs x) ((and_parts (kerns_pairs_along s.buffer.direction (h x)) (list_all (kerns_pairs_along s.buffer.direction) (map h xs)) all).0) in
+      let rest = fold_plain xs t (ap (λ e. list_all (kerns_pairs_along e) (map h xs)) first.direction ∙ (and_parts (kerns_pairs_along s.buffer.direction (h x)) (list_all (kerns_pairs_along s.buffer.direction) (map h xs)) all).1) in
       plain_then s.buffer t.buffer (fold (λ s k. positioned requested k s) t (map h xs)).buffer first rest
 
   positioning_plain :

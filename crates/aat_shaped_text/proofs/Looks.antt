@@ -51,12 +51,12 @@ left_of gs = lefts (length gs) [] (spots gs)
 abbrev pub line_looks : Glyphs → Positions → List ShapedGlyph
 line_looks gs qs = with_clusters (reverse (left_of gs)) (kept_looks gs qs)
 
-looks_with_clusters : (gs : Glyphs) (hs : List ShapedGlyph) → map looks (with_clusters_of gs hs) ≡ with_clusters (clusters gs) (map looks hs)
+pub looks_with_clusters : (gs : Glyphs) (hs : List ShapedGlyph) → map looks (with_clusters_of gs hs) ≡ with_clusters (clusters gs) (map looks hs)
 looks_with_clusters [] hs = refl
 looks_with_clusters (g ∷ gs) [] = refl
 looks_with_clusters (g ∷ gs) (h ∷ hs) = ap (λ zs. record (looks h) { cluster = g.cluster } ∷ zs) (looks_with_clusters gs hs)
 
-looks_of_places : (f : ℕ → ShapedGlyph) (is : List ℕ) → map looks (map f is) ≡ map (λ i. looks (f i)) is
+pub looks_of_places : (f : ℕ → ShapedGlyph) (is : List ℕ) → map looks (map f is) ≡ map (λ i. looks (f i)) is
 looks_of_places f [] = refl
 looks_of_places f (i ∷ is) = ap (λ zs. looks (f i) ∷ zs) (looks_of_places f is)
 

@@ -122,7 +122,8 @@ module _ (p : ℕ → Bool) where
   all_rest_append [] rest all more = more
   all_rest_append (s ∷ ss) rest all more = (all.0, all_rest_append ss rest all.1 more)
 
-  all_rest_reverse : (gs : Glyphs) → AllRest p (spots gs) → AllRest p (spots (reverse gs))
+  -- a test that all of a line pass, all pass that is turned round
+  pub all_rest_reverse : (gs : Glyphs) → AllRest p (spots gs) → AllRest p (spots (reverse gs))
   all_rest_reverse [] all = tt
   all_rest_reverse (g ∷ gs) all =
       rw (reverse_onto gs g []) (rw (map-append spot (reverse gs) (g ∷ []))

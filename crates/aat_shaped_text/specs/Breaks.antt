@@ -1,6 +1,6 @@
 -- Where a text may be broken between two glyphs that are drawn side by side. (No chapter of the manual: where a line
 -- may be broken is the shaper's own.)
-use Rattle.std.specs.Prelude.{ℕ, ◌+◌, ◌-◌, ◌==◌, ◌&&◌, ◌||◌, not, Bool, true, false, nat_lt, bit_and, bit_or, List, ◌∷◌, [], is_some, length, take, drop, take_while, reverse, filter, fold, map, if◌then◌else◌}
+use Rattle.std.specs.Prelude.{ℕ, ◌+◌, ◌-◌, ◌==◌, ◌&&◌, ◌||◌, not, Bool, true, nat_lt, bit_and, bit_or, List, ◌∷◌, [], is_some, length, take, drop, take_while, reverse, filter, fold, map, if◌then◌else◌}
 use Rattle.std.specs.List.{list_any, list_all}
 use Rattle.aat_buffer.specs.Buffer.{glyph_at}
 use Rattle.aat_buffer.specs.Marks.{cluster_at}
@@ -11,13 +11,14 @@ use Rattle.aat_font.specs.Face.{chains_in, kern_in, kerx_in, tables_of}
 use Rattle.aat_font.specs.declared.face.hb_font_t.{hb_font_t}
 use Rattle.aat_machine_tables.specs.declared.morx.Chain.{Chain}
 use Rattle.aat_machine_tables.specs.declared.morx.Subtable.{Subtable}
-use Rattle.aat_machine_tables.specs.declared.morx.SubtableKind.{SubtableKind}
-use Rattle.aat_machine_tables.specs.declared.morx.SubtableKind.TheVariants.{Rearrangement, Contextual, Ligature, NonContextual, Insertion}
 use Rattle.aat_font.specs.declared.plan.Feature.{Feature}
 use Rattle.aat_run.specs.Switches.{meets}
+use Rattle.aat_map.specs.Live.{is_uncut}
+use Rattle.aat_map.specs.Requests.{requests_of}
 use Rattle.aat_kinds.specs.Kinds.{is_for}
 use Rattle.aat_kerning.specs.Pairs.{is_solid, kern_skips, kerx_skips}
 use Rattle.aat_kerning.specs.Positioning.{Kerning, is_for_direction, kerning_of_kern_subtable, kerning_of_kerx_subtable}
+use Rattle.aat_closing.specs.ClosingCuts.{is_noncontextual}
 use Rattle.aat_shaped_text.specs.TextFeatures.{ask_alike}
 use Rattle.aat_shaped_text.specs.declared.text.TextGlyph.{TextGlyph}
 
@@ -26,14 +27,6 @@ use Rattle.aat_shaped_text.specs.declared.text.TextGlyph.{TextGlyph}
 abbrev pub possible_flags : List Feature → Chain → ℕ
 possible_flags [] c = c.default_flags
 possible_flags (f ∷ features) c = fold (λ flags f. bit_or flags f.enable_flags) c.default_flags c.features.items
-
--- a subtable substitutes each glyph by itself
-abbrev pub is_noncontextual : SubtableKind → Bool
-is_noncontextual (Rearrangement table) = false
-is_noncontextual (Contextual subtable) = false
-is_noncontextual (Ligature subtable) = false
-is_noncontextual (NonContextual lookup) = true
-is_noncontextual (Insertion subtable) = false
 
 -- in texts of a direction, under these flags, it does so, or it is not for them, or nothing switches it on
 abbrev pub keeps_apart : Direction → ℕ → Subtable → Bool
@@ -65,11 +58,15 @@ kerns_apart face d = list_all (kerns_pairs_along d) (kernings_of face)
 abbrev pub skips_of : hb_font_t → ℕ
 skips_of face = if is_some (tables_of face).kerx then kerx_skips else kern_skips
 
--- what the font has to be like for its texts of a direction with these features to be broken anywhere: of the subtables
--- that are for them, those of `morx` that can be switched on substitute glyph by glyph, and those of kerning kern pairs
--- along the line
-abbrev pub shapes_apart : hb_font_t → Direction → List Feature → Bool
-shapes_apart face d features = substitutes_apart face d features && kerns_apart face d
+-- the features of a text give each chain one range, or each subtable substitutes its glyphs apart
+abbrev pub substitutes_evenly : hb_font_t → Direction → List Feature → Bool
+substitutes_evenly face d features =
+    is_uncut (requests_of (tables_of face).feat features) || substitutes_apart face d features
+
+-- what font and features have to be like for texts of a direction to be broken anywhere: substitution runs evenly along
+-- them, and subtables of kerning that are for them kern pairs along the line
+abbrev pub shapes_evenly : hb_font_t → Direction → List Feature → Bool
+shapes_evenly face d features = substitutes_evenly face d features && kerns_apart face d
 
 -- clusters never fall along a text
 abbrev pub is_rising : List TextGlyph → Bool

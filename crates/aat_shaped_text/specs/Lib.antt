@@ -1,4 +1,5 @@
 pub mod Breaks
+pub mod ClosingDraws
 pub mod Examples
 pub mod Parts
 pub mod ShapedText

@@ -1,7 +1,7 @@
 -- A text that is shaped: its glyphs as a line, what the layer's calls leave of it, and what is drawn. (How a text is
 -- handed in and out is the shaper's own. Apple's TrueType Reference Manual, "The 'morx' table", "The 'kerx' table" and
 -- "The 'kern' table".)
-use Rattle.std.specs.Prelude.{◌≡◌, ◌⊎◌, ℕ, ℤ, is_some, option_map, ◌<◌, ◌≤◌, ◌*◌, ◌^◌, ◌&&◌, not, Bool, pos, List, AllPairs, Option, Some, None, length, filter, map, max, min, zip, slice_index_or, if◌then◌else◌}
+use Rattle.std.specs.Prelude.{◌≡◌, ◌⊎◌, ℕ, ℤ, is_some, option_map, nat_lt, ◌<◌, ◌≤◌, ◌+◌, ◌*◌, ◌^◌, ◌&&◌, not, Bool, pos, List, AllPairs, Option, Some, None, length, filter, map, max, min, zip, slice_index_or, if◌then◌else◌}
 use Rattle.std.specs.Bool.{MatchBool}
 use Rattle.std.specs.List.{range_with_len}
 use Rattle.std.specs.Ordering.{int_eq}
@@ -16,7 +16,7 @@ use Rattle.aat_glyph.specs.declared.glyph.hb_glyph_info_t.{hb_glyph_info_t}
 use Rattle.aat_font.specs.Face.{advance_of, chains_in, kern_in, kerx_in, props_of, tables_of}
 use Rattle.aat_font.specs.declared.face.hb_font_t.{hb_font_t}
 use Rattle.aat_font.specs.declared.plan.Feature.{Feature}
-use Rattle.aat_run.specs.Budget.{has_operations}
+use Rattle.aat_run.specs.Budget.{has_operations, operations_left}
 use Rattle.aat_run.specs.Outcome.{Outcome}
 use Rattle.aat_run.specs.declared.error.AatError.{AatError}
 use Rattle.aat_run.specs.declared.error.AatError.TheVariants.{AaltValue, TooLong, OutOfMemory, BufferFailed}
@@ -25,11 +25,14 @@ use Rattle.aat_map.specs.Requests.{requests_of}
 use Rattle.aat_map.specs.SwitchedChains.{by_requests}
 use Rattle.aat_morx.specs.Substitution.{substituted}
 use Rattle.aat_kinds.specs.Kinds.{sizes_for}
+use Rattle.aat_kerning.specs.Cut.{ordered_line}
 use Rattle.aat_kerning.specs.Positioning.{in_processing_order, kern_positioning, kerx_positioning}
 use Rattle.aat_kerning.specs.Zeroing.{zeroed}
 use Rattle.aat_shaping.specs.Shaping.{with_advances}
+use Rattle.aat_closing.specs.ClosingChains.{closing_substituted}
+use Rattle.aat_closing.specs.ClosingRuns.{Told}
 use Rattle.aat_placement.specs.TrackedLines.{tracked}
-use Rattle.aat_shaped_text.specs.Breaks.{is_rising, kept_before, may_break_at, shapes_apart, skips_of}
+use Rattle.aat_shaped_text.specs.Breaks.{is_rising, kept_before, may_break_at, shapes_evenly, skips_of}
 use Rattle.aat_shaped_text.specs.TextFeatures.{is_kerned_at, requests_kerning}
 use Rattle.aat_shaped_text.specs.declared.text.ShapedGlyph.{ShapedGlyph}
 use Rattle.aat_shaped_text.specs.declared.text.TextGlyph.{TextGlyph}
@@ -68,6 +71,12 @@ text_buffer face d features text =
 abbrev pub text_substitution : hb_font_t → List Feature → Buffer → Outcome
 text_substitution face features b =
     substituted (sizes_for face)
+    (by_requests (requests_of (tables_of face).feat features) (chains_in (tables_of face).morx)) b
+
+-- the same, which closes what its machines look at
+abbrev pub text_closing : hb_font_t → List Feature → Buffer → Told
+text_closing face features b =
+    closing_substituted (sizes_for face)
     (by_requests (requests_of (tables_of face).feat features) (chains_in (tables_of face).morx)) b
 
 -- kerning by the extended kerning table where the font has it, and else by the kerning table
@@ -147,17 +156,37 @@ abbrev pub drawn_glyphs : (ℕ → Bool) → Buffer → List ShapedGlyph
 drawn_glyphs may_break b =
     with_clusters_of (removed is_deleted b).line (map (drawn_glyph may_break b) (kept_places b.line))
 
--- whether a text that is drawn may be broken before a place of its line: its clusters never fall, and font and place
--- allow it
-abbrev pub may_break_text : ℤ → hb_font_t → Direction → List Feature → List TextGlyph → ℕ → Bool
-may_break_text v face d features text i =
-    shapes_apart face d features && is_rising text
-    && may_break_at (skips_of face) features (drawn_text v face d features text).line i
+-- what closing substitution leaves of a text, and tells
+abbrev pub closed_text : hb_font_t → Direction → List Feature → List TextGlyph → Told
+closed_text face d features text = text_closing face features (text_buffer face d features text)
+
+-- its machines tell what is open, and take fewer operations than each part of the text has
+abbrev pub tells_breaks : hb_font_t → Direction → List Feature → List TextGlyph → Bool
+tells_breaks face d features text =
+    let o = closed_text face d features text in
+    o.is_told && nat_lt (most_operations (length text)) (operations_left o.buffer.max_ops + 16384)
+
+-- the same, with advances and kerned
+abbrev pub kerned_closed : hb_font_t → Direction → List Feature → List TextGlyph → Buffer
+kerned_closed face d features text =
+    (text_kerning face features
+    (with_advances (advance_of face) (closed_text face d features text).buffer)).buffer
+
+-- the line of which breaks are told: what that leaves, in drawing order
+abbrev pub marked_line : hb_font_t → Direction → List Feature → List TextGlyph → List hb_glyph_info_t
+marked_line face d features text = ordered_line (kerned_closed face d features text)
+
+-- whether a text that is drawn may be broken before a place of its line: its clusters never fall, font and features
+-- allow it, its machines tell what is open, and so does the place
+abbrev pub may_break_text : hb_font_t → Direction → List Feature → List TextGlyph → ℕ → Bool
+may_break_text face d features text i =
+    shapes_evenly face d features && is_rising text && tells_breaks face d features text
+    && may_break_at (skips_of face) features (marked_line face d features text) i
 
 -- what is drawn of a text that is tracked by a value
 abbrev pub shaped_text : ℤ → hb_font_t → Direction → List Feature → List TextGlyph → List ShapedGlyph
 shaped_text v face d features text =
-    drawn_glyphs (may_break_text v face d features text) (drawn_text v face d features text)
+    drawn_glyphs (may_break_text face d features text) (drawn_text v face d features text)
 
 -- clusters never fall along what is drawn of a forward text, and never rise along what is drawn of a backward one
 abbrev pub AreInOrder : Direction → List ShapedGlyph → Type 0

@@ -1,6 +1,7 @@
 //! The laws of tracked lines and of the breaks of a text as theorems. These calls do nothing: what is proved is their
 //! contracts.
 
+ghost use Rattle.aat_shaped_text.specs.ClosingDraws.{ClosingDrawsAlike};
 ghost use Rattle.aat_shaped_text.specs.Parts.{TextsAreDrawnInParts};
 ghost use Rattle.aat_shaped_text.specs.ShapedText.{UntrackedLinesStay};
 
@@ -20,6 +21,16 @@ pub fn texts_are_drawn_in_parts()
     ensures { TextsAreDrawnInParts }
 {
     parts_are_kerned_apart();
+    kerning_changes_little();
+    unattached_lines_stay();
+    parts_are_tracked_apart();
+}
+
+/// What is drawn of a text whose machines close what they look at is what is drawn of it in any case: as many glyphs are
+/// left behind substitution, and where font and features allow breaks, what is drawn and the budget left are the same.
+pub fn closing_draws_alike()
+    ensures { ClosingDrawsAlike }
+{
     kerning_changes_little();
     unattached_lines_stay();
     parts_are_tracked_apart();

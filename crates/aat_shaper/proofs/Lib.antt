@@ -1,6 +1,8 @@
 pub mod Advanced
+pub mod ClosedLines
 pub mod DrawnPlaces
 pub mod DrawnText
+pub mod EvenlyMapped
 pub mod Exposed
 pub mod Kept
 pub mod KernsApart

@@ -1,3 +1,4 @@
 pub mod Drawing
 pub mod Inside
 pub mod TextPlan
+pub mod TextLine

@@ -3,7 +3,8 @@ ghost use Rattle.std.specs.Prelude.{◌≡◌, None, bit_or, fold};
 ghost use Rattle.std.specs.List.{list_all};
 ghost use Rattle.aat_font.specs.Face.{kern_in, kerx_in, tables_of};
 ghost use Rattle.aat_kerning.specs.Positioning.{kerning_of_kern_subtable, kerning_of_kerx_subtable};
-ghost use Rattle.aat_shaped_text.specs.Breaks.{is_noncontextual, keeps_apart, kerns_apart, kerns_pairs_along, possible_flags, shapes_apart, skips_of, substitutes_apart};
+ghost use Rattle.aat_closing.specs.ClosingCuts.{is_noncontextual};
+ghost use Rattle.aat_shaped_text.specs.Breaks.{keeps_apart, kerns_apart, kerns_pairs_along, possible_flags, skips_of, substitutes_apart};
 
 use aat_layout::buffer::{Direction, hb_mask_t};
 use aat_layout::font::{
@@ -64,7 +65,11 @@ fn chain_keeps_apart(direction: Direction, features: &[Feature], chain: &Chain) 
 }
 
 /// Whether each subtable of the extended glyph metamorphosis table does.
-fn substitutes_apart(face: &hb_font_t, direction: Direction, features: &[Feature]) -> bool
+pub(crate) fn substitutes_apart(
+    face: &hb_font_t,
+    direction: Direction,
+    features: &[Feature],
+) -> bool
     ensures { result ≡ substitutes_apart face.now direction features.now }
 {
     face.chains()
@@ -118,7 +123,7 @@ fn kern_apart(face: &hb_font_t, direction: Direction) -> bool
 }
 
 /// Whether each subtable of the kerning table that is in use does so.
-fn kerns_apart(face: &hb_font_t, direction: Direction) -> bool
+pub(crate) fn kerns_apart(face: &hb_font_t, direction: Direction) -> bool
     ensures { result ≡ kerns_apart face.now direction }
 {
     if face.tables().kerx.is_some() {
@@ -126,14 +131,6 @@ fn kerns_apart(face: &hb_font_t, direction: Direction) -> bool
     } else {
         kern_apart(face, direction)
     }
-}
-
-/// Whether all that is for texts of a direction with these features substitutes glyph by glyph, and kerns pairs along
-/// the line.
-pub(crate) fn shapes_apart(face: &hb_font_t, direction: Direction, features: &[Feature]) -> bool
-    ensures { result ≡ shapes_apart face.now direction features.now }
-{
-    substitutes_apart(face, direction, features) && kerns_apart(face, direction)
 }
 
 /// The glyph properties that the kerning table in use skips.

@@ -16,6 +16,7 @@ mod line;
 pub mod line_breaker;
 mod names;
 mod shaper;
+mod substitution;
 mod tracking;
 /// Worked examples of whether a font has a feature, as a theorem.
 #[doc(hidden)]

@@ -1,10 +1,10 @@
 //! The shaper: a text goes in, and what is drawn comes out.
-ghost use Rattle.std.specs.Prelude.{◌≡◌, ◌≢◌, ◌≤◌, ◌<◌, ◌&&◌, [], All, Err, IfErr, IfOk, None, OnErr, OnOk, false, length, not, pos, true};
+ghost use Rattle.std.specs.Prelude.{◌≡◌, ◌≢◌, ◌≤◌, ◌<◌, [], All, Err, IfErr, IfOk, None, OnErr, OnOk, false, length, not, pos, true};
 ghost use Rattle.aat_buffer.specs.Removal.{deleted_glyph};
 ghost use Rattle.aat_font.specs.Face.{tables_of};
 ghost use Rattle.aat_map.specs.Adding.{first_too_large_among};
 ghost use Rattle.aat_run.specs.Budget.{has_operations};
-ghost use Rattle.aat_shaped_text.specs.Breaks.{is_rising, shapes_apart};
+ghost use Rattle.aat_shaped_text.specs.Breaks.{is_rising};
 ghost use Rattle.aat_shaped_text.specs.Parts.{BreaksHold};
 ghost use Rattle.aat_shaped_text.specs.ShapedText.{AreInOrder, RefusesText, most_glyphs, most_text, shaped_text, uses_up_budget};
 ghost use Rattle.aat_shaper.specs.Named.{has_feature};
@@ -13,17 +13,18 @@ ghost use Rattle.aat_shaper.specs.inside.TextPlan.{IsPlanOf};
 
 use crate::drawn::{Breaks, draw, turn};
 use crate::features::requests_kerning;
-use crate::font::{shapes_apart, skips_of};
-use crate::line::{KERNED, LONGEST_TEXT, buffer_of, is_rising};
+use crate::font::skips_of;
+use crate::line::{KERNED, LONGEST_TEXT, buffer_of};
 use crate::names::has_feature;
+use crate::substitution::{may_break_anywhere, substitute};
 use crate::tracking::track_line;
-use aat_layout::AatError;
 use aat_layout::buffer::{Direction, hb_buffer_t};
 use aat_layout::font::{Feature, hb_font_t, hb_ot_shape_plan_t, hb_tag_t};
+use aat_layout::{AatError, compiled_map};
 use aat_placement::Tracking;
-use aat_shaped_text::laws::texts_are_drawn_in_parts;
+use aat_shaped_text::laws::{closing_draws_alike, texts_are_drawn_in_parts};
 use aat_shaped_text::{ShapedGlyph, TextGlyph};
-use aat_shaping::shape_with_deleted;
+use aat_shaping::place_with_deleted;
 use bumpalo::Bump;
 use std::alloc::{AllocError, Allocator, Global};
 use std::marker::Model;
@@ -204,13 +205,19 @@ impl<'f, A: Allocator + Copy> Shaper<'f, A> {
     /// The text may be broken before each glyph that says so: cut at the later one of the two clusters that meet there,
     /// and its two parts shaped by themselves with the same features, what is drawn before the glyph looks as the one
     /// part does, and what is drawn from it on as the other one: ids, clusters, advances and offsets. In a backward
-    /// text the later part is drawn first. No glyph says so unless clusters never fall along the text; all subtables
-    /// of `morx` that are for its direction and can be switched on are noncontextual, where without features only the
-    /// default flags of a chain switch, and with features also the flags that its own features set; and those of the
-    /// kerning table in use that are for it are of pairs, along the line. Then a glyph says so exactly where some glyph is drawn before
-    /// it; kerning does not skip it; its cluster is not that of the glyph before it, which may be a deleted one; no
-    /// glyph of the later of these two clusters is marked `UNSAFE_TO_BREAK`, deleted ones included; and the same
-    /// features hold both.
+    /// text the later part is drawn first.
+    ///
+    /// No glyph says so unless all of this holds. Clusters never fall along the text. What the features ask of the font
+    /// they ask of every cluster, or all subtables of `morx` that are for its direction and can be switched on are
+    /// noncontextual, where without features only the default flags of a chain switch, and with features also the flags
+    /// that its own features set. The subtables of the kerning table in use that are for its direction are of pairs, along
+    /// the line. No missing entry ends the run of a machine of `morx`, and none of rearrangement runs on the line in the
+    /// opposite order. The machines take fewer than 16384 operations.
+    ///
+    /// Then a glyph says so exactly where some glyph is drawn before it; kerning does not skip it; its cluster is not that
+    /// of the glyph before it, which may be a deleted one; no glyph of the later of these two clusters is marked
+    /// `UNSAFE_TO_BREAK` by substitution, which marks here, besides, what its acts look at (`close_table` of
+    /// `aat_closing`), or by kerning, deleted ones included; and the same features hold both.
     ///
     /// A text that is no longer than the one before it, with no more features, is mostly shaped without a request for
     /// memory. It takes as many steps as its line is long for each subtable, as many as there are features for each
@@ -309,18 +316,6 @@ fn make_room<A: Allocator + Copy>(
     Ok(())
 }
 
-/// Whether the font and the text allow a break anywhere.
-fn may_break_anywhere(
-    face: &hb_font_t,
-    direction: Direction,
-    features: &[Feature],
-    text: &[TextGlyph],
-) -> bool
-    ensures { result ≡ (shapes_apart face.now direction features.now && is_rising text.now) }
-{
-    shapes_apart(face, direction, features) && is_rising(text)
-}
-
 /// Whether nothing is left of a buffer's budget.
 fn uses_up<H: Allocator + Copy>(buffer: &hb_buffer_t<H>) -> bool
     ensures { result ≡ not (has_operations buffer.now) }
@@ -351,14 +346,19 @@ fn shape_over<H: Allocator + Copy, A: Allocator>(
     ensures order { is_rising text.now ≡ true → OnOk result (AreInOrder direction glyphs.new.items) }
     ensures bounded { OnOk result (length glyphs.new.items ≤ most_glyphs (length text.now)) }
 {
+    closing_draws_alike();
     let features = plan.user_features.as_slice();
     let mut buffer = buffer_of(workspace, face, direction, features, text)?;
-    shape_with_deleted(workspace, plan, face, &mut buffer)?;
+    let map = compiled_map(workspace, plan, face)?;
+    let lists = map.as_ref();
+    let closes = may_break_anywhere(face, direction, features, lists, text);
+    let tells = substitute(face, lists, closes, &mut buffer)?;
+    place_with_deleted(plan, face, &mut buffer)?;
     let is_used_up = uses_up(&buffer);
     track_line(workspace, value, &mut buffer)?;
     turn(&mut buffer);
     let breaks = Breaks {
-        is_allowed: may_break_anywhere(face, direction, features, text),
+        is_allowed: tells,
         skips: skips_of(face),
         features,
     };

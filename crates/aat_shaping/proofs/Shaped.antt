@@ -13,26 +13,29 @@ use Rattle.aat_kerning_machines.specs.KerningLaws.{IsKernedFrom}
 use Rattle.aat_kerning_machines.specs.Positions.{IsPlaced}
 use Rattle.aat_layout.specs.Refusals.{first_too_large}
 use Rattle.aat_run.specs.Laws.{SameSettings}
-use Rattle.aat_run.specs.Outcome.{Outcome}
+use Rattle.aat_run.specs.Outcome.{Outcome, then_run}
 use Rattle.aat_run.specs.declared.error.AatError.{AatError}
 use Rattle.aat_run.specs.declared.error.AatError.TheVariants.{AaltValue, TooLong, OutOfMemory, BufferFailed}
 use Rattle.aat_shaping.proofs.ShapedLines.{kept_by_removal, stand_by_removal}
 use Rattle.aat_shaping.specs.RefusedShaping.{IsSubstitutionRefused, RefusesShaping}
-use Rattle.aat_shaping.specs.Shaping.{shaped_by, shaped_with_deleted_by, substituted_by_plan, with_advances}
+use Rattle.aat_shaping.specs.Shaping.{placed_by, shaped_by, shaped_with_deleted_by, substituted_by_plan, with_advances}
 
 -- what the parts leave, one behind the other
-pub shaped_so : (substitute : Buffer → Outcome) (advance : ℕ → ℕ) (kern : Buffer → Outcome) (b c d e f : Buffer) (m n : ℕ)
-    → record { buffer = c; turns = m } ≡ substitute b → d ≡ with_advances advance c → record { buffer = e; turns = n } ≡ kern d
-    → f ≡ zeroed e → record { buffer = f; turns = m + n } ≡ shaped_with_deleted_by substitute advance kern b
+pub placed_so : (advance : ℕ → ℕ) (kern : Buffer → Outcome) (c d e f : Buffer) (n : ℕ)
+    → d ≡ with_advances advance c → record { buffer = e; turns = n } ≡ kern d → f ≡ zeroed e
+    → record { buffer = f; turns = n } ≡ placed_by advance kern c
+unfolding placed_by
+placed_so advance kern c d e f n advanced kerned took =
+    ap (λ (x : Buffer). record { buffer = x; turns = n }) took
+    ∙ ap (λ (k : Outcome). record { buffer = zeroed k.buffer; turns = k.turns }) (kerned ∙ ap kern advanced)
+
+pub shaped_so : (substitute : Buffer → Outcome) (advance : ℕ → ℕ) (kern : Buffer → Outcome) (b c f : Buffer) (m n : ℕ)
+    → record { buffer = c; turns = m } ≡ substitute b → record { buffer = f; turns = n } ≡ placed_by advance kern c
+    → record { buffer = f; turns = m + n } ≡ shaped_with_deleted_by substitute advance kern b
 unfolding shaped_with_deleted_by
-shaped_so substitute advance kern b c d e f m n substituted advanced kerned took =
-    let behind : Outcome → Outcome = λ o. record {
-      buffer = zeroed (kern (with_advances advance o.buffer)).buffer;
-      turns = o.turns + (kern (with_advances advance o.buffer)).turns;
-    } in
-    ap (λ (x : Buffer). record { buffer = x; turns = m + n }) took
-    ∙ ap (λ (k : Outcome). record { buffer = zeroed k.buffer; turns = m + k.turns }) (kerned ∙ ap kern advanced)
-    ∙ ap behind substituted
+shaped_so substitute advance kern b c f m n substituted placed =
+    ap (λ (k : Outcome). record { buffer = k.buffer; turns = m + k.turns }) placed
+    ∙ ap (λ (o : Outcome). then_run o (placed_by advance kern)) substituted
 
 -- and then the deleted glyphs go
 pub removed_so : (substitute : Buffer → Outcome) (advance : ℕ → ℕ) (kern : Buffer → Outcome) (b f g : Buffer) (n : ℕ)
@@ -117,3 +120,14 @@ standing_of_removed f g some gone = ap (λ (x : Buffer). is_some x.positions) go
 pub placed_by_test : (b : Buffer) (asked : Bool) → asked ≡ is_some b.positions → OnTrue asked (IsPlaced b) → IsSome b.positions → IsPlaced b
 placed_by_test b true e placed some = placed
 placed_by_test b false e placed some = absurd (true≢false (sym (e ∙ some)))
+
+-- settings that stay behind settings that stay
+pub settings_behind : (b c f : Buffer) → SameSettings b c → SameSettings (with_scratch_flags c f.scratch_flags) f → SameSettings (with_scratch_flags b f.scratch_flags) f
+settings_behind b c f first second = record {
+  direction = second.direction ∙ first.direction;
+  cluster_level = second.cluster_level ∙ first.cluster_level;
+  flags = second.flags ∙ first.flags;
+  scratch_flags = refl;
+  max_len = second.max_len ∙ first.max_len;
+  successful = second.successful ∙ first.successful;
+}

@@ -131,12 +131,16 @@ order_of_substituted applied b d is kept = record {
 }
 
 -- advances, kerning and zeroing, one after another
-pub order_of_shaped : (applied : Bool) (b c d e f : Buffer) → HasShapedOrderOf applied b c
-    → d.line ≡ c.line → IsKernedFrom d e → f.line ≡ e.line → HasShapedOrderOf applied b f
-order_of_shaped applied b c d e f first advanced kerned zeroed =
-    let by_d = order_behind applied b c d first (same_order c d advanced) in
-    let by_e = order_behind applied b d e by_d (order_of_marked d e kerned.line) in
-    order_behind applied b e f by_e (same_order e f zeroed)
+pub order_of_placed : (c d e f : Buffer) → d.line ≡ c.line → IsKernedFrom d e → f.line ≡ e.line → KeepsOrder c.line f.line
+order_of_placed c d e f advanced kerned zeroed =
+    let first = same_order c d advanced in
+    let second = order_of_marked d e kerned.line in
+    let third = same_order e f zeroed in
+    record {
+      rising = λ up. third.rising (second.rising (first.rising up));
+      falling = λ down. third.falling (second.falling (first.falling down));
+      clusters = comes_trans c.line d.line f.line first.clusters (comes_trans d.line e.line f.line second.clusters third.clusters);
+    }
 
 -- the ids that a filter leaves are no more
 pub length_of_others : (t : ℕ → Bool) (gs hs : List hb_glyph_info_t) → ids hs ≡ filter t (ids gs) → length hs ≤ length gs

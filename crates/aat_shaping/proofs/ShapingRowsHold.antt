@@ -12,11 +12,11 @@ use Rattle.aat_morx.specs.Substitution.{subtable_run}
 use Rattle.aat_kerning.specs.PairKerning.{kerned, pair_kerning}
 use Rattle.aat_kerning.specs.Pairs.{pairs_of}
 use Rattle.aat_kerning.specs.Positioning.{positioned, positioning, kern_positioning}
-use Rattle.aat_shaping.specs.Shaping.{shaped_by, shaped_with_deleted_by}
+use Rattle.aat_shaping.specs.Shaping.{placed_by, shaped_by, shaped_with_deleted_by}
 use Rattle.aat_shaping.specs.ShapingRows.{ShapingRows}
 
 pub shaping_rows : ShapingRows
-unfolding shaped_by shaped_with_deleted_by subtable_run machine_run run run_to_end turn off by_entry acted marked is_safe merged_out removal cluster_kept_line lowered_run ligature_run ligature.act ligature.ligated ligature.component_step ligature.stored ligature.later_deleted int_wrap kerned pair_kerning pairs_of positioned positioning kern_positioning
+unfolding shaped_by shaped_with_deleted_by placed_by subtable_run machine_run run run_to_end turn off by_entry acted marked is_safe merged_out removal cluster_kept_line lowered_run ligature_run ligature.act ligature.ligated ligature.component_step ligature.stored ligature.later_deleted int_wrap kerned pair_kerning pairs_of positioned positioning kern_positioning
 shaping_rows = record {
   row_38a = refl;
   row_38b = refl;

@@ -23,12 +23,14 @@ advanced false advance = record zero_position { y_advance = pos 0 -ℤ pos advan
 abbrev pub with_advances : (ℕ → ℕ) → Buffer → Buffer
 with_advances advance b = with_positions b (map (λ g. advanced (is_horizontal b.direction) (advance g.glyph_id)) b.line)
 
--- one after the other: what substitutes, the advances, what kerns, and the deleted glyphs take no room; the turns are
--- added up
+-- the advances, what kerns, and the deleted glyphs take no room
+unfoldable pub placed_by : (ℕ → ℕ) → (Buffer → Outcome) → Buffer → Outcome
+placed_by advance kern b =
+    let o = kern (with_advances advance b) in record { buffer = zeroed o.buffer; turns = o.turns }
+
+-- the same behind what substitutes; the turns are added up
 unfoldable pub shaped_with_deleted_by : (Buffer → Outcome) → (ℕ → ℕ) → (Buffer → Outcome) → Buffer → Outcome
-shaped_with_deleted_by substitute advance kern b =
-    let o = then_run (substitute b) (λ c. kern (with_advances advance c)) in
-    record { buffer = zeroed o.buffer; turns = o.turns }
+shaped_with_deleted_by substitute advance kern b = then_run (substitute b) (placed_by advance kern)
 
 -- the same, and then no deleted glyph is left
 unfoldable pub shaped_by : (Buffer → Outcome) → (ℕ → ℕ) → (Buffer → Outcome) → Buffer → Outcome
@@ -55,3 +57,7 @@ shaping plan face b = shaped_by (substituted_by_plan plan face) (advance_of face
 abbrev pub shaping_with_deleted : hb_ot_shape_plan_t → hb_font_t → Buffer → Outcome
 shaping_with_deleted plan face b =
     shaped_with_deleted_by (substituted_by_plan plan face) (advance_of face) (kerned_by_font plan face) b
+
+-- what is left of a line behind substitution: advances, kerning, and deleted glyphs without room
+abbrev pub placing : hb_ot_shape_plan_t → hb_font_t → Buffer → Outcome
+placing plan face b = placed_by (advance_of face) (kerned_by_font plan face) b

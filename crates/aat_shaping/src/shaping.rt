@@ -1,7 +1,7 @@
 //! The layer as one call: substitution, advances, kerning, and no deleted glyph is left.
-ghost use Rattle.std.specs.Prelude.{◌≡◌, ◌≢◌, ◌≤◌, ◌^◌, ◌↔◌, IfErr, IfOk, IsErrOf, IsSome, IsTrue, None, OnErr, OnOk, false, is_some, length};
+ghost use Rattle.std.specs.Prelude.{◌≡◌, ◌≢◌, ◌⊎◌, ◌≤◌, ◌^◌, ◌↔◌, IfErr, IfOk, IsErrOf, IsSome, IsTrue, None, OnErr, OnOk, false, is_some, length};
 ghost use Rattle.aat_buffer.specs.Buffer.{failed, with_scratch_flags, without_positions};
-ghost use Rattle.aat_buffer.specs.Clusters.{IsSmall};
+ghost use Rattle.aat_buffer.specs.Clusters.{IsSmall, KeepsOrder};
 ghost use Rattle.aat_buffer.specs.Removal.{HasNoneDeleted};
 ghost use Rattle.aat_font.specs.Face.{advance_of};
 ghost use Rattle.aat_kerning_machines.specs.KerningLaws.{IsKernedFrom};
@@ -9,10 +9,9 @@ ghost use Rattle.aat_kerning_machines.specs.Positions.{IsPlaced};
 ghost use Rattle.aat_layout.specs.Refusals.{first_too_large};
 ghost use Rattle.aat_run.specs.Budget.{extent};
 ghost use Rattle.aat_run.specs.Laws.{SameSettings};
-ghost use Rattle.aat_run.specs.Outcome.{Outcome};
 ghost use Rattle.aat_shaping.specs.RefusedShaping.{IsSubstitutionRefused, RefusesShaping};
 ghost use Rattle.aat_shaping.specs.ShapedOrder.{HasShapedOrderOf};
-ghost use Rattle.aat_shaping.specs.Shaping.{advanced, kerned_by_font, shaping, shaping_with_deleted, substituted_by_plan, with_advances};
+ghost use Rattle.aat_shaping.specs.Shaping.{advanced, kerned_by_font, placing, shaping, shaping_with_deleted, substituted_by_plan, with_advances};
 
 use aat_layout::buffer::{GlyphPosition, hb_buffer_t, hb_glyph_info_t};
 use aat_layout::font::{GlyphId, hb_font_t, hb_ot_shape_plan_t};
@@ -108,11 +107,49 @@ pub fn shape_with_deleted<H: Allocator + Copy, A: Allocator + Copy>(
         return Err(AatError::BufferFailed);
     }
     let substituting = substitute_by_plan(alloc, plan, face, buffer)?;
+    let kerning = place_with_deleted(plan, face, buffer)?;
+    Ok(substituting + kerning)
+}
+
+/// Gives each glyph its advance in the font, kerns the line, and has deleted glyphs take no room: what
+/// [`shape_with_deleted`] does behind substitution. It answers the number of turns that kerning took. The cursor ends
+/// anywhere.
+///
+/// Each glyph id has to be at most 0xFFFF.
+///
+/// Refused first as 4, `BufferFailed`, where a call of the buffer was refused before: nothing changes then. Else only as
+/// 3, `OutOfMemory`, where the positions get no memory: the buffer has failed then, no positions stand, and all else is
+/// as it was.
+///
+/// Apple's TrueType Reference Manual, "The 'kerx' table" and "The 'kern' table".
+pub fn place_with_deleted<A: Allocator + Copy>(
+    plan: &hb_ot_shape_plan_t,
+    face: &hb_font_t,
+    buffer: &mut hb_buffer_t<A>,
+) -> Result<Turns, AatError>
+    requires ids { IsSmall buffer.old }
+    ensures failed { IsErrOf result AatError.BufferFailed ↔ (buffer.old.successful ≡ false) }
+    ensures unchanged { IsErrOf result AatError.BufferFailed → buffer.new ≡ buffer.old }
+    ensures reason { IfErr result (λ error. (error ≡ AatError.BufferFailed) ⊎ (error ≡ AatError.OutOfMemory)) }
+    ensures memory { IsErrOf result AatError.OutOfMemory → buffer.new ≡ failed (without_positions buffer.old) }
+    ensures placing { IfOk result (λ turns. record { buffer = buffer.new; turns = turns }
+        ≡ placing plan.now face.now buffer.old) }
+    ensures ids { OnOk result (IsSmall buffer.new) }
+    ensures number { OnOk result (length buffer.new.line ≡ length buffer.old.line) }
+    ensures standing { OnOk result (IsSome buffer.new.positions) }
+    ensures placed { OnOk result (IsPlaced buffer.new) }
+    ensures settings { OnOk result (SameSettings (with_scratch_flags buffer.old buffer.new.scratch_flags) buffer.new) }
+    ensures order { OnOk result (KeepsOrder buffer.old.line buffer.new.line) }
+    ensures few { IfOk result (λ turns. turns ≤ 2 ^ 62) }
+{
+    if !buffer.is_successful() {
+        return Err(AatError::BufferFailed);
+    }
     advance(face, buffer)?;
     let kerning = kern_by_font(plan, face, buffer);
     hb_aat_layout_zero_width_deleted_glyphs(buffer);
     let _placed = buffer.has_positions();
-    Ok(substituting + kerning)
+    Ok(kerning)
 }
 
 /// Substitutes where the plan applies it, and answers the turns; else nothing changes, in none.

@@ -14,7 +14,7 @@ use Rattle.aat_closing.specs.facts.KindParts.{contextual_at_fall, contextual_at_
 use Rattle.aat_closing.specs.facts.LigatureParts.{ligature_at_fall, ligature_at_rise}
 
 -- each glyph is taken by itself
-noncontextual_parts : (z : Sizes) (on : ℕ → Bool) (lookup : List (ℕ × ℕ)) (q : ℕ) (b : Buffer)
+pub noncontextual_parts : (z : Sizes) (on : ℕ → Bool) (lookup : List (ℕ × ℕ)) (q : ℕ) (b : Buffer)
     → ToldInParts (closing_run z on (NonContextual lookup) b) (closing_run z on (NonContextual lookup) (front_part q b)) (closing_run z on (NonContextual lookup) (back_part q b))
 unfolding noncontextual_run
 noncontextual_parts z on lookup q b =

@@ -23,7 +23,7 @@ module _ {X : Type 0} (run : X → Buffer → Told) (other : X → Buffer → Ou
       let rest = alike_behind xs (run x a).buffer (then_run o (other x)) here.buffer in
       (rest.0, let first = here.turns in let later = rest.1 in omega (arith, first, later))
 
-  in_order_alike : (xs : List X) → IsBlindTold (told_in_order run xs) (in_order other xs)
+  pub in_order_alike : (xs : List X) → IsBlindTold (told_in_order run xs) (in_order other xs)
   in_order_alike xs a b same = let left = alike_behind xs a (untouched b) same in record { buffer = left.0; turns = let turns = left.1 in omega (arith, turns) }
 
 -- lines that are turned round
@@ -39,7 +39,7 @@ turned_alike splits run other blind a b same =
     record { buffer = same_reversed (run (reversed a)).buffer (other (reversed b)).buffer left.buffer; turns = left.turns }
 
 -- the order of a coverage
-ordered_alike : (z : Sizes) (on : ℕ → Bool) (coverage : Coverage) (kind : SubtableKind) → IsBlindTold (closing_ordered z on coverage kind) (ordered_run coverage (kind_run z on kind))
+pub ordered_alike : (z : Sizes) (on : ℕ → Bool) (coverage : Coverage) (kind : SubtableKind) → IsBlindTold (closing_ordered z on coverage kind) (ordered_run coverage (kind_run z on kind))
 ordered_alike z on coverage kind a b same =
     by_order (is_reversed coverage a.direction) (is_reversed coverage b.direction) (ap (λ (d : Buffer). is_reversed coverage d.direction) same.rest)
   where

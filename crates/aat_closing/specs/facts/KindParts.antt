@@ -23,7 +23,7 @@ use Rattle.aat_kinds.specs.Rearrangement as rearrangement
 use Rattle.aat_kinds.specs.facts.InsertionLaws as insertion_laws
 use Rattle.aat_kinds.specs.facts.OrderHolds.{insertion_kept}
 use Rattle.aat_cut_kinds.specs.CutLaws.{IsIdle}
-use Rattle.aat_cut_kinds.specs.Greater.{IsFlaggedAt, clusters, greater_at}
+use Rattle.aat_cut_kinds.specs.Greater.{IsFlaggedAt, greater_at}
 use Rattle.aat_cut_kinds.specs.Open.{is_open}
 use Rattle.aat_cut_kinds.specs.Parts.{back_part, front_part}
 use Rattle.aat_cut_kinds.specs.facts.ContextCuts.{RunsParted}

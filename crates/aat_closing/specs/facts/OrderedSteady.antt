@@ -1,8 +1,8 @@
 -- The closing runs of subtables that are on about a place are steady, in the order of any coverage.
-use Rattle.std.proofs.Common.{◌≡◌, ◌∙◌, ◌⊎◌, ℕ, ℤ, ◌<◌, ◌≤◌, Bool, true, false, cond, length, None, inl, inr, sym, arith}
+use Rattle.std.proofs.Common.{◌≡◌, ◌∙◌, ◌⊎◌, ℕ, ℤ, ◌+◌, ◌<◌, ◌≤◌, Bool, true, false, cond, length, None, inl, inr, sym, arith}
 use Rattle.std.proofs.lemmas.Bool.{cases_lt}
 use Rattle.std.specs.Prelude.{slice_index_or}
-use Rattle.aat_buffer.specs.Buffer.{Buffer, with_max_ops}
+use Rattle.aat_buffer.specs.Buffer.{Buffer}
 use Rattle.aat_buffer.specs.Clusters.{ClustersMerge, IsRisingLine}
 use Rattle.aat_buffer.specs.Marks.{cluster_at}
 use Rattle.aat_machine_tables.specs.declared.morx.Coverage.{Coverage}
@@ -19,11 +19,23 @@ use Rattle.aat_closing.specs.facts.Steady.{IsSteady}
 use Rattle.aat_closing.specs.ToldParts.{HasBetween, IsFall, IsRise, TellsOpen, ToldInParts}
 use Rattle.aat_closing.specs.facts.AllKinds.{kinds_at_fall, kinds_at_rise}
 use Rattle.aat_closing.specs.facts.KindParts.{before_at, behind_at}
-use Rattle.aat_closing.specs.facts.RicherKinds.{closing_runs_richer}
+use Rattle.aat_closing.specs.facts.Limited.{LeavesAlike, with_limits}
+use Rattle.aat_closing.specs.facts.LimitedKinds.{closing_runs_limited}
 use Rattle.aat_closing.specs.facts.ToldKeepsKinds.{closing_runs_keep}
 use Rattle.aat_closing.specs.facts.ToldLists.{steady_leave_parts}
 use Rattle.aat_closing.specs.facts.ToldMore.{closing_runs_keep_more}
 use Rattle.aat_closing.specs.facts.TurnedSteady.{FallsSteady, turned_steady}
+
+-- at each rise to c the run leaves the parts, where a glyph is from low on and below c, and at each fall
+abbrev pub PartsBetween : Sizes → SubtableKind → ℕ → ℕ → (ℕ → Bool) → Type 0
+PartsBetween z kind low c on =
+    (q : ℕ) (b : Buffer) → IsRise c q b → HasBetween low c b.line → TellsOpen c (closing_run z on kind b)
+    → ToldInParts (closing_run z on kind b) (closing_run z on kind (front_part q b)) (closing_run z on kind (back_part q b))
+
+abbrev pub PartsBetweenAtFall : Sizes → SubtableKind → ℕ → ℕ → (ℕ → Bool) → Type 0
+PartsBetweenAtFall z kind low c on =
+    may_split kind ≡ false → (q : ℕ) (b : Buffer) → IsFall c q b → HasBetween low c b.line → TellsOpen c (closing_run z on kind b)
+    → ToldInParts (closing_run z on kind b) (closing_run z on kind (front_part q b)) (closing_run z on kind (back_part q b))
 
 module _ (z : Sizes) (slots : 0 < z.slots) (kind : SubtableKind) (low c : ℕ) (on : ℕ → Bool) (is_on : IsOnAbout low c on) where
   -- at a rise the place is that of c
@@ -63,6 +75,14 @@ module _ (z : Sizes) (slots : 0 < z.slots) (kind : SubtableKind) (low c : ℕ) (
           absurd (omega (arith, below, high))
       from_place q b fall p inside below (inr back) = along (λ n k. k ≤ n) (λ n. omega arith) b.line fall.ordered q p back inside
 
+  pub parts_at_rise : PartsBetween z kind low c on
+  parts_at_rise q b rise between tells = kinds_at_rise z on kind slots c q b rise (on_at_rise q b rise between tells.opens) tells
+
+  pub parts_at_fall : PartsBetweenAtFall z kind low c on
+  parts_at_fall never q b fall between tells = kinds_at_fall z on kind slots never c q b fall (on_at_fall q b fall between) tells
+
+-- a run that leaves the parts is steady
+module _ (z : Sizes) (slots : 0 < z.slots) (kind : SubtableKind) (low c : ℕ) (on : ℕ → Bool) (at_rise : PartsBetween z kind low c on) (at_fall : PartsBetweenAtFall z kind low c on) where
   rises : IsSteady low c (closing_run z on kind)
   rises =
       let keeps = closing_runs_keep z on kind slots in
@@ -75,8 +95,8 @@ module _ (z : Sizes) (slots : 0 < z.slots) (kind : SubtableKind) (low c : ℕ) (
         budget = keeps.budget;
         longer = more.longer;
         opens = λ d b ordered merges told is. keeps.rising b ordered merges d is;
-        richer = closing_runs_richer z on kind slots;
-        parts = λ q b rise between tells. kinds_at_rise z on kind slots c q b rise (on_at_rise q b rise between tells.opens) tells;
+        limited = closing_runs_limited z on kind slots;
+        parts = at_rise;
       }
 
   falls : FallsSteady low c (closing_run z on kind) (may_split kind)
@@ -91,8 +111,8 @@ module _ (z : Sizes) (slots : 0 < z.slots) (kind : SubtableKind) (low c : ℕ) (
         budget = keeps.budget;
         longer = more.longer;
         opens = λ never d b ordered merges is. keeps.falling never b ordered merges d is;
-        richer = closing_runs_richer z on kind slots;
-        parts = λ never q b fall between tells. kinds_at_fall z on kind slots never c q b fall (on_at_fall q b fall between) tells;
+        limited = closing_runs_limited z on kind slots;
+        parts = at_fall;
       }
 
 -- of two steady runs, the one that the coverage names
@@ -106,7 +126,7 @@ module _ (low c : ℕ) (coverage : Coverage) (x y : Buffer → Told) (there : Is
     budget = λ b. by_budget b (is_reversed coverage b.direction);
     longer = λ b. by_longer b (is_reversed coverage b.direction);
     opens = λ d b. by_opens d b (is_reversed coverage b.direction);
-    richer = λ b. by_richer b (is_reversed coverage b.direction);
+    limited = λ b. by_limited b (is_reversed coverage b.direction);
     parts = λ q b. by_parts q b (is_reversed coverage b.direction);
   }
     where
@@ -138,22 +158,27 @@ module _ (low c : ℕ) (coverage : Coverage) (x y : Buffer → Told) (there : Is
       by_opens d b true = there.opens d b
       by_opens d b false = here.opens d b
 
-      by_richer : (b : Buffer) (t : Bool) (n : ℤ) → operations_left b.max_ops ≤ operations_left n → 0 < operations_left (cond t (x b) (y b)).buffer.max_ops
-          → ((cond t (x (with_max_ops b n)) (y (with_max_ops b n))).buffer.line ≡ (cond t (x b) (y b)).buffer.line)
-          × ((cond t (x (with_max_ops b n)) (y (with_max_ops b n))).is_told ≡ (cond t (x b) (y b)).is_told)
-          × (operations_left (cond t (x b) (y b)).buffer.max_ops ≤ operations_left (cond t (x (with_max_ops b n)) (y (with_max_ops b n))).buffer.max_ops)
-          × ((cond t (x (with_max_ops b n)) (y (with_max_ops b n))).buffer ≡ with_max_ops (cond t (x b) (y b)).buffer (cond t (x (with_max_ops b n)) (y (with_max_ops b n))).buffer.max_ops)
-      by_richer b true = there.richer b
-      by_richer b false = here.richer b
+      by_limited : (b : Buffer) (t : Bool) (m : ℤ) (n : ℕ) → 0 < operations_left (cond t (x b) (y b)).buffer.max_ops
+          → operations_left b.max_ops < operations_left m + operations_left (cond t (x b) (y b)).buffer.max_ops
+          → LeavesAlike b m n (cond t (x b) (y b)) (cond t (x (with_limits m n b)) (y (with_limits m n b)))
+      by_limited b true = there.limited b
+      by_limited b false = here.limited b
 
       by_parts : (q : ℕ) (b : Buffer) (t : Bool) → IsRise c q b → HasBetween low c b.line → TellsOpen c (cond t (x b) (y b))
           → ToldInParts (cond t (x b) (y b)) (cond t (x (front_part q b)) (y (front_part q b))) (cond t (x (back_part q b)) (y (back_part q b)))
       by_parts q b true = there.parts q b
       by_parts q b false = here.parts q b
 
+-- the run in the order of a coverage
+pub ordered_steady : (z : Sizes) → 0 < z.slots → (kind : SubtableKind) (low c : ℕ) (on : ℕ → Bool) (coverage : Coverage) → PartsBetween z kind low c on → PartsBetweenAtFall z kind low c on
+    → IsSteady low c (closing_ordered z on coverage kind)
+ordered_steady z slots kind low c on coverage at_rise at_fall =
+    named_steady low c coverage (turned (may_split kind) (closing_run z on kind)) (closing_run z on kind)
+    (turned_steady low c (closing_run z on kind) (may_split kind) (falls z slots kind low c on at_rise at_fall)) (rises z slots kind low c on at_rise at_fall)
+
 -- lists of subtables
 pub lists_leave_parts : ListsLeaveParts
 lists_leave_parts z low c subtables slots on =
     steady_leave_parts (λ (s : (ℕ → Bool) × Coverage × SubtableKind). closing_ordered z s.0 s.1 s.2) low c subtables
     (λ k d within. let s = slice_index_or subtables k d in let about = on k d within in
-    named_steady low c s.1 (turned (may_split s.2) (closing_run z s.0 s.2)) (closing_run z s.0 s.2) (turned_steady low c (closing_run z s.0 s.2) (may_split s.2) (falls z slots s.2 low c s.0 about)) (rises z slots s.2 low c s.0 about))
+    ordered_steady z slots s.2 low c s.0 s.1 (parts_at_rise z slots s.2 low c s.0 about) (parts_at_fall z slots s.2 low c s.0 about))

@@ -7,12 +7,12 @@ use Rattle.aat_run.specs.Laws.{HasOrderOf, SameSettings}
 use Rattle.aat_cut_kinds.specs.Open.{is_open}
 use Rattle.aat_cut_kinds.specs.Parts.{back_part, front_part}
 use Rattle.aat_closing.specs.ClosingRuns.{Told}
-use Rattle.aat_closing.specs.facts.Richer.{RicherTold}
+use Rattle.aat_closing.specs.facts.Limited.{LimitedTold}
 use Rattle.aat_closing.specs.ToldParts.{HasBetween, IsRise, TellsOpen, ToldInParts}
 
 -- A run keeps the order of the clusters, the settings, a cursor at the front and that there are no positions; it adds
--- nothing to the budget, takes no glyph away, opens no cluster of a line of text where it tells what is open, and leaves
--- its parts at an open one.
+-- nothing to the budget, takes no glyph away, opens no cluster of a line of text where it tells what is open, leaves the
+-- same with other limits, and leaves its parts at an open one.
 pub record IsSteady (low c : ℕ) (run : Buffer → Told) : Type 0 where
   pub order : (b : Buffer) → HasOrderOf b (run b).buffer
   pub settings : (b : Buffer) → SameSettings b (run b).buffer
@@ -23,7 +23,7 @@ pub record IsSteady (low c : ℕ) (run : Buffer → Told) : Type 0 where
   pub opens :
       (d : ℕ) (b : Buffer) → IsRisingLine b.line → ClustersMerge b.cluster_level → (run b).is_told ≡ true
       → is_open d (run b).buffer.line ≡ true → is_open d b.line ≡ true
-  pub richer : RicherTold run
+  pub limited : LimitedTold run
   pub parts :
       (q : ℕ) (b : Buffer) → IsRise c q b → HasBetween low c b.line → TellsOpen c (run b)
       → ToldInParts (run b) (run (front_part q b)) (run (back_part q b))

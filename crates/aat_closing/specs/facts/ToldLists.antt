@@ -1,5 +1,5 @@
--- Runs that are steady leave the parts of a line of text one after another.
-use Rattle.std.proofs.Common.{◌≡◌, ◌∙◌, ℕ, ◌+◌, ◌<◌, ◌≤◌, true, List, [], ◌∷◌, ◌++◌, length, take, drop, None, refl, ap, sym, arith, length-append, length-drop, length-take}
+-- Runs that are steady leave the parts of a line of text one after another, and the same with other limits.
+use Rattle.std.proofs.Common.{◌≡◌, ◌∙◌, ℕ, ◌+◌, ◌<◌, ◌≤◌, ◌&&◌, Bool, true, List, [], ◌∷◌, ◌++◌, length, take, drop, None, refl, ap, sym, arith, length-append, length-drop, length-take}
 use Rattle.std.proofs.lemmas.Bool.{and_parts}
 use Rattle.std.proofs.lemmas.List.Elements.{All-head, All-tail}
 use Rattle.std.proofs.lemmas.List.{drop_at, take-append-drop, take_at}
@@ -13,6 +13,7 @@ use Rattle.aat_cut_kinds.specs.Open.{is_open}
 use Rattle.aat_cut_kinds.specs.Parts.{back_part, front_part}
 use Rattle.aat_cut_kinds.specs.facts.CutSides.{all_from}
 use Rattle.aat_closing.specs.ClosingRuns.{Told, told_in_order}
+use Rattle.aat_closing.specs.facts.Limited.{LeavesAlike, LimitedTold, with_limits}
 use Rattle.aat_closing.specs.facts.Steady.{IsSteady}
 use Rattle.aat_closing.specs.ToldParts.{HasBetween, IsRise, PartsOfText, TellsOpen, ToldInParts}
 
@@ -73,12 +74,12 @@ module _ (low c : ℕ) (run : Buffer → Told) (steady : IsSteady low c run) (w 
 
   left_of : (part d : Buffer) → d ≡ with_max_ops part d.max_ops → operations_left part.max_ops ≤ operations_left d.max_ops → 0 < operations_left (run part).buffer.max_ops → Left part d
   left_of part d is more some =
-      let it = steady.richer part d.max_ops more some in
+      let it = steady.limited part d.max_ops part.max_len some (omega (arith, more, some)) in
       let same = ap run is in
       record {
         line = ap (λ (o : Told). o.buffer.line) same ∙ it.0;
         told = ap (λ (o : Told). o.is_told) same ∙ it.1;
-        budget = (let budget = it.2 in let ops = ap (λ (o : Told). operations_left o.buffer.max_ops) same in omega (arith, budget, ops));
+        budget = (let budget = it.2 in let ops = ap (λ (o : Told). operations_left o.buffer.max_ops) same in omega (arith, more, budget, ops));
       }
 
   left_front : Left (front_part q w) f
@@ -172,6 +173,28 @@ module _ {X : Type 0} (run : X → Buffer → Told) (low c : ℕ) where
   unfolding told_in_order
   lower [] all b = omega arith
   lower (x ∷ xs) all b = let here = (first x xs all).budget b in let later = lower xs (rest x xs all) (run x b).buffer in omega (arith, here, later)
+
+  -- The runs one after another leave the same with another budget that they do not use up, and any greatest length.
+  pub limited_in_order : (xs : List X) → AllSteady xs → LimitedTold (told_in_order run xs)
+  unfolding told_in_order
+  limited_in_order [] all b y n some fewer = (refl, refl, omega arith, refl, refl)
+  limited_in_order (x ∷ xs) all b y n some fewer =
+      let less = lower xs (rest x xs all) (run x b).buffer in
+      let here : LeavesAlike b y n (run x b) (run x (with_limits y n b)) = (first x xs all).limited b y n (omega (arith, some, less)) (omega (arith, fewer, less)) in
+      let taken = here.2 in
+      let made : Buffer = (run x (with_limits y n b)).buffer in
+      let old : Told = told_in_order run xs (run x b).buffer in
+      let new : Told = told_in_order run xs (with_limits made.max_ops n (run x b).buffer) in
+      let later : LeavesAlike (run x b).buffer made.max_ops n old new = limited_in_order xs (rest x xs all) (run x b).buffer made.max_ops n some (omega (arith, fewer, taken)) in
+      let behind = later.2 in
+      let same : told_in_order run xs made ≡ new = ap (told_in_order run xs) here.3 in
+      let left : operations_left (told_in_order run xs made).buffer.max_ops ≡ operations_left new.buffer.max_ops = ap (λ (o : Told). operations_left o.buffer.max_ops) same in (
+        ap (λ (o : Told). o.buffer.line) same ∙ later.0,
+        ap (λ (t : Bool). t && (told_in_order run xs made).is_told) here.1 ∙ ap (λ (t : Bool). (run x b).is_told && t) (ap (λ (o : Told). o.is_told) same ∙ later.1),
+        omega (arith, taken, behind, left),
+        ap (λ (o : Told). o.buffer) same ∙ (later.3 ∙ ap (λ (o : Told). with_limits o.buffer.max_ops n old.buffer) (sym same)),
+        ap (λ (t : ℕ). t + (told_in_order run xs made).turns) here.4 ∙ ap (λ (t : ℕ). (run x b).turns + t) (ap (λ (o : Told). o.turns) same ∙ later.4),
+      )
 
   opens : (xs : List X) → AllSteady xs → (b : Buffer) → IsRisingLine b.line → ClustersMerge b.cluster_level → (told_in_order run xs b).is_told ≡ true → is_open c (told_in_order run xs b).buffer.line ≡ true → is_open c b.line ≡ true
   unfolding told_in_order

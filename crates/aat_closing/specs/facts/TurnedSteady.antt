@@ -14,7 +14,7 @@ use Rattle.aat_cut_kinds.specs.Open.{is_open}
 use Rattle.aat_cut_kinds.specs.Parts.{back_part, front_part}
 use Rattle.aat_cut_kinds.specs.facts.BackwardCuts.{all_turned, back_turned, front_turned, parts_turned}
 use Rattle.aat_closing.specs.ClosingRuns.{Told, turned}
-use Rattle.aat_closing.specs.facts.Richer.{RicherTold}
+use Rattle.aat_closing.specs.facts.Limited.{LimitedTold}
 use Rattle.aat_closing.specs.facts.Steady.{IsSteady}
 use Rattle.aat_closing.specs.ToldParts.{HasBetween, IsFall, IsRise, TellsOpen, ToldInParts}
 use Rattle.aat_closing.specs.facts.FirstOpen.{falling_turned, open_turned, rising_turned}
@@ -30,7 +30,7 @@ pub record FallsSteady (low c : ℕ) (run : Buffer → Told) (splits : Bool) : T
   pub opens :
       splits ≡ false → (d : ℕ) (b : Buffer) → IsFallingLine b.line → ClustersMerge b.cluster_level
       → is_open d (run b).buffer.line ≡ true → is_open d b.line ≡ true
-  pub richer : RicherTold run
+  pub limited : LimitedTold run
   pub parts :
       splits ≡ false → (q : ℕ) (b : Buffer) → IsFall c q b → HasBetween low c b.line → TellsOpen c (run b)
       → ToldInParts (run b) (run (front_part q b)) (run (back_part q b))
@@ -126,8 +126,8 @@ module _ (low c : ℕ) (run : Buffer → Told) (splits : Bool) (falls : FallsSte
         let none = unsplit splits flags.1 in
         let here = rw (reverse-reverse (run (reversed b)).buffer.line) at (open_turned d (reverse (run (reversed b)).buffer.line) is) in
         rw (reverse-reverse b.line) at (open_turned d (reverse b.line) (falls.opens none d (reversed b) (falling_turned b.line ordered) merges here));
-    richer = λ b y more some.
-        let it = falls.richer (reversed b) y more some in
-        (ap reverse it.0, rw it.1 refl, it.2, ap reversed it.3);
+    limited = λ b y n some fewer.
+        let it = falls.limited (reversed b) y n some fewer in
+        (ap reverse it.0, rw it.1 refl, it.2, ap reversed it.3, it.4);
     parts = λ q b rise between tells. turned_parts q b rise between tells;
   }

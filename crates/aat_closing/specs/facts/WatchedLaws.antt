@@ -1,5 +1,5 @@
 -- A closing context meets the laws of a context where the one that it holds does.
-use Rattle.std.proofs.Common.{◌≡◌, ◌∙◌, ℕ, Bool, length, ap}
+use Rattle.std.proofs.Common.{◌≡◌, ◌∙◌, ℕ, Bool, ap}
 use Rattle.aat_buffer.specs.Buffer.{Buffer}
 use Rattle.aat_run.specs.Context.{Moved}
 use Rattle.aat_run.specs.Laws.{Bounded, FitsWhereFresh, KeepsClusterOrder, KeepsFit, KeepsLengthWhere, KeepsPlaceWhere, KeepsSettings, Lengthens, MakesNoPositions, PassesFit, Pays, RestsBy}

@@ -1,7 +1,6 @@
 -- What a driver runs of a fresh closing context is the closing run of a subtable.
-use Rattle.std.proofs.Common.{◌≡◌, ◌∙◌, ℕ, Bool, true, false, List, Option, refl, ap, sym}
+use Rattle.std.proofs.Common.{◌≡◌, ℕ, Bool, true, false, List, Option, refl, ap, sym}
 use Rattle.aat_buffer.specs.Buffer.{Buffer}
-use Rattle.aat_lookup.specs.declared.glyph_id.GlyphId.{GlyphId}
 use Rattle.aat_machine_tables.specs.Entries.{goes_on}
 use Rattle.aat_machine_tables.specs.Judged.{rearrangement_acts}
 use Rattle.aat_machine_tables.specs.Subtables.{ContextualTables, InsertionTables, LigatureTables}
@@ -16,7 +15,7 @@ use Rattle.aat_kinds.specs.Ligature as ligature
 use Rattle.aat_kinds.specs.Rearrangement as rearrangement
 use Rattle.aat_kinds.specs.facts.InsertionHeld as held_insertion
 use Rattle.aat_kinds.specs.facts.LigatureHeld as held_ligature
-use Rattle.aat_closing.specs.Closing.{closed_from, closing, contextual_from, insertion_from, insertion_may_act, ligature_from, rearrangement_from}
+use Rattle.aat_closing.specs.Closing.{closing, contextual_from, insertion_from, insertion_may_act, ligature_from, rearrangement_from}
 use Rattle.aat_closing.specs.ClosingRuns.{Told, contextual_closing, insertion_closing, ligature_closing, rearrangement_closing, told_run}
 use Rattle.aat_closing.specs.Held.{held_contextual_from, held_insertion_from, held_ligature_from, held_rearrangement_from}
 use Rattle.aat_closing.specs.Watched.{Watched, watched_act, watched_actionable}

@@ -4,7 +4,7 @@ use Rattle.aat_run.specs.Outcome.{in_order}
 use Rattle.aat_run.specs.Ranges.{switch_for}
 use Rattle.aat_kinds.specs.Kinds.{sizes_of}
 use Rattle.aat_morx.specs.Substitution.{subtable_run}
-use Rattle.aat_morx.specs.inside.LineWords.{TellsOf}
+use Rattle.aat_morx.specs.LineWords.{TellsOf}
 use Rattle.aat_morx.proofs.chains.run_chain.Given as goal
 
 abbrev pub invariant-loop-i : goal.invariant-loop-i

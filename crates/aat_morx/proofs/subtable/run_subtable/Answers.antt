@@ -4,7 +4,7 @@ use Rattle.aat_kinds.specs.Kinds.{sizes_of}
 use Rattle.aat_run.specs.Outcome.{Outcome}
 use Rattle.aat_run.specs.Ranges.{switch_for}
 use Rattle.aat_morx.specs.Substitution.{is_skipped}
-use Rattle.aat_morx.specs.inside.LineWords.{TellsOf}
+use Rattle.aat_morx.specs.LineWords.{TellsOf}
 use Rattle.aat_morx.proofs.Asleep.{asleep_run, rest_line}
 use Rattle.aat_morx.proofs.subtable.run_subtable.Goals as goal
 

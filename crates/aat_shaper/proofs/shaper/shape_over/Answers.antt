@@ -1,13 +1,21 @@
 use Rattle.std.proofs.Common.{◌≡◌, ◌∙◌, ap, subst, w32}
 use Rattle.std.proofs.lemmas.Int.{to_z-of_z}
+use Rattle.std.proofs.lemmas.Result.{err_from_is_err_and}
+use Rattle.std.specs.Option.{option_copied}
 use Rattle.aat_buffer.specs.Buffer.{Buffer}
 use Rattle.aat_buffer.specs.Clusters.{IsRisingLine}
+use Rattle.aat_font.specs.Face.{chains_in, tables_of}
 use Rattle.aat_glyph.specs.Directions.{is_backward}
 use Rattle.aat_kerning.specs.Positioning.{in_processing_order}
 use Rattle.aat_glyph.specs.declared.glyph.Direction.{Direction}
-use Rattle.aat_shaped_text.specs.ShapedText.{drawn_text, tracked_line}
-use Rattle.aat_shaper.proofs.DrawnText.{drawn_so, drawn_text_so, left_so, text_direction, text_merges, used_so}
-use Rattle.aat_shaper.proofs.Ordered.{IsTurnedLine, drawn_glyphs_ordered, drawn_kept, drawn_line, rising_line}
+use Rattle.aat_map.specs.Map.{lists_for}
+use Rattle.aat_map.specs.SwitchedChains.{plan_requests, switched, switched_by}
+use Rattle.aat_shaped_text.specs.ShapedText.{tracked_line}
+use Rattle.aat_shaper.proofs.DrawnText.{as_long, drawn_so, drawn_text_so, left_so, made_is, small_ordered, tells_is, text_direction, text_merges, used_so}
+use Rattle.aat_shaper.proofs.Ordered.{IsTurnedLine, drawn_glyphs_ordered, drawn_kept, drawn_line}
+use Rattle.aat_shaped_text.proofs.RisingText.{rising_line}
+use Rattle.aat_shaper.proofs.Planned.{run_refusal}
+use Rattle.aat_shaper.specs.inside.TextLine.{substituted_so}
 use Rattle.aat_shaper.proofs.shaper.shape_over.Goals as goal
 
 pub returns-clause-ok : goal.returns-clause-ok
@@ -19,16 +27,22 @@ returns-clause-ok g c =
     let features = plan.user_features.items in
     let text = c.args.text.now in
     let asked = c.as_slice-features.result.now in
-    let left = c.shape_with_deleted.new.buffer in
+    let made = c.in_ok-buffer.buffer in
+    let closes = c.may_break_anywhere-closes.result in
+    let left = c.place_with_deleted.new.buffer in
+    let lists = option_copied c.as_ref-lists.result in
+    let compiled : switched_by (chains_in (tables_of c.args.face.now).morx) (lists_for (option_copied c.as_ref-lists.result) (chains_in (tables_of c.args.face.now).morx))
+    ≡ switched c.args.plan.now.apply_morx (plan_requests c.args.plan.now c.args.face.now) (chains_in (tables_of c.args.face.now).morx) =
+    rw c.as_ref-lists.ensures.value c.in_ok-map.ensures.ok in
     let wider : c.track_line.new.buffer ≡ tracked_line v left =
     c.in_ok-track_line.ensures.ok ∙ ap (λ n. tracked_line n left) (to_z-of_z w32 v c.ranges.value) in
-    let drawn : c.turn.new.buffer ≡ drawn_text v face d features text =
-    drawn_text_so v face d features text left c.track_line.new.buffer c.turn.new.buffer
-    (left_so v face d features text plan c.requires.planned asked c.in_ok-buffer.buffer left c.in_ok-shape_with_deleted.field-0
-    c.as_slice-features.ensures.value c.in_ok-buffer.ensures.ok c.in_ok-shape_with_deleted.ensures.shaped)
-    wider c.turn.ensures.after in
-    drawn_so v face d features text c.draw.new.glyphs.items c.may_break_anywhere.result c.skips_of.result asked c.turn.new.buffer
-    c.in_ok-draw.ensures.ok c.may_break_anywhere.ensures c.skips_of.ensures c.as_slice-features.ensures.value drawn
+    let is = left_so v face d features text plan c.requires.planned lists compiled asked made c.as_slice-features.ensures.value c.in_ok-buffer.ensures.ok
+    closes c.substitute.new.buffer left c.in_ok-place_with_deleted.field-0 c.in_ok-tells.ensures.left c.in_ok-place_with_deleted.ensures.placing in
+    drawn_so v face d features text c.closing_draws_alike.ensures c.draw.new.glyphs.items closes c.in_ok-tells.tells c.skips_of.result asked c.turn.new.buffer
+    c.in_ok-draw.ensures.ok c.may_break_anywhere-closes.ensures
+    (c.in_ok-tells.ensures.told ∙ tells_is v face d features text plan c.requires.planned lists compiled asked made c.as_slice-features.ensures.value c.in_ok-buffer.ensures.ok closes)
+    c.skips_of.ensures c.as_slice-features.ensures.value
+    (drawn_text_so v face d features text closes left c.track_line.new.buffer c.turn.new.buffer is wider c.turn.ensures.after)
 
 pub returns-clause-order : goal.returns-clause-order
 returns-clause-order g c = λ up.
@@ -38,14 +52,16 @@ returns-clause-order g c = λ up.
     let features = c.as_slice-features.result.now in
     let text = c.args.text.now in
     let made = c.in_ok-buffer.buffer in
-    let left = c.shape_with_deleted.new.buffer in
+    let behind = c.substitute.new.buffer in
+    let left = c.place_with_deleted.new.buffer in
     let tracked : Buffer = tracked_line v left in
     let back = is_backward d in
     let built = c.in_ok-buffer.ensures.ok in
-    let order = c.in_ok-shape_with_deleted.ensures.order in
     let first : IsRisingLine made.line = rw built (rising_line face features text up) in
-    let shaped : IsRisingLine tracked.line = order.rising (λ _. text_merges v face d features text features made built) first in
-    let way : tracked.direction ≡ d = text_direction v face d features text features made left built c.in_ok-shape_with_deleted.ensures.settings.direction in
+    let substituted : IsRisingLine behind.line = c.in_ok-tells.ensures.order.rising (text_merges v face d features text features made built) first in
+    let shaped : IsRisingLine tracked.line = c.in_ok-place_with_deleted.ensures.order.rising substituted in
+    let way : tracked.direction ≡ d =
+    text_direction v face d features text features made left built (c.in_ok-place_with_deleted.ensures.settings.direction ∙ c.in_ok-tells.ensures.settings.direction) in
     let wider : c.track_line.new.buffer ≡ tracked =
     c.in_ok-track_line.ensures.ok ∙ ap (λ n. tracked_line n left) (to_z-of_z w32 v c.ranges.value) in
     let turned : IsTurnedLine back c.turn.new.buffer.line =
@@ -63,7 +79,44 @@ returns-clause-used g c =
     let features = plan.user_features.items in
     let text = c.args.text.now in
     let asked = c.as_slice-features.result.now in
-    let left = c.shape_with_deleted.new.buffer in
-    used_so v face d features text c.uses_up-is_used_up.result left c.uses_up-is_used_up.ensures
-    (left_so v face d features text plan c.requires.planned asked c.in_ok-buffer.buffer left c.in_ok-shape_with_deleted.field-0
-    c.as_slice-features.ensures.value c.in_ok-buffer.ensures.ok c.in_ok-shape_with_deleted.ensures.shaped)
+    let made = c.in_ok-buffer.buffer in
+    let closes = c.may_break_anywhere-closes.result in
+    let left = c.place_with_deleted.new.buffer in
+    let compiled : switched_by (chains_in (tables_of c.args.face.now).morx) (lists_for (option_copied c.as_ref-lists.result) (chains_in (tables_of c.args.face.now).morx))
+    ≡ switched c.args.plan.now.apply_morx (plan_requests c.args.plan.now c.args.face.now) (chains_in (tables_of c.args.face.now).morx) =
+    rw c.as_ref-lists.ensures.value c.in_ok-map.ensures.ok in
+    used_so v face d features text c.closing_draws_alike.ensures closes c.uses_up-is_used_up.result asked left c.uses_up-is_used_up.ensures
+    c.may_break_anywhere-closes.ensures c.as_slice-features.ensures.value
+    (left_so v face d features text plan c.requires.planned (option_copied c.as_ref-lists.result) compiled asked made c.as_slice-features.ensures.value c.in_ok-buffer.ensures.ok
+    closes c.substitute.new.buffer left c.in_ok-place_with_deleted.field-0 c.in_ok-tells.ensures.left c.in_ok-place_with_deleted.ensures.placing)
+
+pub returns-in_err-tells-clause-refused : goal.returns-in_err-tells-clause-refused
+returns-in_err-tells-clause-refused g c =
+    let v = c.args.value in
+    let face = c.args.face.now in
+    let d = c.args.direction in
+    let plan = c.args.plan.now in
+    let features = plan.user_features.items in
+    let text = c.args.text.now in
+    let asked = c.as_slice-features.result.now in
+    let made = c.in_ok-buffer.buffer in
+    let closes = c.may_break_anywhere-closes.result in
+    let lists = option_copied c.as_ref-lists.result in
+    let compiled : switched_by (chains_in (tables_of c.args.face.now).morx) (lists_for (option_copied c.as_ref-lists.result) (chains_in (tables_of c.args.face.now).morx))
+    ≡ switched c.args.plan.now.apply_morx (plan_requests c.args.plan.now c.args.face.now) (chains_in (tables_of c.args.face.now).morx) =
+    rw c.as_ref-lists.ensures.value c.in_ok-map.ensures.ok in
+    let p = err_from_is_err_and c.from_residual-in_err-tells.result c.from_residual-in_err-tells.ensures.1 in
+    rw (p.1, p.2)
+    (run_refusal face features plan c.requires.planned d text made (substituted_so closes face lists made) _ c.in_ok-map.ensures.fits
+    (made_is v face d features text plan c.requires.planned lists compiled asked made c.as_slice-features.ensures.value c.in_ok-buffer.ensures.ok)
+    (as_long v face d features text plan c.requires.planned lists compiled asked made c.as_slice-features.ensures.value c.in_ok-buffer.ensures.ok
+    c.closing_draws_alike.ensures closes)
+    c.in_err-tells.ensures.reason)
+
+pub draw-requires-clause-ids : goal.draw-requires-clause-ids
+draw-requires-clause-ids g c =
+    let v = c.args.value in
+    let left = c.place_with_deleted.new.buffer in
+    let wider : c.track_line.new.buffer ≡ tracked_line v left =
+    c.in_ok-track_line.ensures.ok ∙ ap (λ n. tracked_line n left) (to_z-of_z w32 v c.ranges.value) in
+    rw c.turn.ensures.after (rw wider (small_ordered (tracked_line v left) c.in_ok-place_with_deleted.ensures.ids))

@@ -53,4 +53,4 @@ returns-clause-undeleted g c =
     let text = c.args.text.now in
     let drawn = drawn_text v font d features text in
     rw (returns-clause-shaped g c)
-    (all_undeleted (may_break_text v font d features text) drawn (removed is_deleted drawn).line)
+    (all_undeleted (may_break_text font d features text) drawn (removed is_deleted drawn).line)

@@ -1,5 +1,5 @@
--- What the bits of a line's glyphs tell. No contract but those of the runs of subtables cites this.
-use Rattle.std.specs.Prelude.{◌≡◌, ◌/◌, ◌%◌, ◌<◌, ℕ, true, List, Some, slice_get, length}
+-- What the bits of a line's glyphs tell of the subtables that they may wake.
+use Rattle.std.specs.Prelude.{◌≡◌, ◌/◌, ◌%◌, ◌<◌, ℕ, true, false, List, Some, slice_get, length}
 use Rattle.std.specs.Int.{bit_at}
 use Rattle.aat_buffer.specs.Buffer.{glyph_at}
 use Rattle.aat_font.specs.Wakers.{word_of, IsAwakeIn}
@@ -14,6 +14,10 @@ abbrev pub HasBitsOf : GlyphWords → ℕ → List hb_glyph_info_t → Type 0
 HasBitsOf w word line =
     (k : ℕ) → k < 64 → bit_at word k ≡ 0
     → (0 < length line) × ((i : ℕ) → i < length line → bit_at (word_of w (glyph_at line i).glyph_id) k ≡ 0)
+
+-- nothing is known of a line
+abbrev pub KnowsNothing : LineWord → Type 0
+KnowsNothing known = known.is_known ≡ false
 
 -- what is known of a line holds of it
 abbrev pub TellsOf : LineWord → List GlyphWords → List hb_glyph_info_t → Type 0

@@ -1,0 +1,64 @@
+use Rattle.std.proofs.Common.{◌≡◌, ◌∙◌, ◌+◌, List, Some, ap, arith, length, refl, subst, sym, take}
+use Rattle.std.proofs.lemmas.Option.{slice_get_read}
+use Rattle.std.specs.List.{slice_get}
+use Rattle.std.specs.Option.{option_copied}
+use Rattle.std.proofs.lemmas.Result.{err_from_is_err_and}
+use Rattle.aat_font.specs.Wakers.{AreWakers}
+use Rattle.aat_kinds.specs.Kinds.{sizes_of}
+use Rattle.aat_machine_tables.specs.declared.morx.Chain.{Chain}
+use Rattle.aat_machine_tables.specs.declared.morx.Subtable.{Subtable}
+use Rattle.aat_machine_tables.specs.Chains.{subtable_count}
+use Rattle.aat_run.specs.Driven.{StaysWithin}
+use Rattle.aat_run.specs.declared.driver.MachineRun.{MachineRun}
+use Rattle.aat_map.specs.Map.{lists_for}
+use Rattle.aat_map.proofs.DefaultLists.{list_for}
+use Rattle.aat_morx.proofs.Chained.{stays_with_more}
+use Rattle.aat_run.specs.facts.Settings.{settings_stay}
+use Rattle.aat_closing.proofs.ClosingChained.{all_chains_told, closing_chain_ran, closing_chain_refused}
+use Rattle.aat_closing.specs.ClosingRuns.{told_in_order}
+use Rattle.aat_closing.proofs.chains.close_chains.Goals as goal
+
+pub loop-i-init : goal.loop-i-init
+unfolding told_in_order
+loop-i-init g c = record {
+  same = refl;
+  within = record { ids = c.requires.ids; counted = omega arith; extent = omega arith; settings = settings_stay c.args.buffer.now };
+}
+
+pub close_chain-requires-clause-wakers : goal.close_chain-requires-clause-wakers
+close_chain-requires-clause-wakers g c =
+    let l = c.loop-i in
+    let chain = c.index-chains-i.result in
+    let here : slice_get c.args.chains.now l.i ≡ Some chain = slice_get_read c.args.chains.now (length c.args.chains.now) l.i chain refl c.loop-i-test.true c.index-chains-i.is in
+    subst (λ (ss : List Subtable). AreWakers ss c.wakers-words.result.now) (sym c.deref.ensures.value)
+    (c.wakers-words.ensures chain (ap (λ (cs : List Chain). slice_get cs l.i) (sym c.requires.chains) ∙ here))
+
+pub returns-in_err-ran-clause-reason : goal.returns-in_err-ran-clause-reason
+returns-in_err-ran-clause-reason g c =
+    let p = err_from_is_err_and c.from_residual.result c.from_residual.ensures.1 in
+    let l = c.loop-i in
+    let listed = list_for (option_copied c.args.map) c.args.chains.now l.i c.index-chains-i.result c.ranges_of-ranges.result.now c.loop-i-test.true c.index-chains-i.is (rw (← c.default_range.ensures) c.ranges_of-ranges.ensures.list) in
+    rw (p.1, p.2) (closing_chain_refused (sizes_of g.row.SLOTS g.row.LONGEST c.args.face.now) c.args.chains.now (lists_for (option_copied c.args.map) c.args.chains.now) c.args.buffer.now l.i c.index-chains-i.result c.ranges_of-ranges.result.now c.deref.result.now
+    c.loop-i-test.true c.index-chains-i.is listed c.deref.ensures.value l.buffer l.told l.invariant.same
+    c.in_err-ran.field-0.0 c.requires.slots l.invariant.within.settings.max_len c.in_err-ran.ensures.reason)
+
+pub loop-i-preserved : goal.loop-i-preserved
+loop-i-preserved g c =
+    let l = c.loop-i in
+    let b = c.args.buffer.now in
+    let v = c.close_chain.new.buffer in
+    let told = c.told_after-told in
+    let listed = list_for (option_copied c.args.map) c.args.chains.now l.i c.index-chains-i.result c.ranges_of-ranges.result.now c.loop-i-test.true c.index-chains-i.is (rw (← c.default_range.ensures) c.ranges_of-ranges.ensures.list) in
+    record {
+      same = closing_chain_ran (sizes_of g.row.SLOTS g.row.LONGEST c.args.face.now) c.args.chains.now (lists_for (option_copied c.args.map) c.args.chains.now) c.args.buffer.now l.i c.index-chains-i.result c.ranges_of-ranges.result.now c.deref.result.now
+          c.loop-i-test.true c.index-chains-i.is listed c.deref.ensures.value l.buffer l.told l.invariant.same
+          v c.in_ok-ran.ran told.result told.ensures c.in_ok-ran.ensures.run;
+      within = subst (λ (o : MachineRun). StaysWithin (subtable_count (take (l.i + 1) c.args.chains.now)) b v o.turns) (sym told.ensures)
+          (stays_with_more c.args.chains.now l.i c.index-chains-i.result (length c.deref.result.now) b l.buffer v l.told.turns c.in_ok-ran.ran.turns
+          c.loop-i-test.true c.index-chains-i.is c.deref.ensures.len l.invariant.within c.in_ok-ran.ensures.within);
+    }
+
+pub returns-clause-run : goal.returns-clause-run
+returns-clause-run g c =
+    let l = c.loop-i in
+    all_chains_told (sizes_of g.row.SLOTS g.row.LONGEST c.args.face.now) c.args.chains.now (lists_for (option_copied c.args.map) c.args.chains.now) c.args.buffer.now l.i l.buffer l.told c.loop-i-test.false l.invariant.same
