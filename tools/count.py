@@ -11,8 +11,9 @@ in all: those besides are of worked examples and of contracts inside the crates.
 and how many definitions there are in all.
 
 - A public call is a `pub fn`, a function or a method, or a method of a trait's impl that has clauses. The crates are
-  those of the layer and of its callers: no crate of tests, no program, no rows, and no module `laws` or `worked`.
-- A law is a function of a module `laws`, which does nothing: what is proved is its contract.
+  those of the layer and of its callers: no crate of tests, no program, no rows, and no module `laws` or `worked`, or
+  whose name ends so.
+- A law is a function of a module `laws`, or whose name ends so. It does nothing: what is proved is its contract.
 - A call over a trait of the repository owes the trait's clauses too, so these count. At a method of a trait's impl
   count what the impl says of the trait's members.
 - A definition is an abbreviation, a function, a record or a data type. Its lines are those of its text, without comments
@@ -219,7 +220,7 @@ def laws(known):
     """What the laws cite."""
     found = set()
     for path, _, file in sources():
-        if file == "laws.rt":
+        if file.endswith("laws.rt"):
             found |= known.cited(clauses_of(read(path)), outer_names(path, known))
     return found
 
@@ -228,7 +229,7 @@ def calls(known):
     """The public calls: each with what its contract cites."""
     asked = traits(known)
     for path, crate, file in sources():
-        if file in ("laws.rt", "worked.rt"):
+        if file.endswith(("laws.rt", "worked.rt")):
             continue
         outer = outer_names(path, known)
         for lines in blocks(read(path)):

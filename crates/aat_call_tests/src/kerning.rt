@@ -145,7 +145,7 @@ fn format_of(alloc: Global, way: Way) -> Result<KerxFormat, Fail> {
 }
 
 /// A `kern` table of pairs.
-fn kern_pairs(alloc: Global, pairs: &[(u16, u16, i16)]) -> Result<Kern, Fail> {
+pub(crate) fn kern_pairs(alloc: Global, pairs: &[(u16, u16, i16)]) -> Result<Kern, Fail> {
     let kind = KernKind::Pairs(Pairs::new(alloc, pairs)?);
     Ok(Kern::new(vec![in alloc; KernSubtable::new(kind, true)]?)?)
 }

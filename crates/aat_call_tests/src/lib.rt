@@ -22,6 +22,8 @@ mod kerning;
 #[cfg(test)]
 mod kerning_tests;
 #[cfg(test)]
+mod lines_tests;
+#[cfg(test)]
 mod machines;
 #[cfg(test)]
 mod numbers;

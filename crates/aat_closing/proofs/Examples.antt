@@ -7,6 +7,7 @@ use Rattle.aat_run.specs.Safe.{is_safe}
 use Rattle.aat_kinds.specs.Contextual.{act, answer_of, at_cursor, at_mark}
 use Rattle.aat_kinds.specs.Ligature as l
 use Rattle.aat_kinds.specs.Rearrangement as r
+use Rattle.aat_closing.specs.AlikeExamples.{AlikeExamples}
 use Rattle.aat_closing.specs.Closing.{are_in_order}
 use Rattle.aat_closing.specs.ClosingExamples.{ClosingExamples}
 use Rattle.aat_closing.specs.ClosingRuns.{told_run}
@@ -22,4 +23,13 @@ closing_examples = record {
   one_entry_pushes = refl;
   the_end_ends_a_span = refl;
   a_marked_glyph_moves = refl;
+}
+
+pub alike_examples : AlikeExamples
+unfolding told_run comes_to_end machine_run run_to_end run turn by_entry acted marked off is_safe act answer_of at_cursor at_mark
+alike_examples = record {
+  off_on_both_sides_is_told = refl;
+  off_on_both_sides = record { left = refl; left_of_front = refl; left_of_back = refl };
+  off_behind_alone_is_told = refl;
+  off_behind_alone = record { left = refl; left_of_front = refl; left_of_back = refl };
 }

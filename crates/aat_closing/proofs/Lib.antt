@@ -1,3 +1,4 @@
+pub mod AppliedCut
 pub mod AsleepClosing
 pub mod ClosingChained
 pub mod ClosingRoom

@@ -1,11 +1,15 @@
+pub mod AlikeExamples
+pub mod AppliedCuts
 pub mod Closing
 pub mod ClosingApplied
 pub mod ClosingChains
 pub mod ClosingCuts
 pub mod ClosingExamples
 pub mod ClosingRuns
+pub mod CutsAbout
 pub mod Held
 pub mod Laws
+pub mod LimitedParts
 pub mod ToldParts
 pub mod Unflagged
 pub mod Watched

@@ -8,6 +8,7 @@ pub mod BlindRearrangement
 pub mod ChainsErased
 pub mod ChainsSteady
 pub mod ClosedLaws
+pub mod ClosedSides
 pub mod ContextualClosing
 pub mod ErasedClosing
 pub mod ErasedKinds
@@ -22,6 +23,8 @@ pub mod LigatureStacks
 pub mod Limited
 pub mod LimitedKinds
 pub mod LimitedRuns
+pub mod LimitedTells
+pub mod OffParts
 pub mod OrderedSteady
 pub mod PushedComponents
 pub mod RearrangementActs

@@ -11,7 +11,7 @@ use std::alloc::Allocator;
 use std::marker::Model;
 
 /// A context, and the subtable over which it runs. Before an entry acts, the line gets the break marks from the oldest place
-/// that the act looks at through the glyph at the cursor.
+/// that the act looks at, or further back, through the glyph at the cursor.
 #[derive(Drop)]
 pub struct Closing<'a, S, C> {
     inner: C,

@@ -1,6 +1,8 @@
 //! Laws of the definitions as theorems. These calls do nothing: what is proved is their contracts.
 
 ghost use Rattle.aat_closing.specs.ClosingCuts.{ChainsLeaveLimitedParts, ChainsLeaveParts, KindsLeavePartsAtFall, KindsLeavePartsAtRise, ListsLeaveParts};
+ghost use Rattle.aat_closing.specs.CutsAbout.{ChainsLeaveLimitedPartsAbout, ChainsLeavePartsAbout, KindsLeavePartsAboutFall, KindsLeavePartsAboutRise, ListsLeavePartsAbout};
+ghost use Rattle.aat_closing.specs.LimitedParts.{ChainsTellOfLimitedParts, ChainsTellOfLimitedPartsAbout};
 ghost use Rattle.aat_closing.specs.Unflagged.{ChainsFlagAlone, ClosingFlagsAlone, ListsFlagAlone};
 
 /// Whatever its table, with a slot for components: where all clusters before a place inside the line are below some c,
@@ -27,6 +29,23 @@ pub fn subtables_leave_parts()
     ensures { ListsLeaveParts }
 {}
 
+/// The same as `open_rise_leaves_parts` at a rise to c of a subtable that is on at each cluster from some `low` through c,
+/// or off at each of them, whatever it is elsewhere, where its closing run leaves a glyph with a cluster from `low` on and
+/// below c.
+pub fn alike_rise_leaves_parts()
+    ensures { KindsLeavePartsAboutRise }
+{}
+
+/// The same at a fall below c, unless the subtable is one of rearrangement.
+pub fn alike_fall_leaves_parts()
+    ensures { KindsLeavePartsAboutFall }
+{}
+
+/// The same as `subtables_leave_parts` where each subtable is on at each cluster from `low` through c, or off at each.
+pub fn alike_subtables_leave_parts()
+    ensures { ListsLeavePartsAbout }
+{}
+
 /// With a slot for components, the closing runs of all chains over a line of text, as in `open_rise_leaves_parts`, of a
 /// direction, the cursor at its front, no marks against joining asked for: where all come to their ends, and leave c open,
 /// some of the budget, and a glyph with a cluster below c, they leave its parts. Each subtable is left out of texts of
@@ -40,6 +59,29 @@ pub fn chains_leave_parts()
 /// than either part has: the line is that of the one part, and behind it that of the other, with their masks.
 pub fn chains_leave_limited_parts()
     ensures { ChainsLeaveLimitedParts }
+{}
+
+/// Both of these parts are told of then: the runs over each come to their ends, and take no more operations than the runs
+/// over the whole.
+pub fn chains_tell_of_limited_parts()
+    ensures { ChainsTellOfLimitedParts }
+{}
+
+/// The same as `chains_leave_parts` where a glyph is left with a cluster from some `low` on and below c, and each subtable
+/// is left out of texts of the direction, or substitutes each glyph by itself, or is on at each cluster from `low` through
+/// c, or off at each of them: elsewhere it may be on and off.
+pub fn alike_chains_leave_parts()
+    ensures { ChainsLeavePartsAbout }
+{}
+
+/// The same of parts with budgets and greatest lengths of their own, as in `chains_leave_limited_parts`.
+pub fn alike_chains_leave_limited_parts()
+    ensures { ChainsLeaveLimitedPartsAbout }
+{}
+
+/// Both of these parts are told of then, as in `chains_tell_of_limited_parts`.
+pub fn alike_chains_tell_of_limited_parts()
+    ensures { ChainsTellOfLimitedPartsAbout }
 {}
 
 /// The closing run of a subtable leaves what its run leaves, but for the flags of the glyphs, in the same number of turns,

@@ -19,8 +19,8 @@ use std::alloc::Allocator;
 /// Does as `run_kind` of `aat_kinds`, closes what the acts look at, and answers besides the turns whether the run told
 /// which clusters are open: `is_through`.
 ///
-/// Where it did, and leaves some of the budget, the line may be cut at each rise to an open cluster at which the subtable
-/// is on (`laws::open_rise_leaves_parts`).
+/// Where it did, and some of the budget is left, a line whose clusters merge and never fall may be cut at each rise to an
+/// open cluster at which the subtable is on (`laws::open_rise_leaves_parts`).
 pub fn close_kind<const SLOTS: usize, const LONGEST: usize, A: Allocator + Copy>(
     run: &SubtableRun,
     kind: &SubtableKind,

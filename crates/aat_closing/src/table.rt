@@ -1,8 +1,9 @@
 //! The closing run of the table under a map.
-ghost use Rattle.std.specs.Prelude.{◌≡◌, ◌^◌, ◌<◌, ◌≤◌, IfOk, IfErr, IfSome, IsErrOf, IsOk, IsTrue, MatchOption, OnErr, OnOk, false, is_none, length};
+ghost use Rattle.std.specs.Prelude.{◌≡◌, ◌^◌, ◌<◌, ◌≤◌, IfOk, IfErr, IfSome, IsErrOf, IsOk, IsTrue, MatchOption, OnErr, OnOk, false, is_none, length, true};
 ghost use Rattle.std.specs.List.{list_all};
 ghost use Rattle.std.specs.Option.{option_copied};
 ghost use Rattle.aat_buffer.specs.Clusters.{IsSmall};
+ghost use Rattle.aat_closing.specs.AppliedCuts.{CanBeCut};
 ghost use Rattle.aat_closing.specs.ClosingApplied.{closing_applied_by};
 ghost use Rattle.aat_closing.specs.ClosingRuns.{IsTold};
 ghost use Rattle.aat_machine_tables.specs.Chains.{subtable_count};
@@ -26,9 +27,12 @@ use std::alloc::Allocator;
 /// Does as `run_table` of `aat_morx`, closes what the acts look at, and answers besides the turns whether all subtables told
 /// which clusters are open: `is_through`. Without the table it prepares the line alone, and answers `None`.
 ///
-/// What is left is what `run_table` leaves, but for the flags of the glyphs, which may be more. A subtable that is left out
-/// tells, and one that no glyph of the line wakes does as it would if it ran. One of rearrangement that runs on the line in
-/// the opposite order tells nothing.
+/// What is left is what `run_table` leaves, but for the flags of the glyphs, which may differ. Where all told, the
+/// cursor was at the front, and no marks against joining are asked for, it can be cut at a rise of the clusters to one
+/// that is left, and unmarked: what is left is what this call leaves of the two parts. Some glyph has to be left before
+/// it, from whose cluster on through that one the map switches each subtable evenly, and some of the budget. A subtable
+/// that is left out tells, and one that no glyph of the line wakes does as it would if it ran. One of rearrangement
+/// that runs on the line in the opposite order tells nothing.
 ///
 /// Each glyph id has to be at most 0xFFFF, and the map whole, which `is_whole` tells; there has to be a slot, and at most
 /// 2^59 of them. A buffer that had failed is run as any other.
@@ -62,6 +66,8 @@ pub fn close_table<
     ensures within { IfOk result (λ answer. MatchOption answer (StaysWithin 0 buffer.old buffer.new 0)
         (λ o. StaysWithin (subtable_count (chains_in (tables_of face.now).morx)) buffer.old buffer.new o.turns)) }
     ensures few { IfOk result (λ answer. IfSome answer (λ o. o.turns ≤ 2 ^ 62)) }
+    ensures cut { IfOk result (λ answer. IfSome answer (λ o. o.is_through ≡ true
+        → CanBeCut (sizes_of SLOTS LONGEST face.now) face.now (option_copied map.entry) buffer.old buffer.new)) }
     ensures reason { IfErr result (IsRefusal buffer.old
         (closing_applied_by (sizes_of SLOTS LONGEST face.now) face.now (option_copied map.entry) buffer.old).buffer) }
     ensures refused { OnErr result (IsRefused buffer.old buffer.new) }

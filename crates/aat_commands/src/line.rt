@@ -1,12 +1,13 @@
 //! A line is shaped, and what is told of it is put together.
 
+use crate::paragraph::Paragraph;
 use crate::request::{Output, Request};
 use crate::session::Speaker;
 use aat_calls::trace_of;
 use aat_drawing::{DrawnGlyph, DrawnLine, LineBreak, drawn_changes};
 use aat_face::Face;
 use aat_layout::buffer::Direction;
-use aat_shaper::{ShapedGlyph, Shaper, TextGlyph};
+use aat_shaper::{ShapedGlyph, TextGlyph};
 use aat_text::{LineEnd, hide_ignorables};
 use aat_trace::Trace;
 use anyhow::Result;
@@ -108,26 +109,26 @@ fn is_traced(output: Output, text: &[TextGlyph]) -> bool {
     output == Output::Trace || output.is_picture() && text.len() <= MOST_COLOURED
 }
 
-/// Shapes a line, hides its ignorable glyphs, and tells where it may be broken.
-pub(crate) fn shape_line(
+/// A line of a paragraph whose glyphs were shaped: hides the ignorable ones, and tells where it may be broken.
+pub(crate) fn shaped_line(
     alloc: Global,
     context: &Context<'_, '_>,
-    shaper: &mut Shaper<'_>,
-    direction: Direction,
+    paragraph: &Paragraph,
     text: &[TextGlyph],
-    ends: &[LineEnd],
+    glyphs: &[ShapedGlyph],
 ) -> Result<ShapedLine> {
     let features = context.request.features.as_slice();
-    shaper.shape(direction, text, features)?;
+    let direction = paragraph.direction;
     let space = context.face.glyph_of(' ');
-    let visible = hide_ignorables(alloc, space, text, shaper.glyphs())?;
+    let visible = hide_ignorables(alloc, space, text, glyphs)?;
     let trace = if is_traced(context.request.output, text) {
         Some(trace_of(alloc, context.face.font(), direction, text, features)?)
     } else {
         None
     };
-    let changes = changes_of(alloc, &trace, direction, shaper.glyphs(), &visible)?;
-    let is_whole = direction.is_forward() || visible.len() == shaper.glyphs().len();
+    let changes = changes_of(alloc, &trace, direction, glyphs, &visible)?;
+    let is_whole = direction.is_forward() || visible.len() == glyphs.len();
+    let ends = paragraph.ends.as_slice();
     let breaks = Breaks { ends, is_whole };
     let glyphs = drawn_glyphs(alloc, breaks, &visible, &changes)?;
     let drawn = DrawnLine { direction, glyphs };

@@ -1,8 +1,8 @@
 //! The command `aat shape`.
 
-use crate::filling::{Filling, part};
+use crate::filling::{drawn_part, lines_of, part};
 use crate::fonts::Font;
-use crate::line::{Context, ShapedLine, shape_line};
+use crate::line::{Context, ShapedLine, shaped_line};
 use crate::output::{OUTPUT, write_line, write_picture};
 use crate::paragraph::{Paragraph, tell_missing};
 use crate::progress::Progress;
@@ -12,7 +12,7 @@ use crate::source::{FontSource, text_of_file};
 use aat_calls::subtable_names;
 use aat_drawing::DrawnLine;
 use aat_face::Face;
-use aat_shaper::Shaper;
+use aat_shaper::{Shaper, TextLines};
 use anyhow::{Context as _, Result, anyhow};
 use clap::ArgMatches;
 use std::alloc::Global;
@@ -25,25 +25,6 @@ fn shaper_of<'f>(alloc: Global, face: &'f Face<'_>, request: &Request) -> Shaper
         (Some(tracking), Some(size)) => shaper.with_point_size(tracking, u32::from(size) << 16),
         _ => shaper,
     }
-}
-
-/// The ends of the lines of a paragraph: those of the width that is asked, or its own.
-fn line_ends_of(
-    alloc: Global,
-    context: &Context<'_, '_>,
-    shaper: &mut Shaper<'_>,
-    paragraph: &Paragraph,
-) -> Result<Vec<usize>> {
-    let Some(width) = context.request.width else {
-        return Ok(vec![in alloc; paragraph.text.len()]?);
-    };
-    let mut filling = Filling {
-        shaper,
-        features: context.request.features.as_slice(),
-        space: context.face.glyph_of(' '),
-        width: u64::from(width),
-    };
-    filling.ends(alloc, paragraph)
 }
 
 /// Writes a line, or keeps it for a picture.
@@ -62,7 +43,46 @@ fn show_line<W: Write>(
     }
 }
 
-/// Shapes a paragraph, and writes the lines that it is broken into, or keeps them for a picture.
+/// Writes the lines that a paragraph is broken into, or keeps them for a picture.
+fn show_lines<W: Write>(
+    alloc: Global,
+    out: &mut W,
+    context: &Context<'_, '_>,
+    paragraph: &Paragraph,
+    lines: &TextLines,
+    kept: &mut Vec<DrawnLine>,
+) -> Result<()> {
+    let mut start = 0;
+    let mut first = 0;
+    for line in &lines.lines {
+        let text = part(&paragraph.text, start, line.text_end);
+        let glyphs = drawn_part(&lines.glyphs, first, line.glyphs_end);
+        let shaped = shaped_line(alloc, context, paragraph, text, glyphs)?;
+        show_line(alloc, out, context, shaped, kept)?;
+        start = line.text_end;
+        first = line.glyphs_end;
+    }
+    Ok(())
+}
+
+/// Shapes a paragraph as one line, and writes or keeps it.
+fn shape_whole<W: Write>(
+    alloc: Global,
+    out: &mut W,
+    context: &Context<'_, '_>,
+    shaper: &mut Shaper<'_>,
+    paragraph: &Paragraph,
+    kept: &mut Vec<DrawnLine>,
+) -> Result<()> {
+    let text = paragraph.text.as_slice();
+    let features = context.request.features.as_slice();
+    shaper.shape(paragraph.direction, text, features)?;
+    let shaped = shaped_line(alloc, context, paragraph, text, shaper.glyphs())?;
+    show_line(alloc, out, context, shaped, kept)
+}
+
+/// Shapes a paragraph, and writes the lines that it is broken into, or keeps them for a picture. A paragraph without a
+/// glyph is one line.
 fn shape_paragraph<W: Write>(
     alloc: Global,
     out: &mut W,
@@ -71,15 +91,14 @@ fn shape_paragraph<W: Write>(
     paragraph: &Paragraph,
     kept: &mut Vec<DrawnLine>,
 ) -> Result<()> {
-    let mut start = 0;
-    for end in &line_ends_of(alloc, context, shaper, paragraph)? {
-        let text = part(&paragraph.text, start, *end);
-        let ends = paragraph.ends.as_slice();
-        let shaped = shape_line(alloc, context, shaper, paragraph.direction, text, ends)?;
-        show_line(alloc, out, context, shaped, kept)?;
-        start = *end;
+    let Some(width) = context.request.width else {
+        return shape_whole(alloc, out, context, shaper, paragraph, kept);
+    };
+    if paragraph.text.is_empty() {
+        return shape_whole(alloc, out, context, shaper, paragraph, kept);
     }
-    Ok(())
+    let lines = lines_of(alloc, context, shaper, paragraph, u64::from(width))?;
+    show_lines(alloc, out, context, paragraph, &lines, kept)
 }
 
 /// Shapes a line of the text, and writes or keeps the lines that it is broken into.

@@ -1,5 +1,14 @@
 pub mod Bridge
+pub mod ClosedPlaces
 pub mod Cutting
 pub mod Examples
+pub mod KerningExamples
+pub mod KerningOpenExamples
 pub mod Labelled
+pub mod Opening
+pub mod PlainActs
+pub mod PlainMachines
+pub mod PlainRuns
+pub mod PlainTurns
+pub mod Taking
 pub mod Unsettled

@@ -5,7 +5,14 @@ pub mod Cuts
 pub mod EmptyRunExamples
 pub mod FallExamples
 pub mod Greater
+pub mod KernedTables
+pub mod KerningClosing
+pub mod KerningCuts
+pub mod KerningExamples
+pub mod KerningOpenExamples
+pub mod KerningOpens
 pub mod Open
+pub mod OpenPlaces
 pub mod OtherCutExamples
 pub mod Parts
 pub mod PremiseExamples
@@ -13,3 +20,4 @@ pub mod Settled
 pub mod SettledCuts
 pub mod UnsettledExamples
 pub mod facts
+pub mod inside

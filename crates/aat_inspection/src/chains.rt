@@ -37,11 +37,20 @@ fn order(coverage: Coverage) -> &'static str {
     }
 }
 
+/// Whether a law says that a line may be cut at the unmarked places of a settled subtable of this kind.
+fn is_proved(kind: &SubtableKind) -> bool {
+    !matches!(
+        kind,
+        SubtableKind::Rearrangement(_) | SubtableKind::Ligature(_)
+    )
+}
+
 /// Writes whether a subtable is settled for cuts, or why it is not.
 fn write_reason<W: Write>(alloc: Global, out: &mut W, kind: &SubtableKind) -> io::Result<()> {
     match find_unsettled(alloc, kind)? {
         Some(reason) => writeln!(out, "not settled for cuts: {reason}"),
-        None => writeln!(out, "settled for cuts"),
+        None if is_proved(kind) => writeln!(out, "settled for cuts"),
+        None => writeln!(out, "settled, but cuts by its marks are not proved"),
     }
 }
 

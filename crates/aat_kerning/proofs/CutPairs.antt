@@ -124,7 +124,7 @@ module _ (skips kern_mask m : ℕ) (whole part : List hb_glyph_info_t) (like : (
       ap (λ n. find (λ i. meets (glyph_at part i).mask kern_mask) (places n (t - n))) (front_last t low)
       ∙ front_find (t - from) from inside
 
-  front_pair : (t : ℕ) → t < m → pair_at skips kern_mask part t ≡ pair_at skips kern_mask whole t
+  pub front_pair : (t : ℕ) → t < m → pair_at skips kern_mask part t ≡ pair_at skips kern_mask whole t
   front_pair t low =
       let seen = like t low in
       let both = ap (λ s. s && meets (glyph_at part t).mask kern_mask) seen.solid ∙ ap (λ s. is_solid skips (glyph_at whole t) && s) seen.asks in
@@ -207,7 +207,7 @@ module _ (skips kern_mask q : ℕ) (whole part : List hb_glyph_info_t) (solid : 
   paired_further true true t k o (Some x) e f g =
       ap (option_map (pair_of k)) g ∙ ap (λ n. Some (pair_of n (q + x))) f
 
-  back_pair :
+  pub back_pair :
       (t k : ℕ) → 0 < t → k ≡ q + t
       → pair_at skips kern_mask whole k ≡ option_map (shifted q) (pair_at skips kern_mask part t)
   back_pair zero k some e = absurd (omega (arith, some))

@@ -19,7 +19,7 @@ module _ (m : ℕ) where
       below : (x y z w : ℕ) → w ≡ max x y → min w z ≡ 0 → min x z ≡ 0
       below x y z w e h = omega arith
 
-  or_right : (a b : ℕ) → bit_and (bit_or a b) m ≡ 0 → bit_and b m ≡ 0
+  pub or_right : (a b : ℕ) → bit_and (bit_or a b) m ≡ 0 → bit_and b m ≡ 0
   or_right a b e = from_bits b (λ i. below (bit_at a i) (bit_at b i) (bit_at m i) (bit_at (bit_or a b) i) (bit_at_or a b i) (apart_bits (bit_or a b) e i))
     where
       below : (x y z w : ℕ) → w ≡ max x y → min w z ≡ 0 → min y z ≡ 0

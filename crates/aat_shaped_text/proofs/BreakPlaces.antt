@@ -13,31 +13,33 @@ use Rattle.aat_font.specs.declared.plan.Feature.{Feature}
 use Rattle.aat_kerning.specs.Cut.{IsCutPlace, IsUnflaggedAt, ordered_line}
 use Rattle.aat_kerning.specs.Pairs.{is_solid}
 use Rattle.aat_shaped_text.specs.Breaks.{is_unsafe, kept_before, later_run, may_break_at, run_from, run_up_to, shares_cluster}
-use Rattle.aat_shaped_text.specs.TextFeatures.{ask_alike}
+use Rattle.aat_shaped_text.specs.TextFeatures.{ask_evenly}
 use Rattle.aat_shaped_text.proofs.LooksSplit.{stays}
 use Rattle.aat_shaped_text.proofs.Places.{PlaceOf}
 use Rattle.aat_shaped_text.proofs.Spots.{Spot, some_stays}
 use Rattle.aat_shaped_text.proofs.SpotsRuns.{Glyphs, spots}
 
 -- what the test of a break asks for
-pub record MayBreak (skips : ℕ) (line : Glyphs) (i : ℕ) : Type 0 where
+pub record MayBreak (skips : ℕ) (even : Bool) (features : List Feature) (line : Glyphs) (i : ℕ) : Type 0 where
   pub some : nat_lt 0 (kept_before line i) ≡ true
   pub starts : not (cluster_at line i == cluster_at line (i - 1)) ≡ true
   pub solid : is_solid skips (glyph_at line i) ≡ true
   pub safe : not (list_any is_unsafe (later_run line i)) ≡ true
+  pub asks : ask_evenly even features (cluster_at line (i - 1)) (cluster_at line i) ≡ true
 
-five : (a b c d e : Bool) → (a && b && c && d && e) ≡ true → (a ≡ true) × (b ≡ true) × (c ≡ true) × (d ≡ true)
-five true true true true e is = (refl, refl, refl, refl)
+pub five : (a b c d e : Bool) → (a && b && c && d && e) ≡ true → (a ≡ true) × (b ≡ true) × (c ≡ true) × (d ≡ true) × (e ≡ true)
+five true true true true true is = (refl, refl, refl, refl, refl)
+five true true true true false is = absurd (true≢false (sym is))
 five true true true false e is = absurd (true≢false (sym is))
 five true true false d e is = absurd (true≢false (sym is))
 five true false c d e is = absurd (true≢false (sym is))
 five false b c d e is = absurd (true≢false (sym is))
 
-pub may_break_is : (skips : ℕ) (features : List Feature) (line : Glyphs) (i : ℕ) → may_break_at skips features line i ≡ true → MayBreak skips line i
-may_break_is skips features line i is =
+pub may_break_is : (skips : ℕ) (even : Bool) (features : List Feature) (line : Glyphs) (i : ℕ) → may_break_at skips even features line i ≡ true → MayBreak skips even features line i
+may_break_is skips even features line i is =
     let all = five (nat_lt 0 (kept_before line i)) (not (cluster_at line i == cluster_at line (i - 1))) (is_solid skips (glyph_at line i))
-    (not (list_any is_unsafe (later_run line i))) (ask_alike features (cluster_at line (i - 1)) (cluster_at line i)) is in
-    record { some = all.0; starts = all.1; solid = all.2; safe = all.3 }
+    (not (list_any is_unsafe (later_run line i))) (ask_evenly even features (cluster_at line (i - 1)) (cluster_at line i)) is in
+    record { some = all.0; starts = all.1; solid = all.2; safe = all.3; asks = all.4 }
 
 pub count_kept : (gs : Glyphs) → length (filter (λ g. not (is_deleted g)) gs) ≡ stays (spots gs)
 count_kept [] = refl
@@ -108,9 +110,17 @@ pub record MeetsAt (skips : ℕ) (line : Glyphs) (k i : ℕ) : Type 0 where
   pub before_end : i < length line
   pub solid : is_solid skips (glyph_at line i) ≡ true
   pub starts : cluster_at line i ≢ cluster_at line (i - 1)
-  pub unflagged : IsUnflaggedAt i line
 
-module _ (skips : ℕ) (line : Glyphs) (k i : ℕ) (at_place : PlaceOf line k i) (may : MayBreak skips line i) where
+-- what is asked of glyphs but for their marks
+pub record MayMeet (skips : ℕ) (line : Glyphs) (i : ℕ) : Type 0 where
+  pub some : nat_lt 0 (kept_before line i) ≡ true
+  pub starts : not (cluster_at line i == cluster_at line (i - 1)) ≡ true
+  pub solid : is_solid skips (glyph_at line i) ≡ true
+
+pub meets_of : (skips : ℕ) (even : Bool) (features : List Feature) (line : Glyphs) (i : ℕ) → MayBreak skips even features line i → MayMeet skips line i
+meets_of skips even features line i may = record { some = may.some; starts = may.starts; solid = may.solid }
+
+module _ (skips : ℕ) (line : Glyphs) (k i : ℕ) (at_place : PlaceOf line k i) (may : MayMeet skips line i) where
   some_kept : some_stays (spots at_place.front) ≡ true
   some_kept =
       let before : take i line ≡ at_place.front = ap (take i) at_place.whole ∙ take_at at_place.front (at_place.here ∷ at_place.back) i (sym at_place.stands) in
@@ -141,32 +151,6 @@ module _ (skips : ℕ) (line : Glyphs) (k i : ℕ) (at_place : PlaceOf line k i)
   clusters_differ : cluster_at line i ≢ cluster_at line (i - 1)
   clusters_differ e = let fails = may.starts in true≢false (sym fails ∙ ap not (same_is (cluster_at line i) (cluster_at line (i - 1)) e))
 
-  unflagged_is : IsUnflaggedAt i line
-  unflagged_is = by (nat_lt (cluster_at line (i - 1)) (cluster_at line i)) may.safe
-    where
-      by :
-          (t : Bool) → not (list_any is_unsafe (cond t (run_from line i) (run_up_to line (i - 1)))) ≡ true
-          → bit_and (glyph_at line (cond t i (i - 1))).mask 1 ≡ 0
-      by true safe =
-          let rest : drop i line ≡ at_place.here ∷ at_place.back = ap (drop i) at_place.whole ∙ drop_at at_place.front (at_place.here ∷ at_place.back) i (sym at_place.stands) in
-          let none : not (list_any is_unsafe (take_while (shares_cluster line i) (at_place.here ∷ at_place.back))) ≡ true =
-          ap (λ zs. not (list_any is_unsafe (take_while (shares_cluster line i) zs))) (sym rest) ∙ safe in
-          let first = first_of_run (shares_cluster line i) is_unsafe at_place.here at_place.back
-          (same_is at_place.here.cluster (cluster_at line i) (ap (λ (g : hb_glyph_info_t). g.cluster) (sym here_is))) none in
-          ap (λ (g : hb_glyph_info_t). bit_and g.mask 1) here_is ∙ safe_bit at_place.here first
-      by false safe =
-          let place : (i - 1) + 1 ≡ i = omega (arith, place_is) in
-          let before : reverse (take ((i - 1) + 1) line) ≡ end.last ∷ reverse end.front =
-          ap (λ n. reverse (take n line)) place
-          ∙ (ap (λ zs. reverse (take i zs)) whole_is
-          ∙ (ap reverse (take_at (end.front ++ end.last ∷ []) (at_place.here ∷ at_place.back) i long_is)
-          ∙ reverse-append end.front (end.last ∷ []))) in
-          let none : not (list_any is_unsafe (take_while (shares_cluster line (i - 1)) (end.last ∷ reverse end.front))) ≡ true =
-          ap (λ zs. not (list_any is_unsafe (take_while (shares_cluster line (i - 1)) zs))) (sym before) ∙ safe in
-          let first = first_of_run (shares_cluster line (i - 1)) is_unsafe end.last (reverse end.front)
-          (same_is end.last.cluster (cluster_at line (i - 1)) (ap (λ (g : hb_glyph_info_t). g.cluster) (sym last_is))) none in
-          ap (λ (g : hb_glyph_info_t). bit_and g.mask 1) last_is ∙ safe_bit end.last first
-
   pub meets_at : MeetsAt skips line k i
   meets_at = record {
     front = end.front;
@@ -185,14 +169,53 @@ module _ (skips : ℕ) (line : Glyphs) (k i : ℕ) (at_place : PlaceOf line k i)
         let stands = at_place.stands in omega (arith, whole, stands);
     solid = may.solid;
     starts = clusters_differ;
-    unflagged = unflagged_is;
   }
 
-pub cut_place : (skips k i : ℕ) (line : Glyphs) (b : Buffer) → line ≡ ordered_line b → MeetsAt skips line k i → IsCutPlace skips i b
-cut_place skips k i line b same m = record {
+-- where none of the later cluster is marked, neither is its glyph at the place
+module _ (skips k i : ℕ) (line : Glyphs) (m : MeetsAt skips line k i) where
+  met_here : glyph_at line i ≡ m.here
+  met_here = ap (λ zs. glyph_at zs i) m.whole ∙ get_or_at (m.front ++ m.last ∷ []) m.here m.back no_glyph i m.long
+
+  met_count : length m.front + 1 ≡ i
+  met_count = sym (length-append m.front (m.last ∷ [])) ∙ m.long
+
+  met_last : glyph_at line (i - 1) ≡ m.last
+  met_last =
+      ap (λ zs. glyph_at zs (i - 1)) (m.whole ∙ append_assoc m.front (m.last ∷ []) (m.here ∷ m.back))
+      ∙ get_or_at m.front m.last (m.here ∷ m.back) no_glyph (i - 1) (omega (arith, met_count))
+
+  pub unflagged_at : not (list_any is_unsafe (later_run line i)) ≡ true → IsUnflaggedAt i line
+  unflagged_at none = by (nat_lt (cluster_at line (i - 1)) (cluster_at line i)) none
+    where
+      by :
+          (t : Bool) → not (list_any is_unsafe (cond t (run_from line i) (run_up_to line (i - 1)))) ≡ true
+          → bit_and (glyph_at line (cond t i (i - 1))).mask 1 ≡ 0
+      by true safe =
+          let rest : drop i line ≡ m.here ∷ m.back = ap (drop i) m.whole ∙ drop_at (m.front ++ m.last ∷ []) (m.here ∷ m.back) i m.long in
+          let none : not (list_any is_unsafe (take_while (shares_cluster line i) (m.here ∷ m.back))) ≡ true =
+          ap (λ zs. not (list_any is_unsafe (take_while (shares_cluster line i) zs))) (sym rest) ∙ safe in
+          let first = first_of_run (shares_cluster line i) is_unsafe m.here m.back
+          (same_is m.here.cluster (cluster_at line i) (ap (λ (g : hb_glyph_info_t). g.cluster) (sym met_here))) none in
+          ap (λ (g : hb_glyph_info_t). bit_and g.mask 1) met_here ∙ safe_bit m.here first
+      by false safe =
+          let place : (i - 1) + 1 ≡ i = omega (arith, met_count) in
+          let before : reverse (take ((i - 1) + 1) line) ≡ m.last ∷ reverse m.front =
+          ap (λ n. reverse (take n line)) place
+          ∙ (ap (λ zs. reverse (take i zs)) m.whole
+          ∙ (ap reverse (take_at (m.front ++ m.last ∷ []) (m.here ∷ m.back) i m.long)
+          ∙ reverse-append m.front (m.last ∷ []))) in
+          let none : not (list_any is_unsafe (take_while (shares_cluster line (i - 1)) (m.last ∷ reverse m.front))) ≡ true =
+          ap (λ zs. not (list_any is_unsafe (take_while (shares_cluster line (i - 1)) zs))) (sym before) ∙ safe in
+          let first = first_of_run (shares_cluster line (i - 1)) is_unsafe m.last (reverse m.front)
+          (same_is m.last.cluster (cluster_at line (i - 1)) (ap (λ (g : hb_glyph_info_t). g.cluster) (sym met_last))) none in
+          ap (λ (g : hb_glyph_info_t). bit_and g.mask 1) met_last ∙ safe_bit m.last first
+
+pub cut_place : (skips k i : ℕ) (line : Glyphs) (b : Buffer) → line ≡ ordered_line b → MeetsAt skips line k i
+    → not (list_any is_unsafe (later_run line i)) ≡ true → IsCutPlace skips i b
+cut_place skips k i line b same m safe = record {
   behind_first = m.behind_first;
   before_end = subst (λ (zs : Glyphs). i < length zs) same m.before_end;
   solid = subst (λ (zs : Glyphs). is_solid skips (glyph_at zs i) ≡ true) same m.solid;
   starts = subst (λ (zs : Glyphs). cluster_at zs i ≢ cluster_at zs (i - 1)) same m.starts;
-  unflagged = subst (IsUnflaggedAt i) same m.unflagged;
+  unflagged = subst (IsUnflaggedAt i) same (unflagged_at skips k i line m safe);
 }

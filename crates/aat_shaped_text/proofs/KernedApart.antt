@@ -1,5 +1,5 @@
--- Where a font kerns pairs along the line, kerning attaches nothing.
-use Rattle.std.proofs.Common.{◌≡◌, ◌∙◌, sym, refl, ℕ, zero, suc, ◌+◌, ◌-ℤ◌, ◌&&◌, ◌||◌, Bool, true, false, not, cond, List, [], ◌∷◌, ◌++◌, reverse, fold, true≢false, ℤ, pos}
+-- Pairs along the line attach nothing.
+use Rattle.std.proofs.Common.{◌≡◌, ◌∙◌, refl, ℕ, zero, suc, ◌+◌, ◌-ℤ◌, Bool, true, false, cond, List, [], ◌∷◌, ◌++◌, reverse, fold, ℤ, pos}
 use Rattle.std.specs.Prelude.{Option, Some, None, slice_set, slice_index_or}
 use Rattle.std.specs.Ordering.{int_eq}
 use Rattle.std.proofs.lemmas.Grind.{reverse_onto}
@@ -7,17 +7,10 @@ use Rattle.aat_glyph.specs.Directions.{is_backward, is_horizontal}
 use Rattle.aat_glyph.specs.declared.glyph.GlyphPosition.{GlyphPosition}
 use Rattle.aat_buffer.specs.Buffer.{Buffer, glyph_at, position_at, position_list, reversed, zero_position}
 use Rattle.aat_buffer.specs.Marks.{unsafe_to_break}
-use Rattle.aat_kerning_tables.specs.AnchorPoints.{Points}
-use Rattle.aat_kerning_tables.specs.Classes.{kerning_by_classes}
-use Rattle.aat_kerning_tables.specs.declared.kern.KernKind.{KernKind}
-use Rattle.aat_kerning_tables.specs.declared.kern.KernKind.TheVariants as kind
-use Rattle.aat_kerning_tables.specs.declared.kerx.KerxFormat.{KerxFormat}
-use Rattle.aat_kerning_tables.specs.declared.kerx.KerxFormat.TheVariants.{Format0, Format1, Format2, Format2Classes, Format4, Format6, Format6Classes}
 use Rattle.aat_kerning_machines.specs.Positions.{on_position, with_advance, with_shift}
-use Rattle.aat_kerning.specs.PairKerning.{PairValues, half, in_stream, kerned, pair_kerning, value_of}
-use Rattle.aat_kerning.specs.Pairs.{Pair, kern_skips, kerx_skips, pairs_of}
-use Rattle.aat_kerning.specs.Positioning.{Kerning, Positioned, in_processing_order, is_for_direction, is_kern_pairs, is_kerx_pairs, is_turned_round, run_turned_round, run_of_kern_subtable, run_of_kerx_subtable, line_marked, positioned}
-use Rattle.aat_shaped_text.specs.Breaks.{kerns_pairs_along}
+use Rattle.aat_kerning.specs.PairKerning.{PairValues, half, in_stream, kerned, pair_kerning}
+use Rattle.aat_kerning.specs.Pairs.{Pair, pairs_of}
+use Rattle.aat_kerning.specs.Positioning.{in_processing_order, line_marked}
 
 -- no position is attached
 abbrev pub Plain : List GlyphPosition → Type 0
@@ -53,17 +46,17 @@ plain_then b c d first second = record { direction = second.direction ∙ first.
 pub plain_same : (b : Buffer) → IsPlainFrom b b
 plain_same b = record { direction = refl; plain = λ p. p }
 
-on_position_plain : (f : GlyphPosition → GlyphPosition) (i : ℕ) (b : Buffer) → ((q : GlyphPosition) → (f q).attach_type ≡ q.attach_type) → IsPlainFrom b (on_position f i b)
+pub on_position_plain : (f : GlyphPosition → GlyphPosition) (i : ℕ) (b : Buffer) → ((q : GlyphPosition) → (f q).attach_type ≡ q.attach_type) → IsPlainFrom b (on_position f i b)
 on_position_plain f i b keeps = record {
   direction = refl;
   plain = λ p. plain_set (position_list b) i (f (position_at b i)) (keeps (position_at b i) ∙ plain_at (position_list b) i p) p;
 }
 
-advance_keeps : (h : Bool) (v : ℤ) (q : GlyphPosition) → (with_advance h v q).attach_type ≡ q.attach_type
+pub advance_keeps : (h : Bool) (v : ℤ) (q : GlyphPosition) → (with_advance h v q).attach_type ≡ q.attach_type
 advance_keeps true v q = refl
 advance_keeps false v q = refl
 
-shift_keeps : (h : Bool) (v : ℤ) (q : GlyphPosition) → (with_shift h v q).attach_type ≡ q.attach_type
+pub shift_keeps : (h : Bool) (v : ℤ) (q : GlyphPosition) → (with_shift h v q).attach_type ≡ q.attach_type
 shift_keeps true v q = refl
 shift_keeps false v q = refl
 
@@ -93,7 +86,7 @@ pairs_plain values (p ∷ ps) b =
     plain_then b (kerned false values p b) (fold (λ d p. kerned false values p d) (kerned false values p b) ps)
     (kerned_plain values p b) (pairs_plain values ps (kerned false values p b))
 
-pair_kerning_plain :
+pub pair_kerning_plain :
     (asked : Bool) (skips mask : ℕ) (values : PairValues) (b : Buffer)
     → IsPlainFrom b (pair_kerning skips mask false values (line_marked asked b))
 unfolding pair_kerning
@@ -101,46 +94,6 @@ pair_kerning_plain true skips mask values b =
     let m = pairs_plain values (pairs_of skips mask (line_marked true b).line) (line_marked true b) in
     record { direction = m.direction; plain = m.plain }
 pair_kerning_plain false skips mask values b = pairs_plain values (pairs_of skips mask b.line) b
-
--- a subtable of pairs along the line attaches nothing
-abbrev pub RunsPlain : Kerning → Type 0
-RunsPlain k = k.is_pairs ≡ true → k.has_cross_stream ≡ false → (b : Buffer) → IsPlainFrom b (k.run b).buffer
-
-pub kerx_plain :
-    (mask : ℕ) (points : Option Points) (cross last : Bool) (tuple : ℕ) (format : KerxFormat) → is_kerx_pairs format ≡ true
-    → cross ≡ false → (b : Buffer)
-    → IsPlainFrom b (run_turned_round (is_turned_round last format) (run_of_kerx_subtable mask points cross tuple format) b).buffer
-kerx_plain mask points true last tuple format pairs along b = absurd (true≢false along)
-kerx_plain mask points false last tuple (Format0 listed) pairs along b = pair_kerning_plain false kerx_skips mask (value_of listed) b
-kerx_plain mask points false last tuple (Format1 s) pairs along b = absurd (true≢false (sym pairs))
-kerx_plain mask points false last tuple (Format2 listed) pairs along b = pair_kerning_plain true kerx_skips mask (value_of listed) b
-kerx_plain mask points false last tuple (Format2Classes classes) pairs along b = pair_kerning_plain true kerx_skips mask (kerning_by_classes classes) b
-kerx_plain mask points false last tuple (Format4 s) pairs along b = absurd (true≢false (sym pairs))
-kerx_plain mask points false last tuple (Format6 listed) pairs along b = pair_kerning_plain false kerx_skips mask (value_of listed) b
-kerx_plain mask points false last tuple (Format6Classes classes) pairs along b = pair_kerning_plain false kerx_skips mask (kerning_by_classes classes) b
-
-pub kern_plain :
-    (mask : ℕ) (cross : Bool) (kind : KernKind) → is_kern_pairs kind ≡ true → cross ≡ false → (b : Buffer)
-    → IsPlainFrom b (run_of_kern_subtable mask cross kind b).buffer
-kern_plain mask true kind pairs along b = absurd (true≢false along)
-kern_plain mask false (kind.Pairs listed) pairs along b = pair_kerning_plain true kern_skips mask (value_of listed) b
-kern_plain mask false (kind.Classes classes) pairs along b = pair_kerning_plain true kern_skips mask (kerning_by_classes classes) b
-kern_plain mask false (kind.Machine s) pairs along b = absurd (true≢false (sym pairs))
-
-pub step_plain :
-    (requested : Bool) (k : Kerning) (s : Positioned) → RunsPlain k → kerns_pairs_along s.buffer.direction k ≡ true
-    → IsPlainFrom s.buffer (positioned requested k s).buffer
-unfolding positioned
-step_plain requested k s runs holds = by (is_for_direction k s.buffer.direction) refl k.is_pairs refl k.has_cross_stream refl holds requested
-  where
-    by :
-        (t : Bool) → is_for_direction k s.buffer.direction ≡ t → (u : Bool) → k.is_pairs ≡ u → (v : Bool) → k.has_cross_stream ≡ v
-        → (not t || (u && not v)) ≡ true → (requested : Bool) → IsPlainFrom s.buffer (positioned requested k s).buffer
-    by false for u pairs v cross holds requested = rw for (plain_same s.buffer)
-    by true for false pairs v cross holds requested = absurd (true≢false (sym holds))
-    by true for true pairs true cross holds requested = absurd (true≢false (sym holds))
-    by true for true pairs false cross holds true = rw (for, pairs, cross) (runs pairs cross s.buffer)
-    by true for true pairs false cross holds false = rw (for, pairs, cross) (plain_same s.buffer)
 
 pub ordered_plain : (b : Buffer) → IsPlainFrom b (in_processing_order b)
 ordered_plain b = by (is_backward b.direction) b.positions refl

@@ -20,11 +20,11 @@ use Rattle.aat_shaped_text.proofs.SpotsRuns.{Glyphs}
 abbrev has : ℕ → hb_glyph_info_t → Bool
 has c g = g.cluster == c
 
-while_step : (p : hb_glyph_info_t → Bool) (g : hb_glyph_info_t) (gs : Glyphs) → p g ≡ true → take_while p (g ∷ gs) ≡ g ∷ take_while p gs
+pub while_step : (p : hb_glyph_info_t → Bool) (g : hb_glyph_info_t) (gs : Glyphs) → p g ≡ true → take_while p (g ∷ gs) ≡ g ∷ take_while p gs
 while_step p g gs is =
     ap (λ (t : Bool). take (cond t (1 + prefix_len p gs) 0) (g ∷ gs)) is ∙ ap (λ n. take n (g ∷ gs)) (one-add (prefix_len p gs))
 
-none_of : (q : hb_glyph_info_t → Bool) (g : hb_glyph_info_t) (gs : Glyphs) → not (list_any q (g ∷ gs)) ≡ true → (q g ≡ false) × (not (list_any q gs) ≡ true)
+pub none_of : (q : hb_glyph_info_t → Bool) (g : hb_glyph_info_t) (gs : Glyphs) → not (list_any q (g ∷ gs)) ≡ true → (q g ≡ false) × (not (list_any q gs) ≡ true)
 none_of q g gs none = by_first (q g) refl none
   where
     by_first : (t : Bool) → q g ≡ t → not (t || list_any q gs) ≡ true → (q g ≡ false) × (not (list_any q gs) ≡ true)

@@ -1,8 +1,8 @@
 -- The line that closing substitution leaves of a text is cut in two where its kerned line may be broken, by the marks.
-use Rattle.std.proofs.Common.{◌≡◌, ◌≢◌, ◌∙◌, ◌⊎◌, sym, ap, refl, inl, inr, ℕ, zero, suc, ◌+◌, ◌-◌, ◌<◌, ◌≤◌, Bool, true, false, not, cond, max, List, [], ◌∷◌, ◌++◌, map, reverse, length, arith, get_or, nat_lt, bit_and, subst, true≢false}
+use Rattle.std.proofs.Common.{◌≡◌, ◌≢◌, ◌∙◌, ◌⊎◌, sym, ap, refl, inl, inr, ℕ, zero, suc, ◌+◌, ◌-◌, ◌<◌, ◌≤◌, Bool, true, false, not, cond, max, min, List, [], ◌∷◌, ◌++◌, map, reverse, length, arith, get_or, nat_lt, bit_and, subst, true≢false}
 use Rattle.std.proofs.lemmas.Bool.{cases_lt}
 use Rattle.std.proofs.lemmas.Bool.Decides.{nat_tests}
-use Rattle.std.proofs.lemmas.List.{get_or-reverse, length-map, length-reverse, reverse-append, reverse-reverse}
+use Rattle.std.proofs.lemmas.List.{get_or-reverse, length-append, length-map, length-reverse, reverse-append, reverse-reverse}
 use Rattle.std.proofs.Math.ListN.{get_or-map}
 use Rattle.std.specs.List.{AllZip, list_any}
 use Rattle.aat_glyph.specs.declared.glyph.Direction.{Direction}
@@ -22,8 +22,10 @@ use Rattle.aat_cut_kinds.specs.Open.{is_open}
 use Rattle.aat_cut_kinds.specs.facts.Flags.{IsCalm}
 use Rattle.aat_cut_kinds.specs.facts.MarksOnly.{same_at}
 use Rattle.aat_cut_kinds.specs.facts.Opens.{opened, steady_open}
-use Rattle.aat_closing.specs.ClosingCuts.{AreEven, ChainsLeaveLimitedParts}
-use Rattle.aat_closing.specs.facts.ChainsSteady.{KeptByChains, chains_keep}
+use Rattle.aat_closing.specs.CutsAbout.{AreEvenAbout, ChainsLeaveLimitedPartsAbout}
+use Rattle.aat_closing.specs.LimitedParts.{ChainsTellOfLimitedPartsAbout}
+use Rattle.aat_closing.specs.ToldParts.{TellsOpen}
+use Rattle.aat_closing.specs.facts.ChainsSteady.{KeptByChains, chains_keep_any}
 use Rattle.aat_closing.specs.facts.FirstOpen.{falling_turned, open_turned}
 use Rattle.aat_shaped_text.specs.Breaks.{is_rising, is_unsafe, later_run}
 use Rattle.aat_shaped_text.specs.Parts.{text_before, text_from}
@@ -34,8 +36,8 @@ use Rattle.aat_shaped_text.proofs.LaterRuns.{open_at_fall, open_at_rise}
 use Rattle.aat_shaped_text.proofs.RisingText.{rising_line}
 use Rattle.aat_shaped_text.proofs.Spots.{AllRest}
 use Rattle.aat_shaped_text.proofs.SpotsRuns.{Glyphs, clusters, map-reverse, spots}
-use Rattle.aat_shaped_text.proofs.TextCut.{AllText, Text, before_below, from_above}
-use Rattle.aat_shaped_text.proofs.TextParted.{parted}
+use Rattle.aat_shaped_text.proofs.TextCut.{AllText, Text, before_below, from_above, in_two, rising_parts}
+use Rattle.aat_shaped_text.proofs.TextParted.{TellsPart, parted, parts_tell}
 use Rattle.aat_shaped_text.proofs.TextParts.{all_turned}
 use Rattle.aat_shaped_text.proofs.Texts.{turned}
 
@@ -125,8 +127,8 @@ strictly a b most differ = by_order (cases_lt a b)
     by_order (inl less) = less
     by_order (inr more) = absurd (differ (omega (arith, most, more)))
 
--- a text that is cut, in drawing order: the two parts and the cluster between them
-pub record PartedText (line : Text → Glyphs) (t : Bool) (text : Text) (i last here : ℕ) : Type 0 where
+-- a text that is cut, in drawing order: the two parts, of which more is true, and the cluster between them
+pub record PartedText (line : Text → Glyphs) (More : Text → Type 0) (t : Bool) (text : Text) (i last here : ℕ) : Type 0 where
   pub first : Text
   pub second : Text
   pub test : ℕ → Bool
@@ -137,169 +139,202 @@ pub record PartedText (line : Text → Glyphs) (t : Bool) (text : Text) (i last 
   pub fail : AllRest (λ c. not (test c)) (spots (line second))
   pub early : text_before place text ≡ cond t second first
   pub late : text_from place text ≡ cond t first second
+  pub first_more : More first
+  pub second_more : More second
   pub meets : (a b : ℕ) → test a ≡ true → a ≤ last → test b ≡ false → b ≤ here → max a b ≡ place
 
-module _ (own : ChainsLeaveLimitedParts) (face : hb_font_t) (d : Direction) (features : List Feature)
-    (even : AreEven d (by_requests (requests_of (tables_of face).feat features) (chains_in (tables_of face).morx)))
-  where
-    abbrev pub line : Text → Glyphs
-    line text = (closed_text face d features text).buffer.line
+-- the clusters of a part of a text never fall, its machines tell what is open, and they take no more operations than those
+-- of the text, which is no shorter
+pub record TellsRising (face : hb_font_t) (d : Direction) (features : List Feature) (whole part : Text) : Type 0 where
+  pub rising : is_rising part ≡ true
+  pub more : TellsPart face d features whole part
+  pub shorter : length part ≤ length whole
 
-    pub kept : (text : Text) → KeptByChains (text_buffer face d features text) (closed_text face d features text).buffer
-    kept text =
-        chains_keep (sizes_for face) (omega arith) d (by_requests (requests_of (tables_of face).feat features) (chains_in (tables_of face).morx)) even
-        (text_buffer face d features text) refl refl
+module _ (own : ChainsLeaveLimitedPartsAbout) (tell : ChainsTellOfLimitedPartsAbout) (face : hb_font_t) (d : Direction) (features : List Feature) where
+  -- the subtables of the font are even about the cut of a place, from the lesser of the two clusters that meet there
+  abbrev pub AreEvenAt : ℕ → ℕ → Type 0
+  AreEvenAt a b =
+      (low c : ℕ) → low ≡ min a b → c ≡ max a b
+      → AreEvenAbout low c d (by_requests (requests_of (tables_of face).feat features) (chains_in (tables_of face).morx))
 
-    abbrev f : TextGlyph → hb_glyph_info_t
-    f = line_glyph face features
+  abbrev pub line : Text → Glyphs
+  line text = (closed_text face d features text).buffer.line
 
-    module _ (text : Text) (rising : is_rising text ≡ true) (told : (closed_text face d features text).is_told ≡ true)
-        (spends : most_operations (length text) < operations_left (closed_text face d features text).buffer.max_ops + 16384)
-      where
-        line_rises : IsRisingLine (line text)
-        line_rises = (kept text).order.rising (λ apart. true≢false (sym apart)) (rising_line face features text rising)
+  pub kept : (text : Text) → KeptByChains (text_buffer face d features text) (closed_text face d features text).buffer
+  kept text =
+      chains_keep_any (sizes_for face) (omega arith) d (by_requests (requests_of (tables_of face).feat features) (chains_in (tables_of face).morx))
+      (text_buffer face d features text) refl refl
 
-        -- where a cluster is open, and a glyph has a lower one
-        in_parts : (c p : ℕ) → is_open c (line text) ≡ true → p < length (line text) → cluster_at (line text) p < c
-            → line text ≡ line (text_before c text) ++ line (text_from c text)
-        in_parts c p opens within below =
-            let o = opened c (line text) opens in
-            let low = (kept text).order.clusters p within in
-            let high = (kept text).order.clusters o.place o.inside in
-            let low_is = low.2 in
-            let high_is = high.2 in
-            let at = o.at in
-            parted own face d features text c rising even
-            (some_before f (λ g. refl) c text low.0 low.1 (omega (arith, below, low_is)))
-            (some_from f (λ g. refl) c text high.0 high.1 (omega (arith, at, high_is)))
-            (record { told = told; opens = opens; budget = omega (arith, spends) }) (p, within, omega arith, below) spends
+  abbrev f : TextGlyph → hb_glyph_info_t
+  f = line_glyph face features
 
-        passes : (p : ℕ → Bool) (part : Text) → AllText p part → AllRest p (spots (line part))
-        passes p part all = came p (map f part) (line part) (kept part).order.clusters (text_places f (λ g. refl) p part all)
+  module _ (text : Text) (rising : is_rising text ≡ true) (told : (closed_text face d features text).is_told ≡ true)
+      (spends : most_operations (length text) < operations_left (closed_text face d features text).buffer.max_ops + 16384)
+    where
+      line_rises : IsRisingLine (line text)
+      line_rises = (kept text).order.rising (λ apart. true≢false (sym apart)) (rising_line face features text rising)
 
-        module _ (k : Glyphs) (same : clusters k ≡ clusters (line text)) (calm : IsCalm (line text) k) where
-          k_rises : IsRisingLine k
-          k_rises = same_rising (line text) k same line_rises
+      -- what the parts before a cluster and from it on leave
+      record InParts (c : ℕ) : Type 0 where
+        whole : line text ≡ line (text_before c text) ++ line (text_from c text)
+        early : TellsRising face d features text (text_before c text)
+        late : TellsRising face d features text (text_from c text)
 
-          as_long : length k ≡ length (line text)
-          as_long = let cluster : hb_glyph_info_t → ℕ = λ g. g.cluster in sym (length-map k cluster) ∙ (ap length same ∙ length-map (line text) cluster)
+      -- where a cluster is open, and a glyph has a lower one
+      in_parts : (low c p : ℕ) → AreEvenAbout low c d (by_requests (requests_of (tables_of face).feat features) (chains_in (tables_of face).morx))
+          → is_open c (line text) ≡ true → p < length (line text) → low ≤ cluster_at (line text) p → cluster_at (line text) p < c → InParts c
+      in_parts from c p even opens within least below =
+          let o = opened c (line text) opens in
+          let low = (kept text).order.clusters p within in
+          let high = (kept text).order.clusters o.place o.inside in
+          let low_is = low.2 in
+          let high_is = high.2 in
+          let at = o.at in
+          let some_early = some_before f (λ g. refl) c text low.0 low.1 (omega (arith, below, low_is)) in
+          let some_late = some_from f (λ g. refl) c text high.0 high.1 (omega (arith, at, high_is)) in
+          let tells : TellsOpen c (closed_text face d features text) = record { told = told; opens = opens; budget = omega (arith, spends) } in
+          let both = parts_tell own tell face d features text c rising from even some_early some_late tells (p, within, least, below) spends in
+          let rise = rising_parts c text rising in
+          let in_all : length (text_before c text) + length (text_from c text) ≡ length text =
+          sym (length-append (text_before c text) (text_from c text)) ∙ ap length (in_two c text rising) in
+          record {
+            whole = parted own tell face d features text c rising from even some_early some_late tells (p, within, least, below) spends;
+            early = record { rising = rise.0; more = both.0; shorter = omega (arith, in_all) };
+            late = record { rising = rise.1; more = both.1; shorter = omega (arith, in_all) };
+          }
 
-          read : (n : ℕ) → cluster_at k n ≡ cluster_at (line text) n
-          read n = same_at (λ (g : hb_glyph_info_t). g.cluster) k (line text) n same
+      passes : (p : ℕ → Bool) (part : Text) → AllText p part → AllRest p (spots (line part))
+      passes p part all = came p (map f part) (line part) (kept part).order.clusters (text_places f (λ g. refl) p part all)
 
-          -- from left to right, or from top to bottom
-          forward : (i : ℕ) → 0 < i → i < length k → cluster_at k i ≢ cluster_at k (i - 1) → not (list_any is_unsafe (later_run k i)) ≡ true
-              → PartedText line false text i (cluster_at k (i - 1)) (cluster_at k i)
-          forward i some within differ safe =
-              let c = cluster_at k i in
-              let step : cluster_at k (i - 1) ≤ c = k_rises (i - 1) i no_glyph (omega (arith, some)) within in
-              let below : cluster_at k (i - 1) < c = strictly (cluster_at k (i - 1)) c step (λ e. differ (sym e)) in
-              let opens : is_open c (line text) ≡ true = steady_open c (line text) k same calm (open_at_rise k i some within k_rises differ safe) in
-              let before = read (i - 1) in
-              let whole = in_parts c (i - 1) opens (omega (arith, within, as_long)) (omega (arith, below, before)) in
-              let pass = passes (λ x. nat_lt x c) (text_before c text) (before_below c text) in
-              let fail = passes (λ x. not (nat_lt x c)) (text_from c text) (from_above c text) in
-              record {
-                first = text_before c text;
-                second = text_from c text;
-                test = λ x. nat_lt x c;
-                place = c;
-                whole = whole;
-                long = divided_there (λ x. nat_lt x c) i (line (text_before c text)) (line (text_from c text))
-                    (subst (IsDivided (λ x. nat_lt x c) i) (same ∙ ap clusters whole) (divided below))
-                    (omega (arith, within, as_long, ap length whole)) pass fail;
-                pass = pass;
-                fail = fail;
-                early = refl;
-                late = refl;
-                meets = λ a b low _ not_low high. grind (arith, nat_tests, low, not_low, high);
-              }
-            where
-              at_place : (n : ℕ) → get_or (clusters k) n 0 ≡ cluster_at k n
-              at_place n = get_or-map (λ (g : hb_glyph_info_t). g.cluster) k n no_glyph
+      module _ (k : Glyphs) (same : clusters k ≡ clusters (line text)) (calm : IsCalm (line text) k) where
+        k_rises : IsRisingLine k
+        k_rises = same_rising (line text) k same line_rises
 
-              divided : cluster_at k (i - 1) < cluster_at k i → IsDivided (λ x. nat_lt x (cluster_at k i)) i (clusters k)
-              divided below = record {
-                before = λ n low.
-                    let here = at_place n in
-                    let most = up_to n low in
-                    let less : cluster_at k n < cluster_at k i = omega (arith, most, below) in
-                    rw here (grind (arith, nat_tests, less));
-                at = rw (at_place i) (grind (arith, nat_tests));
-              }
-                where
-                  up_to : (n : ℕ) → n < i → cluster_at k n ≤ cluster_at k (i - 1)
-                  up_to n low = by_last (cases_lt n (i - 1))
-                    where
-                      by_last : ((n < i - 1) ⊎ (i - 1 ≤ n)) → cluster_at k n ≤ cluster_at k (i - 1)
-                      by_last (inl less) = k_rises n (i - 1) no_glyph less (omega (arith, within))
-                      by_last (inr last) = let there : n ≡ i - 1 = omega (arith, last, low) in rw there (omega arith)
+        as_long : length k ≡ length (line text)
+        as_long = let cluster : hb_glyph_info_t → ℕ = λ g. g.cluster in sym (length-map k cluster) ∙ (ap length same ∙ length-map (line text) cluster)
 
-          -- from right to left, or from bottom to top
-          backward : (i : ℕ) → 0 < i → i < length (reverse k) → cluster_at (reverse k) i ≢ cluster_at (reverse k) (i - 1) → not (list_any is_unsafe (later_run (reverse k) i)) ≡ true
-              → PartedText line true text i (cluster_at (reverse k) (i - 1)) (cluster_at (reverse k) i)
-          backward i some within differ safe =
-              let m : Glyphs = reverse k in
-              let c = cluster_at m (i - 1) in
-              let falls : IsFallingLine m = falling_turned k k_rises in
-              let step : cluster_at m i ≤ c = falls (i - 1) i no_glyph (omega (arith, some)) within in
-              let below : cluster_at m i < c = strictly (cluster_at m i) c step differ in
-              let turned_back : is_open c (reverse m) ≡ true = open_turned c m (open_at_fall m i some within falls differ safe) in
-              let opens : is_open c (line text) ≡ true = steady_open c (line text) k same calm (subst (λ (gs : Glyphs). is_open c gs ≡ true) (reverse-reverse k) turned_back) in
-              let count = length-reverse k in
-              let there : cluster_at m i ≡ cluster_at k (length k - 1 - i) =
-              ap (λ (g : hb_glyph_info_t). g.cluster) (get_or-reverse k i no_glyph (omega (arith, within, count))) in
-              let before = read (length k - 1 - i) in
-              let whole = in_parts c (length k - 1 - i) opens (omega (arith, within, count, as_long)) (omega (arith, below, there, before)) in
-              let pass = passes (λ x. not (nat_lt x c)) (text_from c text) (from_above c text) in
-              let fail = passes (λ x. not (not (nat_lt x c))) (text_before c text) (twice c (text_before c text) (before_below c text)) in
-              let split : reverse (line text) ≡ reverse (line (text_from c text)) ++ reverse (line (text_before c text)) =
-              ap reverse whole ∙ reverse-append (line (text_before c text)) (line (text_from c text)) in
-              let turned_same : clusters m ≡ clusters (reverse (line text)) =
-              map-reverse (λ (g : hb_glyph_info_t). g.cluster) k ∙ (ap reverse same ∙ sym (map-reverse (λ (g : hb_glyph_info_t). g.cluster) (line text))) in
-              record {
-                first = text_from c text;
-                second = text_before c text;
-                test = λ x. not (nat_lt x c);
-                place = c;
-                whole = split;
-                long = sym (length-reverse (line (text_from c text)))
-                    ∙ divided_there (λ x. not (nat_lt x c)) i (reverse (line (text_from c text))) (reverse (line (text_before c text)))
-                    (subst (IsDivided (λ x. not (nat_lt x c)) i) (turned_same ∙ ap clusters split) (divided falls below))
-                    (omega (arith, within, count, as_long, ap length split, length-reverse (line text)))
-                    (all_turned (λ x. not (nat_lt x c)) true (line (text_from c text)) pass) (all_turned (λ x. not (not (nat_lt x c))) true (line (text_before c text)) fail);
-                pass = pass;
-                fail = fail;
-                early = refl;
-                late = refl;
-                meets = λ a b high last not_high _. grind (arith, nat_tests, high, last, not_high);
-              }
-            where
-              twice : (c : ℕ) (xs : Text) → AllText (λ x. nat_lt x c) xs → AllText (λ x. not (not (nat_lt x c))) xs
-              twice c [] all = tt
-              twice c (x ∷ xs) all = (ap (λ t. not (not t)) all.0, twice c xs all.1)
+        read : (n : ℕ) → cluster_at k n ≡ cluster_at (line text) n
+        read n = same_at (λ (g : hb_glyph_info_t). g.cluster) k (line text) n same
 
-              at_place : (n : ℕ) → get_or (clusters (reverse k)) n 0 ≡ cluster_at (reverse k) n
-              at_place n = get_or-map (λ (g : hb_glyph_info_t). g.cluster) (reverse k) n no_glyph
+        -- from left to right, or from top to bottom
+        forward : (i : ℕ) → 0 < i → i < length k → cluster_at k i ≢ cluster_at k (i - 1) → not (list_any is_unsafe (later_run k i)) ≡ true
+            → AreEvenAt (cluster_at k (i - 1)) (cluster_at k i) → PartedText line (TellsRising face d features text) false text i (cluster_at k (i - 1)) (cluster_at k i)
+        forward i some within differ safe even =
+            let c = cluster_at k i in
+            let step : cluster_at k (i - 1) ≤ c = k_rises (i - 1) i no_glyph (omega (arith, some)) within in
+            let below : cluster_at k (i - 1) < c = strictly (cluster_at k (i - 1)) c step (λ e. differ (sym e)) in
+            let opens : is_open c (line text) ≡ true = steady_open c (line text) k same calm (open_at_rise k i some within k_rises differ safe) in
+            let before = read (i - 1) in
+            let parts = in_parts (cluster_at k (i - 1)) c (i - 1) (even (cluster_at k (i - 1)) c (omega (arith, below)) (omega (arith, below))) opens (omega (arith, within, as_long)) (omega (arith, before)) (omega (arith, below, before)) in
+            let whole = parts.whole in
+            let pass = passes (λ x. nat_lt x c) (text_before c text) (before_below c text) in
+            let fail = passes (λ x. not (nat_lt x c)) (text_from c text) (from_above c text) in
+            record {
+              first = text_before c text;
+              second = text_from c text;
+              test = λ x. nat_lt x c;
+              place = c;
+              whole = whole;
+              long = divided_there (λ x. nat_lt x c) i (line (text_before c text)) (line (text_from c text))
+                  (subst (IsDivided (λ x. nat_lt x c) i) (same ∙ ap clusters whole) (divided below))
+                  (omega (arith, within, as_long, ap length whole)) pass fail;
+              pass = pass;
+              fail = fail;
+              early = refl;
+              late = refl;
+              first_more = parts.early;
+              second_more = parts.late;
+              meets = λ a b low _ not_low high. grind (arith, nat_tests, low, not_low, high);
+            }
+          where
+            at_place : (n : ℕ) → get_or (clusters k) n 0 ≡ cluster_at k n
+            at_place n = get_or-map (λ (g : hb_glyph_info_t). g.cluster) k n no_glyph
 
-              divided : IsFallingLine (reverse k) → cluster_at (reverse k) i < cluster_at (reverse k) (i - 1) → IsDivided (λ x. not (nat_lt x (cluster_at (reverse k) (i - 1)))) i (clusters (reverse k))
-              divided falls below = record {
-                before = λ n low.
-                    let here = at_place n in
-                    let least : cluster_at (reverse k) (i - 1) ≤ cluster_at (reverse k) n = from n low in
-                    rw here (grind (arith, nat_tests, least));
-                at = rw (at_place i) (grind (arith, nat_tests, below));
-              }
-                where
-                  from : (n : ℕ) → n < i → cluster_at (reverse k) (i - 1) ≤ cluster_at (reverse k) n
-                  from n low = by_last (cases_lt n (i - 1))
-                    where
-                      by_last : ((n < i - 1) ⊎ (i - 1 ≤ n)) → cluster_at (reverse k) (i - 1) ≤ cluster_at (reverse k) n
-                      by_last (inl less) = falls n (i - 1) no_glyph less (omega (arith, within))
-                      by_last (inr last) = let there : n ≡ i - 1 = omega (arith, last, low) in rw there (omega arith)
+            divided : cluster_at k (i - 1) < cluster_at k i → IsDivided (λ x. nat_lt x (cluster_at k i)) i (clusters k)
+            divided below = record {
+              before = λ n low.
+                  let here = at_place n in
+                  let most = up_to n low in
+                  let less : cluster_at k n < cluster_at k i = omega (arith, most, below) in
+                  rw here (grind (arith, nat_tests, less));
+              at = rw (at_place i) (grind (arith, nat_tests));
+            }
+              where
+                up_to : (n : ℕ) → n < i → cluster_at k n ≤ cluster_at k (i - 1)
+                up_to n low = by_last (cases_lt n (i - 1))
+                  where
+                    by_last : ((n < i - 1) ⊎ (i - 1 ≤ n)) → cluster_at k n ≤ cluster_at k (i - 1)
+                    by_last (inl less) = k_rises n (i - 1) no_glyph less (omega (arith, within))
+                    by_last (inr last) = let there : n ≡ i - 1 = omega (arith, last, low) in rw there (omega arith)
 
-          -- in either direction
-          pub parted_by : (t : Bool) (i : ℕ) → 0 < i → i < length (turned t k) → cluster_at (turned t k) i ≢ cluster_at (turned t k) (i - 1) → not (list_any is_unsafe (later_run (turned t k) i)) ≡ true
-              → PartedText line t text i (cluster_at (turned t k) (i - 1)) (cluster_at (turned t k) i)
-          parted_by false = forward
-          parted_by true = backward
+        -- from right to left, or from bottom to top
+        backward : (i : ℕ) → 0 < i → i < length (reverse k) → cluster_at (reverse k) i ≢ cluster_at (reverse k) (i - 1) → not (list_any is_unsafe (later_run (reverse k) i)) ≡ true
+            → AreEvenAt (cluster_at (reverse k) (i - 1)) (cluster_at (reverse k) i) → PartedText line (TellsRising face d features text) true text i (cluster_at (reverse k) (i - 1)) (cluster_at (reverse k) i)
+        backward i some within differ safe even =
+            let m : Glyphs = reverse k in
+            let c = cluster_at m (i - 1) in
+            let falls : IsFallingLine m = falling_turned k k_rises in
+            let step : cluster_at m i ≤ c = falls (i - 1) i no_glyph (omega (arith, some)) within in
+            let below : cluster_at m i < c = strictly (cluster_at m i) c step differ in
+            let turned_back : is_open c (reverse m) ≡ true = open_turned c m (open_at_fall m i some within falls differ safe) in
+            let opens : is_open c (line text) ≡ true = steady_open c (line text) k same calm (subst (λ (gs : Glyphs). is_open c gs ≡ true) (reverse-reverse k) turned_back) in
+            let count = length-reverse k in
+            let there : cluster_at m i ≡ cluster_at k (length k - 1 - i) =
+            ap (λ (g : hb_glyph_info_t). g.cluster) (get_or-reverse k i no_glyph (omega (arith, within, count))) in
+            let before = read (length k - 1 - i) in
+            let parts = in_parts (cluster_at m i) c (length k - 1 - i) (even (cluster_at m i) c (omega (arith, below)) (omega (arith, below))) opens (omega (arith, within, count, as_long)) (omega (arith, there, before)) (omega (arith, below, there, before)) in
+            let whole = parts.whole in
+            let pass = passes (λ x. not (nat_lt x c)) (text_from c text) (from_above c text) in
+            let fail = passes (λ x. not (not (nat_lt x c))) (text_before c text) (twice c (text_before c text) (before_below c text)) in
+            let split : reverse (line text) ≡ reverse (line (text_from c text)) ++ reverse (line (text_before c text)) =
+            ap reverse whole ∙ reverse-append (line (text_before c text)) (line (text_from c text)) in
+            let turned_same : clusters m ≡ clusters (reverse (line text)) =
+            map-reverse (λ (g : hb_glyph_info_t). g.cluster) k ∙ (ap reverse same ∙ sym (map-reverse (λ (g : hb_glyph_info_t). g.cluster) (line text))) in
+            record {
+              first = text_from c text;
+              second = text_before c text;
+              test = λ x. not (nat_lt x c);
+              place = c;
+              whole = split;
+              long = sym (length-reverse (line (text_from c text)))
+                  ∙ divided_there (λ x. not (nat_lt x c)) i (reverse (line (text_from c text))) (reverse (line (text_before c text)))
+                  (subst (IsDivided (λ x. not (nat_lt x c)) i) (turned_same ∙ ap clusters split) (divided falls below))
+                  (omega (arith, within, count, as_long, ap length split, length-reverse (line text)))
+                  (all_turned (λ x. not (nat_lt x c)) true (line (text_from c text)) pass) (all_turned (λ x. not (not (nat_lt x c))) true (line (text_before c text)) fail);
+              pass = pass;
+              fail = fail;
+              early = refl;
+              late = refl;
+              first_more = parts.late;
+              second_more = parts.early;
+              meets = λ a b high last not_high _. grind (arith, nat_tests, high, last, not_high);
+            }
+          where
+            twice : (c : ℕ) (xs : Text) → AllText (λ x. nat_lt x c) xs → AllText (λ x. not (not (nat_lt x c))) xs
+            twice c [] all = tt
+            twice c (x ∷ xs) all = (ap (λ t. not (not t)) all.0, twice c xs all.1)
+
+            at_place : (n : ℕ) → get_or (clusters (reverse k)) n 0 ≡ cluster_at (reverse k) n
+            at_place n = get_or-map (λ (g : hb_glyph_info_t). g.cluster) (reverse k) n no_glyph
+
+            divided : IsFallingLine (reverse k) → cluster_at (reverse k) i < cluster_at (reverse k) (i - 1) → IsDivided (λ x. not (nat_lt x (cluster_at (reverse k) (i - 1)))) i (clusters (reverse k))
+            divided falls below = record {
+              before = λ n low.
+                  let here = at_place n in
+                  let least : cluster_at (reverse k) (i - 1) ≤ cluster_at (reverse k) n = from n low in
+                  rw here (grind (arith, nat_tests, least));
+              at = rw (at_place i) (grind (arith, nat_tests, below));
+            }
+              where
+                from : (n : ℕ) → n < i → cluster_at (reverse k) (i - 1) ≤ cluster_at (reverse k) n
+                from n low = by_last (cases_lt n (i - 1))
+                  where
+                    by_last : ((n < i - 1) ⊎ (i - 1 ≤ n)) → cluster_at (reverse k) (i - 1) ≤ cluster_at (reverse k) n
+                    by_last (inl less) = falls n (i - 1) no_glyph less (omega (arith, within))
+                    by_last (inr last) = let there : n ≡ i - 1 = omega (arith, last, low) in rw there (omega arith)
+
+        -- in either direction
+        pub parted_by : (t : Bool) (i : ℕ) → 0 < i → i < length (turned t k) → cluster_at (turned t k) i ≢ cluster_at (turned t k) (i - 1) → not (list_any is_unsafe (later_run (turned t k) i)) ≡ true
+            → AreEvenAt (cluster_at (turned t k) (i - 1)) (cluster_at (turned t k) i) → PartedText line (TellsRising face d features text) t text i (cluster_at (turned t k) (i - 1)) (cluster_at (turned t k) i)
+        parted_by false = forward
+        parted_by true = backward

@@ -101,16 +101,14 @@ zipped_at (g ∷ gs) (h ∷ hs) (suc k) low =
     let rest = zipped_at gs hs k (omega (arith, low)) in
     let inside : k < length hs = rest.0 in (omega (arith, inside), rest.1)
 
--- a drawn glyph that says that the line may be broken before it
-pub record BreaksAt (may_break : ℕ → Bool) (gs : Glyphs) (k : ℕ) : Type 0 where
+-- what a drawn glyph says of a break, and where it stands
+pub record SaysAt (may_break : ℕ → Bool) (b : Buffer) (k : ℕ) : Type 0 where
   pub place : ℕ
-  pub may : may_break place ≡ true
-  pub at_place : PlaceOf gs k place
+  pub says : (shaped_at (drawn_glyphs may_break b) k).may_break_before ≡ may_break place
+  pub at_place : PlaceOf b.line k place
 
-pub breaks_at :
-    (may_break : ℕ → Bool) (b : Buffer) (k : ℕ) → k < length (drawn_glyphs may_break b)
-    → (shaped_at (drawn_glyphs may_break b) k).may_break_before ≡ true → BreaksAt may_break b.line k
-breaks_at may_break b k low may =
+pub says_at : (may_break : ℕ → Bool) (b : Buffer) (k : ℕ) → k < length (drawn_glyphs may_break b) → SaysAt may_break b k
+says_at may_break b k low =
     let f : ℕ → ShapedGlyph = drawn_glyph may_break b in
     let z = zipped_at (removed is_deleted b).line (map f (kept_places b.line)) k low in
     let inside : k < length (kept_places b.line) = omega (arith, z.0, length-map (kept_places b.line) f) in
@@ -119,7 +117,7 @@ breaks_at may_break b k low may =
     place_from (λ i. not (is_deleted (glyph_at b.line i))) 0 b.line k (λ j lower. ap (λ i. not (is_deleted (glyph_at b.line i))) (zero_more j)) inside in
     record {
       place = i;
-      may = ap (λ (h : ShapedGlyph). h.may_break_before) (sym (get_or-map f (kept_places b.line) k 0 no_shaped_glyph inside)) ∙ (sym z.1 ∙ may);
+      says = z.1 ∙ ap (λ (h : ShapedGlyph). h.may_break_before) (get_or-map f (kept_places b.line) k 0 no_shaped_glyph inside);
       at_place = record {
         front = there.front;
         here = there.here;
@@ -133,3 +131,16 @@ breaks_at may_break b k low may =
   where
     zero_more : (j : ℕ) → 0 + j ≡ j
     zero_more j = omega arith
+
+-- a drawn glyph that says that the line may be broken before it
+pub record BreaksAt (may_break : ℕ → Bool) (gs : Glyphs) (k : ℕ) : Type 0 where
+  pub place : ℕ
+  pub may : may_break place ≡ true
+  pub at_place : PlaceOf gs k place
+
+pub breaks_at :
+    (may_break : ℕ → Bool) (b : Buffer) (k : ℕ) → k < length (drawn_glyphs may_break b)
+    → (shaped_at (drawn_glyphs may_break b) k).may_break_before ≡ true → BreaksAt may_break b.line k
+breaks_at may_break b k low may =
+    let there : SaysAt may_break b k = says_at may_break b k low in
+    record { place = there.place; may = sym there.says ∙ may; at_place = there.at_place }

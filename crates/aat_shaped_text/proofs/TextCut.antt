@@ -1,5 +1,5 @@
 -- A text with rising clusters that is cut at a cluster.
-use Rattle.std.proofs.Common.{◌≡◌, ◌∙◌, sym, ap, refl, ℕ, ◌≤◌, Bool, true, false, true≢false, not, cond, List, [], ◌∷◌, ◌++◌, arith, nat_lt}
+use Rattle.std.proofs.Common.{◌≡◌, ◌∙◌, sym, ap, refl, ℕ, ◌≤◌, ◌&&◌, Bool, true, false, true≢false, not, cond, List, [], ◌∷◌, ◌++◌, arith, nat_lt}
 use Rattle.std.proofs.lemmas.Bool.{and_parts}
 use Rattle.std.proofs.lemmas.Bool.Decides.{nat_tests}
 use Rattle.aat_shaped_text.specs.Breaks.{is_rising}
@@ -53,6 +53,24 @@ in_two c (g ∷ text) rising = by_test (nat_lt g.cluster c) refl (in_two c text 
     by_test false is rest =
         let all = from_first c g text (grind (arith, nat_tests, is)) rising in
         ap (λ xs. xs ++ (g ∷ text_from c text)) (none_before c text all.1) ∙ ap (λ xs. g ∷ xs) (all_from c text all.1)
+
+-- clusters never fall along the front of a text, nor behind it
+rising_front : (xs ys : Text) → is_rising (xs ++ ys) ≡ true → is_rising xs ≡ true
+rising_front [] ys rising = refl
+rising_front (g ∷ []) ys rising = refl
+rising_front (g ∷ h ∷ xs) ys rising =
+    let parts = and_parts (not (nat_lt h.cluster g.cluster)) (is_rising (h ∷ (xs ++ ys))) rising in
+    ap (λ t. t && is_rising (h ∷ xs)) parts.0 ∙ rising_front (h ∷ xs) ys parts.1
+
+rising_behind : (xs ys : Text) → is_rising (xs ++ ys) ≡ true → is_rising ys ≡ true
+rising_behind [] ys rising = rising
+rising_behind (g ∷ xs) ys rising = rising_behind xs ys (rising_tail g (xs ++ ys) rising)
+
+-- nor along either part
+pub rising_parts : (c : ℕ) (text : Text) → is_rising text ≡ true → (is_rising (text_before c text) ≡ true) × (is_rising (text_from c text) ≡ true)
+rising_parts c text rising =
+    let whole : is_rising (text_before c text ++ text_from c text) ≡ true = ap is_rising (in_two c text rising) ∙ rising in
+    (rising_front (text_before c text) (text_from c text) whole, rising_behind (text_before c text) (text_from c text) whole)
 
 -- the clusters of both
 pub before_below : (c : ℕ) (text : Text) → AllText (λ x. nat_lt x c) (text_before c text)

@@ -1,4 +1,4 @@
--- How what is drawn of a text looks, whatever substitution left of it, where a font kerns pairs along the line.
+-- How what is drawn of a text looks, whatever substitution left of it, where a font kerns along the line.
 use Rattle.std.proofs.Common.{◌≡◌, ◌∙◌, sym, ap, refl, ℕ, Bool, true, false, cond, List, [], ◌∷◌, map, length}
 use Rattle.std.specs.Prelude.{ℤ, Some, option_map}
 use Rattle.std.proofs.lemmas.List.{length-map}
@@ -7,6 +7,7 @@ use Rattle.aat_glyph.specs.declared.glyph.Direction.{Direction}
 use Rattle.aat_glyph.specs.declared.glyph.GlyphPosition.{GlyphPosition}
 use Rattle.aat_glyph.specs.declared.glyph.hb_glyph_info_t.{hb_glyph_info_t}
 use Rattle.aat_buffer.specs.Buffer.{Buffer, position_list, reversed}
+use Rattle.aat_buffer.specs.Marks.{produces_concat}
 use Rattle.aat_font.specs.Face.{advance_of}
 use Rattle.aat_font.specs.declared.face.hb_font_t.{hb_font_t}
 use Rattle.aat_font.specs.declared.plan.Feature.{Feature}
@@ -19,12 +20,14 @@ use Rattle.aat_kerning.specs.Positioning.{in_processing_order}
 use Rattle.aat_kerning.specs.Zeroing.{zeroed, zeroed_positions}
 use Rattle.aat_shaping.specs.Shaping.{advanced, with_advances}
 use Rattle.aat_placement.specs.TrackingLaws.{PartsAreTrackedApart}
-use Rattle.aat_shaped_text.specs.Breaks.{kerns_apart}
+use Rattle.aat_shaped_text.specs.KernedBreaks.{kerns_along}
 use Rattle.aat_shaped_text.specs.Parts.{looks}
 use Rattle.aat_shaped_text.specs.ShapedText.{drawn_clusters, drawn_glyphs, text_kerning, tracked_by, tracked_line}
 use Rattle.aat_shaped_text.specs.declared.text.TextGlyph.{TextGlyph}
 use Rattle.aat_shaped_text.proofs.KernedApart.{Plain, plain_reverse}
-use Rattle.aat_shaped_text.proofs.KernedText.{text_changes_little, text_plain}
+use Rattle.aat_shaped_text.proofs.KernedPairs.{IsPlainText}
+use Rattle.aat_shaped_text.proofs.KernedText.{text_changes_little}
+use Rattle.aat_shaped_text.proofs.LineRuns.{text_plain}
 use Rattle.aat_shaped_text.proofs.Looks.{Positions, drawn_looks, line_looks, line_plain, plain}
 use Rattle.aat_shaped_text.proofs.SpotsRuns.{Glyphs}
 use Rattle.aat_shaped_text.proofs.Texts.{length-turned, length-zeroed, map-turned, marked_plain, ordered_line_is, ordered_positions_are, plain_zeroed, some_list, stays_alone, turned, zeroed_plain, zeroed_turned}
@@ -37,7 +40,8 @@ pub record Behind (face : hb_font_t) (d : Direction) (features : List Feature) :
   pub substituted : List TextGlyph → Buffer
   pub direction : (text : List TextGlyph) → (substituted text).direction ≡ d
   pub level : (text : List TextGlyph) → (substituted text).cluster_level ≡ 0
-  pub kerns : kerns_apart face d ≡ true
+  pub flags : (text : List TextGlyph) → produces_concat (substituted text).flags ≡ false
+  pub kerns : kerns_along face d ≡ true
   pub little : KerningChangesLittle
   pub alone : UnattachedLinesStay
   pub tracks : PartsAreTrackedApart
@@ -67,7 +71,10 @@ module _ (face : hb_font_t) (d : Direction) (features : List Feature) (x : Behin
   pub direction_is : (text : List TextGlyph) → (advanced_text text).direction ≡ d
   direction_is text = x.direction text
 
-  positions_are : (text : List TextGlyph) → (advanced_text text).positions ≡ Some (map advance_at (x.substituted text).line)
+  pub plain_text : (text : List TextGlyph) → IsPlainText d (advanced_text text)
+  plain_text text = record { direction = direction_is text; flags = x.flags text }
+
+  pub positions_are : (text : List TextGlyph) → (advanced_text text).positions ≡ Some (map advance_at (x.substituted text).line)
   positions_are text =
       ap (λ e. Some (map (λ (g : hb_glyph_info_t). advanced (is_horizontal e) (advance_of face g.glyph_id)) (x.substituted text).line)) (direction_is text)
 
@@ -97,7 +104,7 @@ module _ (face : hb_font_t) (d : Direction) (features : List Feature) (x : Behin
       sym (length-map (kerned text).line plain)
       ∙ (ap length (kerned_line text) ∙ length-map (x.substituted text).line plain)
 
-  abbrev places : List TextGlyph → Positions
+  abbrev pub places : List TextGlyph → Positions
   places text = position_list (kerned text)
 
   places_stand : (text : List TextGlyph) → (kerned text).positions ≡ Some (places text)
@@ -113,10 +120,10 @@ module _ (face : hb_font_t) (d : Direction) (features : List Feature) (x : Behin
 
   places_plain : (text : List TextGlyph) → Plain (places text)
   places_plain text =
-      (text_plain face features (advanced_text text) (ap (kerns_apart face) (direction_is text) ∙ x.kerns)).plain
+      (text_plain face d features x.kerns (advanced_text text) (plain_text text)).plain
       (advance_plain (is_horizontal (x.substituted text).direction) (λ g. advance_of face g.glyph_id) (x.substituted text).line)
 
-  ordered_places_are : (text : List TextGlyph) → ordered_positions (kerned text) ≡ turned is_turned (places text)
+  pub ordered_places_are : (text : List TextGlyph) → ordered_positions (kerned text) ≡ turned is_turned (places text)
   ordered_places_are text = ordered_positions_are (kerned text) is_turned (places text) (turned_is text) (places_stand text)
 
   pub length_of_ordered : (text : List TextGlyph) → length (ordered_positions (kerned text)) ≡ length (plain_line text)

@@ -7,21 +7,20 @@ use Rattle.aat_glyph.specs.declared.glyph.Direction.{Direction}
 use Rattle.aat_glyph.specs.declared.glyph.hb_glyph_info_t.{hb_glyph_info_t}
 use Rattle.aat_font.specs.declared.face.hb_font_t.{hb_font_t}
 use Rattle.aat_font.specs.declared.plan.Feature.{Feature}
-use Rattle.aat_kerning.specs.Cut.{AreParts, PartsAreKernedApart, ordered_line, ordered_positions}
+use Rattle.aat_kerning.specs.Cut.{ordered_positions}
 use Rattle.aat_kerning.specs.Zeroing.{zeroed_positions}
-use Rattle.aat_shaped_text.specs.Breaks.{kerns_apart, skips_of}
+use Rattle.aat_shaped_text.specs.Breaks.{skips_of}
 use Rattle.aat_shaped_text.specs.Parts.{cut_before, looks, no_shaped_glyph, shaped_at}
 use Rattle.aat_shaped_text.specs.ShapedText.{drawn_glyphs}
 use Rattle.aat_shaped_text.specs.declared.text.ShapedGlyph.{ShapedGlyph}
-use Rattle.aat_shaped_text.proofs.BreakPlaces.{MeetsAt, cut_place}
-use Rattle.aat_shaped_text.proofs.KernedText.{text_can_be_cut, text_pairs_alone}
+use Rattle.aat_shaped_text.proofs.BreakPlaces.{MeetsAt}
 use Rattle.aat_shaped_text.proofs.Looks.{Positions, left_of, line_looks, plain, spots_plain}
 use Rattle.aat_shaped_text.proofs.LooksSplit.{IsCut, clusters_of_looks, first_below, first_fails, last_below, last_passes, left_some, left_splits, length_left, length_looks, looks_split, meets_before, meets_behind, stays}
 use Rattle.aat_shaped_text.proofs.Spots.{AllRest, some_stays}
 use Rattle.aat_shaped_text.proofs.SpotsEnds.{head_of, last_from, last_of}
 use Rattle.aat_shaped_text.proofs.SpotsRuns.{Glyphs, spots}
 use Rattle.aat_shaped_text.proofs.TextCut.{Text}
-use Rattle.aat_shaped_text.proofs.TextLooks.{Behind, advance_at, advanced_text, direction_is, drawn, drawn_line, drawn_places, drawn_plain_line, kerned, length_of_drawn, length_of_ordered, length_of_zeroed, line_before, ordered, plain_line, positions_before, text_looks, zeroed_places}
+use Rattle.aat_shaped_text.proofs.TextLooks.{Behind, drawn, drawn_places, drawn_plain_line, kerned, length_of_drawn, length_of_ordered, length_of_zeroed, ordered, plain_line, text_looks, zeroed_places}
 use Rattle.aat_shaped_text.proofs.Texts.{length-turned, turned, zeroed_split}
 use Rattle.aat_shaped_text.proofs.Tracked.{all_rest_reverse, tracked_turned, tracked_turned_split}
 
@@ -57,9 +56,12 @@ pub record IsInParts
     pub test : ℕ → Bool
     pub pass : AllRest test (spots (x.substituted first).line)
     pub fail : AllRest (λ c. not (test c)) (spots (x.substituted second).line)
+    pub positions :
+        ordered_positions (kerned face d features x text)
+        ≡ ordered_positions (kerned face d features x first) ++ ordered_positions (kerned face d features x second)
 
 module _
-    (face : hb_font_t) (d : Direction) (features : List Feature) (x : Behind face d features) (apart : PartsAreKernedApart)
+    (face : hb_font_t) (d : Direction) (features : List Feature) (x : Behind face d features)
     (text first second : Text) (k i : ℕ) (parts : IsInParts face d features x text first second k i)
   where
     abbrev t : Bool
@@ -74,37 +76,6 @@ module _
     long_is : length before ≡ i
     long_is = length-turned t (x.substituted first).line ∙ parts.long
 
-    -- the parts of the buffer that is kerned
-    parts_are : AreParts i (advanced_text face d features x text) (advanced_text face d features x first) (advanced_text face d features x second)
-    parts_are =
-        let a = advance_at face d features x in
-        let line : ordered_line (advanced_text face d features x text) ≡ before ++ behind = line_before face d features x text ∙ parts.whole in
-        let places : ordered_positions (advanced_text face d features x text) ≡ map a before ++ map a behind =
-        positions_before face d features x text ∙ (ap (map a) parts.whole ∙ map-append a before behind) in
-        let m : length (map a before) ≡ i = length-map before a ∙ long_is in
-        record {
-          front = record {
-            line = line_before face d features x first ∙ sym (ap (take i) line ∙ take_at before behind i long_is);
-            places = positions_before face d features x first ∙ sym (ap (take i) places ∙ take_at (map a before) (map a behind) i m);
-            direction = direction_is face d features x first ∙ sym (direction_is face d features x text);
-          };
-          back = record {
-            line = line_before face d features x second ∙ sym (ap (drop i) line ∙ drop_at before behind i long_is);
-            places = positions_before face d features x second ∙ sym (ap (drop i) places ∙ drop_at (map a before) (map a behind) i m);
-            direction = direction_is face d features x second ∙ sym (direction_is face d features x text);
-          };
-        }
-
-    positions_split :
-        ordered_positions (kerned face d features x text)
-        ≡ ordered_positions (kerned face d features x first) ++ ordered_positions (kerned face d features x second)
-    positions_split =
-        text_can_be_cut face features (advanced_text face d features x text) apart i
-        (advanced_text face d features x first) (advanced_text face d features x second)
-        (text_pairs_alone face features (advanced_text face d features x text) (ap (kerns_apart face) (direction_is face d features x text) ∙ x.kerns))
-        (cut_place (skips_of face) k i (drawn face d features x text).line (kerned face d features x text) (drawn_line face d features x text) parts.meets)
-        parts_are
-
     -- the two parts of the line
     plain_whole : plain_line face d features x text ≡ plain_line face d features x first ++ plain_line face d features x second
     plain_whole = ap (map plain) parts.whole ∙ map-append plain before behind
@@ -114,7 +85,7 @@ module _
         let g = plain_line face d features x first in
         let h = plain_line face d features x second in
         ap (λ zs. zeroed_positions zs (ordered_positions (kerned face d features x text))) plain_whole
-        ∙ (ap (zeroed_positions (g ++ h)) positions_split
+        ∙ (ap (zeroed_positions (g ++ h)) parts.positions
         ∙ zeroed_split g h (ordered_positions (kerned face d features x first)) (ordered_positions (kerned face d features x second))
         (length_of_ordered face d features x first))
 

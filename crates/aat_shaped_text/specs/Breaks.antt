@@ -19,7 +19,7 @@ use Rattle.aat_kinds.specs.Kinds.{is_for}
 use Rattle.aat_kerning.specs.Pairs.{is_solid, kern_skips, kerx_skips}
 use Rattle.aat_kerning.specs.Positioning.{Kerning, is_for_direction, kerning_of_kern_subtable, kerning_of_kerx_subtable}
 use Rattle.aat_closing.specs.ClosingCuts.{is_noncontextual}
-use Rattle.aat_shaped_text.specs.TextFeatures.{ask_alike}
+use Rattle.aat_shaped_text.specs.TextFeatures.{ask_evenly}
 use Rattle.aat_shaped_text.specs.declared.text.TextGlyph.{TextGlyph}
 
 -- the flags that a chain can come to have in a text: its default ones, and where the text asks for features also those
@@ -28,12 +28,12 @@ abbrev pub possible_flags : List Feature → Chain → ℕ
 possible_flags [] c = c.default_flags
 possible_flags (f ∷ features) c = fold (λ flags f. bit_or flags f.enable_flags) c.default_flags c.features.items
 
--- in texts of a direction, under these flags, it does so, or it is not for them, or nothing switches it on
+-- under these flags a subtable is noncontextual, or not for texts of a direction, or nothing switches it on
 abbrev pub keeps_apart : Direction → ℕ → Subtable → Bool
 keeps_apart d flags s =
     is_noncontextual s.kind || not (is_for d s.coverage) || not (meets flags s.feature_flags)
 
--- each subtable of the font's extended glyph metamorphosis table does, under the features of a text
+-- each subtable of the font's extended glyph metamorphosis table is so, under the features of a text
 abbrev pub substitutes_apart : hb_font_t → Direction → List Feature → Bool
 substitutes_apart face d features =
     list_all (λ c. list_all (keeps_apart d (possible_flags features c)) c.subtables.items)
@@ -62,11 +62,6 @@ skips_of face = if is_some (tables_of face).kerx then kerx_skips else kern_skips
 abbrev pub substitutes_evenly : hb_font_t → Direction → List Feature → Bool
 substitutes_evenly face d features =
     is_uncut (requests_of (tables_of face).feat features) || substitutes_apart face d features
-
--- what font and features have to be like for texts of a direction to be broken anywhere: substitution runs evenly along
--- them, and subtables of kerning that are for them kern pairs along the line
-abbrev pub shapes_evenly : hb_font_t → Direction → List Feature → Bool
-shapes_evenly face d features = substitutes_evenly face d features && kerns_apart face d
 
 -- clusters never fall along a text
 abbrev pub is_rising : List TextGlyph → Bool
@@ -101,11 +96,11 @@ is_unsafe g = not (bit_and g.mask 1 == 0)
 
 -- A line in drawing order, as it stands before deleted glyphs are removed, may be broken before place i: some glyph is
 -- kept before it, it starts a cluster, kerning does not skip its glyph, no glyph of the later cluster is marked, and
--- the features ask for the same on both sides.
-abbrev pub may_break_at : ℕ → List Feature → List hb_glyph_info_t → ℕ → Bool
-may_break_at skips features line i =
+-- the features ask for the same on both sides, and also between them where substitution is not even.
+abbrev pub may_break_at : ℕ → Bool → List Feature → List hb_glyph_info_t → ℕ → Bool
+may_break_at skips even features line i =
     nat_lt 0 (kept_before line i)
     && not (cluster_at line i == cluster_at line (i - 1))
     && is_solid skips (glyph_at line i)
     && not (list_any is_unsafe (later_run line i))
-    && ask_alike features (cluster_at line (i - 1)) (cluster_at line i)
+    && ask_evenly even features (cluster_at line (i - 1)) (cluster_at line i)

@@ -15,12 +15,12 @@ use Rattle.aat_kerning.specs.Positioning.{in_processing_order}
 use Rattle.aat_shaped_text.specs.Breaks.{may_break_at}
 use Rattle.aat_shaped_text.specs.Parts.{no_shaped_glyph}
 use Rattle.aat_shaped_text.specs.ShapedText.{drawn_glyphs, kept_place, kept_places, tracked_line}
-use Rattle.aat_shaped_text.specs.TextFeatures.{is_kerned_at, requests_kerning}
+use Rattle.aat_shaped_text.specs.TextFeatures.{ask_alike, ask_alike_through, is_kerned_at, requests_kerning}
 use Rattle.aat_shaped_text.specs.declared.text.ShapedGlyph.{ShapedGlyph}
 
 -- the places of kept glyphs before which a line may be broken, where `kern` is the table in use
 abbrev pub breaks_of : List Feature → List hb_glyph_info_t → List ℕ
-breaks_of features line = filter (may_break_at kern_skips features line) (kept_places line)
+breaks_of features line = filter (may_break_at kern_skips true features line) (kept_places line)
 
 -- the same of a text without features
 abbrev pub breaks_in : List hb_glyph_info_t → List ℕ
@@ -45,7 +45,7 @@ SkippedGlyphsStay =
     (breaks_in (in_cluster 0 ∷ with_property 8 1 ∷ in_cluster 2 ∷ []) ≡ 2 ∷ [])
     × (breaks_in (in_cluster 0 ∷ ignorable 1 ∷ in_cluster 2 ∷ []) ≡ 2 ∷ [])
     × (breaks_in (in_cluster 0 ∷ with_property 2 1 ∷ []) ≡ 1 ∷ [])
-    × (may_break_at kerx_skips [] (in_cluster 0 ∷ with_property 2 1 ∷ []) 1 ≡ false)
+    × (may_break_at kerx_skips true [] (in_cluster 0 ∷ with_property 2 1 ∷ []) 1 ≡ false)
 
 -- UNSAFE_TO_BREAK counts on each glyph of the cluster that comes later in the text, and on none of the other one
 abbrev pub LaterClusterIsAsked : Type 0
@@ -175,3 +175,15 @@ KerningIsRequested =
     × (requests_kerning (kern 0 0 last_cluster ∷ kern 1 4 5 ∷ []) ≡ true)
     × (requests_kerning (kern 1 4 5 ∷ kern 0 0 last_cluster ∷ []) ≡ false)
     × (requests_kerning (kern 0 0 last_cluster ∷ kern 0 3 6 ∷ []) ≡ false)
+
+-- a feature asks alike within its range and outside of it, and not over one that lies between two clusters, unless that
+-- is empty
+abbrev pub RangesBetweenAreAsked : Type 0
+RangesBetweenAreAsked =
+    (ask_alike_through (liga 1 1 3 ∷ []) 1 2 ≡ true)
+    × (ask_alike_through (liga 1 1 3 ∷ []) 3 9 ≡ true)
+    × (ask_alike_through (liga 1 1 3 ∷ []) 2 3 ≡ false)
+    × (ask_alike (liga 1 1 3 ∷ []) 0 3 ≡ true)
+    × (ask_alike_through (liga 1 1 3 ∷ []) 0 3 ≡ false)
+    × (ask_alike_through (liga 1 2 2 ∷ []) 0 3 ≡ true)
+    × (ask_alike_through (liga 1 2 last_cluster ∷ []) 2 last_cluster ≡ true)

@@ -1,6 +1,11 @@
 pub mod Breaks
 pub mod ClosingDraws
 pub mod Examples
+pub mod KernedBreaks
+pub mod KernedPlaces
+pub mod OpenExamples
+pub mod OpenTexts
 pub mod Parts
 pub mod ShapedText
+pub mod StackTexts
 pub mod TextFeatures

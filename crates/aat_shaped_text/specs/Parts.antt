@@ -1,5 +1,5 @@
 -- A text that is drawn in two parts. (No chapter of the manual: where a line may be broken is the shaper's own.)
-use Rattle.std.specs.Prelude.{◌≡◌, ℕ, ℤ, ◌-◌, ◌<◌, ◌≤◌, not, true, false, nat_lt, None, pos, List, drop, filter, length, map, max, slice_index_or, take}
+use Rattle.std.specs.Prelude.{◌≡◌, ℕ, ℤ, ◌+◌, ◌-◌, ◌<◌, ◌≤◌, not, true, false, nat_lt, None, pos, List, drop, filter, length, map, max, slice_index_or, take}
 use Rattle.std.specs.Bool.{MatchBool}
 use Rattle.aat_glyph.specs.Directions.{is_backward}
 use Rattle.aat_glyph.specs.declared.glyph.Direction.{Direction}
@@ -75,3 +75,34 @@ TextsAreDrawnInParts =
     (v : ℤ) (face : hb_font_t) (d : Direction) (features : List Feature) (text : List TextGlyph)
     → length text ≤ most_text
     → BreaksHold v face d features text (shaped_text v face d features text)
+
+-- what is drawn may be broken before place k only where one text by itself may be, and behind place k only where another
+-- may
+pub record BreaksAsParts
+    (v : ℤ) (face : hb_font_t) (d : Direction) (features : List Feature) (first second : List TextGlyph)
+    (glyphs : List ShapedGlyph) (k : ℕ) : Type 0
+  where
+    pub before :
+        (j : ℕ) → j < k → (shaped_at glyphs j).may_break_before ≡ true
+        → (shaped_at (shaped_text v face d features first) j).may_break_before ≡ true
+    pub behind :
+        (j : ℕ) → 0 < j → (shaped_at glyphs (k + j)).may_break_before ≡ true
+        → (shaped_at (shaped_text v face d features second) j).may_break_before ≡ true
+
+-- What is drawn of a text may be broken before place k only where the text before the cut may be by itself, and behind
+-- place k only where the text from the cut on may. In a backward text the parts change places.
+abbrev pub BreaksInParts :
+    ℤ → hb_font_t → Direction → List Feature → List TextGlyph → List ShapedGlyph → ℕ → Type 0
+BreaksInParts v face d features text glyphs k =
+    let early = text_before (cut_before glyphs k) text in
+    let late = text_from (cut_before glyphs k) text in
+    MatchBool (is_backward d) (BreaksAsParts v face d features late early glyphs k)
+    (BreaksAsParts v face d features early late glyphs k)
+
+-- so it is with each text of at most 2^24 glyphs, before each glyph that says so
+abbrev pub PartsKeepBreaks : Type 0
+PartsKeepBreaks =
+    (v : ℤ) (face : hb_font_t) (d : Direction) (features : List Feature) (text : List TextGlyph)
+    → length text ≤ most_text → (k : ℕ) → k < length (shaped_text v face d features text)
+    → (shaped_at (shaped_text v face d features text) k).may_break_before ≡ true
+    → BreaksInParts v face d features text (shaped_text v face d features text) k

@@ -32,7 +32,8 @@ use Rattle.aat_shaping.specs.Shaping.{with_advances}
 use Rattle.aat_closing.specs.ClosingChains.{closing_substituted}
 use Rattle.aat_closing.specs.ClosingRuns.{Told}
 use Rattle.aat_placement.specs.TrackedLines.{tracked}
-use Rattle.aat_shaped_text.specs.Breaks.{is_rising, kept_before, may_break_at, shapes_evenly, skips_of}
+use Rattle.aat_shaped_text.specs.Breaks.{is_rising, kept_before, kerns_apart, may_break_at, skips_of, substitutes_evenly}
+use Rattle.aat_shaped_text.specs.KernedBreaks.{kerning_opens, kerns_along}
 use Rattle.aat_shaped_text.specs.TextFeatures.{is_kerned_at, requests_kerning}
 use Rattle.aat_shaped_text.specs.declared.text.ShapedGlyph.{ShapedGlyph}
 use Rattle.aat_shaped_text.specs.declared.text.TextGlyph.{TextGlyph}
@@ -160,7 +161,7 @@ drawn_glyphs may_break b =
 abbrev pub closed_text : hb_font_t → Direction → List Feature → List TextGlyph → Told
 closed_text face d features text = text_closing face features (text_buffer face d features text)
 
--- its machines tell what is open, and take fewer operations than each part of the text has
+-- its machines tell what is open, and take fewer operations than any text has
 abbrev pub tells_breaks : hb_font_t → Direction → List Feature → List TextGlyph → Bool
 tells_breaks face d features text =
     let o = closed_text face d features text in
@@ -176,12 +177,31 @@ kerned_closed face d features text =
 abbrev pub marked_line : hb_font_t → Direction → List Feature → List TextGlyph → List hb_glyph_info_t
 marked_line face d features text = ordered_line (kerned_closed face d features text)
 
--- whether a text that is drawn may be broken before a place of its line: its clusters never fall, font and features
--- allow it, its machines tell what is open, and so does the place
+-- what closing substitution leaves, with advances, which is what is kerned
+abbrev pub advanced_closed : hb_font_t → Direction → List Feature → List TextGlyph → Buffer
+advanced_closed face d features text = with_advances (advance_of face) (closed_text face d features text).buffer
+
+-- its machines tell what is open, and take together with kerning fewer operations than any text has
+abbrev pub tells_kerned_breaks : hb_font_t → Direction → List Feature → List TextGlyph → Bool
+tells_kerned_breaks face d features text =
+    (closed_text face d features text).is_told
+    && nat_lt (most_operations (length text)) (operations_left (kerned_closed face d features text).max_ops + 16384)
+
+-- Whether a text whose kerning runs along the line may be broken before a place of its line, whatever kerning marks: its
+-- clusters never fall, its machines tell what is open, so does the place before kerning, and kerning leaves it open.
+abbrev pub may_break_openly : hb_font_t → Direction → List Feature → List TextGlyph → ℕ → Bool
+may_break_openly face d features text i =
+    let b = advanced_closed face d features text in
+    kerns_along face d && is_rising text && tells_kerned_breaks face d features text
+    && may_break_at (skips_of face) (substitutes_evenly face d features) features (ordered_line b) i
+    && kerning_opens face d features b i
+
+-- whether a text that is drawn may be broken before a place of its line: its clusters never fall, kerning allows it,
+-- its machines tell what is open, and so does the place
 abbrev pub may_break_text : hb_font_t → Direction → List Feature → List TextGlyph → ℕ → Bool
 may_break_text face d features text i =
-    shapes_evenly face d features && is_rising text && tells_breaks face d features text
-    && may_break_at (skips_of face) features (marked_line face d features text) i
+    kerns_apart face d && is_rising text && tells_breaks face d features text
+    && may_break_at (skips_of face) (substitutes_evenly face d features) features (marked_line face d features text) i
 
 -- what is drawn of a text that is tracked by a value
 abbrev pub shaped_text : ℤ → hb_font_t → Direction → List Feature → List TextGlyph → List ShapedGlyph

@@ -1,5 +1,5 @@
 -- What the features of a text ask at each of its characters. (No chapter of the manual: features are the caller's.)
-use Rattle.std.specs.Prelude.{ℕ, ◌==◌, ◌&&◌, ◌||◌, not, Bool, true, nat_lt, List, find, reverse}
+use Rattle.std.specs.Prelude.{ℕ, ◌==◌, ◌&&◌, ◌||◌, not, Bool, true, max, min, nat_lt, List, find, reverse}
 use Rattle.std.specs.List.{list_all}
 use Rattle.std.specs.Option.{option_map_or}
 use Rattle.aat_lookup.specs.Truth.{is_alike}
@@ -37,3 +37,20 @@ requests_kerning features = is_last_on (λ f. is_kern f && (is_on f || is_everyw
 -- the features ask for the same at two clusters: those that hold one hold the other
 abbrev pub ask_alike : List Feature → ℕ → ℕ → Bool
 ask_alike features c e = list_all (λ f. is_alike (holds c f) (holds e f)) features
+
+-- a feature holds each cluster from low through c
+abbrev pub holds_each : ℕ → ℕ → Feature → Bool
+holds_each low c f = holds low f && holds c f
+
+-- it holds none of them: it starts behind c, or does not hold the first of them that is not before its start
+abbrev pub holds_none : ℕ → ℕ → Feature → Bool
+holds_none low c f = nat_lt c f.start || not (holds (max low f.start) f)
+
+-- the features ask for the same at each cluster from low through c
+abbrev pub ask_alike_through : List Feature → ℕ → ℕ → Bool
+ask_alike_through features low c = list_all (λ f. holds_each low c f || holds_none low c f) features
+
+-- The features ask for the same at two clusters, and where substitution is not even all along a text, at each cluster
+-- between them too.
+abbrev pub ask_evenly : Bool → List Feature → ℕ → ℕ → Bool
+ask_evenly even features c e = ask_alike features c e && (even || ask_alike_through features (min c e) (max c e))

@@ -6,6 +6,7 @@
 //! ```
 #![tactic(auto)]
 
+mod kerned_places;
 /// The laws of tracked lines and of the breaks of a text, as theorems.
 #[doc(hidden)]
 pub mod laws;
@@ -14,4 +15,5 @@ mod text;
 #[doc(hidden)]
 pub mod worked;
 
+pub use kerned_places::{kerning_opens, kerns_by_stacks};
 pub use text::{ShapedGlyph, TextGlyph};

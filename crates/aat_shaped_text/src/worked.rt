@@ -1,5 +1,6 @@
 //! Worked examples of a text that is shaped as theorems. These calls do nothing: what is proved is their contracts.
-ghost use Rattle.aat_shaped_text.specs.Examples.{AttachmentsAreDrawn, BreaksAreBetweenClusters, DeletedGlyphsAreAsked, DeletedGlyphsGo, DeletedGlyphsHandOn, FeaturesStayWhole, KeptGlyphsAreCounted, KerningIsRequested, LastKernDecides, LaterClusterIsAsked, SkippedGlyphsStay, TrackedLinesAreDrawn};
+ghost use Rattle.aat_shaped_text.specs.Examples.{AttachmentsAreDrawn, BreaksAreBetweenClusters, DeletedGlyphsAreAsked, DeletedGlyphsGo, DeletedGlyphsHandOn, FeaturesStayWhole, KeptGlyphsAreCounted, KerningIsRequested, LastKernDecides, LaterClusterIsAsked, RangesBetweenAreAsked, SkippedGlyphsStay, TrackedLinesAreDrawn};
+ghost use Rattle.aat_shaped_text.specs.OpenExamples.{OpenPlacesAreTold};
 
 /// The definitions of breaks compute to the examples.
 #[tactic(auto, unfolding(aat_buffer::specs::Removal::removal, aat_buffer::specs::Removal::cluster_kept_line, aat_buffer::specs::Removal::lowered_run))]
@@ -21,8 +22,15 @@ pub fn drawn()
     ensures tracked { TrackedLinesAreDrawn }
 {}
 
-/// The definitions of what `kern` asks for compute to the examples.
+/// The definitions of what features ask for compute to the examples.
 pub fn kern()
     ensures last { LastKernDecides }
     ensures requested { KerningIsRequested }
+    ensures between { RangesBetweenAreAsked }
+{}
+
+/// Where texts may be broken that a stack machine kerns, by what it leaves open and by its marks.
+#[tactic(auto, using(crate::proofs::OpenExamples::open_places_are_told))]
+pub fn open_places()
+    ensures { OpenPlacesAreTold }
 {}

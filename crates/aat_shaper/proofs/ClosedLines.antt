@@ -1,5 +1,5 @@
 -- What closing substitution under a map leaves, from what the call answers.
-use Rattle.std.proofs.Common.{◌≡◌, ◌∙◌, ap, sym, refl, true, false, true≢false, List}
+use Rattle.std.proofs.Common.{◌≡◌, ◌∙◌, ap, sym, refl, true, true≢false, List}
 use Rattle.std.specs.Prelude.{MatchOption, Option, Some, None, is_none}
 use Rattle.aat_buffer.specs.Buffer.{Buffer}
 use Rattle.aat_closing.specs.ClosingApplied.{closing_applied_by}

@@ -28,7 +28,7 @@ use Rattle.aat_run.specs.Budget.{has_operations, operations_left}
 use Rattle.aat_run.specs.Outcome.{Outcome}
 use Rattle.aat_run.specs.declared.ranges.range_flags_t.{range_flags_t}
 use Rattle.aat_shaping.specs.Shaping.{placing, with_advances}
-use Rattle.aat_shaped_text.specs.Breaks.{is_rising, may_break_at, shapes_evenly, skips_of}
+use Rattle.aat_shaped_text.specs.Breaks.{is_rising, kerns_apart, may_break_at, skips_of, substitutes_evenly}
 use Rattle.aat_shaped_text.specs.ClosingDraws.{ClosingDrawsAlike}
 use Rattle.aat_shaped_text.specs.ShapedText.{closed_text, drawn_glyphs, drawn_text, kerned_closed, kerned_text, marked_line, shaped_text, tells_breaks, text_buffer, text_closing, text_kerning, text_substitution, tracked_line, uses_up_budget}
 use Rattle.aat_shaped_text.specs.declared.text.ShapedGlyph.{ShapedGlyph}
@@ -127,35 +127,36 @@ module _ (v : ℤ) (face : hb_font_t) (d : Direction) (features : List Feature) 
 
   -- what is drawn of it
   pub drawn_so :
-      (alike : ClosingDrawsAlike) (glyphs : List ShapedGlyph) (closes tells : Bool) (skips : ℕ) (asked : List Feature) (b : Buffer)
-      → glyphs ≡ drawn_glyphs (λ i. tells && may_break_at skips asked b.line i) b
-      → closes ≡ (shapes_evenly face d asked && is_rising text) → tells ≡ (closes && tells_breaks face d features text)
-      → skips ≡ skips_of face → asked ≡ features
+      (alike : ClosingDrawsAlike) (glyphs : List ShapedGlyph) (closes tells even : Bool) (skips : ℕ) (asked : List Feature) (b : Buffer)
+      → glyphs ≡ drawn_glyphs (λ i. tells && may_break_at skips even asked b.line i) b
+      → closes ≡ (kerns_apart face d && is_rising text) → tells ≡ (closes && tells_breaks face d features text)
+      → even ≡ substitutes_evenly face d asked → skips ≡ skips_of face → asked ≡ features
       → b ≡ in_processing_order (tracked_line v (zeroed (kerned_behind closes)))
       → glyphs ≡ shaped_text v face d features text
-  drawn_so alike glyphs closes tells skips asked b put may told skipped same drawn =
+  drawn_so alike glyphs closes tells even skips asked b put may told evenly skipped same drawn =
       put
-      ∙ (ap (λ (t : Bool). drawn_glyphs (λ i. t && may_break_at skips asked b.line i) b) told
-      ∙ (ap (λ (n : ℕ). drawn_glyphs (λ i. (closes && tells_breaks face d features text) && may_break_at n asked b.line i) b) skipped
-      ∙ (ap (λ (fs : List Feature). drawn_glyphs (λ i. (closes && tells_breaks face d features text) && may_break_at (skips_of face) fs b.line i) b) same
-      ∙ (ap (λ (c : Buffer). drawn_glyphs (λ i. (closes && tells_breaks face d features text) && may_break_at (skips_of face) features c.line i) c) drawn
-      ∙ by_closing closes (may ∙ ap (λ (fs : List Feature). shapes_evenly face d fs && is_rising text) same)))))
+      ∙ (ap (λ (t : Bool). drawn_glyphs (λ i. t && may_break_at skips even asked b.line i) b) told
+      ∙ (ap (λ (e : Bool). drawn_glyphs (λ i. (closes && tells_breaks face d features text) && may_break_at skips e asked b.line i) b) evenly
+      ∙ (ap (λ (n : ℕ). drawn_glyphs (λ i. (closes && tells_breaks face d features text) && may_break_at n (substitutes_evenly face d asked) asked b.line i) b) skipped
+      ∙ (ap (λ (fs : List Feature). drawn_glyphs (λ i. (closes && tells_breaks face d features text) && may_break_at (skips_of face) (substitutes_evenly face d fs) fs b.line i) b) same
+      ∙ (ap (λ (c : Buffer). drawn_glyphs (λ i. (closes && tells_breaks face d features text) && may_break_at (skips_of face) (substitutes_evenly face d features) features c.line i) c) drawn
+      ∙ by_closing closes may)))))
     where
-      by_closing : (t : Bool) → t ≡ (shapes_evenly face d features && is_rising text)
-          → drawn_glyphs (λ i. (t && tells_breaks face d features text) && may_break_at (skips_of face) features (in_processing_order (tracked_line v (zeroed (kerned_behind t)))).line i)
+      by_closing : (t : Bool) → t ≡ (kerns_apart face d && is_rising text)
+          → drawn_glyphs (λ i. (t && tells_breaks face d features text) && may_break_at (skips_of face) (substitutes_evenly face d features) features (in_processing_order (tracked_line v (zeroed (kerned_behind t)))).line i)
           (in_processing_order (tracked_line v (zeroed (kerned_behind t))))
           ≡ shaped_text v face d features text
       by_closing true e =
-          let both = and_parts (shapes_evenly face d features) (is_rising text) (sym e) in
+          let both = and_parts (kerns_apart face d) (is_rising text) (sym e) in
           let c : Buffer = in_processing_order (tracked_line v (zeroed (kerned_closed face d features text))) in
-          ap (λ (line : List hb_glyph_info_t). drawn_glyphs (λ i. tells_breaks face d features text && may_break_at (skips_of face) features line i) c) (drawn_line_is v (kerned_closed face d features text))
-          ∙ (ap (λ (t : Bool). drawn_glyphs (λ i. (t && tells_breaks face d features text) && may_break_at (skips_of face) features (marked_line face d features text) i) c) e
+          ap (λ (line : List hb_glyph_info_t). drawn_glyphs (λ i. tells_breaks face d features text && may_break_at (skips_of face) (substitutes_evenly face d features) features line i) c) (drawn_line_is v (kerned_closed face d features text))
+          ∙ (ap (λ (t : Bool). drawn_glyphs (λ i. (t && tells_breaks face d features text) && may_break_at (skips_of face) (substitutes_evenly face d features) features (marked_line face d features text) i) c) e
           ∙ sym (alike.drawn v face d features text both.0))
       by_closing false e =
           unbroken (in_processing_order (tracked_line v (zeroed (kerned_behind false)))) (tells_breaks face d features text)
-          (λ i. may_break_at (skips_of face) features (in_processing_order (tracked_line v (zeroed (kerned_behind false)))).line i)
-          ∙ (sym (unbroken (drawn_text v face d features text) (tells_breaks face d features text) (λ i. may_break_at (skips_of face) features (marked_line face d features text) i))
-          ∙ ap (λ (t : Bool). drawn_glyphs (λ i. (t && tells_breaks face d features text) && may_break_at (skips_of face) features (marked_line face d features text) i) (drawn_text v face d features text)) e)
+          (λ i. may_break_at (skips_of face) (substitutes_evenly face d features) features (in_processing_order (tracked_line v (zeroed (kerned_behind false)))).line i)
+          ∙ (sym (unbroken (drawn_text v face d features text) (tells_breaks face d features text) (λ i. may_break_at (skips_of face) (substitutes_evenly face d features) features (marked_line face d features text) i))
+          ∙ ap (λ (t : Bool). drawn_glyphs (λ i. (t && tells_breaks face d features text) && may_break_at (skips_of face) (substitutes_evenly face d features) features (marked_line face d features text) i) (drawn_text v face d features text)) e)
 
   -- the clusters of the line of a text do not stay apart
   pub text_merges :
@@ -172,14 +173,14 @@ module _ (v : ℤ) (face : hb_font_t) (d : Direction) (features : List Feature) 
 
   -- whether it used the budget up
   pub used_so :
-      (alike : ClosingDrawsAlike) (closes used : Bool) (asked : List Feature) (left : Buffer) → used ≡ not (has_operations left)
-      → closes ≡ (shapes_evenly face d asked && is_rising text) → asked ≡ features → left ≡ zeroed (kerned_behind closes)
+      (alike : ClosingDrawsAlike) (closes used : Bool) (left : Buffer) → used ≡ not (has_operations left)
+      → closes ≡ (kerns_apart face d && is_rising text) → left ≡ zeroed (kerned_behind closes)
       → used ≡ uses_up_budget face d features text
-  used_so alike closes used asked left told may same is =
-      told ∙ (ap (λ (c : Buffer). not (has_operations c)) is ∙ by_closing closes (may ∙ ap (λ (fs : List Feature). shapes_evenly face d fs && is_rising text) same))
+  used_so alike closes used left told may is =
+      told ∙ (ap (λ (c : Buffer). not (has_operations c)) is ∙ by_closing closes may)
     where
-      by_closing : (t : Bool) → t ≡ (shapes_evenly face d features && is_rising text) → not (has_operations (zeroed (kerned_behind t))) ≡ uses_up_budget face d features text
+      by_closing : (t : Bool) → t ≡ (kerns_apart face d && is_rising text) → not (has_operations (zeroed (kerned_behind t))) ≡ uses_up_budget face d features text
       by_closing true e =
-          let both = and_parts (shapes_evenly face d features) (is_rising text) (sym e) in
+          let both = and_parts (kerns_apart face d) (is_rising text) (sym e) in
           ap (λ (z : ℤ). not (has_operations (record (kerned_text face d features text) { max_ops = z }))) (sym (alike.budget face d features text both.0))
       by_closing false e = refl

@@ -1,4 +1,3 @@
-pub mod Advanced
 pub mod ClosedLines
 pub mod DrawnPlaces
 pub mod DrawnText
@@ -6,12 +5,15 @@ pub mod EvenlyMapped
 pub mod Exposed
 pub mod Kept
 pub mod KernsApart
-pub mod Lasts
 pub mod LineMade
 pub mod Ordered
-pub mod Parts
 pub mod Planned
 pub mod Rising
 pub mod Runs
+pub mod Stops
+pub mod Stretches
 pub mod Taken
+pub mod Texts
+pub mod Unattached
 pub mod Unsafe
+pub mod Widths

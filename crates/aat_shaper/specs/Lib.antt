@@ -1,6 +1,5 @@
 pub mod Examples
-pub mod LineBreak
-pub mod LineCut
+pub mod Lines
 pub mod Named
 pub mod Shaper
 pub mod inside

@@ -1,4 +1,5 @@
 pub mod Drawing
+pub mod Filling
 pub mod Inside
 pub mod TextPlan
 pub mod TextLine

@@ -3,7 +3,7 @@ ghost use Rattle.std.specs.Prelude.{◌≡◌, ◌-◌, ◌<◌, ◌≤◌, leng
 ghost use Rattle.std.specs.List.{list_any};
 ghost use Rattle.aat_shaped_text.specs.Breaks.{is_unsafe, kept_before, later_run, may_break_at, run_from, run_up_to};
 
-use crate::features::ask_alike;
+use crate::features::{ask_alike, ask_alike_through};
 use aat_layout::buffer::{glyph_flag, hb_buffer_t, hb_glyph_info_t};
 use aat_layout::font::Feature;
 use aat_layout::is_solid;
@@ -66,9 +66,11 @@ fn is_later_unsafe<H: Allocator + Copy>(buffer: &hb_buffer_t<H>, i: usize) -> bo
     }
 }
 
-/// Whether a line in drawing order may be broken before a place, before which so many glyphs are kept.
+/// Whether a line in drawing order may be broken before a place, before which so many glyphs are kept, where substitution
+/// runs evenly along the text or not.
 pub(crate) fn may_break_at<H: Allocator + Copy>(
     skips: u16,
+    even: bool,
     features: &[Feature],
     buffer: &hb_buffer_t<H>,
     kept: usize,
@@ -76,7 +78,7 @@ pub(crate) fn may_break_at<H: Allocator + Copy>(
 ) -> bool
     requires in_line { i < length buffer.now.line }
     requires kept { kept ≡ kept_before buffer.now.line i }
-    ensures { result ≡ may_break_at skips features.now buffer.now.line i }
+    ensures { result ≡ may_break_at skips even features.now buffer.now.line i }
 {
     if kept == 0 {
         return false;
@@ -87,4 +89,10 @@ pub(crate) fn may_break_at<H: Allocator + Copy>(
         && is_solid(after, skips)
         && !is_later_unsafe(buffer, i)
         && ask_alike(features, before.cluster, after.cluster)
+        && (even
+            || ask_alike_through(
+                features,
+                before.cluster.min(after.cluster),
+                before.cluster.max(after.cluster),
+            ))
 }

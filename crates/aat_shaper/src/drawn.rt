@@ -1,7 +1,7 @@
 //! What is drawn of a line.
-ghost use Rattle.std.specs.Prelude.{◌≡◌, ◌<◌, ◌≤◌, [], IfErr, IfOk, IfSome, OnOk, length, map, not};
+ghost use Rattle.std.specs.Prelude.{◌≡◌, ◌<◌, ◌≤◌, [], IfErr, IfOk, IfSome, MatchOption, OnOk, length, map, not, true};
 ghost use Rattle.std.specs.List.{range_with_len};
-ghost use Rattle.aat_placement.specs.Attachments.{added_up};
+ghost use Rattle.aat_placement.specs.Attachments.{IsUnattached, added_up, parent};
 ghost use Rattle.aat_buffer.specs.Buffer.{Buffer, position_list};
 ghost use Rattle.aat_buffer.specs.Clusters.{IsSmall, KeepsOrder};
 ghost use Rattle.aat_buffer.specs.Removal.{deleted_glyph, is_deleted, removed};
@@ -9,7 +9,7 @@ ghost use Rattle.aat_kerning.specs.Positioning.{in_processing_order};
 ghost use Rattle.aat_kerning_machines.specs.Positions.{IsPlaced};
 ghost use Rattle.aat_shaped_text.specs.Breaks.{kept_before, may_break_at};
 ghost use Rattle.aat_shaper.specs.inside.Drawing.{IsDrawn, clusters_of, may_break};
-ghost use Rattle.aat_shaped_text.specs.ShapedText.{drawn_glyph, drawn_glyphs, kept_place, kept_places, with_clusters_of};
+ghost use Rattle.aat_shaped_text.specs.ShapedText.{drawn_glyph, drawn_glyphs, drawn_position, kept_place, kept_places, with_clusters_of};
 
 use crate::breaks::may_break_at;
 use aat_layout::buffer::{DELETED_GLYPH, GlyphPosition, hb_buffer_t, hb_glyph_info_t};
@@ -24,6 +24,8 @@ use std::alloc::{AllocError, Allocator};
 pub(crate) struct Breaks<'f> {
     /// Whether the text and the font allow it anywhere.
     pub(crate) is_allowed: bool,
+    /// Whether substitution runs evenly along the text.
+    pub(crate) is_even: bool,
     /// The glyph properties that kerning skipped.
     pub(crate) skips: u16,
     /// The features of the text.
@@ -45,6 +47,19 @@ pub(crate) fn is_kept(glyph: &hb_glyph_info_t) -> bool
     ensures { result ≡ not (is_deleted glyph.now) }
 {
     glyph.glyph_id != DELETED_GLYPH
+}
+
+/// Whether no glyph of a line has an attach type, so that none is attached to another.
+fn is_unattached<H: Allocator + Copy>(buffer: &hb_buffer_t<H>) -> bool
+    requires placed { IsPlaced buffer.now }
+    ensures { result ≡ true → IsUnattached buffer.now.direction (position_list buffer.now) }
+{
+    for i in 0..buffer.len() {
+        if buffer.pos(i).attach_type != 0 {
+            return false;
+        }
+    }
+    true
 }
 
 /// How many glyphs are kept before each place of a line.
@@ -97,7 +112,7 @@ fn kept_place<H: Allocator + Copy>(
     }
 }
 
-/// What is known of a line that is drawn.
+/// What is known of a line that is drawn, where glyphs may be attached to others.
 #[derive(Clone, Copy)]
 struct Drawn<'l> {
     /// Its positions, with chains.
@@ -108,23 +123,63 @@ struct Drawn<'l> {
     kept: &'l [usize],
 }
 
-/// The glyph at a place of a line that is drawn.
+/// The position of the glyph at a place of a line that is drawn.
+fn drawn_position<H: Allocator + Copy>(
+    buffer: &hb_buffer_t<H>,
+    attached: Option<Drawn>,
+    i: usize,
+) -> GlyphPosition
+    requires placed { IsPlaced buffer.now }
+    requires in_line { i < length buffer.now.line }
+    requires attached { MatchOption attached (IsUnattached buffer.now.direction (position_list buffer.now))
+        (IsDrawn buffer.now) }
+    ensures { result ≡ drawn_position buffer.now i }
+{
+    match attached {
+        Some(drawn) => drawn.added[i],
+        None => *buffer.pos(i),
+    }
+}
+
+/// What the glyph at a place of a line is attached to, as a place among the glyphs that are kept.
+fn attached_to<H: Allocator + Copy>(
+    buffer: &hb_buffer_t<H>,
+    attached: Option<Drawn>,
+    i: usize,
+) -> Option<usize>
+    requires placed { IsPlaced buffer.now }
+    requires in_line { i < length buffer.now.line }
+    requires attached { MatchOption attached (IsUnattached buffer.now.direction (position_list buffer.now))
+        (IsDrawn buffer.now) }
+    ensures { result ≡ kept_place buffer.now.line (parent buffer.now.direction (position_list buffer.now) i) }
+{
+    match attached {
+        Some(drawn) => {
+            let parent = parent_of(buffer.direction(), drawn.positions, i);
+            kept_place(buffer, drawn.kept, parent)
+        }
+        None => None,
+    }
+}
+
+/// The glyph at a place of a line that is drawn, before which so many glyphs are kept.
 fn drawn_glyph<H: Allocator + Copy>(
     breaks: Breaks,
     buffer: &hb_buffer_t<H>,
-    drawn: Drawn,
+    attached: Option<Drawn>,
+    kept: usize,
     i: usize,
 ) -> ShapedGlyph
     requires ids { IsSmall buffer.now }
     requires placed { IsPlaced buffer.now }
     requires in_line { i < length buffer.now.line }
-    requires drawn { IsDrawn buffer.now drawn }
+    requires attached { MatchOption attached (IsUnattached buffer.now.direction (position_list buffer.now))
+        (IsDrawn buffer.now) }
+    requires kept { kept ≡ kept_before buffer.now.line i }
     ensures { result ≡ drawn_glyph (may_break breaks.entry buffer.now.line) buffer.now i }
 {
     let glyph = *buffer.info(i);
-    let parent = parent_of(buffer.direction(), drawn.positions, i);
-    let position = drawn.added[i];
-    let kept = drawn.kept[i];
+    let position = drawn_position(buffer, attached, i);
     ShapedGlyph {
         glyph_id: glyph.glyph_id as u16,
         cluster: glyph.cluster,
@@ -132,9 +187,16 @@ fn drawn_glyph<H: Allocator + Copy>(
         y_advance: position.y_advance,
         x_offset: position.x_offset,
         y_offset: position.y_offset,
-        attached_to: kept_place(buffer, drawn.kept, parent),
+        attached_to: attached_to(buffer, attached, i),
         may_break_before: breaks.is_allowed
-            && may_break_at(breaks.skips, breaks.features, buffer, kept, i),
+            && may_break_at(
+                breaks.skips,
+                breaks.is_even,
+                breaks.features,
+                buffer,
+                kept,
+                i,
+            ),
     }
 }
 
@@ -142,23 +204,55 @@ fn drawn_glyph<H: Allocator + Copy>(
 fn put_glyphs<H: Allocator + Copy, A: Allocator>(
     breaks: Breaks,
     buffer: &hb_buffer_t<H>,
-    drawn: Drawn,
+    attached: Option<Drawn>,
     glyphs: &mut Vec<ShapedGlyph, A>,
 ) -> Result<(), AatError>
     requires ids { IsSmall buffer.now }
     requires placed { IsPlaced buffer.now }
-    requires drawn { IsDrawn buffer.now drawn }
+    requires attached { MatchOption attached (IsUnattached buffer.now.direction (position_list buffer.now))
+        (IsDrawn buffer.now) }
     requires empty { glyphs.old.items ≡ [] }
     ensures ok { OnOk result (glyphs.new.items
         ≡ map (drawn_glyph (may_break breaks.entry buffer.now.line) buffer.now) (kept_places buffer.now.line)) }
     ensures memory { IfErr result (λ error. error ≡ AatError.OutOfMemory) }
 {
+    let mut kept = 0;
     for i in 0..buffer.len() {
         if is_kept(buffer.info(i)) {
-            glyphs.push(drawn_glyph(breaks, buffer, drawn, i))?;
+            glyphs.push(drawn_glyph(breaks, buffer, attached, kept, i))?;
+            kept += 1;
         }
     }
     Ok(())
+}
+
+/// Puts the glyphs of a line that are kept behind others, with what they are attached to.
+fn put_drawn_glyphs<H: Allocator + Copy, A: Allocator>(
+    alloc: H,
+    breaks: Breaks,
+    buffer: &hb_buffer_t<H>,
+    glyphs: &mut Vec<ShapedGlyph, A>,
+) -> Result<(), AatError>
+    requires ids { IsSmall buffer.now }
+    requires placed { IsPlaced buffer.now }
+    requires empty { glyphs.old.items ≡ [] }
+    ensures ok { OnOk result (glyphs.new.items
+        ≡ map (drawn_glyph (may_break breaks.entry buffer.now.line) buffer.now) (kept_places buffer.now.line)) }
+    ensures memory { IfErr result (λ error. error ≡ AatError.OutOfMemory) }
+{
+    if is_unattached(buffer) {
+        return put_glyphs(breaks, buffer, None, glyphs);
+    }
+    let positions = positions_of(alloc, buffer)?;
+    let mut added = Vec::from_slice(alloc, &positions)?;
+    add_up_attachments(alloc, buffer.direction(), &mut added)?;
+    let kept = kept_counts(alloc, buffer)?;
+    let drawn = Drawn {
+        positions: &positions,
+        added: &added,
+        kept: &kept,
+    };
+    put_glyphs(breaks, buffer, Some(drawn), glyphs)
 }
 
 /// Gives glyphs the clusters of those of a line.
@@ -188,16 +282,7 @@ pub(crate) fn draw<H: Allocator + Copy, A: Allocator>(
     ensures count { OnOk result (length glyphs.new.items ≤ length buffer.old.line) }
     ensures memory { IfErr result (λ error. error ≡ AatError.OutOfMemory) }
 {
-    let positions = positions_of(alloc, buffer)?;
-    let mut added = Vec::from_slice(alloc, &positions)?;
-    add_up_attachments(alloc, buffer.direction(), &mut added)?;
-    let kept = kept_counts(alloc, buffer)?;
-    let drawn = Drawn {
-        positions: &positions,
-        added: &added,
-        kept: &kept,
-    };
-    put_glyphs(breaks, buffer, drawn, glyphs)?;
+    put_drawn_glyphs(alloc, breaks, buffer, glyphs)?;
     hb_aat_layout_remove_deleted_glyphs(buffer);
     take_clusters(buffer, glyphs);
     Ok(())

@@ -1,6 +1,6 @@
 //! What the features of a text ask at its characters.
 ghost use Rattle.std.specs.Prelude.{◌≡◌};
-ghost use Rattle.aat_shaped_text.specs.TextFeatures.{ask_alike, holds, is_everywhere, is_kern, is_kerned_at, is_on, requests_kerning};
+ghost use Rattle.aat_shaped_text.specs.TextFeatures.{ask_alike, ask_alike_through, holds, is_everywhere, is_kern, is_kerned_at, requests_kerning};
 
 use aat_layout::font::Feature;
 
@@ -28,13 +28,6 @@ fn is_kern(feature: &Feature) -> bool
     feature.tag.0 == KERN
 }
 
-/// Whether a feature has a value other than 0.
-fn is_on(feature: &Feature) -> bool
-    ensures { result ≡ is_on feature.now }
-{
-    feature.value != 0
-}
-
 /// Whether kerning is on at a cluster: as the last feature `kern` says that holds it.
 pub(crate) fn is_kerned_at(features: &[Feature], cluster: u32) -> bool
     ensures { result ≡ is_kerned_at features.now cluster }
@@ -42,7 +35,7 @@ pub(crate) fn is_kerned_at(features: &[Feature], cluster: u32) -> bool
     let mut on = true;
     for feature in features {
         if is_kern(feature) && holds(feature, cluster) {
-            on = is_on(feature);
+            on = feature.value != 0;
         }
     }
     on
@@ -54,8 +47,8 @@ pub(crate) fn requests_kerning(features: &[Feature]) -> bool
 {
     let mut on = true;
     for feature in features {
-        if is_kern(feature) && (is_on(feature) || is_everywhere(feature)) {
-            on = is_on(feature);
+        if is_kern(feature) && (feature.value != 0 || is_everywhere(feature)) {
+            on = feature.value != 0;
         }
     }
     on
@@ -68,4 +61,15 @@ pub(crate) fn ask_alike(features: &[Feature], cluster: u32, other: u32) -> bool
     features
         .iter()
         .all(|feature| holds(feature, cluster) == holds(feature, other))
+}
+
+/// Whether each feature holds all clusters from one through another, or none of them.
+pub(crate) fn ask_alike_through(features: &[Feature], low: u32, last: u32) -> bool
+    ensures { result ≡ ask_alike_through features.now low last }
+{
+    features.iter().all(|feature| {
+        (holds(feature, low) && holds(feature, last))
+            || last < feature.start
+            || !holds(feature, low.max(feature.start))
+    })
 }

@@ -1,11 +1,13 @@
 //! A shaper, which is what a program takes for texts: glyphs with clusters and features go in, and the glyphs to be drawn
 //! come out, with their positions, and with where the text may be broken. A program that makes the calls one by one
-//! takes `aat_layout`, and [`line_breaker`].
+//! takes `aat_layout`.
 //!
 //! ```
 //! shaper.shape(Direction::LeftToRight, &text, &features)?;
 //! let glyphs = shaper.glyphs();
 //! ```
+//!
+//! [`Shaper::shape_lines`] breaks a text into lines of a width.
 #![tactic(auto)]
 
 mod breaks;
@@ -13,7 +15,7 @@ mod drawn;
 mod features;
 mod font;
 mod line;
-pub mod line_breaker;
+mod lines;
 mod names;
 mod shaper;
 mod substitution;
@@ -24,4 +26,5 @@ pub mod worked;
 
 pub use aat_placement::{Track, TrackData, Tracking, TrackingError};
 pub use aat_shaped_text::{ShapedGlyph, TextGlyph};
+pub use lines::{LineStop, TextLine, TextLines};
 pub use shaper::Shaper;

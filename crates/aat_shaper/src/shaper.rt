@@ -16,7 +16,7 @@ use crate::features::requests_kerning;
 use crate::font::skips_of;
 use crate::line::{KERNED, LONGEST_TEXT, buffer_of};
 use crate::names::has_feature;
-use crate::substitution::{may_break_anywhere, substitute};
+use crate::substitution::{may_break_anywhere, substitute, substitutes_evenly};
 use crate::tracking::track_line;
 use aat_layout::buffer::{Direction, hb_buffer_t};
 use aat_layout::font::{Feature, hb_font_t, hb_ot_shape_plan_t, hb_tag_t};
@@ -166,6 +166,17 @@ impl<'f, A: Allocator + Copy> Shaper<'f, A> {
         self.font
     }
 
+    /// Another shaper of the font, which tracks as this one does.
+    pub(crate) fn twin(&self, global: Global) -> Self
+        ensures font { result.font ≡ self.now.font }
+        ensures values { result.values ≡ self.now.values }
+    {
+        let mut twin = Shaper::new_in(global, self.alloc, self.font);
+        twin.row_value = self.row_value;
+        twin.column_value = self.column_value;
+        twin
+    }
+
     /// Whether the font has a feature. It has `kern` where it has a table of kerning, `aalt` where its names have
     /// character alternatives with settings, and any other one that is known here where they have its feature type with
     /// settings; small capitals of lower case letters also by the older type of letter case. A feature that the font
@@ -207,21 +218,21 @@ impl<'f, A: Allocator + Copy> Shaper<'f, A> {
     /// part does, and what is drawn from it on as the other one: ids, clusters, advances and offsets. In a backward
     /// text the later part is drawn first.
     ///
-    /// No glyph says so unless all of this holds. Clusters never fall along the text. What the features ask of the font
-    /// they ask of every cluster, or all subtables of `morx` that are for its direction and can be switched on are
-    /// noncontextual, where without features only the default flags of a chain switch, and with features also the flags
-    /// that its own features set. The subtables of the kerning table in use that are for its direction are of pairs, along
-    /// the line. No missing entry ends the run of a machine of `morx`, and none of rearrangement runs on the line in the
-    /// opposite order. The machines take fewer than 16384 operations.
+    /// No glyph says so unless all of this holds. Clusters never fall along the text. The subtables of the kerning table in
+    /// use that are for its direction are of pairs, along the line. No missing entry ends the run of a machine of `morx`,
+    /// and none of rearrangement runs on the line in the opposite order. The machines take fewer than 16384 operations.
     ///
     /// Then a glyph says so exactly where some glyph is drawn before it; kerning does not skip it; its cluster is not that
     /// of the glyph before it, which may be a deleted one; no glyph of the later of these two clusters is marked
     /// `UNSAFE_TO_BREAK` by substitution, which marks here, besides, what its acts look at (`close_table` of
-    /// `aat_closing`), or by kerning, deleted ones included; and the same features hold both.
+    /// `aat_closing`), or by kerning, deleted ones included; and each feature holds all clusters from the one to the other,
+    /// or none of them. It need hold only these two, or neither, where what the features ask of the font has no bounds, or
+    /// where all subtables of `morx` that are for the text's direction and can be switched on are noncontextual: without
+    /// features only the default flags of a chain switch, and with features also the flags that its own features set.
     ///
     /// A text that is no longer than the one before it, with no more features, is mostly shaped without a request for
-    /// memory. It takes as many steps as its line is long for each subtable, as many as there are features for each
-    /// glyph, those of compiling the features, and those of the budget.
+    /// memory. It takes as many steps as its line is long for each subtable and for each act, as many as there are features
+    /// for each glyph, those of compiling the features, and those of the budget.
     ///
     /// Refused first as 2, `TooLong`, where the text has more than 2^24 glyphs. Then as 1, `AaltValue`, with the first
     /// value above 65535 that a feature `aalt` asks for, where the font has settings of character alternatives; as 2,
@@ -351,7 +362,8 @@ fn shape_over<H: Allocator + Copy, A: Allocator>(
     let mut buffer = buffer_of(workspace, face, direction, features, text)?;
     let map = compiled_map(workspace, plan, face)?;
     let lists = map.as_ref();
-    let closes = may_break_anywhere(face, direction, features, lists, text);
+    let is_even = substitutes_evenly(face, direction, features, lists);
+    let closes = may_break_anywhere(face, direction, text);
     let tells = substitute(face, lists, closes, &mut buffer)?;
     place_with_deleted(plan, face, &mut buffer)?;
     let is_used_up = uses_up(&buffer);
@@ -359,6 +371,7 @@ fn shape_over<H: Allocator + Copy, A: Allocator>(
     turn(&mut buffer);
     let breaks = Breaks {
         is_allowed: tells,
+        is_even,
         skips: skips_of(face),
         features,
     };

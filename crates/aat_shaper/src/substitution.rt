@@ -11,7 +11,7 @@ ghost use Rattle.aat_run.specs.Budget.{extent, operations_left};
 ghost use Rattle.aat_run.specs.Driven.{IsRefusal};
 ghost use Rattle.aat_run.specs.Laws.{HasOrderOf, SameSettings};
 ghost use Rattle.aat_run.specs.Ranges.{is_whole_list};
-ghost use Rattle.aat_shaped_text.specs.Breaks.{is_rising, shapes_evenly, substitutes_evenly};
+ghost use Rattle.aat_shaped_text.specs.Breaks.{is_rising, kerns_apart, substitutes_evenly};
 ghost use Rattle.aat_shaper.specs.inside.TextLine.{gives_one_range, substituted_so, tells_so, told_by};
 
 use crate::font::{kerns_apart, substitutes_apart};
@@ -41,7 +41,7 @@ fn gives_one_range<M: Allocator + Copy>(map: Option<&hb_aat_map_t<M>>) -> bool
 }
 
 /// Whether substitution runs evenly along a text with features that were compiled into a map.
-fn substitutes_evenly<M: Allocator + Copy>(
+pub(crate) fn substitutes_evenly<M: Allocator + Copy>(
     face: &hb_font_t,
     direction: Direction,
     features: &[Feature],
@@ -55,22 +55,11 @@ fn substitutes_evenly<M: Allocator + Copy>(
     gives_one_range(map) || substitutes_apart(face, direction, features)
 }
 
-/// Whether the font, the features, which were compiled into a map, and the text allow a break anywhere.
-pub(crate) fn may_break_anywhere<M: Allocator + Copy>(
-    face: &hb_font_t,
-    direction: Direction,
-    features: &[Feature],
-    map: Option<&hb_aat_map_t<M>>,
-    text: &[TextGlyph],
-) -> bool
-    requires compiled { switched_by (chains_in (tables_of face.now).morx)
-        (lists_for (option_copied map) (chains_in (tables_of face.now).morx))
-        ≡ by_requests (requests_of (tables_of face.now).feat features.now) (chains_in (tables_of face.now).morx) }
-    ensures { result ≡ (shapes_evenly face.now direction features.now && is_rising text.now) }
+/// Whether the font's kerning and the text allow a break anywhere.
+pub(crate) fn may_break_anywhere(face: &hb_font_t, direction: Direction, text: &[TextGlyph]) -> bool
+    ensures { result ≡ (kerns_apart face.now direction && is_rising text.now) }
 {
-    substitutes_evenly(face, direction, features, map)
-        && kerns_apart(face, direction)
-        && is_rising(text)
+    kerns_apart(face, direction) && is_rising(text)
 }
 
 /// What is left of a buffer's budget, 0 where it is negative.

@@ -27,8 +27,11 @@ fn ignorable_ids<A: Allocator + Copy>(
     Ok(ids)
 }
 
-/// The ids of the glyphs that are hidden.
-fn hidden_ids<A: Allocator + Copy>(
+/// The ids of the glyphs that are hidden in what is drawn of a text, as [`hide_ignorables`] hides them: those of its
+/// ignorable glyphs that no other glyph of it has.
+///
+/// Refused where memory is wanting.
+pub fn hidden_ids<A: Allocator + Copy>(
     alloc: A,
     text: &[TextGlyph],
 ) -> Result<BTreeSet<u16, A>, AllocError>

@@ -1,31 +1,26 @@
--- The closing runs of the subtables of chains one after another, where the texts of a direction keep each of them even.
-use Rattle.std.proofs.Common.{◌≡◌, ◌∙◌, ℕ, ◌+◌, ◌<◌, ◌&&◌, Bool, true, false, cond, List, [], ◌∷◌, ◌++◌, map, length, take, drop, min, nat_lt, inl, inr, refl, ap, sym, subst, arith, true≢false}
+-- The closing runs of the subtables of chains one after another, where each of them is even about a cut of texts of a direction.
+use Rattle.std.proofs.Common.{◌≡◌, ◌∙◌, ℕ, ◌+◌, ◌<◌, ◌≤◌, ◌&&◌, Bool, true, false, cond, List, [], ◌∷◌, ◌++◌, map, length, take, drop, min, nat_lt, inl, inr, refl, ap, sym, subst, arith, true≢false}
 use Rattle.std.proofs.lemmas.List.Elements.{All-append, All-head, All-map, All-nil, All-tail}
 use Rattle.std.proofs.lemmas.List.{take-append-drop}
 use Rattle.std.specs.Prelude.{All, slice_index_or}
 use Rattle.aat_buffer.specs.Buffer.{Buffer, with_line, without_positions}
 use Rattle.aat_buffer.specs.Marks.{clusters_stay_apart, concat_marked, on_span, produces_concat}
 use Rattle.aat_glyph.specs.declared.glyph.Direction.{Direction}
-use Rattle.aat_machine_tables.specs.Table.{TableValue}
 use Rattle.aat_machine_tables.specs.declared.morx.Subtable.{Subtable}
 use Rattle.aat_machine_tables.specs.declared.morx.SubtableKind.{SubtableKind}
 use Rattle.aat_machine_tables.specs.declared.morx.SubtableKind.TheVariants.{Rearrangement, Contextual, Ligature, NonContextual, Insertion}
-use Rattle.aat_machine_tables.specs.declared.state_table.GenericStateEntry.{GenericStateEntry}
 use Rattle.aat_run.specs.Budget.{operations_left}
-use Rattle.aat_run.specs.Context.{Context, machine_of, start}
-use Rattle.aat_run.specs.Driven.{comes_to_end, machine_run}
 use Rattle.aat_run.specs.Laws.{HasOrderOf}
-use Rattle.aat_run.specs.Machine.{run_to_end}
 use Rattle.aat_run.specs.Switches.{Switch}
-use Rattle.aat_run.specs.facts.OffRuns.{IsPassedOver, passed_over}
 use Rattle.aat_map.specs.SwitchedChains.{SwitchedChain}
 use Rattle.aat_kinds.specs.Kinds.{Sizes}
 use Rattle.aat_morx.specs.Substitution.{is_skipped, prepared}
 use Rattle.aat_cut_kinds.specs.Parts.{back_part, front_part}
 use Rattle.aat_closing.specs.ClosingChains.{closing_chain, closing_substituted, closing_subtable}
 use Rattle.aat_closing.specs.ClosingCuts.{AreEven, ChainsLeaveLimitedParts, ChainsLeaveParts, IsEven, IsLimitedFrom, is_noncontextual}
-use Rattle.aat_closing.specs.ClosingRuns.{Told, closing_ordered, closing_run, contextual_closing, insertion_closing, ligature_closing, nothing_run, rearrangement_closing, told_in_order, told_run}
-use Rattle.aat_closing.specs.ToldParts.{HasBetween, TellsOpen, ToldInParts}
+use Rattle.aat_closing.specs.ClosingRuns.{Told, closing_ordered, closing_run, nothing_run, told_in_order}
+use Rattle.aat_closing.specs.CutsAbout.{AreEvenAbout, ChainsLeaveLimitedPartsAbout, ChainsLeavePartsAbout, IsEvenAbout}
+use Rattle.aat_closing.specs.ToldParts.{HasBetween, IsRise, TellsOpen, ToldInParts}
 use Rattle.aat_closing.specs.facts.AllKinds.{noncontextual_parts}
 use Rattle.aat_closing.specs.facts.OrderedSteady.{PartsBetween, PartsBetweenAtFall, ordered_steady, parts_at_fall, parts_at_rise}
 use Rattle.aat_closing.specs.facts.Steady.{IsSteady}
@@ -60,46 +55,7 @@ nothing_steady low c = record {
   parts = λ q b rise between tells. unchanged_parts q b (nothing_run b) (nothing_run (front_part q b)) (nothing_run (back_part q b)) refl refl refl refl refl refl refl refl;
 }
 
--- A machine that is off at each cluster leaves the line and the budget, and tells.
-module _ {T R : Type 0} (on : ℕ → Bool) (table : TableValue (GenericStateEntry T)) (x : Context R (GenericStateEntry T)) (off : (e : ℕ) → on e ≡ false) where
-  over : (b : Buffer) → IsPassedOver (start x.in_place b x.fresh) (run_to_end (machine_of on table x) (start x.in_place b x.fresh)) (length (start x.in_place b x.fresh).buffer.line + 1)
-  over b = passed_over (machine_of on table x) off (start x.in_place b x.fresh) refl
-
-  off_line : (b : Buffer) → (told_run on table x b).buffer.line ≡ b.line
-  unfolding told_run machine_run
-  off_line b = ap (λ (d : Buffer). d.line) (over b).buffer ∙ by_place x.in_place
-    where
-      by_place : (t : Bool) → (start t b x.fresh).buffer.line ≡ b.line
-      by_place true = refl
-      by_place false = refl
-
-  off_budget : (b : Buffer) → (told_run on table x b).buffer.max_ops ≡ b.max_ops
-  unfolding told_run machine_run
-  off_budget b = ap (λ (d : Buffer). d.max_ops) (over b).buffer ∙ by_place x.in_place
-    where
-      by_place : (t : Bool) → (start t b x.fresh).buffer.max_ops ≡ b.max_ops
-      by_place true = refl
-      by_place false = refl
-
-  off_told : (b : Buffer) → (told_run on table x b).is_told ≡ true
-  unfolding told_run comes_to_end
-  off_told b = (over b).at_end
-
-  off_parts : (q : ℕ) (b : Buffer) → ToldInParts (told_run on table x b) (told_run on table x (front_part q b)) (told_run on table x (back_part q b))
-  off_parts q b =
-      unchanged_parts q b (told_run on table x b) (told_run on table x (front_part q b)) (told_run on table x (back_part q b))
-      (off_line b) (off_line (front_part q b)) (off_line (back_part q b)) (off_budget b) (off_budget (front_part q b)) (off_budget (back_part q b))
-      (off_told (front_part q b)) (off_told (back_part q b))
-
--- a subtable that is off at each cluster leaves the parts at each place, and a noncontextual one does wherever it is on
-kind_off : (z : Sizes) (on : ℕ → Bool) (kind : SubtableKind) → ((e : ℕ) → on e ≡ false) → (q : ℕ) (b : Buffer)
-    → ToldInParts (closing_run z on kind b) (closing_run z on kind (front_part q b)) (closing_run z on kind (back_part q b))
-kind_off z on (Rearrangement table) off = off_parts on table (rearrangement_closing z.bound) off
-kind_off z on (Contextual s) off = off_parts on s.state (contextual_closing z.classes s.lookups) off
-kind_off z on (Ligature s) off = off_parts on s.state (ligature_closing s.state s.actions s.components s.ligatures z.slots) off
-kind_off z on (NonContextual lookup) off = noncontextual_parts z on lookup
-kind_off z on (Insertion s) off = off_parts on s.state (insertion_closing s.glyphs) off
-
+-- a noncontextual subtable leaves the parts at each place
 kind_alone : (z : Sizes) (on : ℕ → Bool) (kind : SubtableKind) → is_noncontextual kind ≡ true → (q : ℕ) (b : Buffer)
     → ToldInParts (closing_run z on kind b) (closing_run z on kind (front_part q b)) (closing_run z on kind (back_part q b))
 kind_alone z on (Rearrangement table) is = absurd (true≢false (sym is))
@@ -139,7 +95,7 @@ in_two (x ∷ xs) ys b =
     ap (joined (x b)) (in_two xs ys (x b).buffer)
     ∙ joined_three (x b) (in_turn xs (x b).buffer) (in_turn ys (in_turn xs (x b).buffer).buffer)
 
-module _ (z : Sizes) (slots : 0 < z.slots) (d : Direction) (c : ℕ) where
+module _ (z : Sizes) (slots : 0 < z.slots) (d : Direction) (low c : ℕ) where
   -- the run of a subtable over texts of the direction
   run_in : Switch → Subtable → Buffer → Told
   run_in switch s b =
@@ -150,28 +106,26 @@ module _ (z : Sizes) (slots : 0 < z.slots) (d : Direction) (c : ℕ) where
   same_run switch s b is =
       ap (λ (e : Direction). cond (is_skipped switch s e) (nothing_run b) (closing_ordered z (switch.is_on s.feature_flags) s.coverage s.kind b)) is
 
-  steady_in : (switch : Switch) (s : Subtable) → IsEven d switch s → IsSteady 0 c (run_in switch s)
+  steady_in : (switch : Switch) (s : Subtable) → IsEvenAbout low c d switch s → IsSteady low c (run_in switch s)
   unfolding run_in
   steady_in switch s even = by_test (is_skipped switch s d) refl
     where
-      with_parts : PartsBetween z s.kind 0 c (switch.is_on s.feature_flags) → PartsBetweenAtFall z s.kind 0 c (switch.is_on s.feature_flags) → IsSteady 0 c (closing_ordered z (switch.is_on s.feature_flags) s.coverage s.kind)
-      with_parts at_rise at_fall = ordered_steady z slots s.kind 0 c (switch.is_on s.feature_flags) s.coverage at_rise at_fall
+      with_parts : PartsBetween z s.kind low c (switch.is_on s.feature_flags) → PartsBetweenAtFall z s.kind low c (switch.is_on s.feature_flags) → IsSteady low c (closing_ordered z (switch.is_on s.feature_flags) s.coverage s.kind)
+      with_parts at_rise at_fall = ordered_steady z slots s.kind low c (switch.is_on s.feature_flags) s.coverage at_rise at_fall
 
-      by_case : is_skipped switch s d ≡ false → IsEven d switch s → IsSteady 0 c (closing_ordered z (switch.is_on s.feature_flags) s.coverage s.kind)
+      by_case : is_skipped switch s d ≡ false → IsEvenAbout low c d switch s → IsSteady low c (closing_ordered z (switch.is_on s.feature_flags) s.coverage s.kind)
       by_case runs (inl skipped) = absurd (true≢false (sym skipped ∙ runs))
       by_case runs (inr (inl alone)) =
           with_parts (λ q b rise between tells. kind_alone z (switch.is_on s.feature_flags) s.kind alone q b) (λ never q b fall between tells. kind_alone z (switch.is_on s.feature_flags) s.kind alone q b)
-      by_case runs (inr (inr (inl each))) =
-          with_parts (parts_at_rise z slots s.kind 0 c (switch.is_on s.feature_flags) (λ e low high. each e)) (parts_at_fall z slots s.kind 0 c (switch.is_on s.feature_flags) (λ e low high. each e))
-      by_case runs (inr (inr (inr none))) =
-          with_parts (λ q b rise between tells. kind_off z (switch.is_on s.feature_flags) s.kind none q b) (λ never q b fall between tells. kind_off z (switch.is_on s.feature_flags) s.kind none q b)
+      by_case runs (inr (inr alike)) =
+          with_parts (parts_at_rise z slots s.kind low c (switch.is_on s.feature_flags) alike) (parts_at_fall z slots s.kind low c (switch.is_on s.feature_flags) alike)
 
-      by_test : (t : Bool) → is_skipped switch s d ≡ t → IsSteady 0 c (λ b. cond t (nothing_run b) (closing_ordered z (switch.is_on s.feature_flags) s.coverage s.kind b))
-      by_test true is = nothing_steady 0 c
+      by_test : (t : Bool) → is_skipped switch s d ≡ t → IsSteady low c (λ b. cond t (nothing_run b) (closing_ordered z (switch.is_on s.feature_flags) s.coverage s.kind b))
+      by_test true is = nothing_steady low c
       by_test false is = by_case is even
 
   abbrev EvenChain : SwitchedChain → Type 0
-  EvenChain k = All (IsEven d k.switch) k.subtables
+  EvenChain k = All (IsEvenAbout low c d k.switch) k.subtables
 
   runs_of : SwitchedChain → List (Buffer → Told)
   runs_of k = map (run_in k.switch) k.subtables
@@ -180,35 +134,35 @@ module _ (z : Sizes) (slots : 0 < z.slots) (d : Direction) (c : ℕ) where
   runs_in [] = []
   runs_in (k ∷ chains) = runs_of k ++ runs_in chains
 
-  chain_steady : (k : SwitchedChain) → EvenChain k → All (λ (run : Buffer → Told). IsSteady 0 c run) (runs_of k)
+  chain_steady : (k : SwitchedChain) → EvenChain k → All (λ (run : Buffer → Told). IsSteady low c run) (runs_of k)
   unfolding runs_of
   chain_steady k even =
-      All-map (λ (run : Buffer → Told). IsSteady 0 c run) (run_in k.switch) k.subtables (λ n e within. steady_in k.switch (slice_index_or k.subtables n e) (even n e within))
+      All-map (λ (run : Buffer → Told). IsSteady low c run) (run_in k.switch) k.subtables (λ n e within. steady_in k.switch (slice_index_or k.subtables n e) (even n e within))
 
-  all_steady : (chains : List SwitchedChain) → All EvenChain chains → All (λ (run : Buffer → Told). IsSteady 0 c run) (runs_in chains)
+  all_steady : (chains : List SwitchedChain) → All EvenChain chains → All (λ (run : Buffer → Told). IsSteady low c run) (runs_in chains)
   unfolding runs_in
-  all_steady [] even = All-nil (λ (run : Buffer → Told). IsSteady 0 c run)
+  all_steady [] even = All-nil (λ (run : Buffer → Told). IsSteady low c run)
   all_steady (k ∷ chains) even =
-      All-append (λ (run : Buffer → Told). IsSteady 0 c run) (runs_of k) (runs_in chains)
+      All-append (λ (run : Buffer → Told). IsSteady low c run) (runs_of k) (runs_in chains)
       (chain_steady k (All-head EvenChain k chains even)) (all_steady chains (All-tail EvenChain k chains even))
 
   -- the direction stays
-  direction_of : (runs : List (Buffer → Told)) → All (λ (run : Buffer → Told). IsSteady 0 c run) runs → (b : Buffer) → (in_turn runs b).buffer.direction ≡ b.direction
+  direction_of : (runs : List (Buffer → Told)) → All (λ (run : Buffer → Told). IsSteady low c run) runs → (b : Buffer) → (in_turn runs b).buffer.direction ≡ b.direction
   unfolding told_in_order
   direction_of [] all b = refl
   direction_of (run ∷ runs) all b =
-      direction_of runs (All-tail (λ (it : Buffer → Told). IsSteady 0 c it) run runs all) (run b).buffer
-      ∙ ((All-head (λ (it : Buffer → Told). IsSteady 0 c it) run runs all).settings b).direction
+      direction_of runs (All-tail (λ (it : Buffer → Told). IsSteady low c it) run runs all) (run b).buffer
+      ∙ ((All-head (λ (it : Buffer → Told). IsSteady low c it) run runs all).settings b).direction
 
-  chain_is : (switch : Switch) (subtables : List Subtable) → All (IsEven d switch) subtables → (b : Buffer) → b.direction ≡ d
+  chain_is : (switch : Switch) (subtables : List Subtable) → All (IsEvenAbout low c d switch) subtables → (b : Buffer) → b.direction ≡ d
       → told_in_order (closing_subtable z switch) subtables b ≡ in_turn (map (run_in switch) subtables) b
   unfolding told_in_order joined
   chain_is switch [] even b is = refl
   chain_is switch (s ∷ subtables) even b is =
       ap (λ (o : Told). joined o (told_in_order (closing_subtable z switch) subtables o.buffer)) (same_run switch s b is)
       ∙ ap (joined (run_in switch s b))
-      (chain_is switch subtables (All-tail (IsEven d switch) s subtables even) (run_in switch s b).buffer
-      (((steady_in switch s (All-head (IsEven d switch) s subtables even)).settings b).direction ∙ is))
+      (chain_is switch subtables (All-tail (IsEvenAbout low c d switch) s subtables even) (run_in switch s b).buffer
+      (((steady_in switch s (All-head (IsEvenAbout low c d switch) s subtables even)).settings b).direction ∙ is))
 
   chains_are : (chains : List SwitchedChain) → All EvenChain chains → (b : Buffer) → b.direction ≡ d
       → told_in_order (closing_chain z) chains b ≡ in_turn (runs_in chains) b
@@ -222,13 +176,13 @@ module _ (z : Sizes) (slots : 0 < z.slots) (d : Direction) (c : ℕ) where
       ∙ sym (in_two (runs_of k) (runs_in chains) b))
 
 -- what runs one after another keep of the order of the clusters, and of the settings
-order_in : (d : Direction) (c : ℕ) (runs : List (Buffer → Told)) → All (λ (run : Buffer → Told). IsSteady 0 c run) runs → (b : Buffer) → HasOrderOf b (in_turn runs b).buffer
+order_in : (low c : ℕ) (runs : List (Buffer → Told)) → All (λ (run : Buffer → Told). IsSteady low c run) runs → (b : Buffer) → HasOrderOf b (in_turn runs b).buffer
 unfolding told_in_order
-order_in d c [] all b = record { rising = λ merges up. up; falling = λ merges down. down; clusters = λ k within. (k, within, refl) }
-order_in d c (run ∷ runs) all b =
-    let steady = All-head (λ (it : Buffer → Told). IsSteady 0 c it) run runs all in
+order_in low c [] all b = record { rising = λ merges up. up; falling = λ merges down. down; clusters = λ k within. (k, within, refl) }
+order_in low c (run ∷ runs) all b =
+    let steady = All-head (λ (it : Buffer → Told). IsSteady low c it) run runs all in
     let here = steady.order b in
-    let behind = order_in d c runs (All-tail (λ (it : Buffer → Told). IsSteady 0 c it) run runs all) (run b).buffer in
+    let behind = order_in low c runs (All-tail (λ (it : Buffer → Told). IsSteady low c it) run runs all) (run b).buffer in
     let level = (steady.settings b).cluster_level in
     record {
       rising = λ merges up. behind.rising (λ apart. merges (ap clusters_stay_apart (sym level) ∙ apart)) (here.rising merges up);
@@ -239,12 +193,19 @@ order_in d c (run ∷ runs) all b =
           (first.0, first.1, source.2 ∙ first.2);
     }
 
-level_in : (c : ℕ) (runs : List (Buffer → Told)) → All (λ (run : Buffer → Told). IsSteady 0 c run) runs → (b : Buffer) → (in_turn runs b).buffer.cluster_level ≡ b.cluster_level
+level_in : (low c : ℕ) (runs : List (Buffer → Told)) → All (λ (run : Buffer → Told). IsSteady low c run) runs → (b : Buffer) → (in_turn runs b).buffer.cluster_level ≡ b.cluster_level
 unfolding told_in_order
-level_in c [] all b = refl
-level_in c (run ∷ runs) all b =
-    level_in c runs (All-tail (λ (it : Buffer → Told). IsSteady 0 c it) run runs all) (run b).buffer
-    ∙ ((All-head (λ (it : Buffer → Told). IsSteady 0 c it) run runs all).settings b).cluster_level
+level_in low c [] all b = refl
+level_in low c (run ∷ runs) all b =
+    level_in low c runs (All-tail (λ (it : Buffer → Told). IsSteady low c it) run runs all) (run b).buffer
+    ∙ ((All-head (λ (it : Buffer → Told). IsSteady low c it) run runs all).settings b).cluster_level
+
+flags_in : (low c : ℕ) (runs : List (Buffer → Told)) → All (λ (run : Buffer → Told). IsSteady low c run) runs → (b : Buffer) → (in_turn runs b).buffer.flags ≡ b.flags
+unfolding told_in_order
+flags_in low c [] all b = refl
+flags_in low c (run ∷ runs) all b =
+    flags_in low c runs (All-tail (λ (it : Buffer → Told). IsSteady low c it) run runs all) (run b).buffer
+    ∙ ((All-head (λ (it : Buffer → Told). IsSteady low c it) run runs all).settings b).flags
 
 -- what is prepared, where no marks are asked for
 prepared_plain : (b : Buffer) → produces_concat b.flags ≡ false → prepared b ≡ without_positions b
@@ -256,60 +217,122 @@ pub record KeptByChains (old new : Buffer) : Type 0 where
   pub order : HasOrderOf old new
   pub direction : new.direction ≡ old.direction
   pub level : new.cluster_level ≡ old.cluster_level
+  pub flags : new.flags ≡ old.flags
 
-pub chains_keep : (z : Sizes) → 0 < z.slots → (d : Direction) (chains : List SwitchedChain) → AreEven d chains → (b : Buffer) → b.direction ≡ d → produces_concat b.flags ≡ false
+pub chains_keep_about : (z : Sizes) → 0 < z.slots → (d : Direction) (low c : ℕ) (chains : List SwitchedChain) → AreEvenAbout low c d chains → (b : Buffer) → b.direction ≡ d → produces_concat b.flags ≡ false
     → KeptByChains b (closing_substituted z chains b).buffer
-chains_keep z slots d chains even b is plain =
-    let runs = runs_in z slots d 0 chains in
-    let all = all_steady z slots d 0 chains even in
+chains_keep_about z slots d low c chains even b is plain =
+    let runs = runs_in z slots d low c chains in
+    let all = all_steady z slots d low c chains even in
     let same : closing_substituted z chains b ≡ in_turn runs (without_positions b) =
-    ap (told_in_order (closing_chain z) chains) (prepared_plain b plain) ∙ chains_are z slots d 0 chains even (without_positions b) is in
-    let order = order_in d 0 runs all (without_positions b) in
+    ap (told_in_order (closing_chain z) chains) (prepared_plain b plain) ∙ chains_are z slots d low c chains even (without_positions b) is in
+    let order = order_in low c runs all (without_positions b) in
     rw same
     (record {
       order = record { rising = order.rising; falling = order.falling; clusters = order.clusters };
-      direction = direction_of z slots d 0 runs all (without_positions b);
-      level = level_in 0 runs all (without_positions b);
+      direction = direction_of z slots d low c runs all (without_positions b);
+      level = level_in low c runs all (without_positions b);
+      flags = flags_in low c runs all (without_positions b);
     })
 
-pub chains_leave_parts : ChainsLeaveParts
-chains_leave_parts z d c chains slots even q b is front plain rise tells between =
-    let runs = runs_in z slots d c chains in
+pub chains_leave_parts_about : ChainsLeavePartsAbout
+chains_leave_parts_about z d low c chains slots even q b is front plain rise tells between =
+    let runs = runs_in z slots d low c chains in
     let left : (e : Buffer) → e.direction ≡ d → produces_concat e.flags ≡ false → closing_substituted z chains e ≡ in_turn runs (without_positions e) =
-    λ e same none. ap (told_in_order (closing_chain z) chains) (prepared_plain e none) ∙ chains_are z slots d c chains even (without_positions e) same in
+    λ e same none. ap (told_in_order (closing_chain z) chains) (prepared_plain e none) ∙ chains_are z slots d low c chains even (without_positions e) same in
     let here = left b is plain in
     let first = left (front_part q b) is plain in
     let second = left (back_part q b) is plain in
     rw (here, first, second)
-    (steady_leave_parts (λ (run : Buffer → Told). run) 0 c runs (all_steady z slots d c chains even) q (without_positions b) front refl
+    (steady_leave_parts (λ (run : Buffer → Told). run) low c runs (all_steady z slots d low c chains even) q (without_positions b) front refl
     (record { behind_first = rise.behind_first; before_end = rise.before_end; before = rise.before; behind = rise.behind; ordered = rise.ordered; merges = rise.merges })
-    (subst (TellsOpen c) here tells) (subst (λ (o : Told). HasBetween 0 c o.buffer.line) here between))
+    (subst (TellsOpen c) here tells) (subst (λ (o : Told). HasBetween low c o.buffer.line) here between))
 
--- what chains leave of a part with limits of its own
-limited_line : (z : Sizes) (slots : 0 < z.slots) (d : Direction) (c : ℕ) (chains : List SwitchedChain) → AreEven d chains → (part own : Buffer) → IsLimitedFrom part own
+-- what chains leave of a part with limits of its own: the same line, told alike, of whose budget no more is taken
+pub record LeftLimitedPart (z : Sizes) (chains : List SwitchedChain) (part own : Buffer) : Type 0 where
+  pub line : (closing_substituted z chains own).buffer.line ≡ (closing_substituted z chains part).buffer.line
+  pub told : (closing_substituted z chains own).is_told ≡ (closing_substituted z chains part).is_told
+  pub budget :
+      operations_left own.max_ops + operations_left (closing_substituted z chains part).buffer.max_ops
+      ≤ operations_left part.max_ops + operations_left (closing_substituted z chains own).buffer.max_ops
+
+limited_part : (z : Sizes) (slots : 0 < z.slots) (d : Direction) (low c : ℕ) (chains : List SwitchedChain) → AreEvenAbout low c d chains → (part own : Buffer) → IsLimitedFrom part own
     → part.direction ≡ d → produces_concat part.flags ≡ false → 0 < operations_left (closing_substituted z chains part).buffer.max_ops
     → operations_left part.max_ops < operations_left own.max_ops + operations_left (closing_substituted z chains part).buffer.max_ops
-    → (closing_substituted z chains own).buffer.line ≡ (closing_substituted z chains part).buffer.line
-limited_line z slots d c chains even part own limited is plain some fewer =
-    let runs = runs_in z slots d c chains in
+    → LeftLimitedPart z chains part own
+limited_part z slots d low c chains even part own limited is plain some fewer =
+    let runs = runs_in z slots d low c chains in
     let left : (e : Buffer) → e.direction ≡ d → produces_concat e.flags ≡ false → closing_substituted z chains e ≡ in_turn runs (without_positions e) =
-    λ e same none. ap (told_in_order (closing_chain z) chains) (prepared_plain e none) ∙ chains_are z slots d c chains even (without_positions e) same in
+    λ e same none. ap (told_in_order (closing_chain z) chains) (prepared_plain e none) ∙ chains_are z slots d low c chains even (without_positions e) same in
     let here = left part is plain in
     let budget = ap (λ (o : Told). operations_left o.buffer.max_ops) here in
-    let alike = limited_in_order (λ (run : Buffer → Told). run) 0 c runs (all_steady z slots d c chains even) (without_positions part) own.max_ops own.max_len
+    let alike = limited_in_order (λ (run : Buffer → Told). run) low c runs (all_steady z slots d low c chains even) (without_positions part) own.max_ops own.max_len
     (omega (arith, some, budget)) (omega (arith, fewer, budget)) in
-    ap (λ (e : Buffer). (closing_substituted z chains e).buffer.line) limited
-    ∙ (ap (λ (o : Told). o.buffer.line) (left (with_limits own.max_ops own.max_len part) is plain)
-    ∙ (alike.0 ∙ sym (ap (λ (o : Told). o.buffer.line) here)))
+    let other : closing_substituted z chains own ≡ in_turn runs (without_positions (with_limits own.max_ops own.max_len part)) =
+    ap (closing_substituted z chains) limited ∙ left (with_limits own.max_ops own.max_len part) is plain in
+    let other_budget = ap (λ (o : Told). operations_left o.buffer.max_ops) other in
+    let taken = alike.2 in
+    record {
+      line = ap (λ (o : Told). o.buffer.line) other ∙ (alike.0 ∙ sym (ap (λ (o : Told). o.buffer.line) here));
+      told = ap (λ (o : Told). o.is_told) other ∙ (alike.1 ∙ sym (ap (λ (o : Told). o.is_told) here));
+      budget = omega (arith, taken, budget, other_budget);
+    }
 
-pub chains_leave_limited_parts : ChainsLeaveLimitedParts
-chains_leave_limited_parts z d c chains slots even q b front back is cursor plain rise tells between limited_front limited_back few_front few_back =
-    let whole = chains_leave_parts z d c chains slots even q b is cursor plain rise tells between in
+-- what they leave of the two parts of a line that is cut at a rise
+pub record LeftLimitedParts (z : Sizes) (chains : List SwitchedChain) (q : ℕ) (b front back : Buffer) : Type 0 where
+  pub whole : ToldInParts (closing_substituted z chains b) (closing_substituted z chains (front_part q b)) (closing_substituted z chains (back_part q b))
+  pub first : LeftLimitedPart z chains (front_part q b) front
+  pub second : LeftLimitedPart z chains (back_part q b) back
+
+pub chains_leave_parts_limited :
+    (z : Sizes) (d : Direction) (low c : ℕ) (chains : List SwitchedChain) → 0 < z.slots → AreEvenAbout low c d chains → (q : ℕ) (b front back : Buffer) → b.direction ≡ d → b.cursor ≡ 0 → produces_concat b.flags ≡ false → IsRise c q b
+    → TellsOpen c (closing_substituted z chains b) → HasBetween low c (closing_substituted z chains b).buffer.line → IsLimitedFrom (front_part q b) front → IsLimitedFrom (back_part q b) back
+    → operations_left b.max_ops < operations_left front.max_ops + operations_left (closing_substituted z chains b).buffer.max_ops
+    → operations_left b.max_ops < operations_left back.max_ops + operations_left (closing_substituted z chains b).buffer.max_ops
+    → LeftLimitedParts z chains q b front back
+chains_leave_parts_limited z d low c chains slots even q b front back is cursor plain rise tells between limited_front limited_back few_front few_back =
+    let whole = chains_leave_parts_about z d low c chains slots even q b is cursor plain rise tells between in
     let some = tells.budget in
     let more_front = whole.parts.front_budget in
     let more_back = whole.parts.back_budget in
-    let first = limited_line z slots d c chains even (front_part q b) front limited_front is plain (omega (arith, some, more_front)) (omega (arith, few_front, more_front)) in
-    let second = limited_line z slots d c chains even (back_part q b) back limited_back is plain (omega (arith, some, more_back)) (omega (arith, few_back, more_back)) in
-    whole.parts.line
-    ∙ (ap (λ xs. xs ++ (closing_substituted z chains (back_part q b)).buffer.line) (sym first)
-    ∙ ap (λ ys. (closing_substituted z chains front).buffer.line ++ ys) (sym second))
+    record {
+      whole = whole;
+      first = limited_part z slots d low c chains even (front_part q b) front limited_front is plain (omega (arith, some, more_front)) (omega (arith, few_front, more_front));
+      second = limited_part z slots d low c chains even (back_part q b) back limited_back is plain (omega (arith, some, more_back)) (omega (arith, few_back, more_back));
+    }
+
+pub chains_leave_limited_parts_about : ChainsLeaveLimitedPartsAbout
+chains_leave_limited_parts_about z d low c chains slots even q b front back is cursor plain rise tells between limited_front limited_back few_front few_back =
+    let parts = chains_leave_parts_limited z d low c chains slots even q b front back is cursor plain rise tells between limited_front limited_back few_front few_back in
+    parts.whole.parts.line
+    ∙ (ap (λ xs. xs ++ (closing_substituted z chains (back_part q b)).buffer.line) (sym parts.first.line)
+    ∙ ap (λ ys. (closing_substituted z chains front).buffer.line ++ ys) (sym parts.second.line))
+
+-- what is on at each cluster, or at none, is alike about each place
+even_about : (low c : ℕ) (d : Direction) (switch : Switch) (s : Subtable) → IsEven d switch s → IsEvenAbout low c d switch s
+even_about low c d switch s (inl skipped) = inl skipped
+even_about low c d switch s (inr (inl alone)) = inr (inl alone)
+even_about low c d switch s (inr (inr (inl each))) = inr (inr (inl (λ e high under. each e)))
+even_about low c d switch s (inr (inr (inr none))) = inr (inr (inr (λ e high under. none e)))
+
+pub all_even_about : (low c : ℕ) (d : Direction) (chains : List SwitchedChain) → AreEven d chains → AreEvenAbout low c d chains
+all_even_about low c d chains even k e within n s inside = even_about low c d (slice_index_or chains k e).switch (slice_index_or (slice_index_or chains k e).subtables n s) (even k e within n s inside)
+
+-- no cluster is from 1 through 0
+nowhere_about : (d : Direction) (chains : List SwitchedChain) → AreEvenAbout 1 0 d chains
+nowhere_about d chains k e within n s inside = inr (inr (inl (λ x high under. absurd (omega (arith, high, under)))))
+
+-- what chains keep, however their subtables are switched
+pub chains_keep_any : (z : Sizes) → 0 < z.slots → (d : Direction) (chains : List SwitchedChain) (b : Buffer) → b.direction ≡ d → produces_concat b.flags ≡ false
+    → KeptByChains b (closing_substituted z chains b).buffer
+chains_keep_any z slots d chains = chains_keep_about z slots d 1 0 chains (nowhere_about d chains)
+
+pub chains_keep : (z : Sizes) → 0 < z.slots → (d : Direction) (chains : List SwitchedChain) → AreEven d chains → (b : Buffer) → b.direction ≡ d → produces_concat b.flags ≡ false
+    → KeptByChains b (closing_substituted z chains b).buffer
+chains_keep z slots d chains even = chains_keep_any z slots d chains
+
+pub chains_leave_parts : ChainsLeaveParts
+chains_leave_parts z d c chains slots even = chains_leave_parts_about z d 0 c chains slots (all_even_about 0 c d chains even)
+
+pub chains_leave_limited_parts : ChainsLeaveLimitedParts
+chains_leave_limited_parts z d c chains slots even = chains_leave_limited_parts_about z d 0 c chains slots (all_even_about 0 c d chains even)

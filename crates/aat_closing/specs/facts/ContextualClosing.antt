@@ -15,11 +15,10 @@ use Rattle.aat_run.specs.Machine.{break_marked_at}
 use Rattle.aat_run.specs.facts.MachineRuns.{buffer_kept}
 use Rattle.aat_kinds.specs.Contextual.{Entry, IsFit, Registers, act, actionable, can_act, fresh}
 use Rattle.aat_kinds.specs.facts.ContextualLaws as laws
-use Rattle.aat_cut_kinds.specs.Cut.{IsCutPlace}
 use Rattle.aat_cut_kinds.specs.CutLaws.{ActsOnBoth, IsClosed, IsCutLawful, IsIdle, IsLocal, KeepsLine, KeepsMarks, KeepsSound, MovesOn}
 use Rattle.aat_cut_kinds.specs.Greater.{IsFlaggedAt, clusters}
 use Rattle.aat_cut_kinds.specs.Parts.{followed_by, moved_on}
-use Rattle.aat_cut_kinds.specs.facts.ContextCuts.{RunsParted, runs_parted}
+use Rattle.aat_cut_kinds.specs.facts.ContextCuts.{CutOf, RunsParted, runs_parted}
 use Rattle.aat_cut_kinds.specs.facts.Flags.{calm_unsafe, cut_flags, flag_stays}
 use Rattle.aat_cut_kinds.specs.facts.MarksOnly.{of_unsafe, same_at}
 use Rattle.aat_cut_kinds.specs.facts.Spans.{unsafe_in_back, unsafe_in_front}
@@ -353,7 +352,7 @@ module _ (classes : Option (List (ℕ × ℕ))) (lookups : List (List (ℕ × �
       }
 
       -- at an unmarked cut the run leaves its parts
-      pub leaves_parts : (b : Buffer) → b.line ≡ old → q < length b.line → IsCutPlace on table x Marked q b → RunsParted on table x q b
+      pub leaves_parts : (b : Buffer) → b.line ≡ old → q < length b.line → CutOf on table x IsFit Marked q b → RunsParted on table x q b
       leaves_parts b is within cut =
           runs_parted on table x IsFit (closed.keeps_fit IsFit (act classes lookups) contextual_from (laws.keeps_fit classes lookups)) laws.passes_fit
           (closed.pays IsFit (act classes lookups) contextual_from (laws.pays classes lookups))

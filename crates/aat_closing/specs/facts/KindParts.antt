@@ -26,7 +26,7 @@ use Rattle.aat_cut_kinds.specs.CutLaws.{IsIdle}
 use Rattle.aat_cut_kinds.specs.Greater.{IsFlaggedAt, greater_at}
 use Rattle.aat_cut_kinds.specs.Open.{is_open}
 use Rattle.aat_cut_kinds.specs.Parts.{back_part, front_part}
-use Rattle.aat_cut_kinds.specs.facts.ContextCuts.{RunsParted}
+use Rattle.aat_cut_kinds.specs.facts.ContextCuts.{AtOn, CutOf, RunsParted}
 use Rattle.aat_cut_kinds.specs.facts.Opens.{along, opened}
 use Rattle.aat_cut_kinds.specs.facts.MarksOnly.{same_at}
 use Rattle.aat_cut_kinds.specs.facts.ContextualCuts.{neither}
@@ -35,7 +35,8 @@ use Rattle.aat_cut_kinds.specs.facts.InsertionCuts as cuts
 use Rattle.aat_cut_kinds.specs.facts.LastFlags.{FlaggedDownTo, falls, not_flagged_down_to}
 use Rattle.aat_closing.specs.Closing.{insertion_may_act}
 use Rattle.aat_closing.specs.ClosingRuns.{contextual_closing, insertion_closing, rearrangement_closing, told_run}
-use Rattle.aat_closing.specs.ToldParts.{IsFall, IsRise, PartsAtFall, PartsAtRise, ToldInParts}
+use Rattle.aat_cut_kinds.specs.facts.OffSides.{KeepsSides}
+use Rattle.aat_closing.specs.ToldParts.{IsFall, IsRise, PartsAtFall, PartsAtRise, TellsOpen, ToldInParts}
 use Rattle.aat_closing.specs.facts.ClosedLaws.{one_glyph}
 use Rattle.aat_closing.specs.facts.ContextualClosing as facts
 use Rattle.aat_closing.specs.facts.RearrangementClosing as rearranged
@@ -94,9 +95,14 @@ module _ (classes : Option (List (ℕ × ℕ))) (lookups : List (List (ℕ × �
       let long : length (left b) ≡ length b.line = sym (length-map (left b) cluster) ∙ (ap length kept ∙ length-map b.line cluster) in
       (o.place, omega (arith, within, long), sym (same_at cluster (left b) b.line o.place kept) ∙ o.at)
 
-  pub contextual_at_rise : PartsAtRise (told_run on table x) on
+  -- at a cut of either sort, which is unmarked
+  abbrev pub ContextualCut : ℕ → Buffer → Type 1
+  ContextualCut q b = (IsFlaggedAt q b.line (machine_run on table x b).buffer.line → ⊥) → CutOf on table x contextual.IsFit (IsFlaggedAt q b.line) q b
+
+  pub contextual_cut_at_rise : (c q : ℕ) (b : Buffer) → IsRise c q b → TellsOpen c (told_run on table x b) → ContextualCut q b
+      → ToldInParts (told_run on table x b) (told_run on table x (front_part q b)) (told_run on table x (back_part q b))
   unfolding told_run left
-  contextual_at_rise c q b rise is_on tells =
+  contextual_cut_at_rise c q b rise tells cut =
       let within = rise.before_end in
       let some = rise.behind_first in
       let low : cluster_at b.line (q - 1) < c = before_at (λ n. n < c) q (q - 1) b.line (omega (arith, some)) (omega (arith, within)) rise.before in
@@ -106,7 +112,7 @@ module _ (classes : Option (List (ℕ × ℕ))) (lookups : List (List (ℕ × �
       let greater : greater_at q b.line ≡ q = (let up : nat_lt (cluster_at b.line (q - 1)) (cluster_at b.line q) ≡ true = grind (arith, nat_tests, low, high) in rw up refl) in
       told_parts on table x q b
       (facts.leaves_parts classes lookups on table q b.line some (λ e. absurd (omega (arith, e, low, high))) b refl within
-      (record { behind_first = some; before_end = within; is_on = is_on; through = tells.told; unmarked = λ flagged. clear_at c q q b greater same within tells.opens flagged; budget = tells.budget }))
+      (cut (λ flagged. clear_at c q q b greater same within tells.opens flagged)))
     where
       by_side : (c q : ℕ) (b : Buffer) → IsRise c q b → (p : ℕ) → p < length b.line → cluster_at b.line p ≡ c → c ≤ cluster_at b.line q → ((p < q) ⊎ (q ≤ p)) → cluster_at b.line q ≡ c
       by_side c q b rise p inside at high (inl front) =
@@ -117,9 +123,16 @@ module _ (classes : Option (List (ℕ × ℕ))) (lookups : List (List (ℕ × �
           let up : cluster_at b.line q ≤ cluster_at b.line p = along (λ n k. n ≤ k) (λ n. omega arith) b.line rise.ordered q p back inside in
           omega (arith, up, at, high)
 
-  pub contextual_at_fall : PartsAtFall (told_run on table x) on
+  pub contextual_at_rise : PartsAtRise (told_run on table x) on
+  unfolding told_run
+  contextual_at_rise c q b rise is_on tells =
+      contextual_cut_at_rise c q b rise tells
+      (λ unmarked. AtOn (record { behind_first = rise.behind_first; before_end = rise.before_end; is_on = is_on; through = tells.told; unmarked = unmarked; budget = tells.budget }))
+
+  pub contextual_cut_at_fall : (c q : ℕ) (b : Buffer) → IsFall c q b → TellsOpen c (told_run on table x b) → ContextualCut q b
+      → ToldInParts (told_run on table x b) (told_run on table x (front_part q b)) (told_run on table x (back_part q b))
   unfolding told_run left
-  contextual_at_fall c q b fall is_on tells =
+  contextual_cut_at_fall c q b fall tells cut =
       let within = fall.before_end in
       let some = fall.behind_first in
       let high : c ≤ cluster_at b.line (q - 1) = before_at (λ n. c ≤ n) q (q - 1) b.line (omega (arith, some)) (omega (arith, within)) fall.before in
@@ -129,7 +142,7 @@ module _ (classes : Option (List (ℕ × ℕ))) (lookups : List (List (ℕ × �
       let greater : greater_at q b.line ≡ q - 1 = (let down : nat_lt (cluster_at b.line (q - 1)) (cluster_at b.line q) ≡ false = grind (arith, nat_tests, low, high) in rw down refl) in
       told_parts on table x q b
       (facts.leaves_parts classes lookups on table q b.line some (λ e. absurd (omega (arith, e, low, high))) b refl within
-      (record { behind_first = some; before_end = within; is_on = is_on; through = tells.told; unmarked = λ flagged. clear_at c q (q - 1) b greater same (omega (arith, within)) tells.opens flagged; budget = tells.budget }))
+      (cut (λ flagged. clear_at c q (q - 1) b greater same (omega (arith, within)) tells.opens flagged)))
     where
       by_side : (c q : ℕ) (b : Buffer) → IsFall c q b → (p : ℕ) → p < length b.line → cluster_at b.line p ≡ c → c ≤ cluster_at b.line (q - 1) → ((p < q) ⊎ (q ≤ p)) → cluster_at b.line (q - 1) ≡ c
       by_side c q b fall p inside at high (inl front) =
@@ -139,6 +152,12 @@ module _ (classes : Option (List (ℕ × ℕ))) (lookups : List (List (ℕ × �
       by_side c q b fall p inside at high (inr back) =
           let low : cluster_at b.line p < c = behind_at (λ n. n < c) q p b.line back inside fall.behind in
           absurd (omega (arith, low, at))
+
+  pub contextual_at_fall : PartsAtFall (told_run on table x) on
+  unfolding told_run
+  contextual_at_fall c q b fall is_on tells =
+      contextual_cut_at_fall c q b fall tells
+      (λ unmarked. AtOn (record { behind_first = fall.behind_first; before_end = fall.before_end; is_on = is_on; through = tells.told; unmarked = unmarked; budget = tells.budget }))
 
 -- Insertion: glyphs go in on either side of the cut.
 module _ (glyphs : List GlyphId) (on : ℕ → Bool) (table : TableValue insertion.Entry) where
@@ -171,23 +190,37 @@ module _ (glyphs : List GlyphId) (on : ℕ → Bool) (table : TableValue inserti
         clusters = λ e r d fit. (insertion_kept (λ n k. n ≤ k) (λ n k same. omega (arith, same)) glyphs e r d).from;
       })
 
-  plain_at_rise : PartsAtRise (told_run on table plain) on
+  plain_cut_at_rise : (c q : ℕ) (b : Buffer) → IsRise c q b → TellsOpen c (told_run on table plain b) → ((FlaggedFrom c (machine_run on table plain b).buffer.line → ⊥) → CutOf on table plain cuts.Near (FlaggedFrom c) q b)
+      → ToldInParts (told_run on table plain b) (told_run on table plain (front_part q b)) (told_run on table plain (back_part q b))
   unfolding told_run plain may_act
-  plain_at_rise c q b rise is_on tells =
+  plain_cut_at_rise c q b rise tells cut =
       let line : List hb_glyph_info_t = (machine_run on table plain b).buffer.line in
       let ordered : IsRisingLine line = (order_of b).rising rise.merges rise.ordered in
       told_parts on table plain q b
       (cuts.leaves_parts glyphs on table may_act (λ e r s p n i k below within. refl) names_none (λ n. n < c) (λ n. c ≤ n) (FlaggedFrom c) (rises c) q b rise.before rise.behind
-      (record { behind_first = rise.behind_first; before_end = rise.before_end; is_on = is_on; through = tells.told; unmarked = λ flagged. not_flagged_from c line (unflagged_from c line ordered tells.opens) flagged; budget = tells.budget }))
+      (cut (λ flagged. not_flagged_from c line (unflagged_from c line ordered tells.opens) flagged)))
 
-  plain_at_fall : PartsAtFall (told_run on table plain) on
+  plain_at_rise : PartsAtRise (told_run on table plain) on
+  unfolding told_run
+  plain_at_rise c q b rise is_on tells =
+      plain_cut_at_rise c q b rise tells
+      (λ unmarked. AtOn (record { behind_first = rise.behind_first; before_end = rise.before_end; is_on = is_on; through = tells.told; unmarked = unmarked; budget = tells.budget }))
+
+  plain_cut_at_fall : (c q : ℕ) (b : Buffer) → IsFall c q b → TellsOpen c (told_run on table plain b) → ((FlaggedDownTo c (machine_run on table plain b).buffer.line → ⊥) → CutOf on table plain cuts.Near (FlaggedDownTo c) q b)
+      → ToldInParts (told_run on table plain b) (told_run on table plain (front_part q b)) (told_run on table plain (back_part q b))
   unfolding told_run plain may_act
-  plain_at_fall c q b fall is_on tells =
+  plain_cut_at_fall c q b fall tells cut =
       let line : List hb_glyph_info_t = (machine_run on table plain b).buffer.line in
       let ordered : IsFallingLine line = (order_of b).falling fall.merges fall.ordered in
       told_parts on table plain q b
       (cuts.leaves_parts glyphs on table may_act (λ e r s p n i k below within. refl) names_none (λ n. c ≤ n) (λ n. n < c) (FlaggedDownTo c) (falls c) q b fall.before fall.behind
-      (record { behind_first = fall.behind_first; before_end = fall.before_end; is_on = is_on; through = tells.told; unmarked = λ flagged. not_flagged_down_to c line (unflagged_down_to c line ordered tells.opens) flagged; budget = tells.budget }))
+      (cut (λ flagged. not_flagged_down_to c line (unflagged_down_to c line ordered tells.opens) flagged)))
+
+  plain_at_fall : PartsAtFall (told_run on table plain) on
+  unfolding told_run
+  plain_at_fall c q b fall is_on tells =
+      plain_cut_at_fall c q b fall tells
+      (λ unmarked. AtOn (record { behind_first = fall.behind_first; before_end = fall.before_end; is_on = is_on; through = tells.told; unmarked = unmarked; budget = tells.budget }))
 
   pub insertion_at_rise : PartsAtRise (told_run on table (insertion_closing glyphs)) on
   insertion_at_rise = subst (λ (x : Context insertion.Registers insertion.Entry). PartsAtRise (told_run on table x) on) (sym is_plain) plain_at_rise
@@ -195,10 +228,41 @@ module _ (glyphs : List GlyphId) (on : ℕ → Bool) (table : TableValue inserti
   pub insertion_at_fall : PartsAtFall (told_run on table (insertion_closing glyphs)) on
   insertion_at_fall = subst (λ (x : Context insertion.Registers insertion.Entry). PartsAtFall (told_run on table x) on) (sym is_plain) plain_at_fall
 
+  -- at a cut of either sort, which is unmarked
+  abbrev pub InsertionCut : (List hb_glyph_info_t → Type 0) → ℕ → Buffer → Context insertion.Registers insertion.Entry → Type 1
+  InsertionCut Marked q b x = (Marked (machine_run on table x b).buffer.line → ⊥) → CutOf on table x cuts.Near Marked q b
+
+  abbrev ToldParts : ℕ → Buffer → Context insertion.Registers insertion.Entry → Type 0
+  ToldParts q b x = ToldInParts (told_run on table x b) (told_run on table x (front_part q b)) (told_run on table x (back_part q b))
+
+  pub insertion_cut_at_rise : (c q : ℕ) (b : Buffer) → IsRise c q b → TellsOpen c (told_run on table (insertion_closing glyphs) b) → InsertionCut (FlaggedFrom c) q b (insertion_closing glyphs) → ToldParts q b (insertion_closing glyphs)
+  insertion_cut_at_rise c q b rise =
+      subst (λ (x : Context insertion.Registers insertion.Entry). TellsOpen c (told_run on table x b) → InsertionCut (FlaggedFrom c) q b x → ToldParts q b x) (sym is_plain) (plain_cut_at_rise c q b rise)
+
+  pub insertion_cut_at_fall : (c q : ℕ) (b : Buffer) → IsFall c q b → TellsOpen c (told_run on table (insertion_closing glyphs) b) → InsertionCut (FlaggedDownTo c) q b (insertion_closing glyphs) → ToldParts q b (insertion_closing glyphs)
+  insertion_cut_at_fall c q b fall =
+      subst (λ (x : Context insertion.Registers insertion.Entry). TellsOpen c (told_run on table x b) → InsertionCut (FlaggedDownTo c) q b x → ToldParts q b x) (sym is_plain) (plain_cut_at_fall c q b fall)
+
+  -- what an act keeps of the sides of a cut
+  pub insertion_sides : (Order : ℕ → ℕ → Type 0) → ((x y : ℕ) → x ≡ y → Order x y) → KeepsSides (insertion_closing glyphs).act cuts.Near Order
+  unfolding plain
+  insertion_sides Order same = subst (λ (x : Context insertion.Registers insertion.Entry). KeepsSides x.act cuts.Near Order) (sym is_plain) plain_sides
+    where
+      plain_sides : KeepsSides (insertion.act glyphs) cuts.Near Order
+      plain_sides = record {
+        ordered = λ e r d fit level ordered. (insertion_kept Order same glyphs e r d).ordered level ordered;
+        clusters = λ e r d fit. (insertion_kept Order same glyphs e r d).from;
+        rest = λ e r d fit below. cuts.passes_none glyphs e r d fit.0 below;
+      }
+
 -- Rearrangement: where the clusters rise.
+pub rearrangement_cut_at_rise : (bound : ℕ) (on : ℕ → Bool) (table : TableValue rearrangement.Entry) (c q : ℕ) (b : Buffer) → IsRise c q b → CutOf on table (rearrangement_closing bound) rearranged.Near (λ line. is_open c line ≡ true → ⊥) q b
+    → ToldInParts (told_run on table (rearrangement_closing bound) b) (told_run on table (rearrangement_closing bound) (front_part q b)) (told_run on table (rearrangement_closing bound) (back_part q b))
+rearrangement_cut_at_rise bound on table c q b rise cut =
+    told_parts on table (rearrangement_closing bound) q b (rearranged.parted bound on table c q b rise.before rise.behind rise.merges rise.ordered cut)
+
 pub rearrangement_at_rise : (bound : ℕ) (on : ℕ → Bool) (table : TableValue rearrangement.Entry) → PartsAtRise (told_run on table (rearrangement_closing bound)) on
 unfolding told_run
 rearrangement_at_rise bound on table c q b rise is_on tells =
-    told_parts on table (rearrangement_closing bound) q b
-    (rearranged.parted bound on table c q b rise.before rise.behind rise.merges rise.ordered
-    (record { behind_first = rise.behind_first; before_end = rise.before_end; is_on = is_on; through = tells.told; unmarked = λ closed. closed tells.opens; budget = tells.budget }))
+    rearrangement_cut_at_rise bound on table c q b rise
+    (AtOn (record { behind_first = rise.behind_first; before_end = rise.before_end; is_on = is_on; through = tells.told; unmarked = λ closed. closed tells.opens; budget = tells.budget }))

@@ -31,7 +31,7 @@ use Rattle.aat_cut_kinds.specs.CutLaws.{ActsOnBoth, AgreesWith, IdlesAtCut, IsCl
 use Rattle.aat_cut_kinds.specs.Greater.{clusters}
 use Rattle.aat_cut_kinds.specs.Open.{is_open}
 use Rattle.aat_cut_kinds.specs.Parts.{followed_by, moved_on}
-use Rattle.aat_cut_kinds.specs.facts.ContextCuts.{RunsParted, runs_parted}
+use Rattle.aat_cut_kinds.specs.facts.ContextCuts.{AtOn, CutOf, RunsParted, inside_of, runs_parted}
 use Rattle.aat_cut_kinds.specs.facts.Flags.{IsCalm, calm_masks, calm_unsafe}
 use Rattle.aat_cut_kinds.specs.facts.Inside.{class_in_back, class_in_front}
 use Rattle.aat_cut_kinds.specs.facts.MarksOnly.{of_unsafe}
@@ -40,9 +40,11 @@ use Rattle.aat_cut_kinds.specs.facts.Opens.{over_fall, over_rise, steady_open}
 use Rattle.aat_cut_kinds.specs.facts.Spans.{unsafe_in_back, unsafe_in_front}
 use Rattle.aat_cut_kinds.specs.facts.ContextualCuts.{by_equation}
 use Rattle.aat_cut_kinds.specs.facts.CutSides.{IsOf, all_from}
+use Rattle.aat_cut_kinds.specs.facts.OffSides.{KeepsSides}
 use Rattle.aat_closing.specs.Closing.{closed_from, closing, ligature_from, oldest_of_newest, steps_of}
 use Rattle.aat_closing.specs.ClosingRuns.{ligature_closing}
 use Rattle.aat_closing.specs.facts.ClosedLaws as closed
+use Rattle.aat_closing.specs.facts.ClosedSides.{closed_sides}
 use Rattle.aat_closing.specs.facts.ClosedLaws.{length_closed, one_glyph}
 use Rattle.aat_closing.specs.facts.LigatureActs.{act_in_front, act_keeps, ligated_in_back}
 use Rattle.aat_closing.specs.facts.LigatureStacks.{AreAlike, IsWithin, all_before, both_held, component_held, newest_within}
@@ -82,7 +84,7 @@ module _ (actions values : List ℕ) (ligatures : List GlyphId) (size : ℕ) (ta
   acts = closing (ligature_from actions table) (act actions values ligatures)
 
   -- registers that fit have so many slots
-  Near : Registers → ℕ → ℕ → Type 0
+  pub Near : Registers → ℕ → ℕ → Type 0
   Near r p n = IsFit r p n × (length r.slots ≡ size)
 
   fits_closed : (i : ℕ) (r : Registers) (b : Buffer) → IsFit r b.cursor (length b.line) → IsFit r b.cursor (length (closed_from i b).line)
@@ -95,6 +97,12 @@ module _ (actions values : List ℕ) (ligatures : List GlyphId) (size : ℕ) (ta
       let i : ℕ = ligature_from actions table e r b in
       let kept = laws.keeps actions values ligatures e r (closed_from i b) (fits_closed i r b fit.0) in
       record { length = kept.length ∙ length_closed i b; cursor = kept.cursor; budget = kept.budget }
+
+  -- what an act keeps of the sides of a cut
+  pub keeps_sides : (Order : ℕ → ℕ → Type 0) → ((x y : ℕ) → x ≡ y → Order x y) → KeepsSides (closing (ligature_from actions table) (act actions values ligatures)) Near Order
+  unfolding acts Near
+  keeps_sides Order same =
+      closed_sides Near (act actions values ligatures) (ligature_from actions table) Order same (λ e r b fit. ligature_kept Order same actions values ligatures e r b) keeps
 
   fits_fresh : 0 < size → FitsFresh Near (fresh size)
   unfolding Near
@@ -549,11 +557,12 @@ module _ (actions values : List ℕ) (ligatures : List GlyphId) (size : ℕ) (ta
 
       -- between two such sides, at a cut that is not marked, the run leaves the parts
       parted : 0 < size → (q : ℕ) (b : Buffer) → All (λ (g : hb_glyph_info_t). Front g.cluster) (take q b.line) → All (λ (g : hb_glyph_info_t). Back g.cluster) (drop q b.line) → IsOrdered R b.line
-          → IsCutPlace on table (ligature_closing table actions values ligatures size) Marked q b → RunsParted on table (ligature_closing table actions values ligatures size) q b
+          → CutOf on table (ligature_closing table actions values ligatures size) Near Marked q b → RunsParted on table (ligature_closing table actions values ligatures size) q b
       unfolding acts m Sound
       parted some q b front back ordered cut =
-          let within = cut.before_end in
-          let behind_first = cut.behind_first in
+          let inside = inside_of on table (ligature_closing table actions values ligatures size) Near Marked q b cut in
+          let within = inside.1 in
+          let behind_first = inside.0 in
           runs_parted on table (ligature_closing table actions values ligatures size) Near keeps_fit passes_fit (pays_in_place acts Near keeps) keeps_settings (lengthens_in_place acts Near keeps) makes_no_positions (fits_fresh some) never_in_place
           Reached Alike Marked (IsOf Front) (IsOf Back) Sound is_lawful q b
           (omega (arith, behind_first, within, length-take q b.line), front) (omega (arith, within, length-drop q b.line), back) ordered cut
@@ -585,18 +594,18 @@ module _ (actions values : List ℕ) (ligatures : List GlyphId) (size : ℕ) (so
   -- Where clusters rise from below c to c or more, and c is open behind the run, the run leaves the parts, and the runs
   -- over these come to their ends.
   pub parted_at_rise : All (λ (g : hb_glyph_info_t). g.cluster < c) (take q b.line) → All (λ (g : hb_glyph_info_t). c ≤ g.cluster) (drop q b.line) → IsRisingLine b.line
-      → IsCutPlace on table run (λ line. is_open c line ≡ true → ⊥) q b → RunsParted on table run q b
+      → CutOf on table run (Near actions values ligatures size table) (λ line. is_open c line ≡ true → ⊥) q b → RunsParted on table run q b
   parted_at_rise = parted actions values ligatures size table on (λ n. n < c) (λ n. c ≤ n) (λ n k. n ≤ k) (λ line. is_open c line ≡ true → ⊥) (rise_sided c) some q b
 
   -- and where they fall from c or more to below c
   pub parted_at_fall : All (λ (g : hb_glyph_info_t). c ≤ g.cluster) (take q b.line) → All (λ (g : hb_glyph_info_t). g.cluster < c) (drop q b.line) → IsFallingLine b.line
-      → IsCutPlace on table run (λ line. is_open c line ≡ true → ⊥) q b → RunsParted on table run q b
+      → CutOf on table run (Near actions values ligatures size table) (λ line. is_open c line ≡ true → ⊥) q b → RunsParted on table run q b
   parted_at_fall = parted actions values ligatures size table on (λ n. c ≤ n) (λ n. n < c) (λ n k. k ≤ n) (λ line. is_open c line ≡ true → ⊥) (fall_sided c) some q b
 
   pub leaves_parts_at_rise : All (λ (g : hb_glyph_info_t). g.cluster < c) (take q b.line) → All (λ (g : hb_glyph_info_t). c ≤ g.cluster) (drop q b.line) → IsRisingLine b.line
       → IsCutPlace on table run (λ line. is_open c line ≡ true → ⊥) q b → LeavesItsParts on table run q b
-  leaves_parts_at_rise front back rising cut = (parted_at_rise front back rising cut).parts
+  leaves_parts_at_rise front back rising cut = (parted_at_rise front back rising (AtOn cut)).parts
 
   pub leaves_parts_at_fall : All (λ (g : hb_glyph_info_t). c ≤ g.cluster) (take q b.line) → All (λ (g : hb_glyph_info_t). g.cluster < c) (drop q b.line) → IsFallingLine b.line
       → IsCutPlace on table run (λ line. is_open c line ≡ true → ⊥) q b → LeavesItsParts on table run q b
-  leaves_parts_at_fall front back falling cut = (parted_at_fall front back falling cut).parts
+  leaves_parts_at_fall front back falling cut = (parted_at_fall front back falling (AtOn cut)).parts

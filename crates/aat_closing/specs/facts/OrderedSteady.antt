@@ -1,4 +1,4 @@
--- The closing runs of subtables that are on about a place are steady, in the order of any coverage.
+-- The closing runs of subtables that are alike about a place are steady, in the order of any coverage.
 use Rattle.std.proofs.Common.{◌≡◌, ◌∙◌, ◌⊎◌, ℕ, ℤ, ◌+◌, ◌<◌, ◌≤◌, Bool, true, false, cond, length, None, inl, inr, sym, arith}
 use Rattle.std.proofs.lemmas.Bool.{cases_lt}
 use Rattle.std.specs.Prelude.{slice_index_or}
@@ -13,42 +13,50 @@ use Rattle.aat_kinds.specs.Kinds.{Sizes, is_reversed}
 use Rattle.aat_cut_kinds.specs.Open.{is_open}
 use Rattle.aat_cut_kinds.specs.Parts.{back_part, front_part}
 use Rattle.aat_cut_kinds.specs.facts.Opens.{along, opened}
-use Rattle.aat_closing.specs.ClosingCuts.{IsOnAbout, ListsLeaveParts}
+use Rattle.aat_closing.specs.ClosingCuts.{ListsLeaveParts}
 use Rattle.aat_closing.specs.ClosingRuns.{Told, closing_ordered, closing_run, may_split, turned}
+use Rattle.aat_closing.specs.CutsAbout.{IsAlikeAbout, KindsLeavePartsAboutFall, KindsLeavePartsAboutRise, ListsLeavePartsAbout}
 use Rattle.aat_closing.specs.facts.Steady.{IsSteady}
 use Rattle.aat_closing.specs.ToldParts.{HasBetween, IsFall, IsRise, TellsOpen, ToldInParts}
 use Rattle.aat_closing.specs.facts.AllKinds.{kinds_at_fall, kinds_at_rise}
 use Rattle.aat_closing.specs.facts.KindParts.{before_at, behind_at}
 use Rattle.aat_closing.specs.facts.Limited.{LeavesAlike, with_limits}
 use Rattle.aat_closing.specs.facts.LimitedKinds.{closing_runs_limited}
+use Rattle.aat_closing.specs.facts.OffParts.{kinds_off_at_fall, kinds_off_at_rise}
 use Rattle.aat_closing.specs.facts.ToldKeepsKinds.{closing_runs_keep}
-use Rattle.aat_closing.specs.facts.ToldLists.{steady_leave_parts}
+use Rattle.aat_closing.specs.facts.ToldLists.{between_came, steady_leave_parts}
 use Rattle.aat_closing.specs.facts.ToldMore.{closing_runs_keep_more}
 use Rattle.aat_closing.specs.facts.TurnedSteady.{FallsSteady, turned_steady}
 
 -- at each rise to c the run leaves the parts, where a glyph is from low on and below c, and at each fall
 abbrev pub PartsBetween : Sizes → SubtableKind → ℕ → ℕ → (ℕ → Bool) → Type 0
 PartsBetween z kind low c on =
-    (q : ℕ) (b : Buffer) → IsRise c q b → HasBetween low c b.line → TellsOpen c (closing_run z on kind b)
+    (q : ℕ) (b : Buffer) → IsRise c q b → HasBetween low c (closing_run z on kind b).buffer.line → TellsOpen c (closing_run z on kind b)
     → ToldInParts (closing_run z on kind b) (closing_run z on kind (front_part q b)) (closing_run z on kind (back_part q b))
 
 abbrev pub PartsBetweenAtFall : Sizes → SubtableKind → ℕ → ℕ → (ℕ → Bool) → Type 0
 PartsBetweenAtFall z kind low c on =
-    may_split kind ≡ false → (q : ℕ) (b : Buffer) → IsFall c q b → HasBetween low c b.line → TellsOpen c (closing_run z on kind b)
+    may_split kind ≡ false → (q : ℕ) (b : Buffer) → IsFall c q b → HasBetween low c (closing_run z on kind b).buffer.line → TellsOpen c (closing_run z on kind b)
     → ToldInParts (closing_run z on kind b) (closing_run z on kind (front_part q b)) (closing_run z on kind (back_part q b))
 
-module _ (z : Sizes) (slots : 0 < z.slots) (kind : SubtableKind) (low c : ℕ) (on : ℕ → Bool) (is_on : IsOnAbout low c on) where
+-- The place of a cut that is open, with a glyph left from low on and below c, has a cluster from low through c.
+module _ (z : Sizes) (slots : 0 < z.slots) (kind : SubtableKind) (low c : ℕ) (on : ℕ → Bool) where
+  abbrev left : Buffer → Told
+  left b = closing_run z on kind b
+
+  came : (b : Buffer) → HasBetween low c (left b).buffer.line → HasBetween low c b.line
+  came b between = between_came low c b.line (left b).buffer.line ((closing_runs_keep z on kind slots).order b).clusters between
+
   -- at a rise the place is that of c
-  on_at_rise : (q : ℕ) (b : Buffer) → IsRise c q b → HasBetween low c b.line → is_open c (closing_run z on kind b).buffer.line ≡ true → on (cluster_at b.line q) ≡ true
-  on_at_rise q b rise between is =
+  about_rise : (q : ℕ) (b : Buffer) → IsRise c q b → HasBetween low c (left b).buffer.line → is_open c (left b).buffer.line ≡ true → (low ≤ cluster_at b.line q) × (cluster_at b.line q ≤ c)
+  about_rise q b rise between is =
       let within = rise.before_end in
       let high : c ≤ cluster_at b.line q = behind_at (λ n. c ≤ n) q q b.line (omega arith) within rise.behind in
-      let o = opened c (closing_run z on kind b).buffer.line is in
+      let o = opened c (left b).buffer.line is in
       let source = ((closing_runs_keep z on kind slots).order b).clusters o.place o.inside in
       let some = between.2 in
       let below = between.3 in
-      let least = up_to q b rise source.0 source.1 (sym source.2 ∙ o.at) (cases_lt source.0 q) in
-      is_on (cluster_at b.line q) (omega (arith, some, below, high)) least
+      (omega (arith, some, below, high), up_to q b rise source.0 source.1 (sym source.2 ∙ o.at) (cases_lt source.0 q))
     where
       up_to : (q : ℕ) (b : Buffer) → IsRise c q b → (p : ℕ) → p < length b.line → cluster_at b.line p ≡ c → ((p < q) ⊎ (q ≤ p)) → cluster_at b.line q ≤ c
       up_to q b rise p inside at (inl front) =
@@ -60,13 +68,14 @@ module _ (z : Sizes) (slots : 0 < z.slots) (kind : SubtableKind) (low c : ℕ) (
           omega (arith, up, at)
 
   -- at a fall it has the greatest cluster below c
-  on_at_fall : (q : ℕ) (b : Buffer) → IsFall c q b → HasBetween low c b.line → on (cluster_at b.line q) ≡ true
-  on_at_fall q b fall between =
+  about_fall : (q : ℕ) (b : Buffer) → IsFall c q b → HasBetween low c (left b).buffer.line → (low ≤ cluster_at b.line q) × (cluster_at b.line q ≤ c)
+  about_fall q b fall behind =
+      let between = came b behind in
       let within = fall.before_end in
       let below : cluster_at b.line q < c = behind_at (λ n. n < c) q q b.line (omega arith) within fall.behind in
       let some = between.2 in
       let up = from_place q b fall between.0 between.1 between.3 (cases_lt between.0 q) in
-      is_on (cluster_at b.line q) (omega (arith, some, up)) (omega (arith, below))
+      (omega (arith, some, up), omega (arith, below))
     where
       from_place : (q : ℕ) (b : Buffer) → IsFall c q b → (p : ℕ) → p < length b.line → cluster_at b.line p < c → ((p < q) ⊎ (q ≤ p)) → cluster_at b.line p ≤ cluster_at b.line q
       from_place q b fall p inside below (inl front) =
@@ -75,11 +84,28 @@ module _ (z : Sizes) (slots : 0 < z.slots) (kind : SubtableKind) (low c : ℕ) (
           absurd (omega (arith, below, high))
       from_place q b fall p inside below (inr back) = along (λ n k. k ≤ n) (λ n. omega arith) b.line fall.ordered q p back inside
 
-  pub parts_at_rise : PartsBetween z kind low c on
-  parts_at_rise q b rise between tells = kinds_at_rise z on kind slots c q b rise (on_at_rise q b rise between tells.opens) tells
+  -- a subtable that is alike about the cut leaves the parts
+  pub parts_at_rise : IsAlikeAbout low c on → PartsBetween z kind low c on
+  parts_at_rise (inl is_on) q b rise between tells =
+      let about = about_rise q b rise between tells.opens in
+      kinds_at_rise z on kind slots c q b rise (is_on (cluster_at b.line q) about.0 about.1) tells
+  parts_at_rise (inr is_off) q b rise between tells =
+      let about = about_rise q b rise between tells.opens in
+      kinds_off_at_rise z on kind slots low c is_off q b rise (is_off (cluster_at b.line q) about.0 about.1) between tells
 
-  pub parts_at_fall : PartsBetweenAtFall z kind low c on
-  parts_at_fall never q b fall between tells = kinds_at_fall z on kind slots never c q b fall (on_at_fall q b fall between) tells
+  pub parts_at_fall : IsAlikeAbout low c on → PartsBetweenAtFall z kind low c on
+  parts_at_fall (inl is_on) never q b fall between tells =
+      let about = about_fall q b fall between in
+      kinds_at_fall z on kind slots never c q b fall (is_on (cluster_at b.line q) about.0 about.1) tells
+  parts_at_fall (inr is_off) never q b fall between tells =
+      let about = about_fall q b fall between in
+      kinds_off_at_fall z on kind slots never low c is_off q b fall (is_off (cluster_at b.line q) about.0 about.1) between tells
+
+pub kinds_about_rise : KindsLeavePartsAboutRise
+kinds_about_rise z on kind low c slots alike = parts_at_rise z slots kind low c on alike
+
+pub kinds_about_fall : KindsLeavePartsAboutFall
+kinds_about_fall z on kind low c slots alike = parts_at_fall z slots kind low c on alike
 
 -- a run that leaves the parts is steady
 module _ (z : Sizes) (slots : 0 < z.slots) (kind : SubtableKind) (low c : ℕ) (on : ℕ → Bool) (at_rise : PartsBetween z kind low c on) (at_fall : PartsBetweenAtFall z kind low c on) where
@@ -164,7 +190,7 @@ module _ (low c : ℕ) (coverage : Coverage) (x y : Buffer → Told) (there : Is
       by_limited b true = there.limited b
       by_limited b false = here.limited b
 
-      by_parts : (q : ℕ) (b : Buffer) (t : Bool) → IsRise c q b → HasBetween low c b.line → TellsOpen c (cond t (x b) (y b))
+      by_parts : (q : ℕ) (b : Buffer) (t : Bool) → IsRise c q b → HasBetween low c (cond t (x b) (y b)).buffer.line → TellsOpen c (cond t (x b) (y b))
           → ToldInParts (cond t (x b) (y b)) (cond t (x (front_part q b)) (y (front_part q b))) (cond t (x (back_part q b)) (y (back_part q b)))
       by_parts q b true = there.parts q b
       by_parts q b false = here.parts q b
@@ -177,8 +203,11 @@ ordered_steady z slots kind low c on coverage at_rise at_fall =
     (turned_steady low c (closing_run z on kind) (may_split kind) (falls z slots kind low c on at_rise at_fall)) (rises z slots kind low c on at_rise at_fall)
 
 -- lists of subtables
-pub lists_leave_parts : ListsLeaveParts
-lists_leave_parts z low c subtables slots on =
+pub lists_leave_parts_about : ListsLeavePartsAbout
+lists_leave_parts_about z low c subtables slots alike =
     steady_leave_parts (λ (s : (ℕ → Bool) × Coverage × SubtableKind). closing_ordered z s.0 s.1 s.2) low c subtables
-    (λ k d within. let s = slice_index_or subtables k d in let about = on k d within in
+    (λ k d within. let s = slice_index_or subtables k d in let about = alike k d within in
     ordered_steady z slots s.2 low c s.0 s.1 (parts_at_rise z slots s.2 low c s.0 about) (parts_at_fall z slots s.2 low c s.0 about))
+
+pub lists_leave_parts : ListsLeaveParts
+lists_leave_parts z low c subtables slots on = lists_leave_parts_about z low c subtables slots (λ k d within. inl (on k d within))

@@ -24,17 +24,19 @@ use Rattle.aat_cut_kinds.specs.Cut.{IsCutPlace, LeavesItsParts}
 use Rattle.aat_cut_kinds.specs.CutLaws.{ActsOnBoth, IdlesAtCut, IsClosed, IsCutLawful, IsIdle, IsLocal, IsSound, KeepsLine, KeepsMarks, KeepsSound, MovesOn, left_before}
 use Rattle.aat_cut_kinds.specs.Open.{is_open}
 use Rattle.aat_cut_kinds.specs.Parts.{followed_by, moved_on}
-use Rattle.aat_cut_kinds.specs.facts.ContextCuts.{RunsParted, runs_parted}
+use Rattle.aat_cut_kinds.specs.facts.ContextCuts.{AtOn, CutOf, RunsParted, inside_of, runs_parted}
 use Rattle.aat_cut_kinds.specs.facts.Opens.{over_rise, unsafe_open}
 use Rattle.aat_cut_kinds.specs.facts.Spans.{unsafe_in_back, unsafe_in_front}
 use Rattle.aat_cut_kinds.specs.facts.ContextualCuts.{by_equation}
 use Rattle.aat_cut_kinds.specs.facts.CutSides.{IsOf, all_from}
+use Rattle.aat_cut_kinds.specs.facts.OffSides.{KeepsSides}
 use Rattle.aat_closing.specs.Closing.{closed_from, closing, rearrangement_from}
 use Rattle.aat_closing.specs.ClosingRuns.{rearrangement_closing}
+use Rattle.aat_closing.specs.facts.ClosedSides.{closed_sides}
 use Rattle.aat_closing.specs.facts.RearrangementActs.{act_in_back, act_in_front, act_opens, idle_act, set_at, set_in_front}
 
 -- the start is at most at the cursor, and the end at most behind the glyph there, and on the line or at its end
-Near : Registers → ℕ → ℕ → Type 0
+pub Near : Registers → ℕ → ℕ → Type 0
 Near r p n = (r.start ≤ p) × (r.end ≤ p + 1) × (r.end ≤ n)
 
 fits_fresh : FitsFresh Near fresh
@@ -107,6 +109,11 @@ module _ (bound : ℕ) where
       let i : ℕ = rearrangement_from e r b in
       let kept = laws.keeps bound e r (closed_from i b) (end_closed i r b fit) in
       record { length = kept.length ∙ length_closed i b; cursor = kept.cursor; budget = kept.budget }
+
+  -- what an act keeps of the sides of a cut
+  pub keeps_sides : (Order : ℕ → ℕ → Type 0) → ((x y : ℕ) → x ≡ y → Order x y) → KeepsSides (closing rearrangement_from (act bound)) Near Order
+  unfolding acts Near
+  keeps_sides Order same = closed_sides Near (act bound) rearrangement_from Order same (λ e r b fit. rearrangement_kept Order same bound e r b fit.2) keeps
 
   registers_of : (e : Entry) (r : Registers) (b : Buffer) → (acts e r b).registers ≡ set_at e r b
   unfolding acts act
@@ -401,11 +408,12 @@ module _ (bound : ℕ) where
 -- Where a line rises to clusters from c on, and c is not open behind the run, the run leaves the parts, and the runs over
 -- these come to their ends.
 pub parted : (bound : ℕ) (on : ℕ → Bool) (table : TableValue Entry) (c q : ℕ) (b : Buffer) → All (λ (g : hb_glyph_info_t). g.cluster < c) (take q b.line) → All (λ (g : hb_glyph_info_t). c ≤ g.cluster) (drop q b.line)
-    → ClustersMerge b.cluster_level → IsRisingLine b.line → IsCutPlace on table (rearrangement_closing bound) (λ line. is_open c line ≡ true → ⊥) q b → RunsParted on table (rearrangement_closing bound) q b
+    → ClustersMerge b.cluster_level → IsRisingLine b.line → CutOf on table (rearrangement_closing bound) Near (λ line. is_open c line ≡ true → ⊥) q b → RunsParted on table (rearrangement_closing bound) q b
 unfolding acts m Marked Front Back Sound
 parted bound on table c q b front back level rising cut =
-    let some = cut.behind_first in
-    let within = cut.before_end in
+    let inside = inside_of on table (rearrangement_closing bound) Near (λ line. is_open c line ≡ true → ⊥) q b cut in
+    let some = inside.0 in
+    let within = inside.1 in
     runs_parted on table (rearrangement_closing bound) Near (keeps_fit bound) passes_fit (pays_in_place (acts bound) Near (keeps bound)) (keeps_settings bound) (lengthens_in_place (acts bound) Near (keeps bound))
     (makes_no_positions bound) fits_fresh (λ _. keeps_place bound)
     (Reached bound on table) (Alike bound on table) (Marked bound on table c) (IsOf (Front c)) (IsOf (Back c)) (Sound bound on table) (is_lawful bound on table c) q b
@@ -413,4 +421,4 @@ parted bound on table c q b front back level rising cut =
 
 pub leaves_parts : (bound : ℕ) (on : ℕ → Bool) (table : TableValue Entry) (c q : ℕ) (b : Buffer) → All (λ (g : hb_glyph_info_t). g.cluster < c) (take q b.line) → All (λ (g : hb_glyph_info_t). c ≤ g.cluster) (drop q b.line)
     → ClustersMerge b.cluster_level → IsRisingLine b.line → IsCutPlace on table (rearrangement_closing bound) (λ line. is_open c line ≡ true → ⊥) q b → LeavesItsParts on table (rearrangement_closing bound) q b
-leaves_parts bound on table c q b front back level rising cut = (parted bound on table c q b front back level rising cut).parts
+leaves_parts bound on table c q b front back level rising cut = (parted bound on table c q b front back level rising (AtOn cut)).parts

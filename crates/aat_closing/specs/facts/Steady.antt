@@ -25,5 +25,5 @@ pub record IsSteady (low c : ℕ) (run : Buffer → Told) : Type 0 where
       → is_open d (run b).buffer.line ≡ true → is_open d b.line ≡ true
   pub limited : LimitedTold run
   pub parts :
-      (q : ℕ) (b : Buffer) → IsRise c q b → HasBetween low c b.line → TellsOpen c (run b)
+      (q : ℕ) (b : Buffer) → IsRise c q b → HasBetween low c (run b).buffer.line → TellsOpen c (run b)
       → ToldInParts (run b) (run (front_part q b)) (run (back_part q b))

@@ -33,7 +33,7 @@ record IsSplit (c : ℕ) (whole front back : Buffer) : Type 0 where
   cursor : whole.cursor ≡ 0
   positions : whole.positions ≡ None
 
-module _ (low c : ℕ) (run : Buffer → Told) (steady : IsSteady low c run) (w f g : Buffer) (split : IsSplit c w f g) (between : HasBetween low c w.line) (tells : TellsOpen c (run w)) where
+module _ (low c : ℕ) (run : Buffer → Told) (steady : IsSteady low c run) (w f g : Buffer) (split : IsSplit c w f g) (between : HasBetween low c (run w).buffer.line) (tells : TellsOpen c (run w)) where
   q : ℕ
   q = length f.line
 
@@ -150,7 +150,7 @@ module _ (low c : ℕ) (run : Buffer → Told) (steady : IsSteady low c run) (w 
       )
 
 -- a glyph that is between two clusters was on the old line too
-between_came : (low c : ℕ) (old new : List hb_glyph_info_t) → ComesFrom old new → HasBetween low c new → HasBetween low c old
+pub between_came : (low c : ℕ) (old new : List hb_glyph_info_t) → ComesFrom old new → HasBetween low c new → HasBetween low c old
 between_came low c old new from it =
     let source = from it.0 it.1 in
     let high = it.2 in
@@ -229,7 +229,7 @@ module _ {X : Type 0} (run : X → Buffer → Told) (low c : ℕ) where
         opens = opens xs (rest x xs all) (run x w).buffer ((steady.order w).rising split.merges split.ordered) (λ two. split.merges (ap clusters_stay_apart (sym level) ∙ two)) flags.1 tells.opens;
         budget = omega (arith, some, less);
       } in
-      let behind = next low c (run x) steady w f g split (between (x ∷ xs) all w has) here in
+      let behind = next low c (run x) steady w f g split (between xs (rest x xs all) (run x w).buffer has) here in
       let later = in_parts xs (rest x xs all) (run x w).buffer (run x f).buffer (run x g).buffer behind.0 (record { told = flags.1; opens = tells.opens; budget = tells.budget }) has in
       record {
         parts = record { line = later.parts.line; front_budget = later.parts.front_budget; back_budget = later.parts.back_budget };

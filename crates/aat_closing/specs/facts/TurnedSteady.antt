@@ -32,7 +32,7 @@ pub record FallsSteady (low c : ℕ) (run : Buffer → Told) (splits : Bool) : T
       → is_open d (run b).buffer.line ≡ true → is_open d b.line ≡ true
   pub limited : LimitedTold run
   pub parts :
-      splits ≡ false → (q : ℕ) (b : Buffer) → IsFall c q b → HasBetween low c b.line → TellsOpen c (run b)
+      splits ≡ false → (q : ℕ) (b : Buffer) → IsFall c q b → HasBetween low c (run b).buffer.line → TellsOpen c (run b)
       → ToldInParts (run b) (run (front_part q b)) (run (back_part q b))
 
 unsplit : (a : Bool) → not a ≡ true → a ≡ false
@@ -68,7 +68,7 @@ none_turned : (b : Buffer) → b.positions ≡ None → (reversed b).positions �
 none_turned b none = ap (λ (p : Option (List GlyphPosition)). option_map reverse p) none
 
 module _ (low c : ℕ) (run : Buffer → Told) (splits : Bool) (falls : FallsSteady low c run splits) where
-  module _ (q : ℕ) (b : Buffer) (rise : IsRise c q b) (between : HasBetween low c b.line) where
+  module _ (q : ℕ) (b : Buffer) (rise : IsRise c q b) (between : HasBetween low c (turned splits run b).buffer.line) where
     n : ℕ
     n = length b.line - q
 
@@ -97,7 +97,8 @@ module _ (low c : ℕ) (run : Buffer → Told) (splits : Bool) (falls : FallsSte
           opens = rw (reverse-reverse (run (reversed b)).buffer.line) at (open_turned c (reverse (run (reversed b)).buffer.line) tells.opens);
           budget = tells.budget;
         } in
-        let it = falls.parts none (length b.line - q) (reversed b) fall (between_turned low c b.line between) here in
+        let there : HasBetween low c (run (reversed b)).buffer.line = rw (reverse-reverse (run (reversed b)).buffer.line) at (between_turned low c (reverse (run (reversed b)).buffer.line) between) in
+        let it = falls.parts none (length b.line - q) (reversed b) fall there here in
         let front : reversed (front_part q b) ≡ back_part (length b.line - q) (reversed b) = ap (λ (line : List hb_glyph_info_t). record (reversed b) { line = line }) (sym (back_turned q b.line)) in
         let back : reversed (back_part q b) ≡ front_part (length b.line - q) (reversed b) = ap (λ (line : List hb_glyph_info_t). record (reversed b) { line = line }) (sym (front_turned q b.line)) in
         rw (front, back)

@@ -146,7 +146,7 @@ module _ {R E : Type 0} (m : Machine R E) (fits : R → ℕ → ℕ → Type 0) 
         let k : ℕ = class_at m.class_of c.buffer in
         chosen Onward (m.on d.last) (by_entry m (m.entry d.state k) d) (off m d) (λ _. onward_entry (m.entry d.state k) k d stands below is_left known refl) (λ _. onward_off d below)
 
-    module _ (keeps : KeepsFit m.act fits) (passes : PassesFit fits) (pays : Pays m.act fits) (Q : Buffer → Type 0) (kept : (c : Config R) → Stands fits c → Q c.buffer → Q (left_by (turn m c)).buffer) (is_left : (d : Buffer) → Q d → Left d.line)
+    module _ (keeps : KeepsFit m.act fits) (passes : PassesFit fits) (pays : Pays m.act fits) (Q : Config R → Type 0) (kept : (c : Config R) → Stands fits c → c.buffer.cursor < length c.buffer.line → Q c → Q (left_by (turn m c))) (is_left : (c : Config R) → Q c → Left c.buffer.line)
         (W : Buffer → Type 0) (kept_whole : (c : Config R) → Stands fits c → W c.buffer → W (left_by (turn m c)).buffer)
       where
         -- the run over the whole line comes to its end
@@ -160,15 +160,15 @@ module _ {R E : Type 0} (m : Machine R E) (fits : R → ℕ → ℕ → Type 0) 
           pub stands : Stands fits at
           pub stands_whole : Stands fits (joined at)
           pub is_reached : reached at.state
-          pub holds : Q at.buffer
+          pub holds : Q at
           pub holds_whole : W (joined at).buffer
           pub front : run_to_end m at ≡ run_to_end m c
           pub whole : run_to_end m (joined at) ≡ run_to_end m (joined c)
 
         -- where the rest of a run from d comes to the cut, the run from c does, if a turn leads from c to d
         behind_turn : (c : Config R) → Stands fits c → Stands fits (joined c) → Through c
-            → ((d : Config R) → potential d.buffer < potential c.buffer → Stands fits d → Stands fits (joined d) → Through d → reached d.state → Q d.buffer → W (joined d).buffer → d.buffer.cursor ≤ length d.buffer.line → ComesToCut d)
-            → (t u : Turn (Config R)) → turn m c ≡ t → turn m (joined c) ≡ u → u ≡ mapped joined t → OnGoes (Lower fits (potential c.buffer)) t → OnGoes (Lower fits (potential (joined c).buffer)) u → Onward t → Q (left_by t).buffer → W (left_by u).buffer → ComesToCut c
+            → ((d : Config R) → potential d.buffer < potential c.buffer → Stands fits d → Stands fits (joined d) → Through d → reached d.state → Q d → W (joined d).buffer → d.buffer.cursor ≤ length d.buffer.line → ComesToCut d)
+            → (t u : Turn (Config R)) → turn m c ≡ t → turn m (joined c) ≡ u → u ≡ mapped joined t → OnGoes (Lower fits (potential c.buffer)) t → OnGoes (Lower fits (potential (joined c).buffer)) u → Onward t → Q (left_by t) → W (left_by u).buffer → ComesToCut c
         unfolding Onward
         behind_turn c stands stands_whole through more (Ends d) u p q same lower lower_whole ahead q_left w_left =
             let step : run_to_end m (joined c) ≡ joined d = rw (q, same) at (whole_step m fits keeps passes pays (joined c) stands_whole) in
@@ -181,17 +181,17 @@ module _ {R E : Type 0} (m : Machine R E) (fits : R → ℕ → ℕ → Type 0) 
             let rest = more d lower.0 lower.1 down.1 (rw step_whole at through) ahead.0 q_left (rw same at w_left) ahead.1 in
             record { at = rest.at; end = rest.end; stands = rest.stands; stands_whole = rest.stands_whole; is_reached = rest.is_reached; holds = rest.holds; holds_whole = rest.holds_whole; front = rest.front ∙ sym step; whole = rest.whole ∙ sym step_whole }
 
-        by_place : (c : Config R) → Stands fits c → Stands fits (joined c) → Through c → reached c.state → Q c.buffer → W (joined c).buffer → c.buffer.cursor ≤ length c.buffer.line
-            → ((d : Config R) → potential d.buffer < potential c.buffer → Stands fits d → Stands fits (joined d) → Through d → reached d.state → Q d.buffer → W (joined d).buffer → d.buffer.cursor ≤ length d.buffer.line → ComesToCut d)
+        by_place : (c : Config R) → Stands fits c → Stands fits (joined c) → Through c → reached c.state → Q c → W (joined c).buffer → c.buffer.cursor ≤ length c.buffer.line
+            → ((d : Config R) → potential d.buffer < potential c.buffer → Stands fits d → Stands fits (joined d) → Through d → reached d.state → Q d → W (joined d).buffer → d.buffer.cursor ≤ length d.buffer.line → ComesToCut d)
             → ((c.buffer.cursor < length c.buffer.line) ⊎ (length c.buffer.line ≤ c.buffer.cursor)) → ComesToCut c
         unfolding Before
         by_place c stands stands_whole through known holds holds_whole inside more (inl below) =
-            behind_turn c stands stands_whole through more (turn m c) (turn m (joined c)) refl refl (same_turn c stands below (is_left c.buffer holds))
-            (turn_falls m fits keeps passes pays c stands) (turn_falls m fits keeps passes pays (joined c) stands_whole) (onward c stands below (is_left c.buffer holds) known) (kept c stands holds) (kept_whole (joined c) stands_whole holds_whole)
+            behind_turn c stands stands_whole through more (turn m c) (turn m (joined c)) refl refl (same_turn c stands below (is_left c holds))
+            (turn_falls m fits keeps passes pays c stands) (turn_falls m fits keeps passes pays (joined c) stands_whole) (onward c stands below (is_left c holds) known) (kept c stands below holds) (kept_whole (joined c) stands_whole holds_whole)
         by_place c stands stands_whole through known holds holds_whole inside more (inr past) =
             record { at = c; end = omega (arith, past, inside); stands = stands; stands_whole = stands_whole; is_reached = known; holds = holds; holds_whole = holds_whole; front = refl; whole = refl }
 
-        comes : (k : ℕ) (c : Config R) → potential c.buffer < k → Stands fits c → Stands fits (joined c) → Through c → reached c.state → Q c.buffer → W (joined c).buffer → c.buffer.cursor ≤ length c.buffer.line → ComesToCut c
+        comes : (k : ℕ) (c : Config R) → potential c.buffer < k → Stands fits c → Stands fits (joined c) → Through c → reached c.state → Q c → W (joined c).buffer → c.buffer.cursor ≤ length c.buffer.line → ComesToCut c
         comes zero c low stands stands_whole through known holds holds_whole inside = absurd (omega (arith, low))
         comes (suc k) c low stands stands_whole through known holds holds_whole inside =
             by_place c stands stands_whole through known holds holds_whole inside
@@ -199,5 +199,5 @@ module _ {R E : Type 0} (m : Machine R E) (fits : R → ℕ → ℕ → Type 0) 
             (cases_lt c.buffer.cursor (length c.buffer.line))
 
         -- up to the cut, the run over the whole line is that over the front part
-        pub whole_runs_as_front : (c : Config R) → Stands fits c → Stands fits (joined c) → Through c → reached c.state → Q c.buffer → W (joined c).buffer → c.buffer.cursor ≤ length c.buffer.line → ComesToCut c
+        pub whole_runs_as_front : (c : Config R) → Stands fits c → Stands fits (joined c) → Through c → reached c.state → Q c → W (joined c).buffer → c.buffer.cursor ≤ length c.buffer.line → ComesToCut c
         whole_runs_as_front c stands stands_whole through known holds holds_whole inside = comes (potential c.buffer + 1) c (omega arith) stands stands_whole through known holds holds_whole inside

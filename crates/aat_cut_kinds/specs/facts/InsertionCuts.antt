@@ -3,9 +3,10 @@
 use Rattle.std.proofs.Common.{◌≡◌, ◌∙◌, ◌⊎◌, inl, inr, ℕ, ℤ, ◌+◌, ◌-◌, ◌<◌, ◌≤◌, ◌&&◌, ◌||◌, not, Bool, true, false, cond, List, ◌++◌, length, min, nat_lt, take, drop, Option, Some, refl, ap, subst, sym, arith, length-append, length-drop, length-take}
 use Rattle.std.proofs.lemmas.Bool.{cases_lt}
 use Rattle.std.proofs.lemmas.Bool.Decides.{nat_tests}
+use Rattle.std.proofs.lemmas.List.{take-append-drop}
 use Rattle.std.proofs.lemmas.List.Elements.{All-append, All-drop, All-map, All-take}
 use Rattle.std.specs.Prelude.{All}
-use Rattle.aat_buffer.specs.Buffer.{Buffer, model_at, no_glyph}
+use Rattle.aat_buffer.specs.Buffer.{Buffer, model_at, no_glyph, with_line}
 use Rattle.aat_buffer.specs.Clusters.{ComesFrom}
 use Rattle.aat_buffer.specs.Marks.{unsafe_to_break}
 use Rattle.aat_buffer.specs.facts.Cases.{chosen}
@@ -26,10 +27,10 @@ use Rattle.aat_kinds.specs.Kinds.{insertion_run}
 use Rattle.aat_kinds.specs.facts.InsertionLaws as laws
 use Rattle.aat_kinds.specs.facts.OrderHolds.{insertion_kept}
 use Rattle.aat_cut_kinds.specs.Cut.{IsCutPlace, LeavesItsParts}
-use Rattle.aat_cut_kinds.specs.CutLaws.{ActsOnBoth, AgreesWith, IdlesAtCut, IsClosed, IsCutLawful, IsIdle, IsLocal, IsMovedOn, KeepsLine, KeepsMarks, KeepsSound, MovesOn}
-use Rattle.aat_cut_kinds.specs.Parts.{moved_on}
+use Rattle.aat_cut_kinds.specs.CutLaws.{ActsOnBoth, AgreesWith, IdlesAtCut, IsClosed, IsCutLawful, IsIdle, IsLocal, IsMovedOn, KeepsLine, KeepsMarks, KeepsSound, MovesOn, left_before}
+use Rattle.aat_cut_kinds.specs.Parts.{followed_by, moved_on}
 use Rattle.aat_cut_kinds.specs.facts.Complete.{complete_runs_through}
-use Rattle.aat_cut_kinds.specs.facts.ContextCuts.{RunsParted, runs_parted}
+use Rattle.aat_cut_kinds.specs.facts.ContextCuts.{AtOn, CutOf, RunsParted, inside_of, runs_parted}
 use Rattle.aat_cut_kinds.specs.facts.Flags.{calm_unsafe}
 use Rattle.aat_cut_kinds.specs.facts.MarksOnly.{of_unsafe}
 use Rattle.aat_cut_kinds.specs.Cuts.{IsUnmarkedFall, IsUnmarkedRise, LeavesParts}
@@ -76,6 +77,20 @@ module _ (glyphs : List GlyphId) where
   keeps_fit e r b fit below =
       let grown = cursor_grows e r b in
       (mark_of (λ n. n ≤ (act glyphs e r b).buffer.cursor) e r b (omega (arith, fit.0, grown)) grown, laws.keeps_fit glyphs e r b fit.1 below)
+
+  -- an act passes no glyph behind the one at the cursor
+  pub passes_none : (e : Entry) (r : Registers) (b : Buffer) → r.mark ≤ b.cursor → b.cursor < length b.line → length b.line + (act glyphs e r b).buffer.cursor ≤ length (act glyphs e r b).buffer.line + b.cursor
+  passes_none e r b near below =
+      let gs : List hb_glyph_info_t = drop (b.cursor + 1) b.line in
+      let short : Buffer = with_line b (take (b.cursor + 1) b.line) in
+      let long_short : length short.line ≡ b.cursor + 1 = length-take (b.cursor + 1) b.line ∙ omega (arith, below) in
+      let long_rest = length-drop (b.cursor + 1) b.line in
+      let is : b ≡ followed_by gs short = ap (λ (line : List hb_glyph_info_t). with_line b line) (sym (take-append-drop (b.cursor + 1) b.line)) in
+      let left : act glyphs e r b ≡ left_before gs (act glyphs e r short) = ap (act glyphs e r) is ∙ act_in_front glyphs gs e r short (omega (arith, long_short)) (omega (arith, near, long_short)) in
+      let inside = inside_act glyphs e r short (omega (arith, long_short)) in
+      let cursor = ap (λ (v : Moved Registers). v.buffer.cursor) left in
+      let line = ap (λ (v : Moved Registers). length v.buffer.line) left ∙ length-append (act glyphs e r short).buffer.line gs in
+      omega (arith, below, long_rest, inside, cursor, line)
 
   -- what holds of all clusters of a line holds of those behind an act
   stays : (P : ℕ → Type 0) (e : Entry) (r : Registers) (b : Buffer) → All (λ (g : hb_glyph_info_t). P g.cluster) b.line → All (λ (g : hb_glyph_info_t). P g.cluster) (act glyphs e r b).buffer.line
@@ -297,11 +312,12 @@ module _ (glyphs : List GlyphId) where
 
         -- between two such sides, at an unmarked cut, the run leaves the parts
         pub leaves_parts : (q : ℕ) (b : Buffer) → All (λ (g : hb_glyph_info_t). Front g.cluster) (take q b.line) → All (λ (g : hb_glyph_info_t). Back g.cluster) (drop q b.line)
-            → IsCutPlace on table x Marked q b → RunsParted on table x q b
+            → CutOf on table x Near Marked q b → RunsParted on table x q b
         unfolding m Sound
         leaves_parts q b front back cut =
-            let within = cut.before_end in
-            let some = cut.behind_first in
+            let inside = inside_of on table x Near Marked q b cut in
+            let within = inside.1 in
+            let some = inside.0 in
             runs_parted on table x Near keeps_fit passes_fit (λ e r d fit. laws.pays glyphs e r d fit.1) (λ e r d fit. laws.keeps_settings glyphs e r d fit.1) (λ e r d fit. laws.lengthens glyphs e r d fit.1)
             (λ e r d fit none. laws.makes_no_positions glyphs e r d fit.1 none) fits_fresh never_in_place
             Reached Alike Marked (IsOf Front) (IsOf Back) Sound is_lawful q b
@@ -327,7 +343,7 @@ module _ (glyphs : List GlyphId) where
     plain_parts : (Front Back : ℕ → Type 0) (Marked : List hb_glyph_info_t → Type 0) (sided : IsSided Front Back Marked) (q : ℕ) (b : Buffer)
         → All (λ (g : hb_glyph_info_t). Front g.cluster) (take q b.line) → All (λ (g : hb_glyph_info_t). Back g.cluster) (drop q b.line)
         → IsCutPlace on table (context glyphs) Marked q b → LeavesItsParts on table (context glyphs) q b
-    plain_parts Front Back Marked sided q b front back cut = (leaves_parts on table actionable (λ e r s p n i k below within. refl) names_none Front Back Marked sided q b front back cut).parts
+    plain_parts Front Back Marked sided q b front back cut = (leaves_parts on table actionable (λ e r s p n i k below within. refl) names_none Front Back Marked sided q b front back (AtOn cut)).parts
 
     -- at an unmarked rise of the clusters
     pub leaves_parts_at_rise : (c q : ℕ) (b : Buffer) → IsUnmarkedRise (insertion_run on table glyphs) on c q b → LeavesParts (insertion_run on table glyphs) q b

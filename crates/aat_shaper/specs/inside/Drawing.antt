@@ -11,7 +11,7 @@ use Rattle.aat_shaper.specs.declared.drawn.Drawn.{Drawn}
 
 -- a line may be broken before a place, as far as this allows it
 abbrev pub may_break : Breaks → List hb_glyph_info_t → ℕ → Bool
-may_break breaks line i = breaks.is_allowed && may_break_at breaks.skips breaks.features.now line i
+may_break breaks line i = breaks.is_allowed && may_break_at breaks.skips breaks.is_even breaks.features.now line i
 
 -- this is known of a line that is drawn
 pub record IsDrawn (b : Buffer) (drawn : Drawn) : Type 0 where

@@ -14,6 +14,7 @@ use Rattle.aat_morx.specs.Kept.{has_insertion}
 use Rattle.aat_run.proofs.FewTurns.{few_operations, few_turns}
 use Rattle.aat_run.specs.Budget.{operations_left}
 use Rattle.aat_run.specs.declared.error.AatError.TheVariants.{TooLong}
+use Rattle.aat_closing.proofs.AppliedCut.{applied_cut}
 use Rattle.aat_closing.proofs.ClosingRoom.{closed_too_long, none_closed_refused, number_of_closed, order_of_closed}
 use Rattle.aat_closing.proofs.table.close_table.Goals as goal
 
@@ -62,3 +63,8 @@ returns-in_err-close_chains-in-Some-clause-without_insertion g c = λ none.
     let few : has_insertion c.chains.result.now ≡ false = ap has_insertion same ∙ none in
     let within : length b.line ≤ b.max_len = omega (arith, c.len-length.ensures.count, c.len-length.ensures.within) in
     absurd (none_closed_refused (sizes_of g.row.SLOTS g.row.LONGEST c.args.face.now) c.chains.result.now (lists_for (option_copied c.args.map) c.chains.result.now) b c.prepare.new.buffer c.in_err-close_chains-in-Some.field-0.0 c.requires.slots few within c.prepare.ensures c.in_err-close_chains-in-Some.ensures.reason)
+
+pub returns-in_ok-close_chains-in-Some-clause-cut : goal.returns-in_ok-close_chains-in-Some-clause-cut
+returns-in_ok-close_chains-in-Some-clause-cut g c = λ through.
+    applied_cut (sizes_of g.row.SLOTS g.row.LONGEST c.args.face.now) c.args.face.now (option_copied c.args.map) c.args.buffer.now c.close_chains.new.buffer
+    c.in_ok-close_chains-in-Some.field-0 c.requires.slots (search rules) through

@@ -38,10 +38,10 @@ returns-clause-ok g c =
     c.in_ok-track_line.ensures.ok ∙ ap (λ n. tracked_line n left) (to_z-of_z w32 v c.ranges.value) in
     let is = left_so v face d features text plan c.requires.planned lists compiled asked made c.as_slice-features.ensures.value c.in_ok-buffer.ensures.ok
     closes c.substitute.new.buffer left c.in_ok-place_with_deleted.field-0 c.in_ok-tells.ensures.left c.in_ok-place_with_deleted.ensures.placing in
-    drawn_so v face d features text c.closing_draws_alike.ensures c.draw.new.glyphs.items closes c.in_ok-tells.tells c.skips_of.result asked c.turn.new.buffer
+    drawn_so v face d features text c.closing_draws_alike.ensures c.draw.new.glyphs.items closes c.in_ok-tells.tells c.substitutes_evenly-is_even.result c.skips_of.result asked c.turn.new.buffer
     c.in_ok-draw.ensures.ok c.may_break_anywhere-closes.ensures
     (c.in_ok-tells.ensures.told ∙ tells_is v face d features text plan c.requires.planned lists compiled asked made c.as_slice-features.ensures.value c.in_ok-buffer.ensures.ok closes)
-    c.skips_of.ensures c.as_slice-features.ensures.value
+    c.substitutes_evenly-is_even.ensures c.skips_of.ensures c.as_slice-features.ensures.value
     (drawn_text_so v face d features text closes left c.track_line.new.buffer c.turn.new.buffer is wider c.turn.ensures.after)
 
 pub returns-clause-order : goal.returns-clause-order
@@ -85,8 +85,8 @@ returns-clause-used g c =
     let compiled : switched_by (chains_in (tables_of c.args.face.now).morx) (lists_for (option_copied c.as_ref-lists.result) (chains_in (tables_of c.args.face.now).morx))
     ≡ switched c.args.plan.now.apply_morx (plan_requests c.args.plan.now c.args.face.now) (chains_in (tables_of c.args.face.now).morx) =
     rw c.as_ref-lists.ensures.value c.in_ok-map.ensures.ok in
-    used_so v face d features text c.closing_draws_alike.ensures closes c.uses_up-is_used_up.result asked left c.uses_up-is_used_up.ensures
-    c.may_break_anywhere-closes.ensures c.as_slice-features.ensures.value
+    used_so v face d features text c.closing_draws_alike.ensures closes c.uses_up-is_used_up.result left c.uses_up-is_used_up.ensures
+    c.may_break_anywhere-closes.ensures
     (left_so v face d features text plan c.requires.planned (option_copied c.as_ref-lists.result) compiled asked made c.as_slice-features.ensures.value c.in_ok-buffer.ensures.ok
     closes c.substitute.new.buffer left c.in_ok-place_with_deleted.field-0 c.in_ok-tells.ensures.left c.in_ok-place_with_deleted.ensures.placing)
 

@@ -1,0 +1,41 @@
+//! How wide the glyphs of a line are.
+ghost use Rattle.std.specs.Prelude.{◌≡◌, ◌≤◌, ◌≤ℤ◌, ◌↔◌, IsTrue, length, negsuc, pos};
+ghost use Rattle.aat_shaper.specs.Lines.{room_of, width_of};
+ghost use Rattle.aat_shaper.specs.inside.Filling.{paragraph_of};
+
+use crate::lines::filling::Filling;
+use aat_shaped_text::ShapedGlyph;
+use std::alloc::Allocator;
+
+impl<S: Allocator> Filling<'_, S> {
+    /// The room that a glyph takes along the line.
+    pub(crate) fn room_of(&self, hang: Option<u32>, glyph: &ShapedGlyph) -> i64
+        ensures value { result ≡ room_of (paragraph_of self.now) hang glyph.now }
+        ensures low { negsuc 0x7FFF_FFFF ≤ℤ result }
+        ensures high { result ≤ℤ pos 0x7FFF_FFFF }
+    {
+        let hangs = match hang {
+            None => false,
+            Some(cluster) => glyph.cluster >= cluster,
+        };
+        if hangs || self.without_room.contains(&glyph.glyph_id) {
+            0
+        } else if self.direction.is_horizontal() {
+            i64::from(glyph.x_advance)
+        } else {
+            i64::from(glyph.y_advance)
+        }
+    }
+
+    /// Whether glyphs are no wider than a line.
+    pub(crate) fn has_room(&self, hang: Option<u32>, glyphs: &[ShapedGlyph]) -> bool
+        requires { length glyphs.now ≤ 0x3FFFFFFF }
+        ensures { IsTrue result ↔ (width_of (paragraph_of self.now) hang glyphs.now ≤ self.now.width) }
+    {
+        let mut sum: i64 = 0;
+        for glyph in glyphs {
+            sum += self.room_of(hang, glyph);
+        }
+        sum.unsigned_abs() <= self.width
+    }
+}
