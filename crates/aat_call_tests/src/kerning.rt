@@ -42,7 +42,7 @@ pub(crate) enum Way {
 const CLASSES: [(u16, u16); 4] = [(0, 4), (1, 4), (2, 5), (3, 65535)];
 
 /// What an entry holds of the index that it names.
-trait Extra: Acting {
+pub(crate) trait Extra: Acting {
     fn of(index: u16) -> Self;
 }
 
@@ -61,7 +61,10 @@ impl Extra for EntryData {
 }
 
 /// The state table of a machine.
-fn machine_of<T: Extra>(alloc: Global, rules: &[Rule]) -> Result<ExtendedStateTable<T>, Fail> {
+pub(crate) fn machine_of<T: Extra>(
+    alloc: Global,
+    rules: &[Rule],
+) -> Result<ExtendedStateTable<T>, Fail> {
     let mut entries = Vec::new(alloc);
     for (state, class, new_state, flags, index) in rules {
         let entry = GenericStateEntry {
@@ -164,7 +167,7 @@ fn kerx_of(alloc: Global, way: Way) -> Result<Kerx, Fail> {
 }
 
 /// The tables of a font of one subtable.
-fn tables_of(alloc: Global, way: Way) -> Result<FaceTables, Fail> {
+pub(crate) fn tables_of(alloc: Global, way: Way) -> Result<FaceTables, Fail> {
     match way {
         Way::KernPairs(pairs) => {
             let kern = kern_pairs(alloc, pairs)?;

@@ -27,6 +27,8 @@ mod lines_tests;
 mod machines;
 #[cfg(test)]
 mod numbers;
+#[cfg(test)]
+mod open_tests;
 pub mod paths;
 #[cfg(test)]
 mod request_tests;

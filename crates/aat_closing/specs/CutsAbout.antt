@@ -14,11 +14,15 @@ use Rattle.aat_kinds.specs.Kinds.{Sizes}
 use Rattle.aat_morx.specs.Substitution.{is_skipped}
 use Rattle.aat_cut_kinds.specs.Parts.{back_part, front_part}
 use Rattle.aat_closing.specs.ClosingChains.{closing_substituted}
-use Rattle.aat_closing.specs.ClosingCuts.{IsLimitedFrom, IsOnAbout, is_noncontextual}
+use Rattle.aat_closing.specs.ClosingCuts.{IsLimitedFrom, is_noncontextual}
 use Rattle.aat_closing.specs.ClosingRuns.{closing_ordered, closing_run, may_split, told_in_order}
 use Rattle.aat_closing.specs.ToldParts.{HasBetween, IsFall, IsRise, PartsOfText, TellsOpen, ToldInParts}
 
--- a subtable is off at each cluster from low through c
+-- a subtable is on at each cluster from low through c
+abbrev pub IsOnAbout : ℕ → ℕ → (ℕ → Bool) → Type 0
+IsOnAbout low c on = (d : ℕ) → low ≤ d → d ≤ c → on d ≡ true
+
+-- it is off at each of them
 abbrev pub IsOffAbout : ℕ → ℕ → (ℕ → Bool) → Type 0
 IsOffAbout low c on = (d : ℕ) → low ≤ d → d ≤ c → on d ≡ false
 

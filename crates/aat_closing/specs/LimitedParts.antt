@@ -9,7 +9,7 @@ use Rattle.aat_map.specs.SwitchedChains.{SwitchedChain}
 use Rattle.aat_kinds.specs.Kinds.{Sizes}
 use Rattle.aat_cut_kinds.specs.Parts.{back_part, front_part}
 use Rattle.aat_closing.specs.ClosingChains.{closing_substituted}
-use Rattle.aat_closing.specs.ClosingCuts.{AreEven, IsLimitedFrom}
+use Rattle.aat_closing.specs.ClosingCuts.{IsLimitedFrom}
 use Rattle.aat_closing.specs.ClosingRuns.{Told}
 use Rattle.aat_closing.specs.CutsAbout.{AreEvenAbout}
 use Rattle.aat_closing.specs.ToldParts.{HasBetween, IsRise, TellsOpen}
@@ -21,21 +21,8 @@ pub record TellsOfPart (b part : Buffer) (whole left : Told) : Type 0 where
       operations_left part.max_ops + operations_left whole.buffer.max_ops
       ≤ operations_left b.max_ops + operations_left left.buffer.max_ops
 
--- Where ChainsLeaveLimitedParts says that the line is that of the parts, the runs over both tell what is open, and take no
--- more operations than the run over the whole.
-abbrev pub ChainsTellOfLimitedParts : Type 0
-ChainsTellOfLimitedParts =
-    (z : Sizes) (d : Direction) (c : ℕ) (chains : List SwitchedChain) → 0 < z.slots → AreEven d chains
-    → (q : ℕ) (b front back : Buffer) → b.direction ≡ d → b.cursor ≡ 0 → produces_concat b.flags ≡ false → IsRise c q b
-    → TellsOpen c (closing_substituted z chains b) → HasBetween 0 c (closing_substituted z chains b).buffer.line
-    → IsLimitedFrom (front_part q b) front → IsLimitedFrom (back_part q b) back
-    → let left : ℕ = operations_left (closing_substituted z chains b).buffer.max_ops in
-    operations_left b.max_ops < operations_left front.max_ops + left
-    → operations_left b.max_ops < operations_left back.max_ops + left
-    → TellsOfPart b front (closing_substituted z chains b) (closing_substituted z chains front)
-    × TellsOfPart b back (closing_substituted z chains b) (closing_substituted z chains back)
-
--- and where ChainsLeaveLimitedPartsAbout says it
+-- Where ChainsLeaveLimitedPartsAbout says that the line is that of the parts, the runs over both tell what is open, and
+-- take no more operations than the run over the whole.
 abbrev pub ChainsTellOfLimitedPartsAbout : Type 0
 ChainsTellOfLimitedPartsAbout =
     (z : Sizes) (d : Direction) (low c : ℕ) (chains : List SwitchedChain) → 0 < z.slots → AreEvenAbout low c d chains

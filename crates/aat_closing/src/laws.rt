@@ -1,8 +1,8 @@
 //! Laws of the definitions as theorems. These calls do nothing: what is proved is their contracts.
 
-ghost use Rattle.aat_closing.specs.ClosingCuts.{ChainsLeaveLimitedParts, ChainsLeaveParts, KindsLeavePartsAtFall, KindsLeavePartsAtRise, ListsLeaveParts};
+ghost use Rattle.aat_closing.specs.ClosingCuts.{KindsLeavePartsAtFall, KindsLeavePartsAtRise};
 ghost use Rattle.aat_closing.specs.CutsAbout.{ChainsLeaveLimitedPartsAbout, ChainsLeavePartsAbout, KindsLeavePartsAboutFall, KindsLeavePartsAboutRise, ListsLeavePartsAbout};
-ghost use Rattle.aat_closing.specs.LimitedParts.{ChainsTellOfLimitedParts, ChainsTellOfLimitedPartsAbout};
+ghost use Rattle.aat_closing.specs.LimitedParts.{ChainsTellOfLimitedPartsAbout};
 ghost use Rattle.aat_closing.specs.Unflagged.{ChainsFlagAlone, ClosingFlagsAlone, ListsFlagAlone};
 
 /// Whatever its table, with a slot for components: where all clusters before a place inside the line are below some c,
@@ -20,15 +20,6 @@ pub fn open_fall_leaves_parts()
     ensures { KindsLeavePartsAtFall }
 {}
 
-/// With a slot for components, the closing runs of subtables in a row, each in the order of its coverage, leave the parts of
-/// a line as in `open_rise_leaves_parts`, without positions, the cursor at its front, where all come to their ends, the
-/// last leaves c open, some of the budget, and a glyph with a cluster from some `low` on and below c, all are on at each
-/// cluster from `low` through c, and none of rearrangement runs from the other end of the line. Those of the parts come to
-/// their ends too.
-pub fn subtables_leave_parts()
-    ensures { ListsLeaveParts }
-{}
-
 /// The same as `open_rise_leaves_parts` at a rise to c of a subtable that is on at each cluster from some `low` through c,
 /// or off at each of them, whatever it is elsewhere, where its closing run leaves a glyph with a cluster from `low` on and
 /// below c.
@@ -41,46 +32,33 @@ pub fn alike_fall_leaves_parts()
     ensures { KindsLeavePartsAboutFall }
 {}
 
-/// The same as `subtables_leave_parts` where each subtable is on at each cluster from `low` through c, or off at each.
-pub fn alike_subtables_leave_parts()
+/// With a slot for components, the closing runs of subtables in a row, each in the order of its coverage, leave the parts of
+/// a line as in `open_rise_leaves_parts`, without positions, the cursor at its front, where all come to their ends, the
+/// last leaves c open, some of the budget, and a glyph with a cluster from some `low` on and below c, each is on at each
+/// cluster from `low` through c, or off at each of them, and none of rearrangement runs from the other end of the line.
+/// Those of the parts come to their ends too.
+pub fn subtables_leave_parts()
     ensures { ListsLeavePartsAbout }
 {}
 
 /// With a slot for components, the closing runs of all chains over a line of text, as in `open_rise_leaves_parts`, of a
 /// direction, the cursor at its front, no marks against joining asked for: where all come to their ends, and leave c open,
-/// some of the budget, and a glyph with a cluster below c, they leave its parts. Each subtable is left out of texts of
-/// the direction, or substitutes each glyph by itself, or is on at each cluster, or at none; none of rearrangement runs
-/// from the other end of the line.
+/// some of the budget, and a glyph with a cluster from some `low` on and below c, they leave its parts. Each subtable is
+/// left out of texts of the direction, or substitutes each glyph by itself, or is on at each cluster from `low` through c,
+/// or off at each of them, whatever it is elsewhere; none of rearrangement runs from the other end of the line.
 pub fn chains_leave_parts()
-    ensures { ChainsLeaveParts }
+    ensures { ChainsLeavePartsAbout }
 {}
 
 /// The same of parts with budgets and greatest lengths of their own, where the runs over the whole take less of its budget
 /// than either part has: the line is that of the one part, and behind it that of the other, with their masks.
 pub fn chains_leave_limited_parts()
-    ensures { ChainsLeaveLimitedParts }
+    ensures { ChainsLeaveLimitedPartsAbout }
 {}
 
 /// Both of these parts are told of then: the runs over each come to their ends, and take no more operations than the runs
 /// over the whole.
 pub fn chains_tell_of_limited_parts()
-    ensures { ChainsTellOfLimitedParts }
-{}
-
-/// The same as `chains_leave_parts` where a glyph is left with a cluster from some `low` on and below c, and each subtable
-/// is left out of texts of the direction, or substitutes each glyph by itself, or is on at each cluster from `low` through
-/// c, or off at each of them: elsewhere it may be on and off.
-pub fn alike_chains_leave_parts()
-    ensures { ChainsLeavePartsAbout }
-{}
-
-/// The same of parts with budgets and greatest lengths of their own, as in `chains_leave_limited_parts`.
-pub fn alike_chains_leave_limited_parts()
-    ensures { ChainsLeaveLimitedPartsAbout }
-{}
-
-/// Both of these parts are told of then, as in `chains_tell_of_limited_parts`.
-pub fn alike_chains_tell_of_limited_parts()
     ensures { ChainsTellOfLimitedPartsAbout }
 {}
 

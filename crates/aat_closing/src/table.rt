@@ -28,11 +28,11 @@ use std::alloc::Allocator;
 /// which clusters are open: `is_through`. Without the table it prepares the line alone, and answers `None`.
 ///
 /// What is left is what `run_table` leaves, but for the flags of the glyphs, which may differ. Where all told, the
-/// cursor was at the front, and no marks against joining are asked for, it can be cut at a rise of the clusters to one
-/// that is left, and unmarked: what is left is what this call leaves of the two parts. Some glyph has to be left before
-/// it, from whose cluster on through that one the map switches each subtable evenly, and some of the budget. A subtable
-/// that is left out tells, and one that no glyph of the line wakes does as it would if it ran. One of rearrangement
-/// that runs on the line in the opposite order tells nothing.
+/// cursor was at the front, and no marks against joining are asked for, a line whose clusters merge and never fall can
+/// be cut at a rise to one that is left, and unmarked: what is left is what this call leaves of the two parts. Some glyph
+/// has to be left before it, from whose cluster on through that one the map switches each subtable evenly, and some of
+/// the budget. A subtable that is left out tells, and one that no glyph of the line wakes does as it would if it ran.
+/// One of rearrangement that runs on the line in the opposite order tells nothing.
 ///
 /// Each glyph id has to be at most 0xFFFF, and the map whole, which `is_whole` tells; there has to be a slot, and at most
 /// 2^59 of them. A buffer that had failed is run as any other.

@@ -1,5 +1,6 @@
--- What plain runs of stack machines tell, their runs do, with values, a table and a budget as the code has them.
-use Rattle.std.proofs.Common.{◌≡◌, ◌∙◌, ℕ, ℤ, Bool, true, false, List, [], sym, ap}
+-- What plain runs of kerning machines tell, their runs do, with values, a table and a budget as the code has them.
+use Rattle.std.proofs.Common.{◌≡◌, ◌∙◌, ℕ, ℤ, Bool, true, false, List, Option, None, [], length, sym, ap}
+use Rattle.std.specs.Option.{is_some}
 use Rattle.aat_buffer.specs.Buffer.{Buffer, with_max_ops}
 use Rattle.aat_machine_tables.specs.Table.{TableValue}
 use Rattle.aat_machine_tables.specs.declared.entries.EntryData.{EntryData}
@@ -7,14 +8,17 @@ use Rattle.aat_machine_tables.specs.declared.entries.KernEntryData.{KernEntryDat
 use Rattle.aat_machine_tables.specs.declared.state_table.GenericStateEntry.{GenericStateEntry}
 use Rattle.aat_run.specs.Context.{start}
 use Rattle.aat_run.specs.Machine.{whole_run}
+use Rattle.aat_kerning_tables.specs.AnchorPoints.{Points}
+use Rattle.aat_kerning_machines.specs.Anchors.{anchor_driver}
 use Rattle.aat_kerning_machines.specs.KerningMachine.{driver_run}
 use Rattle.aat_kerning_machines.specs.Stack.{kern_driver, kerx_driver}
 use Rattle.aat_kerning_machines.specs.facts.StackLaws.{kern_keeps_place, kerx_keeps_place}
-use Rattle.aat_cut_kinds.specs.KerningClosing.{is_open, kern_touching, kerx_touching}
-use Rattle.aat_cut_kinds.specs.KerningCuts.{kern_stack, kerx_stack}
+use Rattle.aat_cut_kinds.specs.KerningClosing.{anchor_touching, is_open, kern_touching, kerx_touching}
+use Rattle.aat_cut_kinds.specs.KerningCuts.{by_anchors, kern_stack, kerx_stack}
 use Rattle.aat_cut_kinds.specs.OpenPlaces.{TellsPlaces}
-use Rattle.aat_cut_kinds.specs.inside.PlainRuns.{plain_kern, plain_kerx, plain_turn, plainly_kerned, will_open}
-use Rattle.aat_cut_kinds.proofs.PlainActs.{kern_leaves, kerx_leaves}
+use Rattle.aat_cut_kinds.specs.facts.AnchorParts.{anchors_keep_places}
+use Rattle.aat_cut_kinds.specs.inside.PlainRuns.{plain_anchors, plain_kern, plain_kerx, plain_turn, plainly_kerned, will_open}
+use Rattle.aat_cut_kinds.proofs.PlainActs.{anchors_leave, kern_leaves, kerx_leaves}
 use Rattle.aat_cut_kinds.proofs.PlainRuns.{leaves_plainly, opens_plainly}
 
 module _ (b : Buffer) (os ops : ℤ) (same_budget : os ≡ ops) (vs values : List ℤ) (same_values : vs ≡ values) (is_cross : Bool) (kern_mask : ℕ)
@@ -80,3 +84,42 @@ module _ (b : Buffer) (os ops : ℤ) (same_budget : os ≡ ops) (vs values : Lis
         opens = λ q more inside. h.opens q more inside ∙ kerx_opens q;
         left = h.left ∙ kerx_leaves_budget;
       }
+
+module _ (b : Buffer) (os ops : ℤ) (same_budget : os ≡ ops) (points : Option Points) (has_points : Bool) (same_points : is_some points ≡ has_points)
+    (ps pairs : List (ℕ × ℕ)) (same_pairs : ps ≡ pairs) (count : ℕ) (same_count : count ≡ length ps)
+    (t table : TableValue (GenericStateEntry EntryData)) (same_table : t ≡ table)
+  where
+    plain_count : count ≡ length pairs
+    plain_count = same_count ∙ ap length same_pairs
+
+    anchors_open :
+        (q : ℕ)
+        → will_open anchor_touching t (plain_turn (plain_anchors has_points count) false t) q (start true (with_max_ops b os) None)
+        ≡ is_open anchor_touching table false (anchor_driver points pairs) q (with_max_ops b ops)
+    anchors_open q =
+        ap (λ z. will_open anchor_touching t (plain_turn (plain_anchors has_points count) false t) q (start true (with_max_ops b z) None)) same_budget
+        ∙ (ap (λ h. will_open anchor_touching t (plain_turn (plain_anchors h count) false t) q (start true (with_max_ops b ops) None)) (sym same_points)
+        ∙ (ap (λ n. will_open anchor_touching t (plain_turn (plain_anchors (is_some points) n) false t) q (start true (with_max_ops b ops) None)) plain_count
+        ∙ (ap (λ x. will_open anchor_touching x (plain_turn (plain_anchors (is_some points) (length pairs)) false x) q (start true (with_max_ops b ops) None)) same_table
+        ∙ sym (opens_plainly (plain_anchors (is_some points) (length pairs)) false table (anchor_driver points pairs)
+        (anchors_keep_places points pairs 0) (anchors_leave points pairs) q (with_max_ops b ops)))))
+
+    anchors_leave_budget :
+        (whole_run (plain_turn (plain_anchors has_points count) false t) (start true (with_max_ops b os) None)).buffer.max_ops
+        ≡ (driver_run false table (anchor_driver points pairs) (with_max_ops b ops)).buffer.max_ops
+    anchors_leave_budget =
+        ap (λ z. (whole_run (plain_turn (plain_anchors has_points count) false t) (start true (with_max_ops b z) None)).buffer.max_ops) same_budget
+        ∙ (ap (λ h. (whole_run (plain_turn (plain_anchors h count) false t) (start true (with_max_ops b ops) None)).buffer.max_ops) (sym same_points)
+        ∙ (ap (λ n. (whole_run (plain_turn (plain_anchors (is_some points) n) false t) (start true (with_max_ops b ops) None)).buffer.max_ops) plain_count
+        ∙ (ap (λ x. (whole_run (plain_turn (plain_anchors (is_some points) (length pairs)) false x) (start true (with_max_ops b ops) None)).buffer.max_ops) same_table
+        ∙ sym (leaves_plainly (plain_anchors (is_some points) (length pairs)) false table (anchor_driver points pairs)
+        (anchors_keep_places points pairs 0) (anchors_leave points pairs) (with_max_ops b ops)))))
+
+    pub anchors_tell :
+        (told : List Bool) (left : ℤ) → TellsPlaces (plainly_kerned (plain_anchors has_points count) false t) (with_max_ops b os) told left
+        → TellsPlaces (by_anchors false points pairs table) (with_max_ops b ops) told left
+    anchors_tell told left h = record {
+      long = h.long;
+      opens = λ q more inside. h.opens q more inside ∙ anchors_open q;
+      left = h.left ∙ anchors_leave_budget;
+    }

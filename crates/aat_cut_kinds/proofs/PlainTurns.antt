@@ -1,16 +1,15 @@
 -- What a plain turn comes to, by the entries that it finds, and what it touches.
-use Rattle.std.proofs.Common.{◌≡◌, ◌∙◌, ℕ, ◌<◌, ◌≤◌, ◌&&◌, Bool, true, false, List, [], ◌∷◌, length, nat_le, min, Option, Some, None, refl, ap, sym, arith}
+use Rattle.std.proofs.Common.{◌≡◌, ◌∙◌, ℕ, ◌+◌, ◌≤◌, ◌&&◌, ◌||◌, not, Bool, true, false, List, [], ◌∷◌, length, nat_le, nat_lt, min, Option, Some, None, is_some, refl, ap, sym, arith}
 use Rattle.std.proofs.lemmas.Bool.Decides.{nat_tests}
 use Rattle.std.specs.List.{list_all}
-use Rattle.std.specs.Prelude.{unwrap_or}
-use Rattle.aat_buffer.specs.Buffer.{Buffer, glyph_at}
-use Rattle.aat_glyph.specs.declared.glyph.hb_glyph_info_t.{hb_glyph_info_t}
-use Rattle.aat_machine_tables.specs.Table.{TableValue, class_of, entry_of}
+use Rattle.aat_machine_tables.specs.Table.{TableValue}
 use Rattle.aat_machine_tables.specs.declared.state_table.GenericStateEntry.{GenericStateEntry}
-use Rattle.aat_run.specs.Context.{Config, entry_at, is_at_end}
+use Rattle.aat_run.specs.Context.{Config, entry_at}
 use Rattle.aat_run.specs.Machine.{Ends}
-use Rattle.aat_cut_kinds.specs.KerningClosing.{has_end_entry, is_apart}
+use Rattle.aat_cut_kinds.specs.KerningClosing.{Touching, has_end_entry, is_apart}
+use Rattle.aat_cut_kinds.specs.declared.kerning_turns.Found.{Found}
 use Rattle.aat_cut_kinds.specs.inside.PlainRuns.{Plain, least_of, plain_acted, plain_turn}
+use Rattle.aat_cut_kinds.specs.inside.Standings.{found_at}
 
 -- a number is at most the least of some places and of one more where it is at most each
 le_min : (q m x : ℕ) → (nat_le q x && nat_le q m) ≡ nat_le q (min m x)
@@ -34,24 +33,24 @@ and_true false true h = refl
 and_true true false h = absurd (let e = h in cc)
 and_true false false h = refl
 
--- the entry for a glyph
-pub glyph_entry :
-    {E : Type 0} (table : TableValue E) (state : ℕ) (b : Buffer) → b.cursor < length b.line
-    → entry_of table state (unwrap_or (class_of table (glyph_at b.line b.cursor).glyph_id) 1) ≡ entry_at table state b
-glyph_entry table state b below =
-    let inside : is_at_end b ≡ false = grind (arith, nat_tests, below) in
-    rw inside refl
+-- what a run has found: the entry that it takes, and whether it takes a turn
+module _ {R T : Type 0} (k : Touching R T) (table : TableValue (GenericStateEntry T)) (c : Config R) (f : Found T)
+    (is : f ≡ found_at table c)
+  where
+    pub found_entry : (o : Option (GenericStateEntry T)) → f.entry ≡ o → entry_at table c.state c.buffer ≡ o
+    found_entry o here = sym (ap (λ (x : Found T). x.entry) is) ∙ here
 
--- the entry found by the class of the glyph
-pub entry_found :
-    {E : Type 0} (table : TableValue E) (state class n : ℕ) (b : Buffer) (g : hb_glyph_info_t) (found : Option E)
-    → b.cursor < n → n ≡ length b.line → g ≡ glyph_at b.line b.cursor
-    → class ≡ unwrap_or (class_of table g.glyph_id) 1 → found ≡ entry_of table state class → found ≡ entry_at table state b
-entry_found table state class n b g found below long read is entry =
-    entry
-    ∙ (ap (λ (j : ℕ). entry_of table state j) is
-    ∙ (ap (λ (x : hb_glyph_info_t). entry_of table state (unwrap_or (class_of table x.glyph_id) 1)) read
-    ∙ glyph_entry table state b (omega (arith, below, long))))
+    pub found_end :
+        (n : ℕ) (has goes t : Bool) → n ≡ length c.buffer.line → has ≡ is_some f.end
+        → goes ≡ (not (nat_lt (c.buffer.cursor + 1) n) || has) → goes ≡ t → has_end_entry k table c.state c.buffer ≡ t
+    found_end n has goes t long ends taken here =
+        sym (
+        sym here
+        ∙ (taken
+        ∙ (ap (λ (m : ℕ). not (nat_lt (c.buffer.cursor + 1) m) || has) long
+        ∙ ap (λ (b : Bool). not (nat_lt (c.buffer.cursor + 1) (length c.buffer.line)) || b)
+        (ends ∙ ap (λ (x : Found T). is_some x.end) is)))
+        )
 
 module _ {R T : Type 0} (k : Plain R T) (pays_first : Bool) (table : TableValue (GenericStateEntry T)) (c : Config R) where
   pub turn_none : entry_at table c.state c.buffer ≡ None → plain_turn k pays_first table c ≡ Ends c

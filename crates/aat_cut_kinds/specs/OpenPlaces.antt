@@ -1,4 +1,4 @@
--- What is told of the places of a line that the run of a kerning machine leaves open.
+-- What is told of the places of a line that a run which kerns it leaves open.
 use Rattle.std.specs.Prelude.{◌≡◌, ℕ, ℤ, ◌<◌, Bool, false, List, length, get_or}
 use Rattle.aat_buffer.specs.Buffer.{Buffer}
 use Rattle.aat_cut_kinds.specs.KerningCuts.{KernedRun}

@@ -1,2 +1,3 @@
+pub mod ClosedSpans
 pub mod PlainRuns
 pub mod Standings

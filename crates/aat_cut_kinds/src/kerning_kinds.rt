@@ -1,9 +1,9 @@
-//! What an act of a kerning stack machine does to the places on its stack.
+//! What an act of a kerning machine does to its registers: to the places on its stack, or to its mark.
 ghost use Rattle.std.specs.Prelude.{◌≡◌, ◌*◌, ◌≤◌};
 ghost use Rattle.aat_kerning_machines.specs.Stack.{is_odd};
 ghost use Rattle.aat_kerning_machines.specs.inside.StackValues.{value_at};
 ghost use Rattle.aat_cut_kinds.specs.KerningClosing.{taken_by};
-ghost use Rattle.aat_cut_kinds.specs.inside.PlainRuns.{behind_values, least_of, plain_kern, plain_kerx};
+ghost use Rattle.aat_cut_kinds.specs.inside.PlainRuns.{behind_values, least_of, plain_anchors, plain_kern, plain_kerx};
 
 use crate::kerning_stack::{Places, STACK_SIZE};
 use aat_kerning_tables::KernMachine;
@@ -16,34 +16,40 @@ const MAX_TUPLE_COUNT: u32 = 65535;
 /// The last index that a `kerx` machine may go on to.
 const LAST_INDEX: usize = 65535;
 
-/// A kind of stack machine, by what its entries do to the places on the stack.
-pub(crate) trait StackKind<E: Acting> {
-    ghost use Rattle.std.specs.Prelude.{ℕ, List};
+/// A kind of kerning machine, by what its entries do to its registers.
+pub(crate) trait KerningKind<E: Acting> {
     ghost use Rattle.aat_cut_kinds.specs.inside.PlainRuns.{Plain};
 
-    /// What the kind is asked, and what its acts leave on a stack.
-    ghost plain: { Self → Plain (List ℕ) E };
+    /// The places that wait on a stack, or the marked place.
+    type Registers: Drop;
+
+    /// What the kind is asked, the registers that it begins with, and what its acts leave of them.
+    ghost plain: { Self → Plain Self.Registers E };
+
+    /// The registers that a run begins with.
+    fn fresh(&self) -> Self::Registers
+        ensures { result ≡ (plain self.now).fresh };
 
     /// The index of an entry.
     fn index(&self, entry: &GenericStateEntry<E>) -> u16
         ensures { result ≡ (plain self.now).touching.index entry.now.extra };
 
     /// Whether an entry for the end of the text places no glyph, and clears none.
-    fn rests_at_end(&self, entry: &GenericStateEntry<E>, stack: &Places) -> bool
-        ensures { result ≡ (plain self.now).touching.rests_at_end entry.now stack.now };
+    fn rests_at_end(&self, entry: &GenericStateEntry<E>, registers: &Self::Registers) -> bool
+        ensures { result ≡ (plain self.now).touching.rests_at_end entry.now registers.now };
 
     /// The act of an entry at a cursor, over a line of a length: answers the least of the places that it touches and of
     /// the cursor.
     fn act(
         &self,
         entry: &GenericStateEntry<E>,
-        stack: &mut Places,
+        registers: &mut Self::Registers,
         cursor: usize,
         len: usize,
     ) -> usize
-        ensures left { stack.new ≡ (plain self.now).left entry.now stack.old cursor len }
+        ensures left { registers.new ≡ (plain self.now).left entry.now registers.old cursor len }
         ensures least { result
-            ≡ least_of ((plain self.now).touching.touched entry.now stack.old cursor len) cursor };
+            ≡ least_of ((plain self.now).touching.touched entry.now registers.old cursor len) cursor };
 }
 
 /// The values of a subtable, and which of them a list takes.
@@ -116,8 +122,14 @@ pub(crate) struct KernStack<'a> {
     pub values: &'a [i16],
 }
 
-impl<'a> StackKind<KernEntryData> for KernStack<'a> {
+impl<'a> KerningKind<KernEntryData> for KernStack<'a> {
+    type Registers = Places;
+
     ghost plain = { λ m. plain_kern m.values.now };
+
+    fn fresh(&self) -> Places {
+        Places::new()
+    }
 
     fn index(&self, entry: &GenericStateEntry<KernEntryData>) -> u16 {
         entry.extra.value_index
@@ -161,8 +173,14 @@ pub(crate) struct KerxStack<'a> {
     pub tuple_count: u32,
 }
 
-impl<'a> StackKind<EntryData> for KerxStack<'a> {
+impl<'a> KerningKind<EntryData> for KerxStack<'a> {
+    type Registers = Places;
+
     ghost plain = { λ m. plain_kerx m.tuple_count m.values.now };
+
+    fn fresh(&self) -> Places {
+        Places::new()
+    }
 
     fn index(&self, entry: &GenericStateEntry<EntryData>) -> u16 {
         entry.extra.action_index
@@ -197,5 +215,56 @@ impl<'a> StackKind<EntryData> for KerxStack<'a> {
             ends_at_missing: true,
         };
         values.take_all(first, stack, len, least)
+    }
+}
+
+/// The mark of a subtable of anchors.
+#[derive(Drop)]
+pub(crate) struct AnchorMark {
+    /// Whether the font has anchor points. Without them an entry of any index attaches a glyph.
+    pub has_points: bool,
+    /// How many pairs of points entries may name by their indexes.
+    pub pair_count: usize,
+}
+
+impl KerningKind<EntryData> for AnchorMark {
+    type Registers = Option<usize>;
+
+    ghost plain = { λ m. plain_anchors m.has_points m.pair_count };
+
+    fn fresh(&self) -> Option<usize> {
+        None
+    }
+
+    fn index(&self, entry: &GenericStateEntry<EntryData>) -> u16 {
+        entry.extra.action_index
+    }
+
+    fn rests_at_end(&self, _entry: &GenericStateEntry<EntryData>, _mark: &Option<usize>) -> bool {
+        true
+    }
+
+    #[tactic(auto, unfolding(crate::specs::inside::PlainRuns::least_of))]
+    fn act(
+        &self,
+        entry: &GenericStateEntry<EntryData>,
+        mark: &mut Option<usize>,
+        cursor: usize,
+        len: usize,
+    ) -> usize {
+        let mut least = cursor;
+        let index = entry.extra.action_index;
+        if let Some(place) = *mark {
+            if index != NO_INDEX && cursor < len {
+                least = cursor.min(place);
+                if self.has_points && usize::from(index) >= self.pair_count {
+                    return least;
+                }
+            }
+        }
+        if entry.has_mark() {
+            *mark = Some(cursor);
+        }
+        least
     }
 }

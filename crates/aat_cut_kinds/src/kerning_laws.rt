@@ -16,7 +16,7 @@ pub fn runs_leave_parts()
 /// masks meet the kern mask, and in positions. What a run of a stack or of anchors leaves of them stands so in what it
 /// leaves of the third, where the place between them is open, some of the budget is left, and theirs are enough; and
 /// these are enough for runs that come then. Runs over the line turned round do so, runs one after another, and
-/// attaching all glyphs.
+/// attaching all glyphs. The kern mask has no glyph flag (7), of anchors too.
 pub fn runs_keep_parts()
     ensures { RunsKeepParts }
 {}
@@ -33,7 +33,7 @@ pub fn tables_kern_in_parts()
 /// other place inside the third that is open to the run is so in its part, so that the places of the whole serve for the
 /// parts. Runs of stacks and of anchors do so whatever the table: each open place is asked that a text which ended there
 /// would clear no stack. So do runs over the line turned round, runs one after another that keep parts as in
-/// `runs_keep_parts`, and attaching all glyphs.
+/// `runs_keep_parts`, and attaching all glyphs. The kern mask has no glyph flag (7), of anchors too.
 pub fn runs_keep_opens()
     ensures { RunsKeepOpens }
 {}

@@ -1,19 +1,18 @@
-//! The turns of a kerning stack machine without marks and positions: cursor, budget, state and stack, and the least
-//! place that each touches.
-ghost use Rattle.std.specs.Prelude.{◌≡◌, ◌<◌, ◌≤◌, ◌^◌, ℕ, Bool, nat_le, length, not, unwrap_or};
+//! The turns of a kerning machine without marks and positions: cursor, budget, state and registers, and the least place
+//! that each touches.
+ghost use Rattle.std.specs.Prelude.{◌≡◌, ◌+◌, ◌<◌, ◌≤◌, ◌^◌, ◌||◌, ℕ, Bool, is_some, nat_le, nat_lt, length, not, unwrap_or};
 ghost use Rattle.aat_buffer.specs.Buffer.{Buffer, Is16Bit};
 ghost use Rattle.aat_buffer.specs.Clusters.{IsSmall};
-ghost use Rattle.aat_cut_kinds.specs.KerningClosing.{goes_as_from_start, has_end_entry, is_apart, is_same_entry, only_returns, rests_if_over};
+ghost use Rattle.aat_cut_kinds.specs.KerningClosing.{goes_as_from_start, is_apart, is_none_or, is_same_entry, only_returns};
 ghost use Rattle.aat_cut_kinds.specs.inside.PlainRuns.{is_harmless, least_of, plain_acted, plain_turn};
-ghost use Rattle.aat_cut_kinds.specs.inside.Standings.{standing};
+ghost use Rattle.aat_cut_kinds.specs.inside.Standings.{found_at, standing};
 ghost use Rattle.aat_kerning_machines.specs.KerningMachine.{moved_on, stepped};
-ghost use Rattle.aat_machine_tables.specs.Table.{class_of};
-ghost use Rattle.aat_run.specs.Context.{entry_at, is_at_end};
+ghost use Rattle.aat_machine_tables.specs.Table.{class_of, entry_of};
+ghost use Rattle.aat_run.specs.Context.{class_at};
 ghost use Rattle.aat_run.specs.Machine.{settled_by};
 ghost use Rattle.aat_run.specs.inside.Places.{turn_of};
 
-use crate::kerning_kinds::StackKind;
-use crate::kerning_stack::Places;
+use crate::kerning_kinds::KerningKind;
 use aat_buffer::{hb_buffer_t, hb_glyph_info_t};
 use aat_lookup::GlyphId;
 use aat_machine_tables::entry_bits::NO_INDEX;
@@ -30,15 +29,22 @@ pub(crate) struct PlainRun<'a, E: Acting, K, A: Allocator + Copy> {
     pub kind: &'a K,
     pub pays_first: bool,
     pub buffer: &'a hb_buffer_t<A>,
+    /// How many glyphs the line has.
+    pub glyph_count: usize,
+    /// Whether state 0 has an entry for the end of the text.
+    pub has_first_end: bool,
+    ghost counted: { glyph_count ≡ length buffer.now.line },
+    ghost few: { glyph_count ≤ 0x3FFFFFFF },
+    ghost first_end: { has_first_end ≡ is_some (entry_of table.now 0 0) },
 }
 
 /// Where a plain run stands.
 #[derive(Drop)]
-pub(crate) struct Standing {
+pub(crate) struct Standing<R> {
     pub cursor: usize,
     pub state: u16,
     pub max_ops: i32,
-    pub stack: Places,
+    pub registers: R,
 }
 
 /// The class of a glyph: 1, out of bounds, where it has none.
@@ -49,38 +55,56 @@ fn class_of<E: Acting>(table: &ExtendedStateTable<E>, glyph: &hb_glyph_info_t) -
     table.class_or_out_of_bounds(GlyphId(glyph.glyph_id as u16))
 }
 
-/// The entry of a state and of the glyph at the cursor.
-fn entry_at<E: Acting, K: StackKind<E>, A: Allocator + Copy>(
-    run: &PlainRun<E, K, A>,
-    state: u16,
-    at: &Standing,
-) -> Option<GenericStateEntry<E>>
-    requires ids { IsSmall run.now.buffer.now }
-    ensures { result ≡ entry_at run.now.table.now state (standing run.now.buffer.now at.now).buffer }
-{
-    if at.cursor >= run.buffer.len() {
-        return run.table.entry(state, END_OF_TEXT);
-    }
-    let class = class_of(run.table, run.buffer.info(at.cursor));
-    run.table.entry(state, class)
+/// What a run finds where it stands: the class at the cursor, and the entries of its state for that class and for the end
+/// of the text.
+#[derive(Drop)]
+pub(crate) struct Found<E: Copy> {
+    class: u16,
+    entry: Option<GenericStateEntry<E>>,
+    end: Option<GenericStateEntry<E>>,
 }
 
-/// Whether the state has the entry for the end of the text that a turn asks for, where two glyphs or more are left.
-fn has_end_entry<E: Acting, K: StackKind<E>, A: Allocator + Copy>(
+/// The class at the cursor: that of the end of the text at the end, and 1, out of bounds, of a glyph without a class.
+fn class_at<E: Acting, K: KerningKind<E>, A: Allocator + Copy>(
     run: &PlainRun<E, K, A>,
-    state: u16,
-    at: &Standing,
-) -> bool
-    requires within { at.now.cursor ≤ length run.now.buffer.now.line }
-    ensures { result ≡ has_end_entry (K.plain run.now.kind.now).touching run.now.table.now state
-        (standing run.now.buffer.now at.now).buffer }
+    at: &Standing<K::Registers>,
+) -> u16
+    requires ids { IsSmall run.now.buffer.now }
+    ensures { result ≡ class_at (class_of run.now.table.now) (standing run.now.buffer.now at.now).buffer }
 {
-    let length = run.buffer.len();
-    at.cursor + 1 >= length || run.table.entry(state, END_OF_TEXT).is_some()
+    if at.cursor >= run.glyph_count {
+        return END_OF_TEXT;
+    }
+    class_of(run.table, run.buffer.info(at.cursor))
+}
+
+/// Looks up what a run finds where it stands.
+#[inline(always)]
+pub(crate) fn look<E: Acting, K: KerningKind<E>, A: Allocator + Copy>(
+    run: &PlainRun<E, K, A>,
+    at: &Standing<K::Registers>,
+) -> Found<E>
+    requires ids { IsSmall run.now.buffer.now }
+    ensures { result ≡ found_at run.now.table.now (standing run.now.buffer.now at.now) }
+{
+    let class = class_at(run, at);
+    Found {
+        class,
+        entry: run.table.entry(at.state, class),
+        end: run.table.entry(at.state, END_OF_TEXT),
+    }
+}
+
+/// Whether a turn is taken at a cursor: where two glyphs or more are left, if there is an entry for the end of the text.
+fn is_turn_taken(has_end: bool, cursor: usize, len: usize) -> bool
+    requires { cursor < 2 ^ 62 }
+    ensures { result ≡ (not (nat_lt (cursor + 1) len) || has_end) }
+{
+    cursor + 1 >= len || has_end
 }
 
 /// Whether an entry does no more than go back to state 0.
-fn only_returns<E: Acting, K: StackKind<E>>(kind: &K, entry: &GenericStateEntry<E>) -> bool
+fn only_returns<E: Acting, K: KerningKind<E>>(kind: &K, entry: &GenericStateEntry<E>) -> bool
     ensures { result ≡ only_returns (K.plain kind.now).touching entry.now }
 {
     kind.index(entry) == NO_INDEX
@@ -90,7 +114,7 @@ fn only_returns<E: Acting, K: StackKind<E>>(kind: &K, entry: &GenericStateEntry<
 }
 
 /// Whether two entries are the same in state, flags and index.
-fn is_same_entry<E: Acting, K: StackKind<E>>(
+fn is_same_entry<E: Acting, K: KerningKind<E>>(
     kind: &K,
     entry: &GenericStateEntry<E>,
     other: &GenericStateEntry<E>,
@@ -103,65 +127,69 @@ fn is_same_entry<E: Acting, K: StackKind<E>>(
 }
 
 /// Whether the run goes on as from state 0.
-fn goes_as_from_start<E: Acting, K: StackKind<E>, A: Allocator + Copy>(
+fn goes_as_from_start<E: Acting, K: KerningKind<E>, A: Allocator + Copy>(
     run: &PlainRun<E, K, A>,
-    at: &Standing,
+    found: &Found<E>,
+    at: &Standing<K::Registers>,
 ) -> bool
-    requires ids { IsSmall run.now.buffer.now }
     requires within { at.now.cursor ≤ length run.now.buffer.now.line }
+    requires found { found.now ≡ found_at run.now.table.now (standing run.now.buffer.now at.now) }
     ensures { result ≡ goes_as_from_start (K.plain run.now.kind.now).touching run.now.table.now
         (standing run.now.buffer.now at.now) }
 {
     if at.state == START_OF_TEXT {
         return true;
     }
-    if !has_end_entry(run, at.state, at) || !has_end_entry(run, START_OF_TEXT, at) {
+    let has_ends = run.has_first_end && found.end.is_some();
+    if !is_turn_taken(has_ends, at.cursor, run.glyph_count) {
         return false;
     }
-    let Some(entry) = entry_at(run, at.state, at) else {
+    let Some(entry) = &found.entry else {
         return false;
     };
-    if only_returns(run.kind, &entry) {
+    if only_returns(run.kind, entry) {
         return true;
     }
-    match entry_at(run, START_OF_TEXT, at) {
-        Some(first) => is_same_entry(run.kind, &entry, &first),
+    match run.table.entry(START_OF_TEXT, found.class) {
+        Some(first) => is_same_entry(run.kind, entry, &first),
         None => false,
     }
 }
 
 /// Whether a text that ended before the glyph at the cursor would place nothing more, nor clear.
-fn rests_if_over<E: Acting, K: StackKind<E>, A: Allocator + Copy>(
-    run: &PlainRun<E, K, A>,
-    at: &Standing,
+fn rests_if_over<E: Acting, K: KerningKind<E>>(
+    kind: &K,
+    found: &Found<E>,
+    registers: &K::Registers,
 ) -> bool
-    ensures { result ≡ rests_if_over (K.plain run.now.kind.now).touching run.now.table.now
-        (standing run.now.buffer.now at.now) }
+    ensures { result ≡ is_none_or found.now.end
+        (λ z. (K.plain kind.now).touching.rests_at_end z registers.now) }
 {
-    match run.table.entry(at.state, END_OF_TEXT) {
-        Some(entry) => run.kind.rests_at_end(&entry, &at.stack),
+    match &found.end {
+        Some(entry) => kind.rests_at_end(entry, registers),
         None => true,
     }
 }
 
 /// Whether the first turn at a place, here, leaves it open.
-pub(crate) fn is_harmless<E: Acting, K: StackKind<E>, A: Allocator + Copy>(
+pub(crate) fn is_harmless<E: Acting, K: KerningKind<E>, A: Allocator + Copy>(
     run: &PlainRun<E, K, A>,
-    at: &Standing,
+    found: &Found<E>,
+    at: &Standing<K::Registers>,
 ) -> bool
-    requires ids { IsSmall run.now.buffer.now }
     requires within { at.now.cursor ≤ length run.now.buffer.now.line }
+    requires found { found.now ≡ found_at run.now.table.now (standing run.now.buffer.now at.now) }
     ensures { result ≡ is_harmless (K.plain run.now.kind.now).touching run.now.table.now
         (standing run.now.buffer.now at.now) }
 {
-    goes_as_from_start(run, at) && rests_if_over(run, at)
+    goes_as_from_start(run, found, at) && rests_if_over(run.kind, found, &at.registers)
 }
 
 /// Moves the cursor over a glyph where an entry advances, and where the budget is used up.
-fn move_on(at: &mut Standing, does_advance: bool)
+fn move_on<R>(at: &mut Standing<R>, does_advance: bool)
     requires { at.old.cursor < 2 ^ 62 }
     ensures state { at.new.state ≡ at.old.state }
-    ensures stack { at.new.stack ≡ at.old.stack }
+    ensures registers { at.new.registers ≡ at.old.registers }
     ensures moved { (b : Buffer) → (standing b at.new).buffer ≡ moved_on does_advance (standing b at.old).buffer }
 {
     if does_advance || at.max_ops <= 0 {
@@ -170,10 +198,10 @@ fn move_on(at: &mut Standing, does_advance: bool)
 }
 
 /// Moves on from a glyph and pays for the turn, or pays first.
-fn step(at: &mut Standing, does_advance: bool, pays_first: bool)
+fn step<R>(at: &mut Standing<R>, does_advance: bool, pays_first: bool)
     requires { at.old.cursor < 2 ^ 62 }
     ensures state { at.new.state ≡ at.old.state }
-    ensures stack { at.new.stack ≡ at.old.stack }
+    ensures registers { at.new.registers ≡ at.old.registers }
     ensures stepped { (b : Buffer) → (standing b at.new).buffer
         ≡ stepped pays_first does_advance (standing b at.old).buffer }
 {
@@ -195,20 +223,21 @@ pub(crate) struct TurnTaken {
 }
 
 /// An entry's turn, where the run comes to its act.
-fn take_entry<E: Acting, K: StackKind<E>, A: Allocator + Copy>(
+fn take_entry<E: Acting, K: KerningKind<E>, A: Allocator + Copy>(
     run: &PlainRun<E, K, A>,
     entry: &GenericStateEntry<E>,
-    at: &mut Standing,
+    at: &mut Standing<K::Registers>,
 ) -> TurnTaken
     ensures turn { plain_acted (K.plain run.now.kind.now) run.now.pays_first entry.now
         (standing run.now.buffer.now at.old) ≡ turn_of result.goes_on (standing run.now.buffer.now at.new) }
-    ensures least { result.least ≡ least_of ((K.plain run.now.kind.now).touching.touched entry.now at.old.stack
+    ensures least { result.least ≡ least_of ((K.plain run.now.kind.now).touching.touched entry.now at.old.registers
         at.old.cursor (length run.now.buffer.now.line)) at.old.cursor }
 {
-    let length = run.buffer.len();
-    let least = run.kind.act(entry, &mut at.stack, at.cursor, length);
+    let least = run
+        .kind
+        .act(entry, &mut at.registers, at.cursor, run.glyph_count);
     at.state = entry.new_state;
-    let goes_on = at.cursor < length;
+    let goes_on = at.cursor < run.glyph_count;
     if goes_on {
         step(at, entry.has_advance(), run.pays_first);
     }
@@ -216,12 +245,13 @@ fn take_entry<E: Acting, K: StackKind<E>, A: Allocator + Copy>(
 }
 
 /// One turn.
-pub(crate) fn take_turn<E: Acting, K: StackKind<E>, A: Allocator + Copy>(
+pub(crate) fn take_turn<E: Acting, K: KerningKind<E>, A: Allocator + Copy>(
     run: &PlainRun<E, K, A>,
-    at: &mut Standing,
+    found: &Found<E>,
+    at: &mut Standing<K::Registers>,
 ) -> TurnTaken
-    requires ids { IsSmall run.now.buffer.now }
     requires within { at.old.cursor ≤ length run.now.buffer.now.line }
+    requires found { found.now ≡ found_at run.now.table.now (standing run.now.buffer.now at.old) }
     ensures turn { plain_turn (K.plain run.now.kind.now) run.now.pays_first run.now.table.now
         (standing run.now.buffer.now at.old) ≡ turn_of result.goes_on (standing run.now.buffer.now at.new) }
     ensures least { (q : ℕ) → q ≤ at.old.cursor → is_apart (K.plain run.now.kind.now).touching run.now.table.now q
@@ -231,11 +261,11 @@ pub(crate) fn take_turn<E: Acting, K: StackKind<E>, A: Allocator + Copy>(
         least: at.cursor,
         goes_on: false,
     };
-    let Some(entry) = entry_at(run, at.state, &*at) else {
+    let Some(entry) = &found.entry else {
         return resting;
     };
-    if !has_end_entry(run, at.state, &*at) {
+    if !is_turn_taken(found.end.is_some(), at.cursor, run.glyph_count) {
         return resting;
     }
-    take_entry(run, &entry, at)
+    take_entry(run, entry, at)
 }

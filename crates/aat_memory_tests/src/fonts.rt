@@ -65,3 +65,11 @@ pub(crate) fn inserting(alloc: Global) -> Result<hb_font_t, Fail> {
     let tables = tables.with_morx(inserting_morx(alloc)?);
     Ok(hb_font_t::new(tables, None, Some(advances)))
 }
+
+/// A font in which 1 and 2 are 100 wide, and 10 less where 1 stands to the left of 2.
+pub(crate) fn kerning(alloc: Global) -> Result<hb_font_t, Fail> {
+    let advances = Lookup::new(alloc, &[(1, 100), (2, 100)])?;
+    let pairs = KernKind::Pairs(Pairs::new(alloc, &[(1, 2, -10)])?);
+    let kern = Kern::new(vec![in alloc; KernSubtable::new(pairs, true)]?)?;
+    Ok(hb_font_t::new(FaceTables::default().with_kern(kern), None, Some(advances)))
+}

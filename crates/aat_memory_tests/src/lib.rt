@@ -11,6 +11,8 @@ mod fonts;
 #[cfg(test)]
 mod hoard;
 #[cfg(test)]
+mod lines;
+#[cfg(test)]
 mod readers;
 #[cfg(test)]
 mod refusal_tests;

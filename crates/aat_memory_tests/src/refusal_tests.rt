@@ -2,8 +2,9 @@
 
 use crate::buffers::{Growth, outcome_of_growth};
 use crate::calls::{Outcome, outcome_of};
-use crate::fonts::{inserting, row_font};
+use crate::fonts::{inserting, kerning, row_font};
 use crate::hoard::{Hoard, MOST, new_heap};
+use crate::lines::outcome_of_lines;
 use crate::readers::{Reader, is_read};
 use crate::requests::{Asking, outcome_of_asking};
 use crate::shaping::{outcome_beside, outcome_of_text, outcome_within};
@@ -37,6 +38,8 @@ enum Call {
     Within,
     /// A text of a shaper, which has shaped none or one of so many glyphs before. Four blocks more are left each time.
     Shaped(u32, u32),
+    /// A text that a shaper fills into lines, which it has done before or not. Four blocks more are left each time.
+    Filled(bool),
 }
 
 /// What comes of a call that leaves nothing, over this heap.
@@ -63,6 +66,7 @@ fn outcome_in(alloc: Global, font: &hb_font_t, call: Call, blocks: usize) -> Res
         Call::Shaped(before, count) => {
             outcome_of_text(alloc, font, before, count, blocks.saturating_mul(4))
         }
+        Call::Filled(is_again) => outcome_of_lines(alloc, font, is_again, blocks.saturating_mul(4)),
         _ => Ok(Outcome::Wrong),
     }
 }
@@ -73,6 +77,7 @@ fn font_of(alloc: Global, call: Call) -> Result<hb_font_t, Fail> {
         Call::Asked(_) => row_font(alloc, "5"),
         Call::Map => row_font(alloc, "13a"),
         Call::Beside | Call::Within => row_font(alloc, "38a"),
+        Call::Filled(_) => kerning(alloc),
         _ => inserting(alloc),
     }
 }
@@ -118,7 +123,7 @@ fn blocks_for(alloc: Global, call: Call) -> Result<Option<usize>, Fail> {
 }
 
 /// Each call with its name, and how often it asks for memory at least. Each request takes a block or more.
-static CALLS: [(&str, Call, usize); 35] = [
+static CALLS: [(&str, Call, usize); 37] = [
     ("a lookup with an array", Call::Made(Table::CloseLookup), 2),
     ("a lookup without one", Call::Made(Table::FarLookup), 1),
     ("segments", Call::Made(Table::Segments), 1),
@@ -154,6 +159,8 @@ static CALLS: [(&str, Call, usize); 35] = [
     ("the positions of shaping", Call::Within, 1),
     ("the first text of a shaper", Call::Shaped(0, 1), 4),
     ("a longer text", Call::Shaped(1, 3), 4),
+    ("a text in lines", Call::Filled(false), 7),
+    ("the same lines again", Call::Filled(true), 5),
 ];
 
 #[test]

@@ -14,41 +14,30 @@ use Rattle.aat_kerning.specs.Cut.{IsCutPlace, IsUnflaggedAt, ordered_line}
 use Rattle.aat_kerning.specs.Pairs.{is_solid}
 use Rattle.aat_shaped_text.specs.Breaks.{is_unsafe, kept_before, later_run, may_break_at, run_from, run_up_to, shares_cluster}
 use Rattle.aat_shaped_text.specs.TextFeatures.{ask_evenly}
+use Rattle.aat_shaped_text.proofs.Fronts.{OpensAt, count_kept}
 use Rattle.aat_shaped_text.proofs.LooksSplit.{stays}
-use Rattle.aat_shaped_text.proofs.Places.{PlaceOf}
-use Rattle.aat_shaped_text.proofs.Spots.{Spot, some_stays}
+use Rattle.aat_shaped_text.proofs.Spots.{BeginsKept, Spot, some_stays}
 use Rattle.aat_shaped_text.proofs.SpotsRuns.{Glyphs, spots}
 
 -- what the test of a break asks for
-pub record MayBreak (skips : ℕ) (even : Bool) (features : List Feature) (line : Glyphs) (i : ℕ) : Type 0 where
+pub record MayBreak (even : Bool) (features : List Feature) (line : Glyphs) (i : ℕ) : Type 0 where
   pub some : nat_lt 0 (kept_before line i) ≡ true
   pub starts : not (cluster_at line i == cluster_at line (i - 1)) ≡ true
-  pub solid : is_solid skips (glyph_at line i) ≡ true
   pub safe : not (list_any is_unsafe (later_run line i)) ≡ true
   pub asks : ask_evenly even features (cluster_at line (i - 1)) (cluster_at line i) ≡ true
 
-pub five : (a b c d e : Bool) → (a && b && c && d && e) ≡ true → (a ≡ true) × (b ≡ true) × (c ≡ true) × (d ≡ true) × (e ≡ true)
-five true true true true true is = (refl, refl, refl, refl, refl)
-five true true true true false is = absurd (true≢false (sym is))
-five true true true false e is = absurd (true≢false (sym is))
-five true true false d e is = absurd (true≢false (sym is))
-five true false c d e is = absurd (true≢false (sym is))
-five false b c d e is = absurd (true≢false (sym is))
+pub four : (a b c d : Bool) → (a && b && c && d) ≡ true → (a ≡ true) × (b ≡ true) × (c ≡ true) × (d ≡ true)
+four true true true true is = (refl, refl, refl, refl)
+four true true true false is = absurd (true≢false (sym is))
+four true true false d is = absurd (true≢false (sym is))
+four true false c d is = absurd (true≢false (sym is))
+four false b c d is = absurd (true≢false (sym is))
 
-pub may_break_is : (skips : ℕ) (even : Bool) (features : List Feature) (line : Glyphs) (i : ℕ) → may_break_at skips even features line i ≡ true → MayBreak skips even features line i
-may_break_is skips even features line i is =
-    let all = five (nat_lt 0 (kept_before line i)) (not (cluster_at line i == cluster_at line (i - 1))) (is_solid skips (glyph_at line i))
+pub may_break_is : (even : Bool) (features : List Feature) (line : Glyphs) (i : ℕ) → may_break_at even features line i ≡ true → MayBreak even features line i
+may_break_is even features line i is =
+    let all = four (nat_lt 0 (kept_before line i)) (not (cluster_at line i == cluster_at line (i - 1)))
     (not (list_any is_unsafe (later_run line i))) (ask_evenly even features (cluster_at line (i - 1)) (cluster_at line i)) is in
-    record { some = all.0; starts = all.1; solid = all.2; safe = all.3; asks = all.4 }
-
-pub count_kept : (gs : Glyphs) → length (filter (λ g. not (is_deleted g)) gs) ≡ stays (spots gs)
-count_kept [] = refl
-count_kept (g ∷ gs) = by (count_kept gs) (is_deleted g)
-  where
-    by : length (filter (λ g. not (is_deleted g)) gs) ≡ stays (spots gs) → (t : Bool)
-        → length (cond (not t) (g ∷ filter (λ g. not (is_deleted g)) gs) (filter (λ g. not (is_deleted g)) gs)) ≡ cond t (stays (spots gs)) (suc (stays (spots gs)))
-    by below true = below
-    by below false = ap suc below
+    record { some = all.0; starts = all.1; safe = all.2; asks = all.3 }
 
 some_from : (ss : List Spot) → 0 < stays ss → some_stays ss ≡ true
 some_from [] some = absurd (omega (arith, some))
@@ -94,33 +83,32 @@ safe_bit g safe = by (bit_and g.mask 1 == 0) refl
 same_is : (n m : ℕ) → n ≡ m → (n == m) ≡ true
 same_is n m e = grind (arith, nat_tests, e)
 
--- a line that may be broken before a kept glyph: the glyphs that meet there
-pub record MeetsAt (skips : ℕ) (line : Glyphs) (k i : ℕ) : Type 0 where
+-- A line that may be cut at a place: the glyphs that meet there. The first of those behind it that stays has the cluster
+-- of the first, and so have those before.
+pub record MeetsAt (line : Glyphs) (k i : ℕ) : Type 0 where
   pub front : Glyphs
   pub last : hb_glyph_info_t
   pub here : hb_glyph_info_t
   pub back : Glyphs
   pub whole : line ≡ (front ++ last ∷ []) ++ here ∷ back
   pub long : length (front ++ last ∷ []) ≡ i
-  pub kept : is_deleted here ≡ false
+  pub kept : BeginsKept here.cluster (spots (here ∷ back))
   pub count : stays (spots (front ++ last ∷ [])) ≡ k
   pub some : some_stays (spots (front ++ last ∷ [])) ≡ true
   pub other : last.cluster ≢ here.cluster
   pub behind_first : 0 < i
   pub before_end : i < length line
-  pub solid : is_solid skips (glyph_at line i) ≡ true
   pub starts : cluster_at line i ≢ cluster_at line (i - 1)
 
 -- what is asked of glyphs but for their marks
-pub record MayMeet (skips : ℕ) (line : Glyphs) (i : ℕ) : Type 0 where
+pub record MayMeet (line : Glyphs) (i : ℕ) : Type 0 where
   pub some : nat_lt 0 (kept_before line i) ≡ true
   pub starts : not (cluster_at line i == cluster_at line (i - 1)) ≡ true
-  pub solid : is_solid skips (glyph_at line i) ≡ true
 
-pub meets_of : (skips : ℕ) (even : Bool) (features : List Feature) (line : Glyphs) (i : ℕ) → MayBreak skips even features line i → MayMeet skips line i
-meets_of skips even features line i may = record { some = may.some; starts = may.starts; solid = may.solid }
+pub meets_of : (even : Bool) (features : List Feature) (line : Glyphs) (i : ℕ) → MayBreak even features line i → MayMeet line i
+meets_of even features line i may = record { some = may.some; starts = may.starts }
 
-module _ (skips : ℕ) (line : Glyphs) (k i : ℕ) (at_place : PlaceOf line k i) (may : MayMeet skips line i) where
+module _ (line : Glyphs) (k i : ℕ) (at_place : OpensAt line k i) (may : MayMeet line i) where
   some_kept : some_stays (spots at_place.front) ≡ true
   some_kept =
       let before : take i line ≡ at_place.front = ap (take i) at_place.whole ∙ take_at at_place.front (at_place.here ∷ at_place.back) i (sym at_place.stands) in
@@ -151,7 +139,7 @@ module _ (skips : ℕ) (line : Glyphs) (k i : ℕ) (at_place : PlaceOf line k i)
   clusters_differ : cluster_at line i ≢ cluster_at line (i - 1)
   clusters_differ e = let fails = may.starts in true≢false (sym fails ∙ ap not (same_is (cluster_at line i) (cluster_at line (i - 1)) e))
 
-  pub meets_at : MeetsAt skips line k i
+  pub meets_at : MeetsAt line k i
   meets_at = record {
     front = end.front;
     last = end.last;
@@ -167,12 +155,11 @@ module _ (skips : ℕ) (line : Glyphs) (k i : ℕ) (at_place : PlaceOf line k i)
     before_end =
         let whole : length line ≡ length at_place.front + suc (length at_place.back) = ap length at_place.whole ∙ length-append at_place.front (at_place.here ∷ at_place.back) in
         let stands = at_place.stands in omega (arith, whole, stands);
-    solid = may.solid;
     starts = clusters_differ;
   }
 
 -- where none of the later cluster is marked, neither is its glyph at the place
-module _ (skips k i : ℕ) (line : Glyphs) (m : MeetsAt skips line k i) where
+module _ (k i : ℕ) (line : Glyphs) (m : MeetsAt line k i) where
   met_here : glyph_at line i ≡ m.here
   met_here = ap (λ zs. glyph_at zs i) m.whole ∙ get_or_at (m.front ++ m.last ∷ []) m.here m.back no_glyph i m.long
 
@@ -210,12 +197,13 @@ module _ (skips k i : ℕ) (line : Glyphs) (m : MeetsAt skips line k i) where
           (same_is m.last.cluster (cluster_at line (i - 1)) (ap (λ (g : hb_glyph_info_t). g.cluster) (sym met_last))) none in
           ap (λ (g : hb_glyph_info_t). bit_and g.mask 1) met_last ∙ safe_bit m.last first
 
-pub cut_place : (skips k i : ℕ) (line : Glyphs) (b : Buffer) → line ≡ ordered_line b → MeetsAt skips line k i
-    → not (list_any is_unsafe (later_run line i)) ≡ true → IsCutPlace skips i b
-cut_place skips k i line b same m safe = record {
+-- where its glyph is solid too, kerning by pairs may be cut there
+pub cut_place : (skips k i : ℕ) (line : Glyphs) (b : Buffer) → line ≡ ordered_line b → MeetsAt line k i
+    → is_solid skips (glyph_at line i) ≡ true → not (list_any is_unsafe (later_run line i)) ≡ true → IsCutPlace skips i b
+cut_place skips k i line b same m solid safe = record {
   behind_first = m.behind_first;
   before_end = subst (λ (zs : Glyphs). i < length zs) same m.before_end;
-  solid = subst (λ (zs : Glyphs). is_solid skips (glyph_at zs i) ≡ true) same m.solid;
+  solid = subst (λ (zs : Glyphs). is_solid skips (glyph_at zs i) ≡ true) same solid;
   starts = subst (λ (zs : Glyphs). cluster_at zs i ≢ cluster_at zs (i - 1)) same m.starts;
-  unflagged = subst (IsUnflaggedAt i) same (unflagged_at skips k i line m safe);
+  unflagged = subst (IsUnflaggedAt i) same (unflagged_at k i line m safe);
 }

@@ -15,11 +15,10 @@ use Rattle.aat_closing.specs.Unflagged.{SameButFlags, bare, erased, unflagged}
 use Rattle.aat_closing.specs.facts.BlindBuffers.{erased_of, same_of}
 use Rattle.aat_closing.specs.facts.BlindLines.{bare_at, bare_cluster_at, bare_length}
 use Rattle.aat_shaped_text.specs.Breaks.{kept_before}
-use Rattle.aat_shaped_text.specs.Parts.{looks}
 use Rattle.aat_shaped_text.specs.ShapedText.{drawn_cluster, drawn_glyph, drawn_glyphs, kept_place, kept_places, tracked_by, tracked_line, with_clusters_of}
 use Rattle.aat_shaped_text.specs.declared.text.ShapedGlyph.{ShapedGlyph}
 use Rattle.aat_shaped_text.proofs.KernedBlind.{erased_ordered}
-use Rattle.aat_shaped_text.proofs.Looks.{Positions, left_of, looks_of_places, looks_with_clusters, with_clusters}
+use Rattle.aat_shaped_text.proofs.Looks.{Positions, left_of, with_clusters}
 use Rattle.aat_shaped_text.proofs.Spots.{lefts}
 use Rattle.aat_shaped_text.proofs.SpotsRemoved.{clusters_of_removed}
 use Rattle.aat_shaped_text.proofs.SpotsRuns.{Glyphs, clusters, spot}
@@ -140,17 +139,3 @@ glyphs_alike m a b level same =
     let levels : a.cluster_level ≡ b.cluster_level = λ k. (alike k).cluster_level in
     drawn_is m a (levels ∙ level)
     ∙ (sym (spots_bare m a) ∙ (ap (drawn_by_spots m) alike ∙ (spots_bare m b ∙ sym (drawn_is m b level))))
-
-looks_are :
-    (m : ℕ → Bool) (b : Buffer)
-    → map looks (drawn_glyphs m b)
-    ≡ with_clusters (clusters (removed is_deleted b).line) (map (λ i. looks (drawn_glyph m b i)) (kept_places b.line))
-looks_are m b =
-    looks_with_clusters (removed is_deleted b).line (map (drawn_glyph m b) (kept_places b.line))
-    ∙ ap (with_clusters (clusters (removed is_deleted b).line)) (looks_of_places (drawn_glyph m b) (kept_places b.line))
-
--- and wherever they may be broken it looks the same
-pub looks_alike :
-    (m n : ℕ → Bool) (a b : Buffer) → b.cluster_level ≡ 0 → SameButFlags a b
-    → map looks (drawn_glyphs m a) ≡ map looks (drawn_glyphs n b)
-looks_alike m n a b level same = ap (map looks) (glyphs_alike m a b level same) ∙ (looks_are m b ∙ sym (looks_are n b))

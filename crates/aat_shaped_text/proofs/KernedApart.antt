@@ -1,4 +1,4 @@
--- Pairs along the line attach nothing.
+-- Pairs along the line attach nothing, and take nothing of the budget.
 use Rattle.std.proofs.Common.{◌≡◌, ◌∙◌, refl, ℕ, zero, suc, ◌+◌, ◌-ℤ◌, Bool, true, false, cond, List, [], ◌∷◌, ◌++◌, reverse, fold, ℤ, pos}
 use Rattle.std.specs.Prelude.{Option, Some, None, slice_set, slice_index_or}
 use Rattle.std.specs.Ordering.{int_eq}
@@ -35,28 +35,34 @@ pub plain_reverse : (qs : List GlyphPosition) → Plain qs → Plain (reverse qs
 plain_reverse [] plain = tt
 plain_reverse (q ∷ qs) plain = rw (reverse_onto qs q []) (plain_push (reverse qs) q plain.0 (plain_reverse qs plain.1))
 
--- a buffer of the same direction, in which nothing more is attached
+-- a buffer of the same direction and budget, in which nothing more is attached
 pub record IsPlainFrom (b c : Buffer) : Type 0 where
   pub direction : c.direction ≡ b.direction
+  pub budget : c.max_ops ≡ b.max_ops
   pub plain : Plain (position_list b) → Plain (position_list c)
 
 pub plain_then : (b c d : Buffer) → IsPlainFrom b c → IsPlainFrom c d → IsPlainFrom b d
-plain_then b c d first second = record { direction = second.direction ∙ first.direction; plain = λ p. second.plain (first.plain p) }
+plain_then b c d first second = record {
+  direction = second.direction ∙ first.direction;
+  budget = second.budget ∙ first.budget;
+  plain = λ p. second.plain (first.plain p);
+}
 
 pub plain_same : (b : Buffer) → IsPlainFrom b b
-plain_same b = record { direction = refl; plain = λ p. p }
+plain_same b = record { direction = refl; budget = refl; plain = λ p. p }
 
-pub on_position_plain : (f : GlyphPosition → GlyphPosition) (i : ℕ) (b : Buffer) → ((q : GlyphPosition) → (f q).attach_type ≡ q.attach_type) → IsPlainFrom b (on_position f i b)
+on_position_plain : (f : GlyphPosition → GlyphPosition) (i : ℕ) (b : Buffer) → ((q : GlyphPosition) → (f q).attach_type ≡ q.attach_type) → IsPlainFrom b (on_position f i b)
 on_position_plain f i b keeps = record {
   direction = refl;
+  budget = refl;
   plain = λ p. plain_set (position_list b) i (f (position_at b i)) (keeps (position_at b i) ∙ plain_at (position_list b) i p) p;
 }
 
-pub advance_keeps : (h : Bool) (v : ℤ) (q : GlyphPosition) → (with_advance h v q).attach_type ≡ q.attach_type
+advance_keeps : (h : Bool) (v : ℤ) (q : GlyphPosition) → (with_advance h v q).attach_type ≡ q.attach_type
 advance_keeps true v q = refl
 advance_keeps false v q = refl
 
-pub shift_keeps : (h : Bool) (v : ℤ) (q : GlyphPosition) → (with_shift h v q).attach_type ≡ q.attach_type
+shift_keeps : (h : Bool) (v : ℤ) (q : GlyphPosition) → (with_shift h v q).attach_type ≡ q.attach_type
 shift_keeps true v q = refl
 shift_keeps false v q = refl
 
@@ -67,7 +73,7 @@ in_stream_plain p v b =
     let first = on_position_plain (with_advance h (half v)) p.left b (advance_keeps h (half v)) in
     let second = on_position_plain (λ q. with_shift h rest (with_advance h rest q)) p.right (on_position (with_advance h (half v)) p.left b)
     (λ q. shift_keeps h rest (with_advance h rest q) ∙ advance_keeps h rest q) in
-    record { direction = refl; plain = λ x. second.plain (first.plain x) }
+    record { direction = refl; budget = refl; plain = λ x. second.plain (first.plain x) }
 
 kerned_plain : (values : PairValues) (p : Pair) (b : Buffer) → IsPlainFrom b (kerned false values p b)
 unfolding kerned
@@ -78,7 +84,7 @@ kerned_plain values p b = by (int_eq v (pos 0))
 
     by : (t : Bool) → IsPlainFrom b (cond t b (unsafe_to_break (in_stream p v b) (Some p.left) (Some (p.right + 1))))
     by true = plain_same b
-    by false = let s = in_stream_plain p v b in record { direction = s.direction; plain = s.plain }
+    by false = let s = in_stream_plain p v b in record { direction = s.direction; budget = s.budget; plain = s.plain }
 
 pairs_plain : (values : PairValues) (ps : List Pair) (b : Buffer) → IsPlainFrom b (fold (λ d p. kerned false values p d) b ps)
 pairs_plain values [] b = plain_same b
@@ -92,13 +98,13 @@ pub pair_kerning_plain :
 unfolding pair_kerning
 pair_kerning_plain true skips mask values b =
     let m = pairs_plain values (pairs_of skips mask (line_marked true b).line) (line_marked true b) in
-    record { direction = m.direction; plain = m.plain }
+    record { direction = m.direction; budget = m.budget; plain = m.plain }
 pair_kerning_plain false skips mask values b = pairs_plain values (pairs_of skips mask b.line) b
 
 pub ordered_plain : (b : Buffer) → IsPlainFrom b (in_processing_order b)
 ordered_plain b = by (is_backward b.direction) b.positions refl
   where
     by : (t : Bool) (o : Option (List GlyphPosition)) → b.positions ≡ o → IsPlainFrom b (cond t (reversed b) b)
-    by true None is = record { direction = refl; plain = λ p. rw is tt }
-    by true (Some qs) is = record { direction = refl; plain = λ p. rw is (plain_reverse qs (rw is at p)) }
+    by true None is = record { direction = refl; budget = refl; plain = λ p. rw is tt }
+    by true (Some qs) is = record { direction = refl; budget = refl; plain = λ p. rw is (plain_reverse qs (rw is at p)) }
     by false o is = plain_same b

@@ -1,4 +1,4 @@
--- Pairs along the line do not look at the flags of glyphs.
+-- Pairs do not look at the flags of glyphs.
 use Rattle.std.proofs.Common.{◌≡◌, ◌∙◌, sym, ap, refl, ℕ, zero, suc, ◌+◌, ◌-◌, ◌==◌, ◌&&◌, Bool, true, false, not, cond, List, [], ◌∷◌, length, fold, nat_lt, bit_and, pos, arith}
 use Rattle.std.specs.Prelude.{Some, None, ℤ, find, filter_map, option_map}
 use Rattle.std.specs.Ordering.{int_eq}
@@ -10,7 +10,7 @@ use Rattle.aat_buffer.specs.Marks.{concat_marked, end_place, on_span, produces_c
 use Rattle.aat_buffer.specs.facts.Cases.{either}
 use Rattle.aat_buffer.specs.facts.Clusters.{map_span}
 use Rattle.aat_run.specs.Switches.{meets}
-use Rattle.aat_kerning.specs.PairKerning.{PairValues, in_stream, kerned, pair_kerning}
+use Rattle.aat_kerning.specs.PairKerning.{PairValues, cross_stream, in_stream, kerned, pair_kerning}
 use Rattle.aat_kerning.specs.Pairs.{Pair, is_solid, last_solid, left_of, pair_at, pairs_of, places}
 use Rattle.aat_kerning.specs.Positioning.{in_processing_order, line_marked, turned_round}
 use Rattle.aat_closing.specs.Unflagged.{bare, erased, unflagged}
@@ -44,16 +44,23 @@ module _ (skips : ℕ) (gs : List hb_glyph_info_t) where
   unfolding pairs_of
   pairs_bare = λ k. filter_map (λ t. pair_bare t k) (places 0 (bare_length gs k))
 
--- a pair that is kerned without marks
-abbrev quiet : PairValues → Pair → Buffer → Buffer
-quiet values p b =
-    let v = values (glyph_at b.line p.left).glyph_id (glyph_at b.line p.right).glyph_id in
-    cond (int_eq v (pos 0)) b (in_stream p v b)
+-- a pair that is kerned without marks, along the line or across it
+abbrev moved : Bool → Pair → ℤ → Buffer → Buffer
+moved is_cross p v b = cond is_cross (cross_stream p v b) (in_stream p v b)
 
-erased_kerned : (values : PairValues) (p : Pair) (b : Buffer) → erased (kerned false values p b) ≡ quiet values p (erased b)
+abbrev quiet : Bool → PairValues → Pair → Buffer → Buffer
+quiet is_cross values p b =
+    let v = values (glyph_at b.line p.left).glyph_id (glyph_at b.line p.right).glyph_id in
+    cond (int_eq v (pos 0)) b (moved is_cross p v b)
+
+erased_moved : (is_cross : Bool) (p : Pair) (v : ℤ) (b : Buffer) → erased (moved is_cross p v b) ≡ moved is_cross p v (erased b)
+erased_moved true p v b = refl
+erased_moved false p v b = refl
+
+erased_kerned : (is_cross : Bool) (values : PairValues) (p : Pair) (b : Buffer) → erased (kerned is_cross values p b) ≡ quiet is_cross values p (erased b)
 unfolding kerned
-erased_kerned values p b =
-    by (int_eq value (pos 0)) ∙ ap (λ (v : ℤ). cond (int_eq v (pos 0)) (erased b) (in_stream p v (erased b))) value_same
+erased_kerned is_cross values p b =
+    by (int_eq value (pos 0)) ∙ ap (λ (v : ℤ). cond (int_eq v (pos 0)) (erased b) (moved is_cross p v (erased b))) value_same
   where
     id_bare : (i : ℕ) → (glyph_at b.line i).glyph_id ≡ (glyph_at (bare b.line) i).glyph_id
     id_bare i = sym (ap (λ (g : hb_glyph_info_t). g.glyph_id) (bare_at b.line i))
@@ -65,23 +72,24 @@ erased_kerned values p b =
     value_same = λ k. values (id_bare p.left k) (id_bare p.right k)
 
     by :
-        (t : Bool) → erased (cond t b (unsafe_to_break (in_stream p value b) (Some p.left) (Some (p.right + 1))))
-        ≡ cond t (erased b) (in_stream p value (erased b))
+        (t : Bool) → erased (cond t b (unsafe_to_break (moved is_cross p value b) (Some p.left) (Some (p.right + 1))))
+        ≡ cond t (erased b) (moved is_cross p value (erased b))
     by true = refl
-    by false = erased_unsafe (in_stream p value b) (Some p.left) (Some (p.right + 1))
+    by false = erased_unsafe (moved is_cross p value b) (Some p.left) (Some (p.right + 1)) ∙ erased_moved is_cross p value b
 
 erased_pairs :
-    (values : PairValues) (ps : List Pair) (b : Buffer)
-    → erased (fold (λ d p. kerned false values p d) b ps) ≡ fold (λ d p. quiet values p d) (erased b) ps
-erased_pairs values [] b = refl
-erased_pairs values (p ∷ ps) b =
-    erased_pairs values ps (kerned false values p b)
-    ∙ ap (λ (c : Buffer). fold (λ d p. quiet values p d) c ps) (erased_kerned values p b)
+    (is_cross : Bool) (values : PairValues) (ps : List Pair) (b : Buffer)
+    → erased (fold (λ d p. kerned is_cross values p d) b ps) ≡ fold (λ d p. quiet is_cross values p d) (erased b) ps
+erased_pairs is_cross values [] b = refl
+erased_pairs is_cross values (p ∷ ps) b =
+    erased_pairs is_cross values ps (kerned is_cross values p b)
+    ∙ ap (λ (c : Buffer). fold (λ d p. quiet is_cross values p d) c ps) (erased_kerned is_cross values p b)
 
 bare_concat : (g : hb_glyph_info_t) → unflagged (with_mask_bits 2 g) ≡ unflagged g
 bare_concat g = λ i. record g { mask = and_or_apart 0xFFFFFFF8 g.mask 2 refl i }
 
-erased_concat : (b : Buffer) → erased (unsafe_to_concat b None None) ≡ erased b
+-- the whole line, marked
+pub erased_concat : (b : Buffer) → erased (unsafe_to_concat b None None) ≡ erased b
 erased_concat b =
     ap (with_line b)
     (either bare (produces_concat b.flags && nat_lt 0 end) (on_span concat_marked 0 end b.line) b.line (bare b.line)
@@ -95,24 +103,25 @@ erased_marked true b = erased_concat b
 erased_marked false b = refl
 
 -- all pairs, without marks
-abbrev quiet_pairs : ℕ → PairValues → Buffer → Buffer
-quiet_pairs skips values b = fold (λ d p. quiet values p d) b (pairs_of skips 8 b.line)
+abbrev quiet_pairs : Bool → ℕ → PairValues → Buffer → Buffer
+quiet_pairs is_cross skips values b = fold (λ d p. quiet is_cross values p d) b (pairs_of skips 8 b.line)
 
 erased_pair_kerning :
-    (asked : Bool) (skips : ℕ) (values : PairValues) (b : Buffer)
-    → erased (pair_kerning skips 8 false values (line_marked asked b)) ≡ quiet_pairs skips values (erased b)
+    (asked is_cross : Bool) (skips : ℕ) (values : PairValues) (b : Buffer)
+    → erased (pair_kerning skips 8 is_cross values (line_marked asked b)) ≡ quiet_pairs is_cross skips values (erased b)
 unfolding pair_kerning
-erased_pair_kerning asked skips values b =
+erased_pair_kerning asked is_cross skips values b =
     let c : Buffer = line_marked asked b in
-    erased_pairs values (pairs_of skips 8 c.line) c
-    ∙ (ap (fold (λ d p. quiet values p d) (erased c)) (sym (pairs_bare skips c.line))
-    ∙ ap (quiet_pairs skips values) (erased_marked asked b))
+    erased_pairs is_cross values (pairs_of skips 8 c.line) c
+    ∙ (ap (fold (λ d p. quiet is_cross values p d) (erased c)) (sym (pairs_bare skips c.line))
+    ∙ ap (quiet_pairs is_cross skips values) (erased_marked asked b))
 
 pub pair_kerning_alike :
-    (asked : Bool) (skips : ℕ) (values : PairValues) (a b : Buffer) → erased a ≡ erased b
-    → erased (pair_kerning skips 8 false values (line_marked asked a)) ≡ erased (pair_kerning skips 8 false values (line_marked asked b))
-pair_kerning_alike asked skips values a b same =
-    erased_pair_kerning asked skips values a ∙ (ap (quiet_pairs skips values) same ∙ sym (erased_pair_kerning asked skips values b))
+    (asked is_cross : Bool) (skips : ℕ) (values : PairValues) (a b : Buffer) → erased a ≡ erased b
+    → erased (pair_kerning skips 8 is_cross values (line_marked asked a)) ≡ erased (pair_kerning skips 8 is_cross values (line_marked asked b))
+pair_kerning_alike asked is_cross skips values a b same =
+    erased_pair_kerning asked is_cross skips values a
+    ∙ (ap (quiet_pairs is_cross skips values) same ∙ sym (erased_pair_kerning asked is_cross skips values b))
 
 -- a line in processing order
 pub erased_ordered : (b : Buffer) → erased (in_processing_order b) ≡ in_processing_order (erased b)

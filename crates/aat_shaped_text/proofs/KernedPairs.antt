@@ -24,6 +24,30 @@ use Rattle.aat_kerning.proofs.Marked.{IsMarkedLine, marked_at}
 use Rattle.aat_shaped_text.proofs.KernedGlyphs.{IsCalmer, IsWithin, calmer_marked, calmer_same, long_span_within}
 use Rattle.aat_shaped_text.proofs.SpotsRuns.{Glyphs}
 
+-- a line and its two parts
+pub record IsJoined (q n : ℕ) (whole first second : Glyphs) : Type 0 where
+  pub short : length first ≡ q
+  pub rest : length second ≡ n
+  pub long : length whole ≡ q + n
+  pub front : IsWithin 0 q whole first
+  pub back : IsWithin q n whole second
+
+pub joined_of : (q n : ℕ) (whole first second : Glyphs) → whole ≡ first ++ second → length first ≡ q → length second ≡ n → IsJoined q n whole first second
+joined_of q n whole first second joined short rest = record {
+  short = short;
+  rest = rest;
+  long = ap length joined ∙ (length-append first second ∙ (ap (λ m. m + length second) short ∙ ap (λ m. q + m) rest));
+  front = λ i k at inside.
+      let same : k ≡ i = omega (arith, at) in
+      calmer_same (glyph_at whole k) (glyph_at first i)
+      (sym (ap (λ (gs : Glyphs). glyph_at gs k) joined
+      ∙ (ap (glyph_at (first ++ second)) same ∙ get_or_append_left first second no_glyph i (omega (arith, inside, short)))));
+  back = λ i k at inside.
+      let same : k ≡ length first + i = omega (arith, at, short) in
+      calmer_same (glyph_at whole k) (glyph_at second i)
+      (sym (ap (λ (gs : Glyphs). glyph_at gs k) joined ∙ (ap (glyph_at (first ++ second)) same ∙ get_or-append-add first second i no_glyph)));
+}
+
 -- a line that is cut before a solid glyph, and its two parts
 pub record AreInTwo (skips q n : ℕ) (whole first second : Glyphs) : Type 0 where
   pub short : length first ≡ q
@@ -36,22 +60,17 @@ pub record AreInTwo (skips q n : ℕ) (whole first second : Glyphs) : Type 0 whe
 
 pub in_two_of : (skips q n : ℕ) (whole first second : Glyphs) → whole ≡ first ++ second → length first ≡ q → length second ≡ n → 0 < n → is_solid skips (glyph_at whole q) ≡ true
     → AreInTwo skips q n whole first second
-in_two_of skips q n whole first second joined short rest some solid = record {
-  short = short;
-  rest = rest;
-  some = some;
-  long = ap length joined ∙ (length-append first second ∙ (ap (λ m. m + length second) short ∙ ap (λ m. q + m) rest));
-  solid = solid;
-  front = λ i k at inside.
-      let same : k ≡ i = omega (arith, at) in
-      calmer_same (glyph_at whole k) (glyph_at first i)
-      (sym (ap (λ (gs : Glyphs). glyph_at gs k) joined
-      ∙ (ap (glyph_at (first ++ second)) same ∙ get_or_append_left first second no_glyph i (omega (arith, inside, short)))));
-  back = λ i k at inside.
-      let same : k ≡ length first + i = omega (arith, at, short) in
-      calmer_same (glyph_at whole k) (glyph_at second i)
-      (sym (ap (λ (gs : Glyphs). glyph_at gs k) joined ∙ (ap (glyph_at (first ++ second)) same ∙ get_or-append-add first second i no_glyph)));
-}
+in_two_of skips q n whole first second joined short rest some solid =
+    let parts = joined_of q n whole first second joined short rest in
+    record {
+      short = short;
+      rest = rest;
+      some = some;
+      long = parts.long;
+      solid = solid;
+      front = parts.front;
+      back = parts.back;
+    }
 
 -- a pair of a part, kerned in the whole and in the part
 module _ (q n : ℕ) (values : PairValues) (there p : Pair) (left_is : there.left ≡ q + p.left) (right_is : there.right ≡ q + p.right) (left_low : p.left < n) (right_low : p.right < n) where

@@ -11,6 +11,7 @@ use Rattle.aat_placement.specs.Attachments.{added_up}
 use Rattle.aat_shaped_text.specs.Parts.{looks}
 use Rattle.aat_shaped_text.specs.ShapedText.{drawn_glyph, drawn_glyphs, kept_places, with_clusters_of}
 use Rattle.aat_shaped_text.specs.declared.text.ShapedGlyph.{ShapedGlyph}
+use Rattle.aat_shaped_text.proofs.ChainsSplit.{length_added}
 use Rattle.aat_shaped_text.proofs.Spots.{lefts}
 use Rattle.aat_shaped_text.proofs.SpotsRemoved.{clusters_of_removed}
 use Rattle.aat_shaped_text.proofs.SpotsRuns.{Glyphs, clusters, spot, spots}
@@ -81,20 +82,20 @@ kept_from p f a (g ∷ gs) (q ∷ qs) long passes is =
     by true passes is rest = rw passes rest
     by false passes is rest = rw passes (ap (λ h. h ∷ map f (filter p (range_with_len (a + 1) (length gs)))) is ∙ ap (λ zs. look g q ∷ zs) rest)
 
--- what is drawn, where nothing is attached
+-- what is drawn, with the offsets along chains added up
 pub drawn_looks :
     (may_break : ℕ → Bool) (b : Buffer) → b.cluster_level ≡ 0 → length (position_list b) ≡ length b.line
-    → added_up b.direction (position_list b) ≡ position_list b
-    → map looks (drawn_glyphs may_break b) ≡ line_looks b.line (position_list b)
-drawn_looks may_break b level long alone =
+    → map looks (drawn_glyphs may_break b) ≡ line_looks b.line (added_up b.direction (position_list b))
+drawn_looks may_break b level long =
     let f : ℕ → ShapedGlyph = drawn_glyph may_break b in
     looks_with_clusters (removed is_deleted b).line (map f (kept_places b.line))
     ∙ (ap (λ cs. with_clusters cs (map looks (map f (kept_places b.line)))) (clusters_of_removed b level)
     ∙ (ap (λ hs. with_clusters (reverse (left_of b.line)) hs) (looks_of_places f (kept_places b.line))
     ∙ ap (λ hs. with_clusters (reverse (left_of b.line)) hs)
-    (kept_from (λ i. not (is_deleted (glyph_at b.line i))) (λ i. looks (f i)) 0 b.line (position_list b) long
+    (kept_from (λ i. not (is_deleted (glyph_at b.line i))) (λ i. looks (f i)) 0 b.line (added_up b.direction (position_list b))
+    (length_added b.direction (position_list b) ∙ long)
     (λ k low. ap (λ i. not (is_deleted (glyph_at b.line i))) (zero_more k))
-    (λ k low. ap (λ i. looks (f i)) (zero_more k) ∙ ap (λ qs. look (glyph_at b.line k) (slice_index_or qs k zero_position)) alone))))
+    (λ k low. ap (λ i. looks (f i)) (zero_more k)))))
   where
     zero_more : (k : ℕ) → 0 + k ≡ k
     zero_more k = omega arith

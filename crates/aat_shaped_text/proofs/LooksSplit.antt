@@ -1,12 +1,14 @@
--- A line that is drawn in two parts: before a glyph that stays, where no cluster of one part is one of the other.
-use Rattle.std.proofs.Common.{◌≡◌, ◌∙◌, sym, ap, refl, ℕ, zero, suc, ◌+◌, ◌-◌, ◌<◌, ◌≤◌, ◌==◌, ◌||◌, Bool, true, false, not, cond, List, [], ◌∷◌, ◌++◌, map, reverse, length, get_or, arith, true≢false, nat_lt, if◌then◌else◌, append_assoc}
+-- A line that is drawn in two parts: before a glyph that stays, and the glyphs of its cluster in a row before it that go,
+-- where no cluster of one part is one of the other.
+use Rattle.std.proofs.Common.{◌≡◌, ◌∙◌, sym, ap, refl, ℕ, zero, suc, ◌+◌, ◌-◌, ◌<◌, ◌≤◌, ◌==◌, Bool, true, false, not, cond, List, [], ◌∷◌, ◌++◌, map, reverse, length, get_or, arith, true≢false, nat_lt, if◌then◌else◌, append_assoc}
 use Rattle.std.proofs.lemmas.Grind.{reverse_onto}
 use Rattle.std.proofs.lemmas.List.{get_or_append_left, get_or-append-add, get_or_at, length-append, length-map, length-reverse, map-append, reverse-append}
 use Rattle.aat_glyph.specs.declared.glyph.hb_glyph_info_t.{hb_glyph_info_t}
 use Rattle.aat_buffer.specs.Removal.{is_deleted}
 use Rattle.aat_shaped_text.specs.declared.text.ShapedGlyph.{ShapedGlyph}
 use Rattle.aat_shaped_text.proofs.Looks.{Positions, kept_looks, left_of, line_looks, look, with_clusters}
-use Rattle.aat_shaped_text.proofs.Spots.{AllFront, AllRest, Spot, all_lefts, begins_with, is_filled, lefts, length_raised, lower, lower_run, lowered, merge_run, raised, some_stays}
+use Rattle.aat_shaped_text.proofs.Spots.{AllFront, AllRest, BeginsKept, Spot, all_lefts, begins_with, is_filled, lefts, length_raised, lower, lower_run, lowered, merge_run, raised, some_stays}
+use Rattle.aat_shaped_text.proofs.SpotsBegun.{Begun, begun, stays_begun}
 use Rattle.aat_shaped_text.proofs.SpotsEnds.{first_is_low, head_of, last_from, last_is_low, last_of}
 use Rattle.aat_shaped_text.proofs.SpotsRuns.{Glyphs, spot, spots}
 use Rattle.aat_shaped_text.proofs.SpotsSplit.{front_without, lefts_first, lefts_second}
@@ -121,11 +123,12 @@ kept_split (g ∷ gs) hs (p ∷ ps) qs long = by (kept_split gs hs ps qs (omega 
     by below true = below
     by below false = ap (λ zs. look g p ∷ zs) below
 
--- all in front pass a test, and none from a glyph on that stays
+-- All in front pass a test, and none from a glyph on; the first of those that stays has its cluster, and so have those
+-- before.
 pub record IsCut (p : ℕ → Bool) (xs : Glyphs) (y : hb_glyph_info_t) (ys : Glyphs) : Type 0 where
   pub front : AllRest p (spots xs)
   pub back : AllRest (λ x. not (p x)) (spots (y ∷ ys))
-  pub kept : is_deleted y ≡ false
+  pub kept : BeginsKept y.cluster (spots (y ∷ ys))
   pub some : some_stays (spots xs) ≡ true
 
 fails : (t : Bool) → not t ≡ true → t ≡ false
@@ -143,6 +146,10 @@ module _ (p : ℕ → Bool) (xs : Glyphs) (y : hb_glyph_info_t) (ys : Glyphs) (c
   front_passes : AllFront p left
   front_passes = all_lefts p (length xs) [] (spots xs) tt cut.front
 
+  -- what is left from the first glyph on that stays
+  abbrev opens : Begun y.cluster (suc (length ys)) (spots (y ∷ ys))
+  opens = begun y.cluster (suc (length ys)) (spots (y ∷ ys)) (length-map (y ∷ ys) spot) cut.kept
+
   pub left_splits : left_of (xs ++ y ∷ ys) ≡ left_of (y ∷ ys) ++ left
   left_splits =
       let n = length xs in
@@ -150,9 +157,10 @@ module _ (p : ℕ → Bool) (xs : Glyphs) (y : hb_glyph_info_t) (ys : Glyphs) (c
       ap (λ k. lefts k [] (spots (xs ++ y ∷ ys))) (length-append xs (y ∷ ys))
       ∙ (ap (λ ss. lefts (n + suc m) [] ss) (map-append spot xs (y ∷ ys))
       ∙ (lefts_first p n (suc m) [] (spots xs) (spots (y ∷ ys)) (length-map xs spot) tt cut.front (fails (p y.cluster) cut.back.0) cut.some
-      ∙ (ap (λ t. lefts (suc m) left ((t, y.cluster) ∷ spots ys)) cut.kept
-      ∙ (lefts_second (λ x. not (p x)) m (y.cluster ∷ []) left (spots ys) refl (cut.back.0, tt) cut.back.1 (all_front_fails p left front_passes)
-      ∙ sym (ap (λ t. lefts (suc m) [] ((t, y.cluster) ∷ spots ys) ++ left) cut.kept)))))
+      ∙ (opens.same left
+      ∙ (lefts_second (λ x. not (p x)) opens.count (y.cluster ∷ []) left opens.behind refl (cut.back.0, tt)
+      (opens.all (λ x. not (p x)) cut.back) (all_front_fails p left front_passes)
+      ∙ sym (ap (λ zs. zs ++ left) (opens.same []))))))
 
   pub looks_split :
       (ps qs : Positions) → length ps ≡ length xs
@@ -189,7 +197,7 @@ module _ (p : ℕ → Bool) (xs : Glyphs) (y : hb_glyph_info_t) (ys : Glyphs) (c
 
   pub right_some : 0 < length (left_of (y ∷ ys))
   right_some =
-      let some : 0 < stays (spots (y ∷ ys)) = some_is (spots (y ∷ ys)) (ap (λ t. not t || some_stays (spots ys)) cut.kept) in
+      let some : 0 < stays (spots (y ∷ ys)) = some_is (spots (y ∷ ys)) (stays_begun y.cluster (spots (y ∷ ys)) cut.kept) in
       omega (arith, some, length_left (y ∷ ys))
 
   -- the last cluster of the front
@@ -219,8 +227,8 @@ module _ (p : ℕ → Bool) (xs : Glyphs) (y : hb_glyph_info_t) (ys : Glyphs) (c
 
   pub first_below : last_of 0 (left_of (y ∷ ys)) ≤ y.cluster
   first_below =
-      let low : last_of 0 (lefts (suc (length ys)) [] ((false, y.cluster) ∷ spots ys)) ≤ y.cluster = first_is_low (length ys) y.cluster (spots ys) in
-      let same : last_of 0 (left_of (y ∷ ys)) ≡ last_of 0 (lefts (suc (length ys)) [] ((false, y.cluster) ∷ spots ys)) = ap (λ t. last_of 0 (lefts (suc (length ys)) [] ((t, y.cluster) ∷ spots ys))) cut.kept in
+      let low : last_of 0 (lefts opens.count (y.cluster ∷ []) opens.behind) ≤ y.cluster = first_is_low opens.count y.cluster opens.behind in
+      let same : last_of 0 (left_of (y ∷ ys)) ≡ last_of 0 (lefts opens.count (y.cluster ∷ []) opens.behind) = ap (last_of 0) (opens.same []) in
       omega (arith, low, same)
 
 -- the first of some numbers, the other way round

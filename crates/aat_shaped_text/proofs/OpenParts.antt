@@ -1,8 +1,6 @@
 -- Where kerning leaves a line open, the positions of a text are those of its parts.
-use Rattle.std.proofs.Common.{◌≡◌, ◌∙◌, sym, ap, refl, ℕ, ◌+◌, ◌-◌, ◌<◌, ◌≤◌, ◌&&◌, ◌||◌, not, Bool, true, false, cond, List, [], ◌∷◌, ◌++◌, map, reverse, length, arith, is_some, pos, subst}
-use Rattle.std.proofs.lemmas.Bool.{and_parts}
+use Rattle.std.proofs.Common.{◌≡◌, ◌∙◌, sym, ap, refl, ℕ, ◌+◌, ◌-◌, ◌<◌, ◌≤◌, Bool, true, false, cond, List, [], ◌++◌, map, reverse, length, arith, is_some, pos, subst}
 use Rattle.std.proofs.lemmas.List.{length-append, length-map, map-append, reverse-append, reverse-reverse}
-use Rattle.std.specs.List.{list_all}
 use Rattle.std.specs.Prelude.{unwrap_or}
 use Rattle.aat_buffer.specs.Buffer.{Buffer, position_list, with_max_ops}
 use Rattle.aat_glyph.specs.Directions.{is_backward}
@@ -14,13 +12,13 @@ use Rattle.aat_font.specs.declared.face.hb_font_t.{hb_font_t}
 use Rattle.aat_font.specs.declared.plan.Feature.{Feature}
 use Rattle.aat_run.specs.Budget.{operations_left}
 use Rattle.aat_kerning.specs.Cut.{ordered_positions}
-use Rattle.aat_kerning.specs.Positioning.{is_for_direction, kern_positioning, kerning_of_kern_subtable, kerning_of_kerx_subtable, kerx_positioning}
+use Rattle.aat_kerning.specs.Positioning.{kern_positioning, kerx_positioning}
 use Rattle.aat_cut_kinds.specs.KernedTables.{by_kern, by_kerx}
 use Rattle.aat_cut_kinds.specs.KerningCuts.{HaveEnough, KeepsParts, KernedRun, StandIn, seen_of}
 use Rattle.aat_cut_kinds.specs.KerningOpens.{ArePartsFor, KeepsOpens}
 use Rattle.aat_cut_kinds.specs.facts.KernedTables.{kern_keeps, kern_same, kerx_keeps, kerx_same}
 use Rattle.aat_cut_kinds.specs.facts.TableOpens.{tables_keep_opens}
-use Rattle.aat_shaped_text.specs.KernedBreaks.{is_of_anchors, kerning_opens, kerns_along, line_kern, line_kerx, runs_along, table_run}
+use Rattle.aat_shaped_text.specs.KernedBreaks.{kerning_opens, table_run}
 use Rattle.aat_shaped_text.specs.ShapedText.{text_kerning}
 use Rattle.aat_shaped_text.specs.TextFeatures.{requests_kerning}
 use Rattle.aat_shaped_text.proofs.SpotsRuns.{Glyphs}

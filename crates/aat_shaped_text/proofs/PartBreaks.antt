@@ -9,10 +9,9 @@ use Rattle.aat_buffer.specs.Buffer.{glyph_at, no_glyph}
 use Rattle.aat_buffer.specs.Marks.{cluster_at}
 use Rattle.aat_glyph.specs.declared.glyph.hb_glyph_info_t.{hb_glyph_info_t}
 use Rattle.aat_font.specs.declared.plan.Feature.{Feature}
-use Rattle.aat_kerning.specs.Pairs.{is_solid}
 use Rattle.aat_shaped_text.specs.Breaks.{is_unsafe, kept_before, later_run, may_break_at, run_from, run_up_to}
 use Rattle.aat_shaped_text.specs.TextFeatures.{ask_evenly}
-use Rattle.aat_shaped_text.proofs.BreakPlaces.{five}
+use Rattle.aat_shaped_text.proofs.BreakPlaces.{four}
 use Rattle.aat_shaped_text.proofs.KernedGlyphs.{IsCalmer, IsWithin}
 use Rattle.aat_shaped_text.proofs.LaterRuns.{none_of, while_step}
 use Rattle.aat_shaped_text.proofs.SpotsRuns.{Glyphs}
@@ -51,16 +50,15 @@ safe_run c (g ∷ gs) (h ∷ hs) long each safe =
         ∙ (ap (λ (t : Bool). not (t || list_any is_unsafe (take_while (has c) hs))) (safe_too g h first both.0) ∙ rest both.1)
     by_first false is rest = ap (λ (t : Bool). not (list_any is_unsafe (take (cond t (1 + prefix_len (has c) hs) 0) (h ∷ hs)))) is
 
-pub all_five : (a b c d e : Bool) → a ≡ true → b ≡ true → c ≡ true → d ≡ true → e ≡ true → (a && b && c && d && e) ≡ true
-all_five true true true true true a b c d e = refl
-all_five false x y z w a b c d e = a
-all_five true false y z w a b c d e = b
-all_five true true false z w a b c d e = c
-all_five true true true false w a b c d e = d
-all_five true true true true false a b c d e = e
+all_four : (a b c d : Bool) → a ≡ true → b ≡ true → c ≡ true → d ≡ true → (a && b && c && d) ≡ true
+all_four true true true true a b c d = refl
+all_four false x y z a b c d = a
+all_four true false y z a b c d = b
+all_four true true false z a b c d = c
+all_four true true true false a b c d = d
 
 module _
-    (skips : ℕ) (even : Bool) (features : List Feature) (whole part : Glyphs) (q n i p : ℕ) (within : IsWithin q n whole part)
+    (even : Bool) (features : List Feature) (whole part : Glyphs) (q n i p : ℕ) (within : IsWithin q n whole part)
     (long : length part ≡ n) (longer : q + n ≤ length whole) (at : i ≡ q + p) (inside : p < n) (behind_first : 0 < p)
   where
     here : IsCalmer (glyph_at whole i) (glyph_at part p)
@@ -114,14 +112,13 @@ module _
         by false safe = up_to_safe safe
 
     -- where some glyph of the part is kept before it
-    pub part_may_break : 0 < kept_before part p → may_break_at skips even features whole i ≡ true → may_break_at skips even features part p ≡ true
+    pub part_may_break : 0 < kept_before part p → may_break_at even features whole i ≡ true → may_break_at even features part p ≡ true
     part_may_break some may =
-        let all = five (nat_lt 0 (kept_before whole i)) (not (cluster_at whole i == cluster_at whole (i - 1))) (is_solid skips (glyph_at whole i))
+        let all = four (nat_lt 0 (kept_before whole i)) (not (cluster_at whole i == cluster_at whole (i - 1)))
         (not (list_any is_unsafe (later_run whole i))) (ask_evenly even features (cluster_at whole (i - 1)) (cluster_at whole i)) may in
-        all_five (nat_lt 0 (kept_before part p)) (not (cluster_at part p == cluster_at part (p - 1))) (is_solid skips (glyph_at part p))
+        all_four (nat_lt 0 (kept_before part p)) (not (cluster_at part p == cluster_at part (p - 1)))
         (not (list_any is_unsafe (later_run part p))) (ask_evenly even features (cluster_at part (p - 1)) (cluster_at part p))
         (grind (arith, nat_tests, some))
         (ap (λ c. not (c == cluster_at part (p - 1))) (sym here_is) ∙ (ap (λ c. not (cluster_at whole i == c)) (sym last_is) ∙ all.1))
-        (ap (is_solid skips) here.same ∙ all.2)
-        (run_safe all.3)
-        (ap (λ c. ask_evenly even features c (cluster_at part p)) (sym last_is) ∙ (ap (λ c. ask_evenly even features (cluster_at whole (i - 1)) c) (sym here_is) ∙ all.4))
+        (run_safe all.2)
+        (ap (λ c. ask_evenly even features c (cluster_at part p)) (sym last_is) ∙ (ap (λ c. ask_evenly even features (cluster_at whole (i - 1)) c) (sym here_is) ∙ all.3))

@@ -60,6 +60,12 @@ abbrev pub some_stays : List Spot → Bool
 some_stays [] = false
 some_stays (s ∷ rest) = not s.0 || some_stays rest
 
+-- the first glyph that stays has cluster c, and so have those before it
+abbrev pub BeginsKept : ℕ → List Spot → Type 0
+BeginsKept c [] = ⊥
+BeginsKept c ((true, e) ∷ rest) = (e ≡ c) × BeginsKept c rest
+BeginsKept c ((false, e) ∷ rest) = e ≡ c
+
 -- there is one
 abbrev pub is_filled : List ℕ → Bool
 is_filled [] = false

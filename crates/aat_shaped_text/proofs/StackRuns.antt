@@ -1,16 +1,15 @@
--- Stack machines along the line: they attach nothing, and do not look at the flags of glyphs.
-use Rattle.std.proofs.Common.{◌≡◌, ◌∙◌, sym, ap, refl, ℕ, ◌+◌, ◌-◌, ◌&&◌, ◌||◌, not, Bool, true, false, cond, List, [], ◌∷◌, length, ℤ, pos, nat_lt, nat_le, max, true≢false}
+-- Kerning machines do not look at the flags of glyphs where their acts do not. The acts of stacks do not, along the line and
+-- across it.
+use Rattle.std.proofs.Common.{◌≡◌, ◌∙◌, sym, ap, refl, ℕ, ◌+◌, ◌-◌, ◌&&◌, ◌||◌, not, Bool, true, false, cond, List, [], ◌∷◌, length, ℤ, pos, negsuc, ◌==◌, nat_lt, nat_le, max, true≢false}
 use Rattle.std.specs.Prelude.{Option, Some, None}
 use Rattle.std.specs.Ordering.{int_eq}
 use Rattle.aat_buffer.specs.Buffer.{Buffer, glyph_at, position_at, with_cursor}
-use Rattle.aat_buffer.specs.facts.Cases.{chosen, either}
+use Rattle.aat_buffer.specs.facts.Cases.{either}
 use Rattle.aat_glyph.specs.Directions.{is_horizontal}
 use Rattle.aat_glyph.specs.declared.glyph.GlyphPosition.{GlyphPosition}
 use Rattle.aat_glyph.specs.declared.glyph.hb_glyph_info_t.{hb_glyph_info_t}
 use Rattle.aat_machine_tables.specs.Entries.{has_flag, is_present}
 use Rattle.aat_machine_tables.specs.Table.{TableValue}
-use Rattle.aat_machine_tables.specs.declared.entries.EntryData.{EntryData}
-use Rattle.aat_machine_tables.specs.declared.entries.KernEntryData.{KernEntryData}
 use Rattle.aat_machine_tables.specs.declared.state_table.GenericStateEntry.{GenericStateEntry}
 use Rattle.aat_run.specs.Budget.{has_operations, paid, potential}
 use Rattle.aat_run.specs.Context.{Config, Moved, class_at, is_at_end, is_inside, start}
@@ -20,109 +19,25 @@ use Rattle.aat_run.specs.Switches.{meets}
 use Rattle.aat_run.specs.facts.Runs.{mapped, run_maps}
 use Rattle.aat_kerning_machines.specs.KerningLaws.{ChangesPositionsAlone}
 use Rattle.aat_kerning_machines.specs.KerningMachine.{Driver, KerningMachine, break_marked_behind, depends_on_before, driver_run, has_action, kerning_acted, kerning_by_entry, kerning_machine_of, kerning_marked, kerning_stepped, kerning_turn, kerning_whole, looked_ahead, moved_on}
-use Rattle.aat_kerning_machines.specs.Positions.{on_position, with_advance, with_shift}
-use Rattle.aat_kerning_machines.specs.Stack.{along, ends_list, even, is_odd, kern_act, kern_driver, kern_value, kerx_act, kerx_driver, kerx_value, popped, pushed_by, with_value_for}
+use Rattle.aat_kerning_machines.specs.Positions.{attached_as, cross_offset, on_position, plus, with_advance, with_attachment_flag, with_cross_offset, with_shift}
+use Rattle.aat_kerning_machines.specs.Stack.{across, along, ends_list, even, is_odd, kern_act, kern_value, kerx_act, kerx_value, popped, pushed_by, with_value_for}
 use Rattle.aat_kerning_machines.specs.facts.KerningRuns.{buffer_kept}
-use Rattle.aat_kerning_machines.specs.facts.StackLaws.{kern_keeps_place, kerx_keeps_place}
 use Rattle.aat_closing.specs.Unflagged.{bare, erased, erased_config, erased_left}
 use Rattle.aat_closing.specs.facts.BlindBuffers.{erased_unsafe}
 use Rattle.aat_closing.specs.facts.BlindLines.{bare_at, bare_length}
-use Rattle.aat_shaped_text.proofs.KernedApart.{IsPlainFrom, advance_keeps, on_position_plain, plain_same, plain_then, shift_keeps}
 use Rattle.aat_shaped_text.proofs.KernedBlind.{meets_unflagged}
 
--- what a value along the line keeps, the acts of stacks keep
-module _ (P : Buffer → Type 0) (on_value : (v : ℤ) (i : ℕ) (b : Buffer) → P b → P (along 8 v i b)) where
-  of_place : (v : ℤ) (i : ℕ) (b : Buffer) → P b → P (with_value_for false 8 v i b)
-  of_place v i b p = chosen P (nat_lt i (length b.line)) (along 8 (even v) i b) b (λ _. on_value (even v) i b p) (λ _. p)
-
-  of_value :
-      (o : Option ℤ) (stack : List ℕ) (b : Buffer) (more : ℤ → Moved (List ℕ)) → P b → ((v : ℤ) → P (more v).buffer)
-      → P (elim o as (λ _. Moved (List ℕ)) [ None ↦ record { registers = stack; buffer = b } | Some v ↦ more v ]).buffer
-  of_value None stack b more p f = p
-  of_value (Some v) stack b more p f = f v
-
-  of_end :
-      (t : Bool) (x y : Moved (List ℕ)) → P x.buffer → P y.buffer
-      → P (elim t as (λ _. Moved (List ℕ)) [ true ↦ x | false ↦ y ]).buffer
-  of_end true x y p q = p
-  of_end false x y p q = q
-
-  of_popped : (value : ℕ → Option ℤ) (step : ℕ) (stack : List ℕ) (index : ℕ) (b : Buffer) → P b → P (popped false 8 value step stack index b).buffer
-  unfolding popped
-  of_popped value step [] index b p = p
-  of_popped value step (i ∷ stack) index b p =
-      of_value (value index) stack b _ p (λ v.
-      let d = with_value_for false 8 v i b in
-      let kept = of_place v i b p in
-      of_end (ends_list v i b) (record { registers = stack; buffer = d }) (popped false 8 value step stack (index + step) d)
-      kept (of_popped value step stack (index + step) d kept))
-
-  of_kerx : (tuple_count : ℕ) (values : List ℤ) (e : GenericStateEntry EntryData) (stack : List ℕ) (b : Buffer) → P b
-      → P (kerx_act false 8 tuple_count values e stack b).buffer
-  unfolding kerx_act
-  of_kerx tuple_count values e stack b p =
-      let step = max tuple_count 1 in
-      chosen (λ (n : Moved (List ℕ)). P n.buffer) (has_action e && nat_le tuple_count 65535) _ _
-      (λ _. of_popped (kerx_value values step) step (pushed_by e b.cursor (cond (has_flag e 0x2000) [] stack)) e.extra.action_index b p)
-      (λ _. p)
-
-  of_kern : (values : List ℤ) (e : GenericStateEntry KernEntryData) (stack : List ℕ) (b : Buffer) → P b
-      → P (kern_act false 8 values e stack b).buffer
-  unfolding kern_act
-  of_kern values e stack b p =
-      chosen (λ (n : Moved (List ℕ)). P n.buffer) (not (is_present e.extra.value_index)) _ _ (λ _. p) (λ _.
-      chosen (λ (n : Moved (List ℕ)). P n.buffer) (nat_lt e.extra.value_index (length values)) _ _
-      (λ _. of_popped (kern_value values) 1 (pushed_by e b.cursor stack) e.extra.value_index b p)
-      (λ _. p))
-
--- a value along the line attaches nothing
-along_plain : (v : ℤ) (i : ℕ) (b : Buffer) → IsPlainFrom b (along 8 v i b)
-along_plain v i b =
-    let h = is_horizontal b.direction in
-    let f : GlyphPosition → GlyphPosition = λ q. with_shift h v (with_advance h v q) in
-    let asked = meets (glyph_at b.line i).mask 8 in
-    chosen (IsPlainFrom b) (cond h asked (asked && int_eq (position_at b i).y_offset (pos 0))) (on_position f i b) b
-    (λ _. on_position_plain f i b (λ q. shift_keeps h v (with_advance h v q) ∙ advance_keeps h v q)) (λ _. plain_same b)
-
--- What the runs of drivers keep whose acts keep it.
+-- a run leaves the line as it was but for flags, where its act keeps the line
 module _ {T : Type 0} (pays_first : Bool) (table : TableValue (GenericStateEntry T)) (driver : Driver (List ℕ) (GenericStateEntry T))
     (places : ChangesPositionsAlone driver.act FitsAlways)
   where
-    abbrev machine : KerningMachine (List ℕ) (GenericStateEntry T)
-    machine = kerning_machine_of pays_first table driver
-
-    run_plain : ((e : GenericStateEntry T) (r : List ℕ) (b : Buffer) → IsPlainFrom b (driver.act e r b).buffer) → (b : Buffer)
-        → IsPlainFrom b (driver_run pays_first table driver b).buffer
-    unfolding driver_run
-    run_plain acts b =
-        let kept : IsPlainFrom b (kerning_whole machine (start true b driver.fresh)).buffer =
-        buffer_kept machine FitsAlways places (λ e r c fit below. tt) (λ r p n fit below. tt) (IsPlainFrom b)
-        (λ c i j h. record { direction = h.direction; plain = h.plain })
-        (λ e r c fit h. plain_then b c (driver.act e r c).buffer h (acts e r c))
-        (λ c h. record { direction = h.direction; plain = h.plain }) (λ c h. record { direction = h.direction; plain = h.plain })
-        (start true b driver.fresh) tt (record { direction = refl; plain = λ p. p }) in
-        record { direction = kept.direction; plain = kept.plain }
-
-    -- a line is left but for flags
     pub run_bare : (b : Buffer) → bare (driver_run pays_first table driver b).buffer.line ≡ bare b.line
     unfolding driver_run
     run_bare b =
-        buffer_kept machine FitsAlways places (λ e r c fit below. tt) (λ r p n fit below. tt) (λ c. bare c.line ≡ bare b.line)
+        buffer_kept (kerning_machine_of pays_first table driver) FitsAlways places (λ e r c fit below. tt) (λ r p n fit below. tt) (λ c. bare c.line ≡ bare b.line)
         (λ c i j h. ap (λ (x : Buffer). x.line) (erased_unsafe c i j) ∙ h)
         (λ e r c fit h. ap bare (places e r c fit).line ∙ h) (λ c h. h) (λ c h. h)
         (start true b driver.fresh) tt refl
-
-pub kern_run_plain : (pays_first : Bool) (values : List ℤ) (table : TableValue (GenericStateEntry KernEntryData)) (b : Buffer)
-    → IsPlainFrom b (driver_run pays_first table (kern_driver false 8 values) b).buffer
-kern_run_plain pays_first values table b =
-    run_plain pays_first table (kern_driver false 8 values) (kern_keeps_place false 8 values)
-    (λ e r c. of_kern (IsPlainFrom c) (λ v i x h. plain_then c x (along 8 v i x) h (along_plain v i x)) values e r c (plain_same c)) b
-
-pub kerx_run_plain : (pays_first : Bool) (tuple_count : ℕ) (values : List ℤ) (table : TableValue (GenericStateEntry EntryData)) (b : Buffer)
-    → IsPlainFrom b (driver_run pays_first table (kerx_driver false 8 tuple_count values) b).buffer
-kerx_run_plain pays_first tuple_count values table b =
-    run_plain pays_first table (kerx_driver false 8 tuple_count values) (kerx_keeps_place false 8 tuple_count values)
-    (λ e r c. of_kerx (IsPlainFrom c) (λ v i x h. plain_then c x (along 8 v i x) h (along_plain v i x)) tuple_count values e r c (plain_same c)) b
 
 -- Flags are not looked at: what an act leaves of a line without them is what it leaves of the line, without them.
 abbrev pub IsUnseeing : {R E : Type 0} → (E → R → Buffer → Moved R) → Type 0
@@ -143,11 +58,28 @@ erased_along v i b =
     ap (λ (t : Bool). cond (cond h t (t && here)) (erased (on_position f i b)) (erased b)) (meets_bare b i)
     ∙ (let asked = meets (glyph_at b.line i).mask 8 in erased_choice (cond h asked (asked && here)) (on_position f i b) b)
 
-erased_value : (v : ℤ) (i : ℕ) (b : Buffer) → with_value_for false 8 v i (erased b) ≡ erased (with_value_for false 8 v i b)
-erased_value v i b =
-    ap (λ (n : ℕ). cond (nat_lt i n) (along 8 (even v) i (erased b)) (erased b)) (bare_length b.line)
-    ∙ (ap (λ (x : Buffer). cond (nat_lt i (length b.line)) x (erased b)) (erased_along (even v) i b)
-    ∙ erased_choice (nat_lt i (length b.line)) (along 8 (even v) i b) b)
+erased_across : (v : ℤ) (i : ℕ) (b : Buffer) → across v i (erased b) ≡ erased (across v i b)
+erased_across v i b =
+    let h = is_horizontal b.direction in
+    let q = position_at b i in
+    let reset = on_position (λ (p : GlyphPosition). with_cross_offset h (pos 0) (attached_as 0 (pos 0) p)) i b in
+    let added = with_attachment_flag (on_position (λ (p : GlyphPosition). with_cross_offset h (plus (cross_offset h p) v) p) i b) in
+    ap (λ (x : Buffer). cond (int_eq v (negsuc 32767)) (erased reset) x) (erased_choice (q.attach_type == 0) b added)
+    ∙ erased_choice (int_eq v (negsuc 32767)) reset (cond (q.attach_type == 0) b added)
+
+-- a value for a place, along the line or across it
+abbrev valued : Bool → ℤ → ℕ → Buffer → Buffer
+valued is_cross v i b = cond is_cross (across v i b) (along 8 v i b)
+
+erased_valued : (is_cross : Bool) (v : ℤ) (i : ℕ) (b : Buffer) → valued is_cross v i (erased b) ≡ erased (valued is_cross v i b)
+erased_valued true v i b = erased_across v i b
+erased_valued false v i b = erased_along v i b
+
+erased_value : (is_cross : Bool) (v : ℤ) (i : ℕ) (b : Buffer) → with_value_for is_cross 8 v i (erased b) ≡ erased (with_value_for is_cross 8 v i b)
+erased_value is_cross v i b =
+    ap (λ (n : ℕ). cond (nat_lt i n) (valued is_cross (even v) i (erased b)) (erased b)) (bare_length b.line)
+    ∙ (ap (λ (x : Buffer). cond (nat_lt i (length b.line)) x (erased b)) (erased_valued is_cross (even v) i b)
+    ∙ erased_choice (nat_lt i (length b.line)) (valued is_cross (even v) i b) b)
 
 erased_ends : (v : ℤ) (i : ℕ) (b : Buffer) → ends_list v i (erased b) ≡ ends_list v i b
 erased_ends v i b = ap (λ (n : ℕ). is_odd v && nat_lt i n) (bare_length b.line)
@@ -163,62 +95,62 @@ same_end stack true false e x y same m n more = absurd (true≢false e)
 same_end stack false true e x y same m n more = absurd (true≢false (sym e))
 
 erased_popped :
-    (value : ℕ → Option ℤ) (step : ℕ) (stack : List ℕ) (index : ℕ) (b : Buffer)
-    → popped false 8 value step stack index (erased b) ≡ erased_left (popped false 8 value step stack index b)
+    (is_cross : Bool) (value : ℕ → Option ℤ) (step : ℕ) (stack : List ℕ) (index : ℕ) (b : Buffer)
+    → popped is_cross 8 value step stack index (erased b) ≡ erased_left (popped is_cross 8 value step stack index b)
 unfolding popped
-erased_popped value step [] index b = refl
-erased_popped value step (i ∷ stack) index b =
-    by (λ v. erased_popped value step stack (index + step) (with_value_for false 8 v i b)) (value index)
+erased_popped is_cross value step [] index b = refl
+erased_popped is_cross value step (i ∷ stack) index b =
+    by (λ v. erased_popped is_cross value step stack (index + step) (with_value_for is_cross 8 v i b)) (value index)
   where
     by :
-        ((v : ℤ) → popped false 8 value step stack (index + step) (erased (with_value_for false 8 v i b))
-        ≡ erased_left (popped false 8 value step stack (index + step) (with_value_for false 8 v i b)))
+        ((v : ℤ) → popped is_cross 8 value step stack (index + step) (erased (with_value_for is_cross 8 v i b))
+        ≡ erased_left (popped is_cross 8 value step stack (index + step) (with_value_for is_cross 8 v i b)))
         → (o : Option ℤ)
         → (elim o as (λ _. Moved (List ℕ)) [
           | None ↦ record { registers = stack; buffer = erased b }
           | Some v ↦ elim (ends_list v i (erased b)) as (λ _. Moved (List ℕ)) [
-            | true ↦ record { registers = stack; buffer = with_value_for false 8 v i (erased b) }
-            | false ↦ popped false 8 value step stack (index + step) (with_value_for false 8 v i (erased b))
+            | true ↦ record { registers = stack; buffer = with_value_for is_cross 8 v i (erased b) }
+            | false ↦ popped is_cross 8 value step stack (index + step) (with_value_for is_cross 8 v i (erased b))
           ]
         ])
         ≡ erased_left (elim o as (λ _. Moved (List ℕ)) [
           | None ↦ record { registers = stack; buffer = b }
           | Some v ↦ elim (ends_list v i b) as (λ _. Moved (List ℕ)) [
-            | true ↦ record { registers = stack; buffer = with_value_for false 8 v i b }
-            | false ↦ popped false 8 value step stack (index + step) (with_value_for false 8 v i b)
+            | true ↦ record { registers = stack; buffer = with_value_for is_cross 8 v i b }
+            | false ↦ popped is_cross 8 value step stack (index + step) (with_value_for is_cross 8 v i b)
           ]
         ])
     by later None = refl
     by later (Some v) =
         same_end stack (ends_list v i (erased b)) (ends_list v i b) (erased_ends v i b)
-        (with_value_for false 8 v i (erased b)) (with_value_for false 8 v i b) (erased_value v i b)
-        (popped false 8 value step stack (index + step) (with_value_for false 8 v i (erased b)))
-        (popped false 8 value step stack (index + step) (with_value_for false 8 v i b))
-        (ap (popped false 8 value step stack (index + step)) (erased_value v i b) ∙ later v)
+        (with_value_for is_cross 8 v i (erased b)) (with_value_for is_cross 8 v i b) (erased_value is_cross v i b)
+        (popped is_cross 8 value step stack (index + step) (with_value_for is_cross 8 v i (erased b)))
+        (popped is_cross 8 value step stack (index + step) (with_value_for is_cross 8 v i b))
+        (ap (popped is_cross 8 value step stack (index + step)) (erased_value is_cross v i b) ∙ later v)
 
-moved_choice : (t : Bool) (x y : Moved (List ℕ)) → cond t (erased_left x) (erased_left y) ≡ erased_left (cond t x y)
+pub moved_choice : {R : Type 0} (t : Bool) (x y : Moved R) → cond t (erased_left x) (erased_left y) ≡ erased_left (cond t x y)
 moved_choice true x y = refl
 moved_choice false x y = refl
 
-pub kern_unseeing : (values : List ℤ) → IsUnseeing (kern_act false 8 values)
+pub kern_unseeing : (is_cross : Bool) (values : List ℤ) → IsUnseeing (kern_act is_cross 8 values)
 unfolding kern_act
-kern_unseeing values e r b =
+kern_unseeing is_cross values e r b =
     let filled = pushed_by e b.cursor r in
     let index = e.extra.value_index in
-    let pops = popped false 8 (kern_value values) 1 filled index b in
-    rw (erased_popped (kern_value values) 1 filled index b)
+    let pops = popped is_cross 8 (kern_value values) 1 filled index b in
+    rw (erased_popped is_cross (kern_value values) 1 filled index b)
     (ap (λ (m : Moved (List ℕ)). cond (not (is_present index)) (record { registers = filled; buffer = erased b }) m)
     (moved_choice (nat_lt index (length values)) pops (record { registers = []; buffer = b }))
     ∙ moved_choice (not (is_present index)) (record { registers = filled; buffer = b })
     (cond (nat_lt index (length values)) pops (record { registers = []; buffer = b })))
 
-pub kerx_unseeing : (tuple_count : ℕ) (values : List ℤ) → IsUnseeing (kerx_act false 8 tuple_count values)
+pub kerx_unseeing : (is_cross : Bool) (tuple_count : ℕ) (values : List ℤ) → IsUnseeing (kerx_act is_cross 8 tuple_count values)
 unfolding kerx_act
-kerx_unseeing tuple_count values e r b =
+kerx_unseeing is_cross tuple_count values e r b =
     let filled = pushed_by e b.cursor (cond (has_flag e 0x2000) [] r) in
     let step = max tuple_count 1 in
-    let pops = popped false 8 (kerx_value values step) step filled e.extra.action_index b in
-    rw (erased_popped (kerx_value values step) step filled e.extra.action_index b)
+    let pops = popped is_cross 8 (kerx_value values step) step filled e.extra.action_index b in
+    rw (erased_popped is_cross (kerx_value values step) step filled e.extra.action_index b)
     (moved_choice (has_action e && nat_le tuple_count 65535) pops (record { registers = filled; buffer = b }))
 
 -- A run without marks.
@@ -323,14 +255,14 @@ module _ {R E : Type 0} (m : KerningMachine R E) where
         potential_same b = let long = bare_length b.line in rw long refl
 
 -- runs over lines that are the same but for flags leave the same but for flags
-pub run_unseeing : {T : Type 0} (pays_first : Bool) (table : TableValue (GenericStateEntry T)) (driver : Driver (List ℕ) (GenericStateEntry T))
+pub run_unseeing : {T R : Type 0} (pays_first : Bool) (table : TableValue (GenericStateEntry T)) (driver : Driver R (GenericStateEntry T))
     → IsUnseeing driver.act → (a b : Buffer) → erased a ≡ erased b
     → erased (driver_run pays_first table driver a).buffer ≡ erased (driver_run pays_first table driver b).buffer
 unfolding driver_run
-run_unseeing {T} pays_first table driver unseeing a b same =
+run_unseeing {T} {R} pays_first table driver unseeing a b same =
     let m = kerning_machine_of pays_first table driver in
-    let at_front : Buffer → Config (List ℕ) = λ c. start true c driver.fresh in
+    let at_front : Buffer → Config R = λ c. start true c driver.fresh in
     let both : erased_config (kerning_whole m (at_front a)) ≡ erased_config (kerning_whole m (at_front b)) =
     sym (whole_same m unseeing (at_front a))
     ∙ (ap (λ (c : Buffer). run (quiet_turn m) (potential (with_cursor c 0) + 1) (at_front c)) same ∙ whole_same m unseeing (at_front b)) in
-    ap (λ (c : Config (List ℕ)). with_cursor c.buffer 0) both
+    ap (λ (c : Config R). with_cursor c.buffer 0) both

@@ -1,5 +1,5 @@
--- How what is drawn of a text looks, whatever substitution left of it, where a font kerns along the line.
-use Rattle.std.proofs.Common.{◌≡◌, ◌∙◌, sym, ap, refl, ℕ, Bool, true, false, cond, List, [], ◌∷◌, map, length}
+-- How what is drawn of a text looks, whatever substitution left of it.
+use Rattle.std.proofs.Common.{◌≡◌, ◌∙◌, sym, ap, refl, ℕ, Bool, true, false, cond, List, map, length}
 use Rattle.std.specs.Prelude.{ℤ, Some, option_map}
 use Rattle.std.proofs.lemmas.List.{length-map}
 use Rattle.aat_glyph.specs.Directions.{is_backward, is_horizontal}
@@ -12,7 +12,6 @@ use Rattle.aat_font.specs.Face.{advance_of}
 use Rattle.aat_font.specs.declared.face.hb_font_t.{hb_font_t}
 use Rattle.aat_font.specs.declared.plan.Feature.{Feature}
 use Rattle.aat_kerning_machines.specs.KerningLaws.{IsKernedFrom}
-use Rattle.aat_placement.specs.AttachmentLaws.{UnattachedLinesStay}
 use Rattle.aat_placement.specs.Attachments.{added_up}
 use Rattle.aat_kerning.specs.Cut.{ordered_line, ordered_positions}
 use Rattle.aat_kerning.specs.KerningLawful.{KerningChangesLittle}
@@ -20,30 +19,26 @@ use Rattle.aat_kerning.specs.Positioning.{in_processing_order}
 use Rattle.aat_kerning.specs.Zeroing.{zeroed, zeroed_positions}
 use Rattle.aat_shaping.specs.Shaping.{advanced, with_advances}
 use Rattle.aat_placement.specs.TrackingLaws.{PartsAreTrackedApart}
-use Rattle.aat_shaped_text.specs.KernedBreaks.{kerns_along}
 use Rattle.aat_shaped_text.specs.Parts.{looks}
 use Rattle.aat_shaped_text.specs.ShapedText.{drawn_clusters, drawn_glyphs, text_kerning, tracked_by, tracked_line}
 use Rattle.aat_shaped_text.specs.declared.text.TextGlyph.{TextGlyph}
-use Rattle.aat_shaped_text.proofs.KernedApart.{Plain, plain_reverse}
+use Rattle.aat_shaped_text.proofs.ChainsSplit.{link}
 use Rattle.aat_shaped_text.proofs.KernedPairs.{IsPlainText}
 use Rattle.aat_shaped_text.proofs.KernedText.{text_changes_little}
-use Rattle.aat_shaped_text.proofs.LineRuns.{text_plain}
 use Rattle.aat_shaped_text.proofs.Looks.{Positions, drawn_looks, line_looks, line_plain, plain}
 use Rattle.aat_shaped_text.proofs.SpotsRuns.{Glyphs}
-use Rattle.aat_shaped_text.proofs.Texts.{length-turned, length-zeroed, map-turned, marked_plain, ordered_line_is, ordered_positions_are, plain_zeroed, some_list, stays_alone, turned, zeroed_plain, zeroed_turned}
-use Rattle.aat_shaped_text.proofs.Tracked.{drawn_plain, length-tracked_turned, plain_tracked, tracked_turned, turned-turned}
+use Rattle.aat_shaped_text.proofs.Texts.{length-turned, length-zeroed, map-turned, marked_plain, ordered_line_is, ordered_positions_are, some_list, turned, zeroed_links, zeroed_plain, zeroed_turned}
+use Rattle.aat_shaped_text.proofs.Tracked.{drawn_plain, length-tracked_turned, links_turned, tracked_turned, turned-turned}
 
 -- what is known behind substitution of the texts of a direction: the value by which they are tracked, the buffer that
--- substitution leaves of each, what is so of the font, and the laws of the crates below
+-- substitution leaves of each, and the laws of the crates below
 pub record Behind (face : hb_font_t) (d : Direction) (features : List Feature) : Type 0 where
   pub value : ℤ
   pub substituted : List TextGlyph → Buffer
   pub direction : (text : List TextGlyph) → (substituted text).direction ≡ d
   pub level : (text : List TextGlyph) → (substituted text).cluster_level ≡ 0
   pub flags : (text : List TextGlyph) → produces_concat (substituted text).flags ≡ false
-  pub kerns : kerns_along face d ≡ true
   pub little : KerningChangesLittle
-  pub alone : UnattachedLinesStay
   pub tracks : PartsAreTrackedApart
 
 module _ (face : hb_font_t) (d : Direction) (features : List Feature) (x : Behind face d features) where
@@ -112,16 +107,6 @@ module _ (face : hb_font_t) (d : Direction) (features : List Feature) (x : Behin
 
   length_of_places : (text : List TextGlyph) → length (places text) ≡ length (x.substituted text).line
   length_of_places text = (from text).text.positions ∙ length-map (x.substituted text).line _
-
-  advance_plain : (h : Bool) (f : hb_glyph_info_t → ℕ) (gs : Glyphs) → Plain (map (λ g. advanced h (f g)) gs)
-  advance_plain h f [] = tt
-  advance_plain true f (g ∷ gs) = (refl, advance_plain true f gs)
-  advance_plain false f (g ∷ gs) = (refl, advance_plain false f gs)
-
-  places_plain : (text : List TextGlyph) → Plain (places text)
-  places_plain text =
-      (text_plain face d features x.kerns (advanced_text text) (plain_text text)).plain
-      (advance_plain (is_horizontal (x.substituted text).direction) (λ g. advance_of face g.glyph_id) (x.substituted text).line)
 
   pub ordered_places_are : (text : List TextGlyph) → ordered_positions (kerned text) ≡ turned is_turned (places text)
   ordered_places_are text = ordered_positions_are (kerned text) is_turned (places text) (turned_is text) (places_stand text)
@@ -203,15 +188,12 @@ module _ (face : hb_font_t) (d : Direction) (features : List Feature) (x : Behin
       ∙ ap (λ qs. turned is_turned (tracked_by x.value d (drawn_clusters (turned is_turned (plain_line text))) qs))
       (sym (turned-turned is_turned (read_places text)) ∙ ap (turned is_turned) (zeroed_are text)))
 
-  plain_drawn : (text : List TextGlyph) → Plain (turned is_turned (tracked_places text))
-  plain_drawn text =
-      by is_turned
-      (plain_tracked x.value d (drawn_clusters (kerned text).line) (read_places text)
-      (plain_zeroed (kerned text).line (places text) (places_plain text)))
+  drawn_direction : (text : List TextGlyph) → (drawn text).direction ≡ d
+  drawn_direction text = by (is_backward (kerned text).direction) ∙ kerned_direction text
     where
-      by : (t : Bool) → Plain (tracked_places text) → Plain (turned t (tracked_places text))
-      by true all = plain_reverse (tracked_places text) all
-      by false all = all
+      by : (t : Bool) → (cond t (reversed (read text)) (read text)).direction ≡ (kerned text).direction
+      by true = refl
+      by false = refl
 
   pub drawn_level : (text : List TextGlyph) → (drawn text).cluster_level ≡ 0
   drawn_level text = by (is_backward (kerned text).direction) ∙ ((from text).text.settings.cluster_level ∙ x.level text)
@@ -227,20 +209,23 @@ module _ (face : hb_font_t) (d : Direction) (features : List Feature) (x : Behin
   length_of_drawn text =
       length-tracked_turned x.value d is_turned (plain_line text) (zeroed_places text) ∙ length_of_zeroed text
 
+  -- where deleted glyphs take no room, and where a line is tracked, glyphs stay attached as they were
+  pub drawn_links : (text : List TextGlyph) → map link (drawn_places text) ≡ map link (ordered_positions (kerned text))
+  drawn_links text =
+      links_turned x.value d is_turned (plain_line text) (zeroed_places text)
+      ∙ zeroed_links (plain_line text) (ordered_positions (kerned text)) (length_of_ordered text)
+
   -- how what is drawn of a text looks, wherever it may be broken
   pub text_looks :
       (may : ℕ → Bool) (text : List TextGlyph)
-      → map looks (drawn_glyphs may (drawn text)) ≡ line_looks (plain_line text) (drawn_places text)
+      → map looks (drawn_glyphs may (drawn text)) ≡ line_looks (plain_line text) (added_up d (drawn_places text))
   text_looks may text =
       let b : Buffer = drawn text in
       let plain_is : map plain b.line ≡ plain_line text = drawn_plain_line text in
       let long : length (position_list b) ≡ length b.line =
       ap length (drawn_positions_are text) ∙ (length_of_drawn text ∙ (ap length (sym plain_is) ∙ length-map b.line plain)) in
-      let alone : added_up b.direction (position_list b) ≡ position_list b =
-      ap (added_up b.direction) (drawn_list text)
-      ∙ (stays_alone x.alone b.direction (turned is_turned (tracked_places text)) (plain_drawn text)
-      ∙ sym (drawn_list text)) in
-      drawn_looks may b (drawn_level text) long alone
-      ∙ (sym (line_plain b.line (position_list b))
-      ∙ (ap (λ gs. line_looks gs (position_list b)) plain_is
-      ∙ ap (line_looks (plain_line text)) (drawn_positions_are text)))
+      drawn_looks may b (drawn_level text) long
+      ∙ (sym (line_plain b.line (added_up b.direction (position_list b)))
+      ∙ (ap (λ gs. line_looks gs (added_up b.direction (position_list b))) plain_is
+      ∙ (ap (λ e. line_looks (plain_line text) (added_up e (position_list b))) (drawn_direction text)
+      ∙ ap (λ qs. line_looks (plain_line text) (added_up d qs)) (drawn_positions_are text))))

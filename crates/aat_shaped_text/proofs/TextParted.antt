@@ -1,5 +1,5 @@
 -- The line that closing substitution leaves of a text is that of its two parts where it leaves the cut open.
-use Rattle.std.proofs.Common.{◌≡◌, ◌∙◌, sym, ap, refl, ℕ, zero, suc, ◌+◌, ◌<◌, ◌≤◌, ◌&&◌, Bool, true, false, not, List, [], ◌∷◌, ◌++◌, map, length, take, drop, arith, nat_lt, take_at, drop_at, true≢false}
+use Rattle.std.proofs.Common.{◌≡◌, ◌∙◌, sym, ap, refl, ℕ, zero, suc, ◌+◌, ◌<◌, ◌≤◌, Bool, true, not, List, [], ◌∷◌, ◌++◌, map, length, take, drop, arith, nat_lt, take_at, drop_at, true≢false}
 use Rattle.std.proofs.lemmas.Bool.Decides.{nat_tests}
 use Rattle.std.proofs.lemmas.List.{length-append, length-map, map-append}
 use Rattle.std.specs.Prelude.{All, pos}
@@ -21,7 +21,7 @@ use Rattle.aat_closing.specs.LimitedParts.{ChainsTellOfLimitedPartsAbout, TellsO
 use Rattle.aat_closing.specs.ToldParts.{HasBetween, IsRise, TellsOpen}
 use Rattle.aat_shaped_text.specs.Breaks.{is_rising}
 use Rattle.aat_shaped_text.specs.Parts.{text_before, text_from}
-use Rattle.aat_shaped_text.specs.ShapedText.{line_glyph, most_glyphs, most_operations, tells_breaks, text_buffer, text_closing}
+use Rattle.aat_shaped_text.specs.ShapedText.{line_glyph, most_glyphs, most_operations, text_buffer, text_closing}
 use Rattle.aat_shaped_text.specs.declared.text.TextGlyph.{TextGlyph}
 use Rattle.aat_shaped_text.proofs.RisingText.{rising_line}
 use Rattle.aat_shaped_text.proofs.TextCut.{AllText, Text, before_below, from_above, in_two}
@@ -36,9 +36,9 @@ all_of_line f keeps p P holds (g ∷ text) all (suc k) d within = all_of_line f 
 pub enough_operations : (n : ℕ) → 16384 ≤ most_operations n
 enough_operations n = omega arith
 
--- Closing substitution of a part of a text tells its breaks, and takes no more operations than that of the text.
+-- Closing substitution of a part of a text tells what is open, and takes no more operations than that of the text.
 pub record TellsPart (face : hb_font_t) (d : Direction) (features : List Feature) (whole part : Text) : Type 0 where
-  pub tells : tells_breaks face d features part ≡ true
+  pub told : (text_closing face features (text_buffer face d features part)).is_told ≡ true
   pub takes :
       most_operations (length part) + operations_left (text_closing face features (text_buffer face d features whole)).buffer.max_ops
       ≤ most_operations (length whole) + operations_left (text_closing face features (text_buffer face d features part)).buffer.max_ops
@@ -112,22 +112,12 @@ module _ (own : ChainsLeaveLimitedPartsAbout) (tell : ChainsTellOfLimitedPartsAb
       refl refl refl (rise some_early some_late) tells between limited_front limited_back
       (omega (arith, spends, enough_operations (length (text_before c text)))) (omega (arith, spends, enough_operations (length (text_from c text))))
 
-  both_true : (a b : Bool) → a ≡ true → b ≡ true → (a && b) ≡ true
-  both_true true b is also = also
-  both_true false b is also = is
-
-  -- a part of which is told, by no more operations than the whole takes, tells its breaks
+  -- of a part is told, by no more operations than the whole takes
   part_tells : (part : Text) → TellsOfPart (text_buffer face d features text) (text_buffer face d features part) (closed text) (closed part)
-      → most_operations (length text) < operations_left (closed text).buffer.max_ops + 16384 → TellsPart face d features text part
-  part_tells part it spends =
-      let taken = it.budget in
-      let few : most_operations (length part) < operations_left (closed part).buffer.max_ops + 16384 = omega (arith, taken, spends) in
-      record {
-        tells = both_true (closed part).is_told (nat_lt (most_operations (length part)) (operations_left (closed part).buffer.max_ops + 16384)) it.told (grind (arith, nat_tests, few));
-        takes = taken;
-      }
+      → TellsPart face d features text part
+  part_tells part it = record { told = it.told; takes = it.budget }
 
-  -- both parts tell their breaks
+  -- both parts tell what is open
   pub parts_tell :
       (low : ℕ) → AreEvenAbout low c d (by_requests (requests_of (tables_of face).feat features) (chains_in (tables_of face).morx))
       → 0 < length (text_before c text) → 0 < length (text_from c text) → TellsOpen c (closed text) → HasBetween low c (closed text).buffer.line
@@ -140,4 +130,4 @@ module _ (own : ChainsLeaveLimitedPartsAbout) (tell : ChainsTellOfLimitedPartsAb
       (text_buffer face d features text) (text_buffer face d features (text_before c text)) (text_buffer face d features (text_from c text))
       refl refl refl (rise some_early some_late) tells between limited_front limited_back
       (omega (arith, spends, enough_operations (length (text_before c text)))) (omega (arith, spends, enough_operations (length (text_from c text)))) in
-      (part_tells (text_before c text) both.0 spends, part_tells (text_from c text) both.1 spends)
+      (part_tells (text_before c text) both.0, part_tells (text_from c text) both.1)

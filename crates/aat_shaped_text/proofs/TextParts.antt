@@ -9,18 +9,20 @@ use Rattle.aat_font.specs.declared.face.hb_font_t.{hb_font_t}
 use Rattle.aat_font.specs.declared.plan.Feature.{Feature}
 use Rattle.aat_kerning.specs.Cut.{ordered_positions}
 use Rattle.aat_kerning.specs.Zeroing.{zeroed_positions}
-use Rattle.aat_shaped_text.specs.Breaks.{skips_of}
+use Rattle.aat_placement.specs.Attachments.{added_up}
+use Rattle.aat_shaped_text.specs.Breaks.{is_unchained}
 use Rattle.aat_shaped_text.specs.Parts.{cut_before, looks, no_shaped_glyph, shaped_at}
 use Rattle.aat_shaped_text.specs.ShapedText.{drawn_glyphs}
 use Rattle.aat_shaped_text.specs.declared.text.ShapedGlyph.{ShapedGlyph}
 use Rattle.aat_shaped_text.proofs.BreakPlaces.{MeetsAt}
+use Rattle.aat_shaped_text.proofs.ChainsSplit.{added_split, length_added, same_links}
 use Rattle.aat_shaped_text.proofs.Looks.{Positions, left_of, line_looks, plain, spots_plain}
 use Rattle.aat_shaped_text.proofs.LooksSplit.{IsCut, clusters_of_looks, first_below, first_fails, last_below, last_passes, left_some, left_splits, length_left, length_looks, looks_split, meets_before, meets_behind, stays}
-use Rattle.aat_shaped_text.proofs.Spots.{AllRest, some_stays}
+use Rattle.aat_shaped_text.proofs.Spots.{AllRest, BeginsKept, some_stays}
 use Rattle.aat_shaped_text.proofs.SpotsEnds.{head_of, last_from, last_of}
 use Rattle.aat_shaped_text.proofs.SpotsRuns.{Glyphs, spots}
 use Rattle.aat_shaped_text.proofs.TextCut.{Text}
-use Rattle.aat_shaped_text.proofs.TextLooks.{Behind, drawn, drawn_places, drawn_plain_line, kerned, length_of_drawn, length_of_ordered, length_of_zeroed, ordered, plain_line, text_looks, zeroed_places}
+use Rattle.aat_shaped_text.proofs.TextLooks.{Behind, drawn, drawn_links, drawn_places, drawn_plain_line, kerned, length_of_drawn, length_of_ordered, length_of_zeroed, ordered, plain_line, text_looks, zeroed_places}
 use Rattle.aat_shaped_text.proofs.Texts.{length-turned, turned, zeroed_split}
 use Rattle.aat_shaped_text.proofs.Tracked.{all_rest_reverse, tracked_turned, tracked_turned_split}
 
@@ -42,13 +44,14 @@ glyph_clusters [] = refl
 glyph_clusters (h ∷ hs) = ap (λ zs. h.cluster ∷ zs) (glyph_clusters hs)
 
 -- A text and its two parts in the order of drawing: two glyphs of its line meet at place i, before which k are kept;
--- behind substitution its line is that of the first part, of i glyphs, and then that of the second; and a test tells
--- the clusters of the two apart.
+-- behind substitution its line is that of the first part, of i glyphs, and then that of the second; a test tells the
+-- clusters of the two apart; so it is with its positions behind kerning, and no glyph from there on is attached to one
+-- before it.
 pub record IsInParts
     (face : hb_font_t) (d : Direction) (features : List Feature) (x : Behind face d features) (text first second : Text)
     (k i : ℕ) : Type 0
   where
-    pub meets : MeetsAt (skips_of face) (drawn face d features x text).line k i
+    pub meets : MeetsAt (drawn face d features x text).line k i
     pub whole :
         turned (is_backward d) (x.substituted text).line
         ≡ turned (is_backward d) (x.substituted first).line ++ turned (is_backward d) (x.substituted second).line
@@ -59,6 +62,7 @@ pub record IsInParts
     pub positions :
         ordered_positions (kerned face d features x text)
         ≡ ordered_positions (kerned face d features x first) ++ ordered_positions (kerned face d features x second)
+    pub unchained : is_unchained d (ordered_positions (kerned face d features x text)) i ≡ true
 
 module _
     (face : hb_font_t) (d : Direction) (features : List Feature) (x : Behind face d features)
@@ -134,7 +138,8 @@ module _
     is_cut = record {
       front = subst (λ (gs : Glyphs). AllRest parts.test (spots gs)) xs_is (all_of parts.test first parts.pass);
       back = subst (λ (gs : Glyphs). AllRest (λ c. not (parts.test c)) (spots gs)) ys_is (all_of (λ c. not (parts.test c)) second parts.fail);
-      kept = parts.meets.kept;
+      kept =
+          subst (BeginsKept parts.meets.here.cluster) (sym (spots_plain (parts.meets.here ∷ parts.meets.back))) parts.meets.kept;
       some = ap some_stays spots_of_xs ∙ parts.meets.some;
     }
 
@@ -156,27 +161,48 @@ module _
         is_cut.front is_cut.back
         ∙ (ap (λ gs. by gs ps ++ by (y ∷ ys) qs) (sym xs_is) ∙ ap (λ gs. by (plain_line face d features x first) ps ++ by gs qs) (sym ys_is))))
 
+    -- so do those to which the offsets of what glyphs are attached to are added
+    unchained_drawn : is_unchained d (drawn_places face d features x first ++ drawn_places face d features x second) (length (drawn_places face d features x first)) ≡ true
+    unchained_drawn =
+        let places = drawn_places face d features x first ++ drawn_places face d features x second in
+        ap (λ n. is_unchained d places n) (length_first ∙ long_xs)
+        ∙ (ap (λ qs. is_unchained d qs i) (sym places_split)
+        ∙ (same_links d (drawn_places face d features x text) (ordered_positions (kerned face d features x text)) i (drawn_links face d features x text)
+        ∙ parts.unchained))
+
+    abbrev added : Text → Positions
+    added part = added_up d (drawn_places face d features x part)
+
+    added_is : added_up d (drawn_places face d features x text) ≡ added first ++ added second
+    added_is =
+        ap (added_up d) places_split
+        ∙ added_split d (drawn_places face d features x first) (drawn_places face d features x second) unchained_drawn
+
+    added_long : length (added first) ≡ length xs
+    added_long = length_added d (drawn_places face d features x first) ∙ length_first
+
     -- what is drawn looks as the parts do
     abbrev first_looks : List ShapedGlyph
-    first_looks = line_looks (plain_line face d features x first) (drawn_places face d features x first)
+    first_looks = line_looks (plain_line face d features x first) (added first)
 
     abbrev second_looks : List ShapedGlyph
-    second_looks = line_looks (plain_line face d features x second) (drawn_places face d features x second)
+    second_looks = line_looks (plain_line face d features x second) (added second)
 
     joined : (may : ℕ → Bool) → map looks (drawn_glyphs may (drawn face d features x text)) ≡ first_looks ++ second_looks
     joined may =
-        let ps = drawn_places face d features x first in
-        let qs = drawn_places face d features x second in
+        let ps = added first in
+        let qs = added second in
         text_looks face d features x may text
-        ∙ (ap (λ gs. line_looks gs (drawn_places face d features x text)) line_is
-        ∙ (ap (line_looks (xs ++ y ∷ ys)) places_split
-        ∙ (looks_split parts.test xs y ys is_cut ps qs length_first
+        ∙ (ap (λ gs. line_looks gs (added text)) line_is
+        ∙ (ap (line_looks (xs ++ y ∷ ys)) added_is
+        ∙ (looks_split parts.test xs y ys is_cut ps qs added_long
         ∙ (ap (λ gs. line_looks gs ps ++ line_looks (y ∷ ys) qs) (sym xs_is)
         ∙ ap (λ gs. line_looks (plain_line face d features x first) ps ++ line_looks gs qs) (sym ys_is)))))
 
     first_long : length first_looks ≡ k
     first_long =
-        length_looks (plain_line face d features x first) (drawn_places face d features x first) (length_of_drawn face d features x first)
+        length_looks (plain_line face d features x first) (added first)
+        (length_added d (drawn_places face d features x first) ∙ length_of_drawn face d features x first)
         ∙ (ap (λ gs. stays (spots gs)) xs_is ∙ count_is)
 
     -- what is drawn before place k looks as the first part does, wherever the two may be broken
@@ -205,10 +231,11 @@ module _
 
       clusters_are : map (λ (h : ShapedGlyph). h.cluster) glyphs ≡ reverse (left_of (y ∷ ys) ++ left_of xs)
       clusters_are =
-          let places = drawn_places face d features x text in
+          let places = added text in
           glyph_clusters glyphs
           ∙ (ap (map (λ (h : ShapedGlyph). h.cluster)) (text_looks face d features x may text ∙ ap (λ gs. line_looks gs places) line_is)
-          ∙ (clusters_of_looks (xs ++ y ∷ ys) places (length_of_drawn face d features x text ∙ ap length line_is)
+          ∙ (clusters_of_looks (xs ++ y ∷ ys) places
+          (length_added d (drawn_places face d features x text) ∙ (length_of_drawn face d features x text ∙ ap length line_is))
           ∙ ap reverse (left_splits parts.test xs y ys is_cut)))
 
       cluster_at_place : (j : ℕ) → j < length glyphs → (shaped_at glyphs j).cluster ≡ get_or (reverse (left_of (y ∷ ys) ++ left_of xs)) j 0

@@ -2,7 +2,8 @@
 -- along the line.
 use Rattle.std.proofs.Common.{◌≡◌, ◌∙◌, sym, ap, refl, ℕ, suc, ◌==◌, Bool, true, false, cond, List, [], ◌∷◌, ◌++◌, map, reverse, length, arith, true≢false, nat_lt, pos, ◌+ℤ◌, neg_ℤ, if◌then◌else◌}
 use Rattle.std.specs.List.{AllZip}
-use Rattle.std.specs.Prelude.{IsSome, None, Option, Some, option_map, slice_index_or, unwrap_or}
+use Rattle.std.specs.Option.{option_map_or}
+use Rattle.std.specs.Prelude.{IsSome, None, Option, Some, nat_le, option_map, slice_index_or, unwrap_or}
 use Rattle.std.proofs.lemmas.Bool.Decides.{nat_tests}
 use Rattle.std.proofs.lemmas.Grind.{reverse_onto}
 use Rattle.std.proofs.lemmas.Int.{ints}
@@ -13,10 +14,11 @@ use Rattle.aat_glyph.specs.declared.glyph.GlyphPosition.{GlyphPosition}
 use Rattle.aat_buffer.specs.Buffer.{Buffer, position_list, reversed, zero_position}
 use Rattle.aat_buffer.specs.Removal.{is_deleted}
 use Rattle.aat_kerning_machines.specs.KerningLaws.{IsMarkedFrom}
-use Rattle.aat_placement.specs.AttachmentLaws.{UnattachedLinesStay}
-use Rattle.aat_placement.specs.Attachments.{added_up, drawn_chain, earlier}
+use Rattle.aat_placement.specs.Attachments.{drawn_chain, earlier}
 use Rattle.aat_kerning.specs.Cut.{ordered_line, ordered_positions}
 use Rattle.aat_kerning.specs.Zeroing.{without_room, zeroed_position, zeroed_positions}
+use Rattle.aat_shaped_text.specs.Breaks.{is_unchained}
+use Rattle.aat_shaped_text.proofs.ChainsSplit.{link, unchained_of}
 use Rattle.aat_shaped_text.proofs.KernedApart.{Plain, plain_at}
 use Rattle.aat_shaped_text.proofs.Looks.{Positions, plain}
 use Rattle.aat_shaped_text.proofs.SpotsRuns.{Glyphs, map-reverse}
@@ -96,18 +98,24 @@ zeroed_turned true (g ∷ gs) (q ∷ qs) long =
     ∙ (ap (λ us. zeroed_positions us (reverse qs ++ q ∷ [])) (sym (reverse_onto gs g []))
     ∙ ap (λ us. zeroed_positions (reverse (g ∷ gs)) us) (sym (reverse_onto qs q [])))))
 
-pub plain_zeroed : (gs : Glyphs) (qs : Positions) → Plain qs → Plain (zeroed_positions gs qs)
-plain_zeroed [] qs all = tt
-plain_zeroed (g ∷ gs) [] all = tt
-plain_zeroed (g ∷ gs) (q ∷ qs) all = (by (is_deleted g), plain_zeroed gs qs all.1)
+-- what a glyph is attached to stays where it is deleted
+pub zeroed_links : (gs : Glyphs) (qs : Positions) → length qs ≡ length gs → map link (zeroed_positions gs qs) ≡ map link qs
+zeroed_links [] [] long = refl
+zeroed_links [] (q ∷ qs) long = absurd (omega (arith, long))
+zeroed_links (g ∷ gs) [] long = absurd (omega (arith, long))
+zeroed_links (g ∷ gs) (q ∷ qs) long =
+    let rest = zeroed_links gs qs (omega (arith, long)) in
+    λ k. by (is_deleted g) k ∷ rest k
   where
-    by : (t : Bool) → (cond t (without_room q) q).attach_type ≡ 0
-    by true = all.0
-    by false = all.0
+    by : (t : Bool) → link (cond t (without_room q) q) ≡ link q
+    by true = refl
+    by false = refl
 
 -- where no attach type is set nothing is attached
-pub stays_alone : UnattachedLinesStay → (d : Direction) (qs : Positions) → Plain qs → added_up d qs ≡ qs
-stays_alone law d qs all = law d qs (λ i low. none i (slice_index_or qs i zero_position) (plain_at qs i all))
+pub plain_unchained : (d : Direction) (qs : Positions) (i : ℕ) → Plain qs → is_unchained d qs i ≡ true
+plain_unchained d qs i all =
+    unchained_of d qs i
+    (λ j from low. ap (λ o. option_map_or (nat_le i) o true) (none j (slice_index_or qs j zero_position) (plain_at qs j all)))
   where
     not_below : (i : ℕ) → nat_lt i i ≡ false
     not_below i = grind (arith, nat_tests)

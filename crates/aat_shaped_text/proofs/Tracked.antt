@@ -12,11 +12,11 @@ use Rattle.aat_buffer.specs.Removal.{is_deleted}
 use Rattle.aat_placement.specs.TrackedLines.{begins, first_drawn, half, plus, tracked, tracked_behind, widened}
 use Rattle.aat_placement.specs.TrackingLaws.{MeetApart, PartsAreTrackedApart}
 use Rattle.aat_shaped_text.specs.ShapedText.{UntrackedLinesStay, drawn_cluster, drawn_clusters, tracked_by}
-use Rattle.aat_shaped_text.proofs.KernedApart.{Plain}
+use Rattle.aat_shaped_text.proofs.ChainsSplit.{link}
 use Rattle.aat_shaped_text.proofs.Looks.{Positions, plain}
 use Rattle.aat_shaped_text.proofs.Spots.{AllRest, Spot}
 use Rattle.aat_shaped_text.proofs.SpotsRuns.{Glyphs, spot, spots}
-use Rattle.aat_shaped_text.proofs.Texts.{length-turned, turned}
+use Rattle.aat_shaped_text.proofs.Texts.{length-turned, map-turned, turned}
 
 -- a value of 0 leaves a line
 pub untracked : UntrackedLinesStay
@@ -55,32 +55,31 @@ module _ (v : ℤ) (d : Direction) where
       by true = refl
       by false = length_behind None cs qs
 
-  plain_widened : (q : GlyphPosition) → (widened d v q).attach_type ≡ q.attach_type
-  plain_widened q = by (is_horizontal d)
+  widened_link : (q : GlyphPosition) → link (widened d v q) ≡ link q
+  widened_link q = by (is_horizontal d)
     where
       by : (t : Bool)
-          → (cond t (record q { x_advance = plus q.x_advance v; x_offset = plus q.x_offset (half v) })
-          (record q { y_advance = plus q.y_advance v; y_offset = plus q.y_offset (half v) })).attach_type
-          ≡ q.attach_type
+          → link (cond t (record q { x_advance = plus q.x_advance v; x_offset = plus q.x_offset (half v) })
+          (record q { y_advance = plus q.y_advance v; y_offset = plus q.y_offset (half v) }))
+          ≡ link q
       by true = refl
       by false = refl
 
-  plain_behind : (last : Option ℕ) (cs : List (Option ℕ)) (qs : Positions) → Plain qs → Plain (tracked_behind last d v cs qs)
-  plain_behind last [] qs all = all
-  plain_behind last (c ∷ cs) [] all = tt
-  plain_behind last (c ∷ cs) (q ∷ qs) all = (by (begins last c), plain_behind (option_or c last) cs qs all.1)
+  links_behind : (last : Option ℕ) (cs : List (Option ℕ)) (qs : Positions) → map link (tracked_behind last d v cs qs) ≡ map link qs
+  links_behind last [] qs = refl
+  links_behind last (c ∷ cs) [] = refl
+  links_behind last (c ∷ cs) (q ∷ qs) = let rest = links_behind (option_or c last) cs qs in λ k. by (begins last c) k ∷ rest k
     where
-      by : (t : Bool) → (cond t (widened d v q) q).attach_type ≡ 0
-      by true = plain_widened q ∙ all.0
-      by false = all.0
+      by : (t : Bool) → link (cond t (widened d v q) q) ≡ link q
+      by true = widened_link q
+      by false = refl
 
-  -- tracking attaches nothing
-  pub plain_tracked : (cs : List (Option ℕ)) (qs : Positions) → Plain qs → Plain (tracked_by v d cs qs)
-  plain_tracked cs qs all = by (int_eq v (pos 0))
+  links_tracked : (cs : List (Option ℕ)) (qs : Positions) → map link (tracked_by v d cs qs) ≡ map link qs
+  links_tracked cs qs = by (int_eq v (pos 0))
     where
-      by : (t : Bool) → Plain (cond t qs (tracked d v cs qs))
-      by true = all
-      by false = plain_behind None cs qs all
+      by : (t : Bool) → map link (cond t qs (tracked d v cs qs)) ≡ map link qs
+      by true = refl
+      by false = links_behind None cs qs
 
   -- the positions of a line that stands turned or not, tracked as its text is read
   abbrev pub tracked_turned : Bool → Glyphs → Positions → Positions
@@ -90,6 +89,12 @@ module _ (v : ℤ) (d : Direction) where
   length-tracked_turned t gs qs =
       length-turned t (tracked_by v d (drawn_clusters (turned t gs)) (turned t qs))
       ∙ (length-tracked (drawn_clusters (turned t gs)) (turned t qs) ∙ length-turned t qs)
+
+  -- what a glyph is attached to stays
+  pub links_turned : (t : Bool) (gs : Glyphs) (qs : Positions) → map link (tracked_turned t gs qs) ≡ map link qs
+  links_turned t gs qs =
+      map-turned link t (tracked_by v d (drawn_clusters (turned t gs)) (turned t qs))
+      ∙ (ap (turned t) (links_tracked (drawn_clusters (turned t gs)) (turned t qs) ∙ map-turned link t qs) ∙ turned-turned t (map link qs))
 
 some_is : (a b : ℕ) → Some a ≡ Some b → a ≡ b
 some_is a b e = ap (λ (o : Option ℕ). unwrap_or o 0) e

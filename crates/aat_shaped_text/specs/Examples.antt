@@ -10,17 +10,16 @@ use Rattle.aat_glyph.specs.declared.glyph.hb_glyph_info_t.{hb_glyph_info_t}
 use Rattle.aat_font.specs.declared.plan.Feature.{Feature}
 use Rattle.aat_run.specs.Ranges.{last_cluster}
 use Rattle.aat_map.specs.Examples.{liga}
-use Rattle.aat_kerning.specs.Pairs.{kern_skips, kerx_skips}
 use Rattle.aat_kerning.specs.Positioning.{in_processing_order}
-use Rattle.aat_shaped_text.specs.Breaks.{may_break_at}
+use Rattle.aat_shaped_text.specs.Breaks.{front_of, may_break_at}
 use Rattle.aat_shaped_text.specs.Parts.{no_shaped_glyph}
 use Rattle.aat_shaped_text.specs.ShapedText.{drawn_glyphs, kept_place, kept_places, tracked_line}
 use Rattle.aat_shaped_text.specs.TextFeatures.{ask_alike, ask_alike_through, is_kerned_at, requests_kerning}
 use Rattle.aat_shaped_text.specs.declared.text.ShapedGlyph.{ShapedGlyph}
 
--- the places of kept glyphs before which a line may be broken, where `kern` is the table in use
+-- the places of kept glyphs before which a line may be broken
 abbrev pub breaks_of : List Feature → List hb_glyph_info_t → List ℕ
-breaks_of features line = filter (may_break_at kern_skips true features line) (kept_places line)
+breaks_of features line = filter (λ i. may_break_at true features line (front_of line i)) (kept_places line)
 
 -- the same of a text without features
 abbrev pub breaks_in : List hb_glyph_info_t → List ℕ
@@ -31,22 +30,6 @@ abbrev pub BreaksAreBetweenClusters : Type 0
 BreaksAreBetweenClusters =
     (breaks_in (glyphs_in (0 ∷ 1 ∷ 1 ∷ 2 ∷ [])) ≡ 1 ∷ 3 ∷ []) × (breaks_in (glyphs_in (2 ∷ 1 ∷ 1 ∷ 0 ∷ [])) ≡ 1 ∷ 3 ∷ [])
 
--- a glyph with the property of bases (2) or marks (8)
-abbrev pub with_property : ℕ → ℕ → hb_glyph_info_t
-with_property p c = record no_glyph { cluster = c; glyph_props = p }
-
--- a glyph that is ignorable by default
-abbrev pub ignorable : ℕ → hb_glyph_info_t
-ignorable c = record no_glyph { cluster = c; unicode_props = 0x20 }
-
--- it is not broken before a glyph that kerning skips: `kern` skips marks, and `kerx` bases too
-abbrev pub SkippedGlyphsStay : Type 0
-SkippedGlyphsStay =
-    (breaks_in (in_cluster 0 ∷ with_property 8 1 ∷ in_cluster 2 ∷ []) ≡ 2 ∷ [])
-    × (breaks_in (in_cluster 0 ∷ ignorable 1 ∷ in_cluster 2 ∷ []) ≡ 2 ∷ [])
-    × (breaks_in (in_cluster 0 ∷ with_property 2 1 ∷ []) ≡ 1 ∷ [])
-    × (may_break_at kerx_skips true [] (in_cluster 0 ∷ with_property 2 1 ∷ []) 1 ≡ false)
-
 -- UNSAFE_TO_BREAK counts on each glyph of the cluster that comes later in the text, and on none of the other one
 abbrev pub LaterClusterIsAsked : Type 0
 LaterClusterIsAsked =
@@ -56,13 +39,28 @@ LaterClusterIsAsked =
     × (breaks_in (in_cluster 2 ∷ in_cluster 1 ∷ in_cluster_with 0 1 ∷ []) ≡ 1 ∷ 2 ∷ [])
 
 -- a deleted glyph stands in the line: the first kept glyph has none before it, one behind a deleted glyph of its cluster
--- begins none, and the mark of a deleted glyph counts
+-- begins there, and the mark of a deleted glyph counts
 abbrev pub DeletedGlyphsAreAsked : Type 0
 DeletedGlyphsAreAsked =
     (breaks_in (gone 0 0 ∷ in_cluster 1 ∷ []) ≡ [])
     × (breaks_in (in_cluster 0 ∷ gone 1 0 ∷ in_cluster 2 ∷ []) ≡ 2 ∷ [])
-    × (breaks_in (in_cluster 0 ∷ gone 1 0 ∷ in_cluster 1 ∷ []) ≡ [])
+    × (breaks_in (in_cluster 0 ∷ gone 1 0 ∷ in_cluster 1 ∷ []) ≡ 2 ∷ [])
+    × (breaks_in (in_cluster 0 ∷ gone 1 1 ∷ in_cluster 1 ∷ []) ≡ [])
     × (breaks_in (in_cluster 0 ∷ in_cluster 1 ∷ gone 1 1 ∷ in_cluster 2 ∷ []) ≡ 3 ∷ [])
+
+-- a backward line of a glyph, a ligature of cluster 1 behind its two deleted components, another deleted glyph of that
+-- cluster, and a glyph
+abbrev pub ligature_line : List hb_glyph_info_t
+ligature_line = in_cluster 3 ∷ gone 1 0 ∷ gone 1 0 ∷ in_cluster 1 ∷ gone 1 0 ∷ in_cluster 0 ∷ []
+
+-- A ligature begins with its components, before which the line may be broken. A glyph does not begin with deleted glyphs
+-- of another cluster, nor is a line broken inside a cluster. A deleted mark is as any other deleted glyph.
+abbrev pub LigaturesBeginWithComponents : Type 0
+LigaturesBeginWithComponents =
+    (map (front_of ligature_line) (0 ∷ 3 ∷ 5 ∷ []) ≡ 0 ∷ 1 ∷ 5 ∷ [])
+    × (breaks_in ligature_line ≡ 3 ∷ 5 ∷ [])
+    × (breaks_in (in_cluster 2 ∷ in_cluster 1 ∷ gone 1 0 ∷ in_cluster 1 ∷ []) ≡ 1 ∷ [])
+    × (breaks_in (in_cluster 2 ∷ record (gone 1 0) { glyph_props = 8 } ∷ in_cluster 1 ∷ []) ≡ 2 ∷ [])
 
 -- in a backward line a deleted glyph hands its mark on to the glyph before it, with its cluster
 abbrev pub DeletedGlyphsHandOn : Type 0

@@ -4,8 +4,7 @@ pub mod Examples
 pub mod KernedBreaks
 pub mod KernedPlaces
 pub mod OpenExamples
-pub mod OpenTexts
 pub mod Parts
 pub mod ShapedText
-pub mod StackTexts
 pub mod TextFeatures
+pub mod inside

@@ -25,15 +25,16 @@ use Rattle.aat_map.specs.Requests.{requests_of}
 use Rattle.aat_map.specs.SwitchedChains.{by_requests}
 use Rattle.aat_morx.specs.Substitution.{substituted}
 use Rattle.aat_kinds.specs.Kinds.{sizes_for}
-use Rattle.aat_kerning.specs.Cut.{ordered_line}
+use Rattle.aat_kerning.specs.Cut.{ordered_line, ordered_positions}
+use Rattle.aat_kerning.specs.Pairs.{is_solid}
 use Rattle.aat_kerning.specs.Positioning.{in_processing_order, kern_positioning, kerx_positioning}
 use Rattle.aat_kerning.specs.Zeroing.{zeroed}
 use Rattle.aat_shaping.specs.Shaping.{with_advances}
 use Rattle.aat_closing.specs.ClosingChains.{closing_substituted}
 use Rattle.aat_closing.specs.ClosingRuns.{Told}
 use Rattle.aat_placement.specs.TrackedLines.{tracked}
-use Rattle.aat_shaped_text.specs.Breaks.{is_rising, kept_before, kerns_apart, may_break_at, skips_of, substitutes_evenly}
-use Rattle.aat_shaped_text.specs.KernedBreaks.{kerning_opens, kerns_along}
+use Rattle.aat_shaped_text.specs.Breaks.{front_of, is_rising, is_unchained, kept_before, kerns_by_pairs, may_break_at, skips_of, substitutes_evenly}
+use Rattle.aat_shaped_text.specs.KernedBreaks.{kerning_opens}
 use Rattle.aat_shaped_text.specs.TextFeatures.{is_kerned_at, requests_kerning}
 use Rattle.aat_shaped_text.specs.declared.text.ShapedGlyph.{ShapedGlyph}
 use Rattle.aat_shaped_text.specs.declared.text.TextGlyph.{TextGlyph}
@@ -161,47 +162,52 @@ drawn_glyphs may_break b =
 abbrev pub closed_text : hb_font_t → Direction → List Feature → List TextGlyph → Told
 closed_text face d features text = text_closing face features (text_buffer face d features text)
 
--- its machines tell what is open, and take fewer operations than any text has
-abbrev pub tells_breaks : hb_font_t → Direction → List Feature → List TextGlyph → Bool
-tells_breaks face d features text =
-    let o = closed_text face d features text in
-    o.is_told && nat_lt (most_operations (length text)) (operations_left o.buffer.max_ops + 16384)
-
--- the same, with advances and kerned
-abbrev pub kerned_closed : hb_font_t → Direction → List Feature → List TextGlyph → Buffer
-kerned_closed face d features text =
-    (text_kerning face features
-    (with_advances (advance_of face) (closed_text face d features text).buffer)).buffer
-
--- the line of which breaks are told: what that leaves, in drawing order
-abbrev pub marked_line : hb_font_t → Direction → List Feature → List TextGlyph → List hb_glyph_info_t
-marked_line face d features text = ordered_line (kerned_closed face d features text)
-
 -- what closing substitution leaves, with advances, which is what is kerned
 abbrev pub advanced_closed : hb_font_t → Direction → List Feature → List TextGlyph → Buffer
 advanced_closed face d features text = with_advances (advance_of face) (closed_text face d features text).buffer
 
+-- the same, kerned
+abbrev pub kerned_closed : hb_font_t → Direction → List Feature → List TextGlyph → Buffer
+kerned_closed face d features text = (text_kerning face features (advanced_closed face d features text)).buffer
+
 -- its machines tell what is open, and take together with kerning fewer operations than any text has
-abbrev pub tells_kerned_breaks : hb_font_t → Direction → List Feature → List TextGlyph → Bool
-tells_kerned_breaks face d features text =
+abbrev pub tells_breaks : hb_font_t → Direction → List Feature → List TextGlyph → Bool
+tells_breaks face d features text =
     (closed_text face d features text).is_told
     && nat_lt (most_operations (length text)) (operations_left (kerned_closed face d features text).max_ops + 16384)
 
--- Whether a text whose kerning runs along the line may be broken before a place of its line, whatever kerning marks: its
--- clusters never fall, its machines tell what is open, so does the place before kerning, and kerning leaves it open.
-abbrev pub may_break_openly : hb_font_t → Direction → List Feature → List TextGlyph → ℕ → Bool
-may_break_openly face d features text i =
-    let b = advanced_closed face d features text in
-    kerns_along face d && is_rising text && tells_kerned_breaks face d features text
-    && may_break_at (skips_of face) (substitutes_evenly face d features) features (ordered_line b) i
-    && kerning_opens face d features b i
+-- a line in drawing order may be broken before a place, by the features of a text
+abbrev pub may_break_line : hb_font_t → Direction → List Feature → List hb_glyph_info_t → ℕ → Bool
+may_break_line face d features line i = may_break_at (substitutes_evenly face d features) features line i
 
--- whether a text that is drawn may be broken before a place of its line: its clusters never fall, kerning allows it,
--- its machines tell what is open, and so does the place
+-- the line that kerning left, which it marks, may be broken before a place, whose glyph kerning does not skip
+abbrev pub is_open_by_marks : hb_font_t → Direction → List Feature → List TextGlyph → ℕ → Bool
+is_open_by_marks face d features text i =
+    let line = ordered_line (kerned_closed face d features text) in
+    is_solid (skips_of face) (glyph_at line i) && may_break_line face d features line i
+
+-- The line that is kerned may be broken before a place, kerning leaves it open there, and what it attaches is attached on
+-- one side of it.
+abbrev pub is_open_by_kerning : hb_font_t → Direction → List Feature → List TextGlyph → ℕ → Bool
+is_open_by_kerning face d features text i =
+    let b = advanced_closed face d features text in
+    may_break_line face d features (ordered_line b) i && kerning_opens face d features b i
+    && is_unchained d (ordered_positions (kerned_closed face d features text)) i
+
+-- Whether the line of a text may be cut before a place: the clusters of the text never fall, its machines tell what is
+-- open, few operations are taken, and the place is open: by the marks of kerning where pairs along the line alone kern
+-- texts of the direction, and else by its runs, also where nothing kerns them.
+abbrev pub may_cut_text : hb_font_t → Direction → List Feature → List TextGlyph → ℕ → Bool
+may_cut_text face d features text i =
+    is_rising text && tells_breaks face d features text
+    && (if kerns_by_pairs face d then is_open_by_marks face d features text i
+    else is_open_by_kerning face d features text i)
+
+-- Whether a text that is drawn may be broken before the glyph at a place of its line: the line may be cut where that glyph
+-- begins, with the deleted glyphs of its cluster in a row before it.
 abbrev pub may_break_text : hb_font_t → Direction → List Feature → List TextGlyph → ℕ → Bool
 may_break_text face d features text i =
-    kerns_apart face d && is_rising text && tells_breaks face d features text
-    && may_break_at (skips_of face) (substitutes_evenly face d features) features (marked_line face d features text) i
+    may_cut_text face d features text (front_of (ordered_line (advanced_closed face d features text)) i)
 
 -- what is drawn of a text that is tracked by a value
 abbrev pub shaped_text : ℤ → hb_font_t → Direction → List Feature → List TextGlyph → List ShapedGlyph

@@ -1,19 +1,29 @@
-//! What a text is that is shaped, and what is handed out of it: the types, and the definitions that the shaper's
-//! contracts cite. A program takes `aat_shaper`.
+//! What a text is that is shaped, what is handed out of it, and where it may be broken: the types, the definitions that
+//! the shaper's contracts cite, and what it asks. A program takes `aat_shaper`.
 //!
 //! ```
 //! let glyph = TextGlyph::new(glyph_id, cluster);
 //! ```
 #![tactic(auto)]
 
+mod breaks;
+mod features;
+mod font;
 mod kerned_places;
+mod kerned_subtables;
 /// The laws of tracked lines and of the breaks of a text, as theorems.
 #[doc(hidden)]
 pub mod laws;
+mod open_line;
+mod pair_places;
 mod text;
 /// Worked examples of a text that is shaped, as theorems.
 #[doc(hidden)]
 pub mod worked;
 
-pub use kerned_places::{kerning_opens, kerns_by_stacks};
+pub use breaks::{BreakRules, front_of, may_break_at, operations_left, takes_few_operations};
+pub use features::{is_kerned_at, requests_kerning};
+pub use font::{kerns_by_pairs, skips_of, substitutes_apart};
+pub use kerned_places::kerning_opens;
+pub use open_line::{close_chained, is_kept, open_places, turn};
 pub use text::{ShapedGlyph, TextGlyph};

@@ -1,14 +1,14 @@
 //! Worked examples of a text that is shaped as theorems. These calls do nothing: what is proved is their contracts.
-ghost use Rattle.aat_shaped_text.specs.Examples.{AttachmentsAreDrawn, BreaksAreBetweenClusters, DeletedGlyphsAreAsked, DeletedGlyphsGo, DeletedGlyphsHandOn, FeaturesStayWhole, KeptGlyphsAreCounted, KerningIsRequested, LastKernDecides, LaterClusterIsAsked, RangesBetweenAreAsked, SkippedGlyphsStay, TrackedLinesAreDrawn};
-ghost use Rattle.aat_shaped_text.specs.OpenExamples.{OpenPlacesAreTold};
+ghost use Rattle.aat_shaped_text.specs.Examples.{AttachmentsAreDrawn, BreaksAreBetweenClusters, DeletedGlyphsAreAsked, DeletedGlyphsGo, DeletedGlyphsHandOn, FeaturesStayWhole, KeptGlyphsAreCounted, KerningIsRequested, LastKernDecides, LaterClusterIsAsked, LigaturesBeginWithComponents, RangesBetweenAreAsked, TrackedLinesAreDrawn};
+ghost use Rattle.aat_shaped_text.specs.OpenExamples.{AttachedGlyphsStay, ChainsAreAsked, MixedKerningIsTold, OpenPlacesAreTold, SkippedGlyphsStay, UnkernedGlyphsOpen};
 
 /// The definitions of breaks compute to the examples.
 #[tactic(auto, unfolding(aat_buffer::specs::Removal::removal, aat_buffer::specs::Removal::cluster_kept_line, aat_buffer::specs::Removal::lowered_run))]
 pub fn breaks()
     ensures clusters { BreaksAreBetweenClusters }
-    ensures skipped { SkippedGlyphsStay }
     ensures later { LaterClusterIsAsked }
     ensures deleted { DeletedGlyphsAreAsked }
+    ensures ligatures { LigaturesBeginWithComponents }
     ensures handed { DeletedGlyphsHandOn }
     ensures features { FeaturesStayWhole }
 {}
@@ -29,8 +29,13 @@ pub fn kern()
     ensures between { RangesBetweenAreAsked }
 {}
 
-/// Where texts may be broken that a stack machine kerns, by what it leaves open and by its marks.
-#[tactic(auto, using(crate::proofs::OpenExamples::open_places_are_told))]
+/// Where texts may be broken that machines and pairs kern, by what these leave open and attach.
+#[tactic(auto, using(crate::proofs::OpenExamples::open_places_are_told, crate::proofs::OpenExamples::mixed_kerning_is_told, crate::proofs::OpenExamples::attached_glyphs_stay, crate::proofs::OpenExamples::skipped_glyphs_stay, crate::proofs::OpenExamples::unkerned_glyphs_open))]
 pub fn open_places()
-    ensures { OpenPlacesAreTold }
+    ensures machines { OpenPlacesAreTold }
+    ensures mixed { MixedKerningIsTold }
+    ensures attached { AttachedGlyphsStay }
+    ensures chains { ChainsAreAsked }
+    ensures skipped { SkippedGlyphsStay }
+    ensures unkerned { UnkernedGlyphsOpen }
 {}

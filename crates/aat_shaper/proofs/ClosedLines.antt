@@ -32,7 +32,3 @@ closed_so face m old new None known run =
     let none = without_table (sizes_for face) (tables_of face).morx m old (sym known) in
     (run ∙ sym (ap (λ (o : Told). o.buffer) none), sym (ap (λ (o : Told). o.is_told) none))
 closed_so face m old new (Some answer) known run = (ap (λ (o : Told). o.buffer) run, ap (λ (o : Told). o.is_told) run)
-
--- the line that closing substitution leaves
-abbrev pub closed_left : hb_font_t → Option (List (List range_flags_t)) → Buffer → Buffer
-closed_left face m b = (closing_applied_by (sizes_for face) face m b).buffer

@@ -1,13 +1,12 @@
 -- What is drawn of a line, one place more, and all of it.
-use Rattle.std.proofs.Common.{◌≡◌, ◌∙◌, ap, subst, sym, ℕ, suc, ◌+◌, ◌<◌, ◌≤◌, ◌==◌, Bool, true, false, not, List, [], ◌∷◌, ◌++◌, Option, Some, arith, cond, drop, get_or, length, map, set, take}
+use Rattle.std.proofs.Common.{◌≡◌, ◌∙◌, ap, subst, sym, ℕ, suc, ◌+◌, ◌<◌, ◌≤◌, ◌==◌, Bool, true, false, not, List, [], ◌∷◌, ◌++◌, Option, Some, arith, drop, get_or, length, map, set, take}
 use Rattle.std.proofs.Math.Seq.{take-append_seam, take-suc}
 use Rattle.std.proofs.lemmas.List.{length-map}
-use Rattle.std.proofs.lemmas.List.Filters.{length-filter_more}
 use Rattle.std.proofs.lemmas.List.FromFn.{length-map-range_with_len, map-range_with_len_more}
 use Rattle.std.specs.List.{range_with_len}
 use Rattle.std.specs.Prelude.{IfSome, filter}
 use Rattle.aat_placement.specs.Attachments.{drawn}
-use Rattle.aat_buffer.specs.Buffer.{Buffer, glyph_at, no_glyph, position_at, position_list, zero_position}
+use Rattle.aat_buffer.specs.Buffer.{Buffer, glyph_at, position_at, position_list, zero_position}
 use Rattle.aat_buffer.specs.Clusters.{ids}
 use Rattle.aat_buffer.specs.Removal.{deleted_glyph, is_deleted, removed}
 use Rattle.aat_glyph.specs.declared.glyph.Direction.{Direction}
@@ -34,16 +33,6 @@ counts_more items line i kept ns pushed listed counted =
 module _ (line : List hb_glyph_info_t) (i : ℕ) (g : hb_glyph_info_t) (read : g ≡ glyph_at line i) (t : Bool) (asked : t ≡ not (is_deleted g)) where
   test_at : not (is_deleted (glyph_at line i)) ≡ t
   test_at = ap (λ h. not (is_deleted h)) (sym read) ∙ sym asked
-
-  -- the count behind it
-  counted_more : i < length line → kept_before line (i + 1) ≡ kept_before line i + cond t 1 0
-  counted_more low = length-filter_more (λ h. not (is_deleted h)) line i no_glyph low ∙ ap (λ u. kept_before line i + cond u 1 0) test_at
-
-  pub counted_kept : {new : ℕ} (kept : ℕ) → i < length line → t ≡ true → new ≡ kept + 1 → kept ≡ kept_before line i → new ≡ kept_before line (i + 1)
-  counted_kept kept low is_kept is was = is ∙ (ap (λ n. n + 1) was ∙ sym (counted_more low ∙ ap (λ u. kept_before line i + cond u 1 0) is_kept))
-
-  pub counted_gone : {new : ℕ} (kept : ℕ) → i < length line → t ≡ false → new ≡ kept → kept ≡ kept_before line i → new ≡ kept_before line (i + 1)
-  counted_gone kept low is_gone is was = is ∙ (was ∙ sym (counted_more low ∙ (ap (λ u. kept_before line i + cond u 1 0) is_gone ∙ omega arith)))
 
   -- what is made of the glyphs that are kept
   module _ (make : ℕ → ShapedGlyph) (before : List ShapedGlyph) (so_far : before ≡ map make (filter (λ n. not (is_deleted (glyph_at line n))) (range_with_len 0 i))) where
@@ -98,9 +87,9 @@ module _ (make : ℕ → ShapedGlyph) (b left : Buffer) (lent items : List Shape
     pub lent_long : length lent ≡ length left.line
     lent_long = ap (λ (gs : List ShapedGlyph). length gs) (lent_is ∙ made) ∙ made_long
 
-    module _ (new : List ShapedGlyph) (n : ℕ) (gone : left ≡ removed is_deleted b) (written : new ≡ with_clusters_of left.line lent) (len : length lent ≡ n) where
+    module _ (new : List ShapedGlyph) (n : ℕ) (gone : left.line ≡ (removed is_deleted b).line) (written : new ≡ with_clusters_of left.line lent) (len : length lent ≡ n) where
       whole_long : length (map make (kept_places b.line)) ≡ length (removed is_deleted b).line
-      whole_long = made_long ∙ ap (λ (d : Buffer). length d.line) gone
+      whole_long = made_long ∙ ap (λ (gs : List hb_glyph_info_t). length gs) gone
 
       pub whole_drawn : take n (new ++ drop (length new) items) ≡ with_clusters_of (removed is_deleted b).line (map make (kept_places b.line))
       whole_drawn =
@@ -108,14 +97,14 @@ module _ (make : ℕ → ShapedGlyph) (b left : Buffer) (lent items : List Shape
           ap (λ k. take k (new ++ drop (length new) items)) (sym (long ∙ len))
           ∙ (take-append_seam new (drop (length new) items)
           ∙ (written
-          ∙ (ap (λ (d : Buffer). with_clusters_of d.line lent) gone
+          ∙ (ap (λ (gs : List hb_glyph_info_t). with_clusters_of gs lent) gone
           ∙ ap (λ (gs : List ShapedGlyph). with_clusters_of (removed is_deleted b).line gs) (lent_is ∙ made))))
 
       pub clusters_drawn : clusters_of (take n (new ++ drop (length new) items)) ≡ map (λ h. h.cluster) left.line
       clusters_drawn =
           ap clusters_of whole_drawn
           ∙ (clusters_with_clusters (removed is_deleted b).line (map make (kept_places b.line)) whole_long
-          ∙ ap (λ (d : Buffer). map (λ (h : hb_glyph_info_t). h.cluster) d.line) (sym gone))
+          ∙ ap (map (λ (h : hb_glyph_info_t). h.cluster)) (sym gone))
 
       pub few_drawn : length (take n (new ++ drop (length new) items)) ≤ length b.line
       few_drawn =

@@ -1,5 +1,5 @@
 -- The glyphs that are kept of a line.
-use Rattle.std.proofs.Common.{◌≡◌, ◌≢◌, ◌∙◌, ap, refl, sym, ℕ, zero, suc, ◌<◌, ◌≤◌, ◌==◌, Bool, true, false, true≢false, not, List, [], ◌∷◌, arith, cond, get_or, length, map, take, length-take, Some, None, if◌then◌else◌}
+use Rattle.std.proofs.Common.{◌≡◌, ◌≢◌, ◌∙◌, ap, refl, sym, ℕ, zero, suc, ◌<◌, ◌≤◌, ◌==◌, Bool, true, false, true≢false, not, List, [], ◌∷◌, arith, cond, get_or, length, map, Some, None, if◌then◌else◌}
 use Rattle.std.specs.Prelude.{All, filter}
 use Rattle.std.specs.List.{range_with_len}
 use Rattle.std.proofs.lemmas.List.{get_or-map, get_or_default, length-map, same_lists}
@@ -11,6 +11,7 @@ use Rattle.aat_glyph.specs.declared.glyph.hb_glyph_info_t.{hb_glyph_info_t}
 use Rattle.aat_shaped_text.specs.Breaks.{kept_before}
 use Rattle.aat_shaped_text.specs.ShapedText.{drawn_glyph, kept_place, kept_places, with_clusters_of}
 use Rattle.aat_shaped_text.specs.declared.text.ShapedGlyph.{ShapedGlyph}
+use Rattle.aat_shaped_text.proofs.KeptCounts.{length_passed}
 use Rattle.aat_shaper.specs.inside.Drawing.{clusters_of}
 
 -- a test of what is made of elements
@@ -28,7 +29,7 @@ length_filter_made test make (x ∷ xs) = by_test (test (make x)) (length_filter
     by_test false rest = rest
 
 -- all places of a line
-places_of : (line : List hb_glyph_info_t) → map (glyph_at line) (range_with_len 0 (length line)) ≡ line
+pub places_of : (line : List hb_glyph_info_t) → map (glyph_at line) (range_with_len 0 (length line)) ≡ line
 places_of line =
     let long : length (map (glyph_at line) (range_with_len 0 (length line))) ≡ length line =
     length-map-range_with_len (glyph_at line) 0 (length line) in
@@ -49,16 +50,7 @@ length_kept old new others =
     ∙ (sym (length_filter_made (λ (x : ℕ). not (x == deleted_glyph)) (λ (g : hb_glyph_info_t). g.glyph_id) old)
     ∙ (ap length (sym others) ∙ length-map new (λ g. g.glyph_id))))
 
--- no more than there are
-length_passed : {X : Type 0} (test : X → Bool) (xs : List X) → length (filter test xs) ≤ length xs
-length_passed test [] = omega arith
-length_passed test (x ∷ xs) = by_test (test x) (length_passed test xs)
-  where
-    by_test : (t : Bool) → length (filter test xs) ≤ length xs
-        → length (cond t (x ∷ filter test xs) (filter test xs)) ≤ suc (length xs)
-    by_test true rest = omega (arith, rest)
-    by_test false rest = omega (arith, rest)
-
+-- no more are kept than there are
 pub few_kept : (line : List hb_glyph_info_t) → length (kept_places line) ≤ length line
 few_kept line =
     omega (
@@ -67,11 +59,6 @@ few_kept line =
       length-map-range_with_len (λ (i : ℕ). i) 0 (length line),
       length-map (range_with_len 0 (length line)) (λ (i : ℕ). i),
     )
-
--- no more are kept before a place than stand there
-pub few_before : (line : List hb_glyph_info_t) (i : ℕ) → kept_before line i ≤ i
-few_before line i =
-    omega (arith, length_passed (λ g. not (is_deleted g)) (take i line), length-take i line)
 
 -- as many glyphs have clusters of a line, where they are as many
 pub length_with_clusters :
@@ -146,7 +133,7 @@ pub length_counts :
 length_counts line counts listed =
     ap (λ (ns : List ℕ). length ns) listed ∙ length-map-range_with_len (kept_before line) 0 (length line)
 
-not_deleted : (t : Bool) → not t ≡ true → t ≡ false
+pub not_deleted : (t : Bool) → not t ≡ true → t ≡ false
 not_deleted true is = absurd (true≢false (sym is))
 not_deleted false is = refl
 

@@ -1,52 +1,34 @@
 //! What is drawn of a line.
-ghost use Rattle.std.specs.Prelude.{◌≡◌, ◌<◌, ◌≤◌, [], IfErr, IfOk, IfSome, MatchOption, OnOk, length, map, not, true};
+ghost use Rattle.std.specs.Prelude.{◌≡◌, ◌<◌, ◌≤◌, [], IfErr, IfOk, IfSome, MatchOption, OnOk, length, map, true};
 ghost use Rattle.std.specs.List.{range_with_len};
 ghost use Rattle.aat_placement.specs.Attachments.{IsUnattached, added_up, parent};
 ghost use Rattle.aat_buffer.specs.Buffer.{Buffer, position_list};
 ghost use Rattle.aat_buffer.specs.Clusters.{IsSmall, KeepsOrder};
-ghost use Rattle.aat_buffer.specs.Removal.{deleted_glyph, is_deleted, removed};
-ghost use Rattle.aat_kerning.specs.Positioning.{in_processing_order};
 ghost use Rattle.aat_kerning_machines.specs.Positions.{IsPlaced};
-ghost use Rattle.aat_shaped_text.specs.Breaks.{kept_before, may_break_at};
+ghost use Rattle.aat_shaped_text.specs.Breaks.{kept_before};
+ghost use Rattle.aat_shaped_text.specs.KernedPlaces.{ClosesChained};
 ghost use Rattle.aat_shaper.specs.inside.Drawing.{IsDrawn, clusters_of, may_break};
 ghost use Rattle.aat_shaped_text.specs.ShapedText.{drawn_glyph, drawn_glyphs, drawn_position, kept_place, kept_places, with_clusters_of};
 
-use crate::breaks::may_break_at;
-use aat_layout::buffer::{DELETED_GLYPH, GlyphPosition, hb_buffer_t, hb_glyph_info_t};
-use aat_layout::font::Feature;
-use aat_layout::{AatError, hb_aat_layout_remove_deleted_glyphs};
+use aat_layout::buffer::{GlyphPosition, hb_buffer_t, hb_glyph_info_t};
+use aat_layout::{AatError, hb_aat_layout_remove_deleted_glyphs, is_solid};
 use aat_placement::{add_up_attachments, parent_of};
-use aat_shaped_text::ShapedGlyph;
+use aat_shaped_text::{BreakRules, ShapedGlyph, close_chained, front_of, is_kept, may_break_at};
 use std::alloc::{AllocError, Allocator};
 
 /// What allows a line to be broken.
 #[derive(Clone, Copy)]
 pub(crate) struct Breaks<'f> {
-    /// Whether the text and the font allow it anywhere.
+    /// Whether the text and its machines allow it anywhere.
     pub(crate) is_allowed: bool,
-    /// Whether substitution runs evenly along the text.
-    pub(crate) is_even: bool,
-    /// The glyph properties that kerning skipped.
+    /// The glyph properties that kerning by pairs skips, where its marks decide.
     pub(crate) skips: u16,
-    /// The features of the text.
-    pub(crate) features: &'f [Feature],
-}
-
-/// Turns a backward line round, so that it is in drawing order.
-pub(crate) fn turn<H: Allocator + Copy>(buffer: &mut hb_buffer_t<H>)
-    ensures after { buffer.new ≡ in_processing_order buffer.old }
-    ensures count { length buffer.new.line ≡ length buffer.old.line }
-{
-    if buffer.direction().is_backward() {
-        buffer.reverse();
-    }
-}
-
-/// Whether a glyph is kept.
-pub(crate) fn is_kept(glyph: &hb_glyph_info_t) -> bool
-    ensures { result ≡ not (is_deleted glyph.now) }
-{
-    glyph.glyph_id != DELETED_GLYPH
+    /// What is asked of the glyphs, where the marks of kerning decide.
+    pub(crate) rules: BreakRules<'f>,
+    /// Whether the marks of kerning decide, or else the places that are open.
+    pub(crate) by_marks: bool,
+    /// Which places are open, where they decide.
+    pub(crate) places: &'f [bool],
 }
 
 /// Whether no glyph of a line has an attach type, so that none is attached to another.
@@ -63,18 +45,17 @@ fn is_unattached<H: Allocator + Copy>(buffer: &hb_buffer_t<H>) -> bool
 }
 
 /// How many glyphs are kept before each place of a line.
-fn kept_counts<H: Allocator + Copy>(
+fn kept_counts<H: Allocator>(
     alloc: H,
-    buffer: &hb_buffer_t<H>,
+    line: &[hb_glyph_info_t],
 ) -> Result<Vec<usize, H>, AllocError>
-    ensures { IfOk result (λ counts. counts.items
-        ≡ map (kept_before buffer.now.line) (range_with_len 0 (length buffer.now.line))) }
+    ensures { IfOk result (λ counts. counts.items ≡ map (kept_before line.now) (range_with_len 0 (length line.now))) }
 {
-    let mut counts = Vec::with_capacity(alloc, buffer.len())?;
+    let mut counts = Vec::with_capacity(alloc, line.len())?;
     let mut kept = 0;
-    for i in 0..buffer.len() {
+    for i in 0..line.len() {
         counts.push(kept)?;
-        if is_kept(buffer.info(i)) {
+        if is_kept(&line[i]) {
             kept += 1;
         }
     }
@@ -96,18 +77,35 @@ fn positions_of<H: Allocator + Copy>(
     Ok(positions)
 }
 
-/// A place of a line as one among the glyphs that are kept.
-fn kept_place<H: Allocator + Copy>(
+/// Closes each place of a line in drawing order over which a glyph is attached, where each place of it is told of.
+pub(crate) fn close_attached<H: Allocator + Copy>(
+    alloc: H,
     buffer: &hb_buffer_t<H>,
-    kept: &[usize],
-    place: Option<usize>,
-) -> Option<usize>
-    requires in_line { IfSome place (λ j. j < length buffer.now.line) }
-    requires kept { kept.now ≡ map (kept_before buffer.now.line) (range_with_len 0 (length buffer.now.line)) }
-    ensures { result ≡ kept_place buffer.now.line place }
+    places: &mut [bool],
+) -> Result<(), AllocError>
+    requires placed { IsPlaced buffer.now }
+    ensures { length places.old ≡ length buffer.now.line → OnOk result
+        (ClosesChained buffer.now.direction (position_list buffer.now) places.old places.new) }
+{
+    if places.len() != buffer.len() {
+        return Ok(());
+    }
+    if is_unattached(buffer) {
+        return Ok(());
+    }
+    let positions = positions_of(alloc, buffer)?;
+    close_chained(buffer.direction(), &positions, places);
+    Ok(())
+}
+
+/// A place of a line as one among the glyphs that are kept.
+fn kept_place(line: &[hb_glyph_info_t], kept: &[usize], place: Option<usize>) -> Option<usize>
+    requires in_line { IfSome place (λ j. j < length line.now) }
+    requires kept { kept.now ≡ map (kept_before line.now) (range_with_len 0 (length line.now)) }
+    ensures { result ≡ kept_place line.now place }
 {
     match place {
-        Some(j) if is_kept(buffer.info(j)) => Some(kept[j]),
+        Some(j) if is_kept(&line[j]) => Some(kept[j]),
         _ => None,
     }
 }
@@ -144,11 +142,13 @@ fn drawn_position<H: Allocator + Copy>(
 /// What the glyph at a place of a line is attached to, as a place among the glyphs that are kept.
 fn attached_to<H: Allocator + Copy>(
     buffer: &hb_buffer_t<H>,
+    line: &[hb_glyph_info_t],
     attached: Option<Drawn>,
     i: usize,
 ) -> Option<usize>
     requires placed { IsPlaced buffer.now }
     requires in_line { i < length buffer.now.line }
+    requires line { line.now ≡ buffer.now.line }
     requires attached { MatchOption attached (IsUnattached buffer.now.direction (position_list buffer.now))
         (IsDrawn buffer.now) }
     ensures { result ≡ kept_place buffer.now.line (parent buffer.now.direction (position_list buffer.now) i) }
@@ -156,29 +156,49 @@ fn attached_to<H: Allocator + Copy>(
     match attached {
         Some(drawn) => {
             let parent = parent_of(buffer.direction(), drawn.positions, i);
-            kept_place(buffer, drawn.kept, parent)
+            kept_place(line, drawn.kept, parent)
         }
         None => None,
     }
+}
+
+/// Whether a line in drawing order may be broken before the glyph at place `i`, which begins with the deleted glyphs of its
+/// cluster in a row before it. `kept` glyphs are kept before it.
+fn may_break(breaks: Breaks, line: &[hb_glyph_info_t], kept: usize, i: usize) -> bool
+    requires in_line { i < length line.now }
+    requires kept { kept ≡ kept_before line.now i }
+    ensures { result ≡ may_break breaks.entry line.now i }
+{
+    if !breaks.is_allowed {
+        return false;
+    }
+    let front = front_of(line, i);
+    if breaks.by_marks {
+        return is_solid(&line[front], breaks.skips)
+            && may_break_at(breaks.rules, line, kept, front);
+    }
+    front < breaks.places.len() && breaks.places[front]
 }
 
 /// The glyph at a place of a line that is drawn, before which so many glyphs are kept.
 fn drawn_glyph<H: Allocator + Copy>(
     breaks: Breaks,
     buffer: &hb_buffer_t<H>,
+    line: &[hb_glyph_info_t],
     attached: Option<Drawn>,
     kept: usize,
     i: usize,
 ) -> ShapedGlyph
     requires ids { IsSmall buffer.now }
     requires placed { IsPlaced buffer.now }
+    requires line { line.now ≡ buffer.now.line }
     requires in_line { i < length buffer.now.line }
     requires attached { MatchOption attached (IsUnattached buffer.now.direction (position_list buffer.now))
         (IsDrawn buffer.now) }
     requires kept { kept ≡ kept_before buffer.now.line i }
     ensures { result ≡ drawn_glyph (may_break breaks.entry buffer.now.line) buffer.now i }
 {
-    let glyph = *buffer.info(i);
+    let glyph = line[i];
     let position = drawn_position(buffer, attached, i);
     ShapedGlyph {
         glyph_id: glyph.glyph_id as u16,
@@ -187,16 +207,8 @@ fn drawn_glyph<H: Allocator + Copy>(
         y_advance: position.y_advance,
         x_offset: position.x_offset,
         y_offset: position.y_offset,
-        attached_to: attached_to(buffer, attached, i),
-        may_break_before: breaks.is_allowed
-            && may_break_at(
-                breaks.skips,
-                breaks.is_even,
-                breaks.features,
-                buffer,
-                kept,
-                i,
-            ),
+        attached_to: attached_to(buffer, line, attached, i),
+        may_break_before: may_break(breaks, line, kept, i),
     }
 }
 
@@ -204,11 +216,13 @@ fn drawn_glyph<H: Allocator + Copy>(
 fn put_glyphs<H: Allocator + Copy, A: Allocator>(
     breaks: Breaks,
     buffer: &hb_buffer_t<H>,
+    line: &[hb_glyph_info_t],
     attached: Option<Drawn>,
     glyphs: &mut Vec<ShapedGlyph, A>,
 ) -> Result<(), AatError>
     requires ids { IsSmall buffer.now }
     requires placed { IsPlaced buffer.now }
+    requires line { line.now ≡ buffer.now.line }
     requires attached { MatchOption attached (IsUnattached buffer.now.direction (position_list buffer.now))
         (IsDrawn buffer.now) }
     requires empty { glyphs.old.items ≡ [] }
@@ -217,9 +231,9 @@ fn put_glyphs<H: Allocator + Copy, A: Allocator>(
     ensures memory { IfErr result (λ error. error ≡ AatError.OutOfMemory) }
 {
     let mut kept = 0;
-    for i in 0..buffer.len() {
-        if is_kept(buffer.info(i)) {
-            glyphs.push(drawn_glyph(breaks, buffer, attached, kept, i))?;
+    for i in 0..line.len() {
+        if is_kept(&line[i]) {
+            glyphs.push(drawn_glyph(breaks, buffer, line, attached, kept, i))?;
             kept += 1;
         }
     }
@@ -235,38 +249,40 @@ fn put_drawn_glyphs<H: Allocator + Copy, A: Allocator>(
 ) -> Result<(), AatError>
     requires ids { IsSmall buffer.now }
     requires placed { IsPlaced buffer.now }
+    requires front { buffer.now.cursor ≡ 0 }
     requires empty { glyphs.old.items ≡ [] }
     ensures ok { OnOk result (glyphs.new.items
         ≡ map (drawn_glyph (may_break breaks.entry buffer.now.line) buffer.now) (kept_places buffer.now.line)) }
     ensures memory { IfErr result (λ error. error ≡ AatError.OutOfMemory) }
 {
+    let line = buffer.from_cursor();
     if is_unattached(buffer) {
-        return put_glyphs(breaks, buffer, None, glyphs);
+        return put_glyphs(breaks, buffer, line, None, glyphs);
     }
     let positions = positions_of(alloc, buffer)?;
     let mut added = Vec::from_slice(alloc, &positions)?;
     add_up_attachments(alloc, buffer.direction(), &mut added)?;
-    let kept = kept_counts(alloc, buffer)?;
+    let kept = kept_counts(alloc, line)?;
     let drawn = Drawn {
         positions: &positions,
         added: &added,
         kept: &kept,
     };
-    put_glyphs(breaks, buffer, Some(drawn), glyphs)
+    put_glyphs(breaks, buffer, line, Some(drawn), glyphs)
 }
 
 /// Gives glyphs the clusters of those of a line.
-fn take_clusters<H: Allocator + Copy>(buffer: &hb_buffer_t<H>, glyphs: &mut [ShapedGlyph])
-    requires count { length glyphs.old ≡ length buffer.now.line }
-    ensures { glyphs.new ≡ with_clusters_of buffer.now.line glyphs.old }
+fn take_clusters(line: &[hb_glyph_info_t], glyphs: &mut [ShapedGlyph])
+    requires count { length glyphs.old ≡ length line.now }
+    ensures { glyphs.new ≡ with_clusters_of line.now glyphs.old }
 {
     for i in 0..glyphs.len() {
-        glyphs[i].cluster = buffer.info(i).cluster;
+        glyphs[i].cluster = line[i].cluster;
     }
 }
 
 /// Puts what is drawn of a line, which stands in drawing order, into `glyphs`, and takes deleted glyphs out of the
-/// line.
+/// line. Where there are some, its positions go too.
 pub(crate) fn draw<H: Allocator + Copy, A: Allocator>(
     alloc: H,
     breaks: Breaks,
@@ -282,8 +298,12 @@ pub(crate) fn draw<H: Allocator + Copy, A: Allocator>(
     ensures count { OnOk result (length glyphs.new.items ≤ length buffer.old.line) }
     ensures memory { IfErr result (λ error. error ≡ AatError.OutOfMemory) }
 {
+    buffer.sync();
     put_drawn_glyphs(alloc, breaks, buffer, glyphs)?;
-    hb_aat_layout_remove_deleted_glyphs(buffer);
-    take_clusters(buffer, glyphs);
+    if glyphs.len() < buffer.len() {
+        buffer.drop_positions();
+        hb_aat_layout_remove_deleted_glyphs(buffer);
+        take_clusters(buffer.from_cursor(), glyphs);
+    }
     Ok(())
 }

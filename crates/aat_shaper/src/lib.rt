@@ -10,10 +10,7 @@
 //! [`Shaper::shape_lines`] breaks a text into lines of a width.
 #![tactic(auto)]
 
-mod breaks;
 mod drawn;
-mod features;
-mod font;
 mod line;
 mod lines;
 mod names;

@@ -4,11 +4,10 @@ ghost use Rattle.aat_buffer.specs.Clusters.{IsSmall};
 ghost use Rattle.aat_shaped_text.specs.Breaks.{is_rising};
 ghost use Rattle.aat_shaped_text.specs.ShapedText.{line_glyph, most_glyphs, most_operations, most_text, text_buffer};
 
-use crate::features::is_kerned_at;
 use aat_layout::AatError;
 use aat_layout::buffer::{Direction, UnicodeProps, hb_buffer_t, hb_glyph_info_t, hb_mask_t};
 use aat_layout::font::{Feature, GlyphId, hb_font_t};
-use aat_shaped_text::TextGlyph;
+use aat_shaped_text::{TextGlyph, is_kerned_at};
 use bitflags::Flags;
 use std::alloc::Allocator;
 

@@ -1,10 +1,10 @@
 //! A text in lines of a width: the stops where its lines may end go in, and the glyphs of each line come out.
-ghost use Rattle.std.specs.Prelude.{◌≡◌, ◌<◌, Err, IfErr, IfOk, None, OnOk, length};
+ghost use Rattle.std.specs.Prelude.{◌≡◌, ◌<◌, ◌≤◌, [], Err, IfErr, IfOk, None, OnErr, OnOk, false, length};
 ghost use Rattle.std.specs.BTreeSet.{contains};
 ghost use Rattle.std.specs.Ordering.{nat_cmp};
 ghost use Rattle.aat_font.specs.Face.{tables_of};
 ghost use Rattle.aat_map.specs.Adding.{first_too_large_among};
-ghost use Rattle.aat_shaped_text.specs.ShapedText.{most_text, shaped_text};
+ghost use Rattle.aat_shaped_text.specs.ShapedText.{most_text, shaped_text, uses_up_budget};
 ghost use Rattle.aat_shaper.specs.Lines.{AreLines, RefusesLines, end_of, stops_behind};
 ghost use Rattle.aat_shaper.specs.Shaper.{value_along};
 
@@ -51,8 +51,8 @@ pub struct TextLine {
 /// The lines of a text.
 #[derive(Drop)]
 pub struct TextLines<A: Allocator = Global> {
-    /// The glyphs of all lines, one line behind the other, each in drawing order. `attached_to` counts the glyphs of the
-    /// line.
+    /// The glyphs of all lines, one line behind the other, each in drawing order. No clause speaks of `attached_to`, which
+    /// counts those of the line, nor of `may_break_before`, which is `false` at the first glyph of a line.
     pub glyphs: Vec<ShapedGlyph, A>,
     /// The lines, in the order of the text.
     pub lines: Vec<TextLine, A>,
@@ -78,7 +78,7 @@ impl<A: Allocator + Copy> Shaper<'_, A> {
     ///
     /// Refused as [`Shaper::shape`] refuses the text or a part of it: as 2, `TooLong`, where the text has more than 2^24
     /// glyphs. Then as 1, `AaltValue`; as 2, `TooLong`, only where substitution makes the line of the text, or of a part
-    /// of it, too long; and as 3, `OutOfMemory`, where memory is wanting.
+    /// of it, too long; and as 3, `OutOfMemory`, where memory is wanting. Where it is refused there are no glyphs.
     pub fn shape_lines<S: Allocator>(
         &mut self,
         global: Global,
@@ -110,11 +110,62 @@ impl<A: Allocator + Copy> Shaper<'_, A> {
         ensures fits { OnOk result (first_too_large_among (tables_of self.old.font).feat features.now ≡ None) }
         ensures whole { OnOk result (self.new.glyphs
             ≡ shaped_text (value_along self.old.values direction) self.old.font direction features.now text.now) }
+        ensures budget { OnOk result
+            (self.new.is_budget_used_up ≡ uses_up_budget self.old.font direction features.now text.now) }
+        ensures empty { OnErr result
+            (self.new ≡ record self.old { glyphs = []; is_budget_used_up = false }) }
     {
         match self.shape(direction, text, features) {
             Ok(()) => {}
             Err(error) => return Err(error),
         }
+        let lines = self.lines_of(
+            global,
+            alloc,
+            direction,
+            text,
+            features,
+            stops,
+            without_room,
+            width,
+        );
+        if lines.is_err() {
+            self.forget();
+        }
+        lines
+    }
+
+    /// The lines of the text that was shaped last.
+    fn lines_of<S: Allocator>(
+        &self,
+        global: Global,
+        alloc: A,
+        direction: Direction,
+        text: &[TextGlyph],
+        features: &[Feature],
+        stops: &[LineStop],
+        without_room: &BTreeSet<u16, S>,
+        width: u64,
+    ) -> Result<TextLines<A>, AatError>
+        requires short { length text.now ≤ most_text }
+        requires shaped { self.now.glyphs
+            ≡ shaped_text (value_along self.now.values direction) self.now.font direction features.now text.now }
+        requires bounded { length self.now.glyphs ≤ 0x3FFFFFFF }
+        ensures lines { IfOk result (λ r. AreLines
+            (record {
+              value = value_along self.now.values direction;
+              font = self.now.font;
+              direction = direction;
+              features = features.now;
+              text = text.now;
+              stops = stops_behind 0 (length text.now) stops.now;
+              takes_no_room = contains nat_cmp without_room.now;
+              width = width;
+            })
+            (length (stops_behind 0 (length text.now) stops.now)) r.glyphs.items r.lines.items) }
+        ensures end { IfOk result (λ r. end_of r.lines.items ≡ length text.now) }
+        ensures refused { IfErr result (RefusesLines self.now.font direction features.now text.now) }
+    {
         let row = stops_of(alloc, text.len(), stops)?;
         let mut alone = self.twin(global);
         let filling = Filling {

@@ -1,29 +1,32 @@
 //! The shaper: a text goes in, and what is drawn comes out.
-ghost use Rattle.std.specs.Prelude.{◌≡◌, ◌≢◌, ◌≤◌, ◌<◌, [], All, Err, IfErr, IfOk, None, OnErr, OnOk, false, length, not, pos, true};
+ghost use Rattle.std.specs.Prelude.{◌≡◌, ◌≢◌, ◌≤◌, ◌<◌, [], ◌+◌, ◌&&◌, All, Err, IfErr, IfOk, None, OnErr, OnOk, false, length, nat_lt, not, pos, true};
+ghost use Rattle.aat_buffer.specs.Clusters.{IsSmall};
 ghost use Rattle.aat_buffer.specs.Removal.{deleted_glyph};
 ghost use Rattle.aat_font.specs.Face.{tables_of};
 ghost use Rattle.aat_map.specs.Adding.{first_too_large_among};
-ghost use Rattle.aat_run.specs.Budget.{has_operations};
+ghost use Rattle.aat_run.specs.Budget.{has_operations, operations_left};
 ghost use Rattle.aat_shaped_text.specs.Breaks.{is_rising};
+ghost use Rattle.aat_shaped_text.specs.KernedPlaces.{TellsOpenPlaces};
 ghost use Rattle.aat_shaped_text.specs.Parts.{BreaksHold};
 ghost use Rattle.aat_shaped_text.specs.ShapedText.{AreInOrder, RefusesText, most_glyphs, most_text, shaped_text, uses_up_budget};
 ghost use Rattle.aat_shaper.specs.Named.{has_feature};
 ghost use Rattle.aat_shaper.specs.Shaper.{no_values, value_along, values_at};
 ghost use Rattle.aat_shaper.specs.inside.TextPlan.{IsPlanOf};
 
-use crate::drawn::{Breaks, draw, turn};
-use crate::features::requests_kerning;
-use crate::font::skips_of;
-use crate::line::{KERNED, LONGEST_TEXT, buffer_of};
+use crate::drawn::{Breaks, close_attached, draw};
+use crate::line::{KERNED, LONGEST_TEXT, buffer_of, is_rising};
 use crate::names::has_feature;
-use crate::substitution::{may_break_anywhere, substitute, substitutes_evenly};
+use crate::substitution::{substitute, substitutes_evenly};
 use crate::tracking::track_line;
 use aat_layout::buffer::{Direction, hb_buffer_t};
 use aat_layout::font::{Feature, hb_font_t, hb_ot_shape_plan_t, hb_tag_t};
 use aat_layout::{AatError, compiled_map};
 use aat_placement::Tracking;
 use aat_shaped_text::laws::{closing_draws_alike, texts_are_drawn_in_parts};
-use aat_shaped_text::{ShapedGlyph, TextGlyph};
+use aat_shaped_text::{
+    BreakRules, ShapedGlyph, TextGlyph, kerns_by_pairs, open_places, operations_left,
+    requests_kerning, skips_of, takes_few_operations, turn,
+};
 use aat_shaping::place_with_deleted;
 use bumpalo::Bump;
 use std::alloc::{AllocError, Allocator, Global};
@@ -166,6 +169,14 @@ impl<'f, A: Allocator + Copy> Shaper<'f, A> {
         self.font
     }
 
+    /// Leaves no glyphs, as where a text is refused.
+    pub(crate) fn forget(&mut self)
+        ensures { self.new ≡ record self.old { glyphs = []; is_budget_used_up = false } }
+    {
+        self.glyphs.clear();
+        self.is_budget_used_up = false;
+    }
+
     /// Another shaper of the font, which tracks as this one does.
     pub(crate) fn twin(&self, global: Global) -> Self
         ensures font { result.font ≡ self.now.font }
@@ -218,17 +229,24 @@ impl<'f, A: Allocator + Copy> Shaper<'f, A> {
     /// part does, and what is drawn from it on as the other one: ids, clusters, advances and offsets. In a backward
     /// text the later part is drawn first.
     ///
-    /// No glyph says so unless all of this holds. Clusters never fall along the text. The subtables of the kerning table in
-    /// use that are for its direction are of pairs, along the line. No missing entry ends the run of a machine of `morx`,
-    /// and none of rearrangement runs on the line in the opposite order. The machines take fewer than 16384 operations.
+    /// No glyph says so unless all of this holds. Clusters never fall along the text. No missing entry ends the run of a
+    /// machine of `morx`, and none of rearrangement runs on the line in the opposite order. Substitution and kerning take
+    /// fewer than 16384 operations.
     ///
-    /// Then a glyph says so exactly where some glyph is drawn before it; kerning does not skip it; its cluster is not that
-    /// of the glyph before it, which may be a deleted one; no glyph of the later of these two clusters is marked
-    /// `UNSAFE_TO_BREAK` by substitution, which marks here, besides, what its acts look at (`close_table` of
-    /// `aat_closing`), or by kerning, deleted ones included; and each feature holds all clusters from the one to the other,
-    /// or none of them. It need hold only these two, or neither, where what the features ask of the font has no bounds, or
-    /// where all subtables of `morx` that are for the text's direction and can be switched on are noncontextual: without
-    /// features only the default flags of a chain switch, and with features also the flags that its own features set.
+    /// Then a glyph says so exactly where some glyph is drawn before it, and all of this is so at the place where it begins,
+    /// with the deleted glyphs of its cluster in a row before it. The glyph before the place, which may be a deleted one, has
+    /// another cluster. No glyph of the later of these two clusters, deleted ones included, is marked `UNSAFE_TO_BREAK` by
+    /// substitution, which marks here, besides, what its acts look at (`close_table` of `aat_closing`). Kerning leaves the
+    /// place open. And each feature holds all clusters from the one to the other, or none of them. It need hold only these
+    /// two, or neither, where what the features ask of the font has no bounds, or where all subtables of `morx` that are for
+    /// the text's direction and can be switched on are noncontextual: without features only the default flags of a chain
+    /// switch, and with features also the flags that its own features set.
+    ///
+    /// Where subtables of the kerning table in use are for the direction, and all of these are of pairs along the line,
+    /// kerning leaves the place open where it does not skip the glyph there, and marks no glyph of that later cluster.
+    /// Elsewhere it does by what its runs touch (`kerning_opens` of `aat_shaped_text`), whatever the tables, where no glyph
+    /// from there on is attached to one before. Values across the line attach each glyph to the one before it: there a glyph
+    /// says so only where the value -0x8000 detaches it.
     ///
     /// A text that is no longer than the one before it, with no more features, is mostly shaped without a request for
     /// memory. It takes as many steps as its line is long for each subtable and for each act, as many as there are features
@@ -334,6 +352,35 @@ fn uses_up<H: Allocator + Copy>(buffer: &hb_buffer_t<H>) -> bool
     !buffer.max_ops().is_positive()
 }
 
+/// Whether the breaks of a text are told: its machines tell what is open, and few of so many operations were taken.
+fn tells_breaks<H: Allocator + Copy>(is_told: bool, before: u64, buffer: &hb_buffer_t<H>) -> bool
+    ensures { result ≡ (is_told && nat_lt before (operations_left buffer.now.max_ops + 16384)) }
+{
+    is_told && takes_few_operations(before, buffer)
+}
+
+/// Before which places of the line of a text it may be broken by its glyphs and by what kerning leaves open, where machines
+/// tell what is open and marks do not decide; else it tells of no place.
+fn places_of<H: Allocator + Copy>(
+    workspace: H,
+    face: &hb_font_t,
+    is_told: bool,
+    by_marks: bool,
+    rules: BreakRules,
+    buffer: &mut hb_buffer_t<H>,
+) -> Result<Vec<bool, H>, AllocError>
+    requires ids { IsSmall buffer.old }
+    ensures same { buffer.new ≡ buffer.old }
+    ensures told { is_told ≡ true → by_marks ≡ false → IfOk result (λ places.
+        TellsOpenPlaces face.now rules.entry buffer.old places.items) }
+{
+    if is_told && !by_marks {
+        open_places(workspace, face, rules, buffer)
+    } else {
+        Ok(Vec::new(workspace))
+    }
+}
+
 /// Shapes a text in a workspace, tracks it by a value, puts what is drawn into `glyphs`, and answers whether the budget
 /// was used up.
 fn shape_over<H: Allocator + Copy, A: Allocator>(
@@ -362,18 +409,26 @@ fn shape_over<H: Allocator + Copy, A: Allocator>(
     let mut buffer = buffer_of(workspace, face, direction, features, text)?;
     let map = compiled_map(workspace, plan, face)?;
     let lists = map.as_ref();
-    let is_even = substitutes_evenly(face, direction, features, lists);
-    let closes = may_break_anywhere(face, direction, text);
-    let tells = substitute(face, lists, closes, &mut buffer)?;
+    let rules = BreakRules {
+        is_even: substitutes_evenly(face, direction, features, lists),
+        features,
+    };
+    let by_marks = kerns_by_pairs(face, direction);
+    let operations = operations_left(&buffer);
+    let is_told = substitute(face, lists, is_rising(text), &mut buffer)?;
+    let mut places = places_of(workspace, face, is_told, by_marks, rules, &mut buffer)?;
     place_with_deleted(plan, face, &mut buffer)?;
+    let is_allowed = tells_breaks(is_told, operations, &buffer);
     let is_used_up = uses_up(&buffer);
     track_line(workspace, value, &mut buffer)?;
     turn(&mut buffer);
+    close_attached(workspace, &buffer, &mut places)?;
     let breaks = Breaks {
-        is_allowed: tells,
-        is_even,
+        is_allowed,
         skips: skips_of(face),
-        features,
+        rules,
+        by_marks,
+        places: &places,
     };
     draw(workspace, breaks, &mut buffer, glyphs)?;
     Ok(is_used_up)

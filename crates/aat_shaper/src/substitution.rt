@@ -1,5 +1,5 @@
-//! Substitution of the line of a text, and whether its breaks are told.
-ghost use Rattle.std.specs.Prelude.{◌≡◌, ◌≤◌, ◌&&◌, IfOk, IfErr, IfSome, IsTrue, OnOk, true};
+//! Substitution of the line of a text, and whether its machines tell what is open.
+ghost use Rattle.std.specs.Prelude.{◌≡◌, ◌≤◌, IfOk, IfErr, IfSome, IsTrue, OnOk, true};
 ghost use Rattle.std.specs.List.{list_all};
 ghost use Rattle.std.specs.Option.{option_copied};
 ghost use Rattle.aat_buffer.specs.Clusters.{IsSmall};
@@ -7,15 +7,13 @@ ghost use Rattle.aat_font.specs.Face.{chains_in, tables_of};
 ghost use Rattle.aat_map.specs.Map.{lists_for};
 ghost use Rattle.aat_map.specs.Requests.{requests_of};
 ghost use Rattle.aat_map.specs.SwitchedChains.{by_requests, switched_by};
-ghost use Rattle.aat_run.specs.Budget.{extent, operations_left};
+ghost use Rattle.aat_run.specs.Budget.{extent};
 ghost use Rattle.aat_run.specs.Driven.{IsRefusal};
 ghost use Rattle.aat_run.specs.Laws.{HasOrderOf, SameSettings};
 ghost use Rattle.aat_run.specs.Ranges.{is_whole_list};
-ghost use Rattle.aat_shaped_text.specs.Breaks.{is_rising, kerns_apart, substitutes_evenly};
+ghost use Rattle.aat_shaped_text.specs.Breaks.{substitutes_evenly};
 ghost use Rattle.aat_shaper.specs.inside.TextLine.{gives_one_range, substituted_so, tells_so, told_by};
 
-use crate::font::{kerns_apart, substitutes_apart};
-use crate::line::is_rising;
 use aat_closing::close_table;
 use aat_kinds::{LIGATURE_SLOTS, MAX_CONTEXT_LENGTH};
 use aat_layout::AatError;
@@ -24,11 +22,8 @@ use aat_layout::font::{Feature, hb_font_t};
 use aat_map::hb_aat_map_t;
 use aat_morx::run_table;
 use aat_run::MachineRun;
-use aat_shaped_text::TextGlyph;
+use aat_shaped_text::substitutes_apart;
 use std::alloc::Allocator;
-
-/// The operations that each part of a text has at least, HarfBuzz's `HB_BUFFER_MAX_OPS_MIN`.
-const LEAST_OPERATIONS: u64 = 16384;
 
 /// Whether a map gives the chains of a font one range each: the first chain's list is like those of all.
 fn gives_one_range<M: Allocator + Copy>(map: Option<&hb_aat_map_t<M>>) -> bool
@@ -55,22 +50,6 @@ pub(crate) fn substitutes_evenly<M: Allocator + Copy>(
     gives_one_range(map) || substitutes_apart(face, direction, features)
 }
 
-/// Whether the font's kerning and the text allow a break anywhere.
-pub(crate) fn may_break_anywhere(face: &hb_font_t, direction: Direction, text: &[TextGlyph]) -> bool
-    ensures { result ≡ (kerns_apart face.now direction && is_rising text.now) }
-{
-    kerns_apart(face, direction) && is_rising(text)
-}
-
-/// What is left of a buffer's budget, 0 where it is negative.
-fn operations_left<A: Allocator + Copy>(buffer: &hb_buffer_t<A>) -> u64
-    ensures value { result ≡ operations_left buffer.now.max_ops }
-    ensures small { result ≤ 2147483647 }
-{
-    let left = buffer.max_ops();
-    if left > 0 { left as u64 } else { 0 }
-}
-
 /// Whether closing runs told; nothing was run without the table.
 fn told_by(answer: Option<MachineRun>) -> bool
     ensures { result ≡ told_by answer }
@@ -81,7 +60,7 @@ fn told_by(answer: Option<MachineRun>) -> bool
     }
 }
 
-/// Substitutes under a map, closes what the machines look at, and answers whether the breaks of the text are told.
+/// Substitutes under a map, closes what the machines look at, and answers whether they tell what is open.
 fn close<A: Allocator + Copy, M: Allocator + Copy>(
     face: &hb_font_t,
     map: Option<&hb_aat_map_t<M>>,
@@ -98,13 +77,12 @@ fn close<A: Allocator + Copy, M: Allocator + Copy>(
     ensures reason { IfErr result
         (IsRefusal buffer.old (substituted_so true face.now (option_copied map.entry) buffer.old)) }
 {
-    let before = operations_left(buffer);
     let answer = close_table::<LIGATURE_SLOTS, MAX_CONTEXT_LENGTH, A, M>(face, map, buffer)?;
-    Ok(told_by(answer) && before < operations_left(buffer) + LEAST_OPERATIONS)
+    Ok(told_by(answer))
 }
 
-/// Substitutes under a map, and closes what the machines look at where that is asked. It answers whether the breaks of
-/// the text are told.
+/// Substitutes under a map, and closes what the machines look at where that is asked. It answers whether they tell then
+/// what is open.
 pub(crate) fn substitute<A: Allocator + Copy, M: Allocator + Copy>(
     face: &hb_font_t,
     map: Option<&hb_aat_map_t<M>>,

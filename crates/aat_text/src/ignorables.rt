@@ -28,7 +28,7 @@ fn ignorable_ids<A: Allocator + Copy>(
 }
 
 /// The ids of the glyphs that are hidden in what is drawn of a text, as [`hide_ignorables`] hides them: those of its
-/// ignorable glyphs that no other glyph of it has.
+/// ignorable glyphs that none has that is not ignorable.
 ///
 /// Refused where memory is wanting.
 pub fn hidden_ids<A: Allocator + Copy>(

@@ -17,7 +17,7 @@ use Rattle.aat_kinds.specs.Kinds.{Sizes}
 use Rattle.aat_morx.specs.Substitution.{is_skipped, prepared}
 use Rattle.aat_cut_kinds.specs.Parts.{back_part, front_part}
 use Rattle.aat_closing.specs.ClosingChains.{closing_chain, closing_substituted, closing_subtable}
-use Rattle.aat_closing.specs.ClosingCuts.{AreEven, ChainsLeaveLimitedParts, ChainsLeaveParts, IsEven, IsLimitedFrom, is_noncontextual}
+use Rattle.aat_closing.specs.ClosingCuts.{AreEven, IsEven, IsLimitedFrom, is_noncontextual}
 use Rattle.aat_closing.specs.ClosingRuns.{Told, closing_ordered, closing_run, nothing_run, told_in_order}
 use Rattle.aat_closing.specs.CutsAbout.{AreEvenAbout, ChainsLeaveLimitedPartsAbout, ChainsLeavePartsAbout, IsEvenAbout}
 use Rattle.aat_closing.specs.ToldParts.{HasBetween, IsRise, TellsOpen, ToldInParts}
@@ -326,13 +326,3 @@ nowhere_about d chains k e within n s inside = inr (inr (inl (λ x high under. a
 pub chains_keep_any : (z : Sizes) → 0 < z.slots → (d : Direction) (chains : List SwitchedChain) (b : Buffer) → b.direction ≡ d → produces_concat b.flags ≡ false
     → KeptByChains b (closing_substituted z chains b).buffer
 chains_keep_any z slots d chains = chains_keep_about z slots d 1 0 chains (nowhere_about d chains)
-
-pub chains_keep : (z : Sizes) → 0 < z.slots → (d : Direction) (chains : List SwitchedChain) → AreEven d chains → (b : Buffer) → b.direction ≡ d → produces_concat b.flags ≡ false
-    → KeptByChains b (closing_substituted z chains b).buffer
-chains_keep z slots d chains even = chains_keep_any z slots d chains
-
-pub chains_leave_parts : ChainsLeaveParts
-chains_leave_parts z d c chains slots even = chains_leave_parts_about z d 0 c chains slots (all_even_about 0 c d chains even)
-
-pub chains_leave_limited_parts : ChainsLeaveLimitedParts
-chains_leave_limited_parts z d c chains slots even = chains_leave_limited_parts_about z d 0 c chains slots (all_even_about 0 c d chains even)

@@ -1,7 +1,7 @@
 -- The closing runs of chains tell of the parts of a line that have limits of their own.
 use Rattle.std.proofs.Common.{◌∙◌, arith}
-use Rattle.aat_closing.specs.LimitedParts.{ChainsTellOfLimitedParts, ChainsTellOfLimitedPartsAbout}
-use Rattle.aat_closing.specs.facts.ChainsSteady.{all_even_about, chains_leave_parts_limited}
+use Rattle.aat_closing.specs.LimitedParts.{ChainsTellOfLimitedPartsAbout}
+use Rattle.aat_closing.specs.facts.ChainsSteady.{chains_leave_parts_limited}
 
 pub chains_tell_of_limited_parts_about : ChainsTellOfLimitedPartsAbout
 chains_tell_of_limited_parts_about z d low c chains slots even q b front back is cursor plain rise tells between limited_front limited_back few_front few_back =
@@ -13,6 +13,3 @@ chains_tell_of_limited_parts_about z d low c chains slots even q b front back is
       record { told = parts.first.told ∙ parts.whole.front_told; budget = omega (arith, more_front, front_taken) },
       record { told = parts.second.told ∙ parts.whole.back_told; budget = omega (arith, more_back, back_taken) },
     )
-
-pub chains_tell_of_limited_parts : ChainsTellOfLimitedParts
-chains_tell_of_limited_parts z d c chains slots even = chains_tell_of_limited_parts_about z d 0 c chains slots (all_even_about 0 c d chains even)

@@ -13,7 +13,6 @@ use Rattle.aat_kinds.specs.Kinds.{Sizes, is_reversed}
 use Rattle.aat_cut_kinds.specs.Open.{is_open}
 use Rattle.aat_cut_kinds.specs.Parts.{back_part, front_part}
 use Rattle.aat_cut_kinds.specs.facts.Opens.{along, opened}
-use Rattle.aat_closing.specs.ClosingCuts.{ListsLeaveParts}
 use Rattle.aat_closing.specs.ClosingRuns.{Told, closing_ordered, closing_run, may_split, turned}
 use Rattle.aat_closing.specs.CutsAbout.{IsAlikeAbout, KindsLeavePartsAboutFall, KindsLeavePartsAboutRise, ListsLeavePartsAbout}
 use Rattle.aat_closing.specs.facts.Steady.{IsSteady}
@@ -208,6 +207,3 @@ lists_leave_parts_about z low c subtables slots alike =
     steady_leave_parts (λ (s : (ℕ → Bool) × Coverage × SubtableKind). closing_ordered z s.0 s.1 s.2) low c subtables
     (λ k d within. let s = slice_index_or subtables k d in let about = alike k d within in
     ordered_steady z slots s.2 low c s.0 s.1 (parts_at_rise z slots s.2 low c s.0 about) (parts_at_fall z slots s.2 low c s.0 about))
-
-pub lists_leave_parts : ListsLeaveParts
-lists_leave_parts z low c subtables slots on = lists_leave_parts_about z low c subtables slots (λ k d within. inl (on k d within))

@@ -1,6 +1,6 @@
 -- Runs of kerning machines without marks and positions: what turns do to cursor, budget, state and registers. No
 -- contract but those of a run's parts cites this.
-use Rattle.std.specs.Prelude.{ℕ, ℤ, ◌+◌, ◌&&◌, not, Bool, true, nat_lt, nat_le, max, min, List, [], ◌∷◌, length, Option, Some, None, if◌then◌else◌}
+use Rattle.std.specs.Prelude.{ℕ, ℤ, ◌+◌, ◌&&◌, not, Bool, true, nat_lt, nat_le, max, min, List, [], ◌∷◌, length, Option, Some, None, is_some, if◌then◌else◌}
 use Rattle.aat_lookup.specs.Truth.{is_some_and}
 use Rattle.aat_machine_tables.specs.Entries.{goes_on, is_present}
 use Rattle.aat_machine_tables.specs.Table.{TableValue}
@@ -10,10 +10,11 @@ use Rattle.aat_machine_tables.specs.declared.state_table.GenericStateEntry.{Gene
 use Rattle.aat_run.specs.Budget.{potential}
 use Rattle.aat_run.specs.Context.{Config, entry_at, start}
 use Rattle.aat_run.specs.Machine.{Turn, Ends, settled_by, whole_run}
+use Rattle.aat_kerning_machines.specs.Anchors.{with_mark}
 use Rattle.aat_kerning_machines.specs.KerningMachine.{has_action, stepped}
 use Rattle.aat_kerning_machines.specs.Stack.{is_odd, kern_value, kerx_value, pushed_by}
 use Rattle.aat_cut_kinds.specs.KerningCuts.{KernedRun}
-use Rattle.aat_cut_kinds.specs.KerningClosing.{Touching, behind_reset, first_at, goes_as_from_start, has_end_entry, is_apart, kern_touching, kerx_touching, passes_each, rests_if_over}
+use Rattle.aat_cut_kinds.specs.KerningClosing.{Touching, anchor_touching, behind_reset, first_at, goes_as_from_start, has_end_entry, is_apart, kern_touching, kerx_touching, passes_each, rests_if_over}
 
 -- the least of some places and of one more
 unfoldable pub least_of : List ℕ → ℕ → ℕ
@@ -29,9 +30,11 @@ module _ (value : ℕ → Option ℤ) (step n : ℕ) where
     | Some v ↦ if is_odd v && nat_lt i n then stack else behind_values stack (index + step)
   ]
 
--- what a kind of machine is asked, and the registers that its act leaves at registers, a cursor and a length
+-- what a kind of machine is asked, the registers that it begins with, and those that its act leaves at registers, a
+-- cursor and a length
 pub record Plain (R T : Type 0) : Type 0 where
   pub touching : Touching R T
+  pub fresh : R
   pub left : GenericStateEntry T → R → ℕ → ℕ → R
 
 -- what a `kern` entry leaves on a stack
@@ -44,7 +47,7 @@ kern_left values e stack p n =
 
 -- a `kern` stack
 abbrev pub plain_kern : List ℤ → Plain (List ℕ) KernEntryData
-plain_kern values = record { touching = kern_touching values; left = kern_left values }
+plain_kern values = record { touching = kern_touching values; fresh = []; left = kern_left values }
 
 -- what a `kerx` entry leaves on a stack
 abbrev pub kerx_left : ℕ → List ℤ → GenericStateEntry EntryData → List ℕ → ℕ → ℕ → List ℕ
@@ -59,7 +62,26 @@ kerx_left tuple_count values e stack p n =
 abbrev pub plain_kerx : ℕ → List ℤ → Plain (List ℕ) EntryData
 plain_kerx tuple_count values = record {
   touching = kerx_touching tuple_count values;
+  fresh = [];
   left = kerx_left tuple_count values;
+}
+
+-- where a font has anchor points, an index without a pair, of so many, ends the act before the mark is set
+abbrev pub ends_at_pair : Bool → ℕ → GenericStateEntry EntryData → Bool
+ends_at_pair has_points pair_count e = has_points && not (nat_lt e.extra.action_index pair_count)
+
+-- what an entry of anchors leaves of the mark
+abbrev pub anchor_left : Bool → ℕ → GenericStateEntry EntryData → Option ℕ → ℕ → ℕ → Option ℕ
+anchor_left has_points pair_count e mark p n =
+    if is_some mark && ((has_action e && nat_lt p n) && ends_at_pair has_points pair_count e) then mark
+    else with_mark e mark p
+
+-- anchors
+abbrev pub plain_anchors : Bool → ℕ → Plain (Option ℕ) EntryData
+plain_anchors has_points pair_count = record {
+  touching = anchor_touching;
+  fresh = None;
+  left = anchor_left has_points pair_count;
 }
 
 module _ {R T : Type 0} (k : Plain R T) (pays_first : Bool) where
@@ -97,12 +119,11 @@ module _ {R T : Type 0} (k : Touching R T) (table : TableValue (GenericStateEntr
     will_open q c =
         is_some_and (first_at turn q (potential c.buffer + 1) c) (λ d. is_harmless d && stays_apart q d)
 
--- the plain run of a stack machine, from an empty stack
-abbrev pub plainly_kerned :
-    {T : Type 0} → Plain (List ℕ) T → Bool → TableValue (GenericStateEntry T) → KernedRun
+-- the plain run of a machine
+abbrev pub plainly_kerned : {R T : Type 0} → Plain R T → Bool → TableValue (GenericStateEntry T) → KernedRun
 plainly_kerned k pays_first table =
     let turn = plain_turn k pays_first table in
     record {
-      left = λ b. (whole_run turn (start true b [])).buffer;
-      opens = λ q b. will_open k.touching table turn q (start true b []);
+      left = λ b. (whole_run turn (start true b k.fresh)).buffer;
+      opens = λ q b. will_open k.touching table turn q (start true b k.fresh);
     }

@@ -11,19 +11,51 @@ use aat_shaped_text::ShapedGlyph;
 use aat_shaped_text::laws::{parts_keep_breaks, texts_are_drawn_in_parts};
 use std::alloc::Allocator;
 
-/// Where in drawing order, of what is drawn of a text whose clusters never fall, a cluster begins or, in a backward
-/// text, ends.
-pub(crate) fn edge_of(direction: Direction, glyphs: &[ShapedGlyph], cluster: u32) -> usize {
+/// How many places on either side of the guess are searched before the whole line is.
+const NEAR: usize = 256;
+
+/// Whether a glyph of what is drawn stands before where a cluster begins or, in a backward text, ends.
+fn is_before(direction: Direction, cluster: u32, glyph: &ShapedGlyph) -> bool {
     if direction.is_backward() {
-        glyphs.partition_point(|glyph| glyph.cluster >= cluster)
+        glyph.cluster >= cluster
     } else {
-        glyphs.partition_point(|glyph| glyph.cluster < cluster)
+        glyph.cluster < cluster
     }
+}
+
+/// Whether a cluster begins at a place or, in a backward text, ends there.
+fn is_edge(direction: Direction, glyphs: &[ShapedGlyph], cluster: u32, place: usize) -> bool {
+    place <= glyphs.len()
+        && (place == 0 || is_before(direction, cluster, &glyphs[place - 1]))
+        && (place == glyphs.len() || !is_before(direction, cluster, &glyphs[place]))
+}
+
+/// Where in drawing order, of what is drawn of a text whose clusters never fall, a cluster begins or, in a backward
+/// text, ends. It is looked for near a place first, since lines are short.
+pub(crate) fn edge_of(
+    direction: Direction,
+    glyphs: &[ShapedGlyph],
+    cluster: u32,
+    near: usize,
+) -> usize {
+    if is_edge(direction, glyphs, cluster, near) {
+        return near;
+    }
+    let low = near.saturating_sub(NEAR).min(glyphs.len());
+    let high = near.saturating_add(NEAR).min(glyphs.len());
+    let begins = low == 0 || is_before(direction, cluster, &glyphs[low - 1]);
+    let ends = high == glyphs.len() || !is_before(direction, cluster, &glyphs[high]);
+    let (from, to) = if begins && ends {
+        (low, high)
+    } else {
+        (0, glyphs.len())
+    };
+    from + glyphs[from..to].partition_point(|glyph| is_before(direction, cluster, glyph))
 }
 
 impl<S: Allocator> Filling<'_, S> {
     /// Where what is drawn of the whole text may be broken at a place inside the text.
-    fn opening_at(&self, place: usize) -> Option<usize>
+    fn opening_at(&self, place: usize, near: usize) -> Option<usize>
         requires ready { IsReady self.now }
         requires inside { 0 < place }
         requires in_text { place < length self.now.text.now }
@@ -33,7 +65,7 @@ impl<S: Allocator> Filling<'_, S> {
         if !self.is_rising || self.text[place - 1].cluster == cluster {
             return None;
         }
-        let k = edge_of(self.direction, self.whole, cluster);
+        let k = edge_of(self.direction, self.whole, cluster, near);
         if k == 0 || k >= self.whole.len() || !self.whole[k].may_break_before {
             return None;
         }
@@ -45,7 +77,7 @@ impl<S: Allocator> Filling<'_, S> {
     }
 
     /// Where what is drawn of the whole text parts as the text does at a place.
-    fn cut_at(&self, place: usize) -> Option<usize>
+    fn cut_at(&self, place: usize, near: usize) -> Option<usize>
         requires ready { IsReady self.now }
         requires in_text { place ≤ length self.now.text.now }
         ensures { IfSome result (λ k.
@@ -57,13 +89,18 @@ impl<S: Allocator> Filling<'_, S> {
         } else if place == self.text.len() {
             Some(if is_backward { 0 } else { self.whole.len() })
         } else {
-            self.opening_at(place)
+            self.opening_at(place, near)
         }
     }
 
     /// The stretch of what is drawn of the whole text that looks as its part between two places does by itself, if the
-    /// text may be broken at both.
-    pub(crate) fn stretch_between(&self, start: usize, end: usize) -> Option<(usize, usize)>
+    /// text may be broken at both. Both are looked for near a place of it first.
+    pub(crate) fn stretch_between(
+        &self,
+        start: usize,
+        end: usize,
+        near: usize,
+    ) -> Option<(usize, usize)>
         requires ready { IsReady self.now }
         requires order { start < end }
         requires in_text { end ≤ length self.now.text.now }
@@ -74,8 +111,8 @@ impl<S: Allocator> Filling<'_, S> {
     {
         texts_are_drawn_in_parts();
         parts_keep_breaks();
-        let first = self.cut_at(start)?;
-        let last = self.cut_at(end)?;
+        let first = self.cut_at(start, near)?;
+        let last = self.cut_at(end, near)?;
         let (from, to) = if self.direction.is_backward() {
             (last, first)
         } else {

@@ -27,6 +27,25 @@ fn of_line(glyph: &ShapedGlyph, from: usize, is_first: bool) -> ShapedGlyph
     }
 }
 
+/// Whether no glyph is attached to another one.
+fn is_unattached(line: &[ShapedGlyph]) -> bool {
+    line.iter().all(|glyph| glyph.attached_to.is_none())
+}
+
+/// Adds the glyphs of a line as they are, but that it is not broken before the first.
+fn add_as_drawn<A: Allocator>(
+    line: &[ShapedGlyph],
+    glyphs: &mut Vec<ShapedGlyph, A>,
+) -> Result<(), AllocError>
+    ensures { OnOk result (AreAdded line.now glyphs.old.items glyphs.new.items) }
+{
+    if line.is_empty() {
+        return Ok(());
+    }
+    glyphs.push(of_line(&line[0], 0, true))?;
+    glyphs.extend_from_slice(&line[1..])
+}
+
 /// Adds the glyphs of a line, which begins so many glyphs behind the start of what it was drawn in.
 fn add_glyphs<A: Allocator>(
     from: usize,
@@ -35,6 +54,9 @@ fn add_glyphs<A: Allocator>(
 ) -> Result<(), AllocError>
     ensures { OnOk result (AreAdded line.now glyphs.old.items glyphs.new.items) }
 {
+    if is_unattached(line) {
+        return add_as_drawn(line, glyphs);
+    }
     for i in 0..line.len() {
         glyphs.push(of_line(&line[i], from, i == 0))?;
     }
@@ -71,6 +93,15 @@ impl<S: Allocator> Filling<'_, S> {
         Ok(())
     }
 
+    /// A place of what is drawn of the whole text that is near the end of a line, or else `near`.
+    fn near_end(&self, line: TriedLine, near: usize) -> usize {
+        match line.glyphs {
+            LineGlyphs::Stretch(from, _) if self.direction.is_backward() => from,
+            LineGlyphs::Stretch(_, to) => to,
+            LineGlyphs::Alone => near,
+        }
+    }
+
     /// Fills the text into lines.
     pub(crate) fn fill<A: Allocator + Copy>(
         &self,
@@ -92,10 +123,12 @@ impl<S: Allocator> Filling<'_, S> {
             shaped: 1,
         };
         let mut first = 0;
+        let mut near = 0;
         while first < self.stops.len() {
-            let line = self.line_from(shaper, &mut lines.shaped, first)?;
+            let line = self.line_from(shaper, &mut lines.shaped, first, near)?;
             self.add_line(line, shaper.glyphs(), &mut lines)?;
             first = line.last + 1;
+            near = self.near_end(line, near);
         }
         Ok(lines)
     }

@@ -63,6 +63,7 @@ impl<S: Allocator> Filling<'_, S> {
         shaped: &mut usize,
         first: usize,
         last: usize,
+        near: usize,
     ) -> Result<LineGlyphs, AatError>
         requires ready { IsReady self.now }
         requires shaper { Shapes self.now shaper.old }
@@ -79,7 +80,7 @@ impl<S: Allocator> Filling<'_, S> {
     {
         let start = self.start_of(first);
         let end = self.stops[last].place;
-        if let Some((from, to)) = self.stretch_between(start, end) {
+        if let Some((from, to)) = self.stretch_between(start, end, near) {
             return Ok(LineGlyphs::Stretch(from, to));
         }
         shaper.shape(self.direction, self.part(start, end), self.features)?;
@@ -94,6 +95,7 @@ impl<S: Allocator> Filling<'_, S> {
         shaped: &mut usize,
         first: usize,
         last: usize,
+        near: usize,
     ) -> Result<TriedLine, AatError>
         requires ready { IsReady self.now }
         requires shaper { Shapes self.now shaper.old }
@@ -104,7 +106,7 @@ impl<S: Allocator> Filling<'_, S> {
         ensures refused { IfErr result
             (RefusesLines self.now.font.now self.now.direction self.now.features.now self.now.text.now) }
     {
-        let glyphs = self.draw(shaper, shaped, first, last)?;
+        let glyphs = self.draw(shaper, shaped, first, last, near)?;
         let drawn = self.glyphs_of(glyphs, shaper.glyphs());
         let fits = self.has_room(self.stops[last].hang, drawn);
         Ok(TriedLine { last, glyphs, fits })
@@ -117,6 +119,7 @@ impl<S: Allocator> Filling<'_, S> {
         shaped: &mut usize,
         first: usize,
         guess: usize,
+        near: usize,
     ) -> Result<usize, AatError>
         requires ready { IsReady self.now }
         requires shaper { Shapes self.now shaper.old }
@@ -135,7 +138,7 @@ impl<S: Allocator> Filling<'_, S> {
             if self.stops[last].is_forced {
                 return Ok(last);
             }
-            if !self.try_line(shaper, shaped, first, last + 1)?.fits {
+            if !self.try_line(shaper, shaped, first, last + 1, near)?.fits {
                 return Ok(last);
             }
         }
@@ -150,6 +153,7 @@ impl<S: Allocator> Filling<'_, S> {
         shaped: &mut usize,
         first: usize,
         reached: usize,
+        near: usize,
     ) -> Result<TriedLine, AatError>
         requires ready { IsReady self.now }
         requires shaper { Shapes self.now shaper.old }
@@ -165,19 +169,20 @@ impl<S: Allocator> Filling<'_, S> {
         ensures refused { IfErr result
             (RefusesLines self.now.font.now self.now.direction self.now.features.now self.now.text.now) }
     {
-        let mut line = self.try_line(shaper, shaped, first, reached)?;
+        let mut line = self.try_line(shaper, shaped, first, reached, near)?;
         while line.last > first && !line.fits {
-            line = self.try_line(shaper, shaped, first, line.last - 1)?;
+            line = self.try_line(shaper, shaped, first, line.last - 1, near)?;
         }
         Ok(line)
     }
 
-    /// The line that takes in the stops from `first` on.
+    /// The line that takes in the stops from `first` on, whose ends are looked for near a place of what is drawn first.
     pub(crate) fn line_from<A: Allocator + Copy>(
         &self,
         shaper: &mut Shaper<'_, A>,
         shaped: &mut usize,
         first: usize,
+        near: usize,
     ) -> Result<TriedLine, AatError>
         requires ready { IsReady self.now }
         requires shaper { Shapes self.now shaper.old }
@@ -191,8 +196,8 @@ impl<S: Allocator> Filling<'_, S> {
         ensures refused { IfErr result
             (RefusesLines self.now.font.now self.now.direction self.now.features.now self.now.text.now) }
     {
-        let guess = self.guess(first);
-        let reached = self.reach(shaper, shaped, first, guess)?;
-        self.settle(shaper, shaped, first, reached)
+        let guess = self.guess(first, near);
+        let reached = self.reach(shaper, shaped, first, guess, near)?;
+        self.settle(shaper, shaped, first, reached, near)
     }
 }

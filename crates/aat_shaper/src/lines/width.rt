@@ -14,16 +14,20 @@ impl<S: Allocator> Filling<'_, S> {
         ensures low { negsuc 0x7FFF_FFFF ≤ℤ result }
         ensures high { result ≤ℤ pos 0x7FFF_FFFF }
     {
+        let advance = if self.direction.is_horizontal() {
+            glyph.x_advance
+        } else {
+            glyph.y_advance
+        };
+        let is_without_room = self.without_room.contains(&glyph.glyph_id);
         let hangs = match hang {
             None => false,
             Some(cluster) => glyph.cluster >= cluster,
         };
-        if hangs || self.without_room.contains(&glyph.glyph_id) {
+        if is_without_room || hangs {
             0
-        } else if self.direction.is_horizontal() {
-            i64::from(glyph.x_advance)
         } else {
-            i64::from(glyph.y_advance)
+            i64::from(advance)
         }
     }
 

@@ -5,6 +5,6 @@ use Rattle.aat_shaper.proofs.drawn.kept_counts.Given as goal
 
 abbrev pub invariant-loop-i : goal.invariant-loop-i
 invariant-loop-i g l = record {
-  listed : l.counts.items ≡ map (kept_before l.fn.buffer.line) (range_with_len 0 l.i);
-  counted : l.kept ≡ kept_before l.fn.buffer.line l.i;
+  listed : l.counts.items ≡ map (kept_before l.fn.line) (range_with_len 0 l.i);
+  counted : l.kept ≡ kept_before l.fn.line l.i;
 }

@@ -3,7 +3,7 @@ use Rattle.aat_shaped_text.specs.ShapedText.{with_clusters_of}
 use Rattle.aat_shaper.proofs.drawn.take_clusters.Given as goal
 
 abbrev pub invariant-loop-i : goal.invariant-loop-i
-invariant-loop-i g l = record {
-  done : l.glyphs ≡ with_clusters_of (take l.i l.fn.buffer.line) (take l.i l.initial.glyphs) ++ drop l.i l.initial.glyphs;
+invariant-loop-i l = record {
+  done : l.glyphs ≡ with_clusters_of (take l.i l.fn.line) (take l.i l.initial.glyphs) ++ drop l.i l.initial.glyphs;
   len : length l.glyphs ≡ length l.initial.glyphs;
 }

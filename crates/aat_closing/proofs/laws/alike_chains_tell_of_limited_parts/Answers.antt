@@ -1,5 +1,0 @@
-use Rattle.aat_closing.specs.facts.LimitedTells.{chains_tell_of_limited_parts_about}
-use Rattle.aat_closing.proofs.laws.alike_chains_tell_of_limited_parts.Goals as goal
-
-pub returns : goal.returns
-returns c = chains_tell_of_limited_parts_about

@@ -1,0 +1,82 @@
+-- The places of a line over which a glyph is attached, from its end to its front, and what is told of open places.
+use Rattle.std.proofs.Common.{◌≡◌, ◌∙◌, ap, refl, sym, ℕ, ℤ, zero, suc, ◌+◌, ◌-◌, ◌<◌, ◌≤◌, ◌&&◌, Bool, true, false, List, [], ◌∷◌, arith, get_or, length, min, nat_le}
+use Rattle.std.proofs.lemmas.Bool.Decides.{nat_tests}
+use Rattle.std.specs.List.{list_all, range_with_len}
+use Rattle.std.specs.Option.{option_map_or}
+use Rattle.std.specs.Prelude.{Option, Some, None, unwrap_or}
+use Rattle.aat_buffer.specs.Buffer.{Buffer, with_positions}
+use Rattle.aat_font.specs.declared.face.hb_font_t.{hb_font_t}
+use Rattle.aat_glyph.specs.declared.glyph.Direction.{Direction}
+use Rattle.aat_glyph.specs.declared.glyph.GlyphPosition.{GlyphPosition}
+use Rattle.aat_glyph.specs.declared.glyph.hb_glyph_info_t.{hb_glyph_info_t}
+use Rattle.aat_kerning.specs.Cut.{ordered_line}
+use Rattle.aat_placement.specs.Attachments.{IsUnattached, parent}
+use Rattle.aat_shaped_text.specs.Breaks.{is_unchained, may_break_by}
+use Rattle.aat_shaped_text.specs.KernedBreaks.{kerning_opens}
+use Rattle.aat_shaped_text.specs.KernedPlaces.{ClosesChained, TellsKerning, TellsOpenPlaces}
+use Rattle.aat_shaped_text.specs.declared.breaks.BreakRules.{BreakRules}
+
+-- none of m glyphs from place a on is attached to one before place i
+abbrev pub are_from : Direction → List GlyphPosition → ℕ → ℕ → ℕ → Bool
+are_from d qs a m i = list_all (λ j. option_map_or (nat_le i) (parent d qs j) true) (range_with_len a m)
+
+both_below : (i p least : ℕ) → (nat_le i p && nat_le i least) ≡ nat_le i (min least p)
+both_below i p least = grind (arith, nat_tests)
+
+none_below : (i least : ℕ) → nat_le i least ≡ nat_le i (min least least)
+none_below i least = grind (arith, nat_tests)
+
+-- one glyph more
+pub from_more :
+    (d : Direction) (qs : List GlyphPosition) (a m least i : ℕ) → are_from d qs (a + 1) m i ≡ nat_le i least
+    → are_from d qs a (suc m) i ≡ nat_le i (min least (unwrap_or (parent d qs a) least))
+from_more d qs a m least i before = by (parent d qs a)
+  where
+    by : (o : Option ℕ) → (option_map_or (nat_le i) o true && are_from d qs (a + 1) m i) ≡ nat_le i (min least (unwrap_or o least))
+    by (Some p) = ap (λ (t : Bool). nat_le i p && t) before ∙ both_below i p least
+    by None = before ∙ none_below i least
+
+-- where nothing is attached no place is closed
+pub unattached_open : (d : Direction) (qs : List GlyphPosition) → IsUnattached d qs → (i : ℕ) → is_unchained d qs i ≡ true
+unattached_open d qs alone i = each i (length qs - i) (omega arith)
+  where
+    each : (a m : ℕ) → m ≤ length qs - a → are_from d qs a m i ≡ true
+    each a zero within = refl
+    each a (suc m) within =
+        ap (λ (o : Option ℕ). option_map_or (nat_le i) o true && are_from d qs (a + 1) m i) (alone a (omega (arith, within)))
+        ∙ each (a + 1) m (omega (arith, within))
+
+pub closes_none : (d : Direction) (qs : List GlyphPosition) (places : List Bool) → IsUnattached d qs → ClosesChained d qs places places
+closes_none d qs places alone = record {
+  long = refl;
+  opens = λ i low. kept (get_or places i false) ∙ ap (λ (t : Bool). get_or places i false && t) (sym (unattached_open d qs alone i));
+}
+  where
+    kept : (t : Bool) → t ≡ (t && true)
+    kept true = refl
+    kept false = refl
+
+-- no line may be broken before its first glyph
+never_first : (rules : BreakRules) (line : List hb_glyph_info_t) → may_break_by rules line 0 ≡ false
+never_first rules [] = refl
+never_first rules (g ∷ line) = refl
+
+pub told_so :
+    (face : hb_font_t) (rules : BreakRules) (b : Buffer) (line : List hb_glyph_info_t) (d : Direction) (told new : List Bool) (left : ℤ)
+    → d ≡ b.direction → line ≡ ordered_line b
+    → TellsKerning face d rules.features.now b told left → length new ≡ length told
+    → ((i : ℕ) → i < length told → get_or new i false ≡ (may_break_by rules line i && get_or told i false))
+    → TellsOpenPlaces face rules b new
+told_so face rules b line d told new left way line_is tells long closed = record {
+  long = long ∙ tells.long;
+  opens = λ qs i low. closed i (omega (arith, low, tells.long)) ∙ (ap (λ (gs : List hb_glyph_info_t). may_break_by rules gs i && get_or told i false) line_is ∙ by qs i low);
+}
+  where
+    by :
+        (qs : List GlyphPosition) (i : ℕ) → i < length b.line
+        → (may_break_by rules (ordered_line b) i && get_or told i false)
+        ≡ (may_break_by rules (ordered_line b) i && kerning_opens face b.direction rules.features.now (with_positions b qs) i)
+    by qs zero low = ap (λ (t : Bool). t && get_or told 0 false) (never_first rules (ordered_line b)) ∙ sym (ap (λ (t : Bool). t && kerning_opens face b.direction rules.features.now (with_positions b qs) 0) (never_first rules (ordered_line b)))
+    by qs (suc i) low =
+        ap (λ (t : Bool). may_break_by rules (ordered_line b) (suc i) && t)
+        (tells.opens qs (suc i) (omega arith) low ∙ ap (λ (e : Direction). kerning_opens face e rules.features.now (with_positions b qs) (suc i)) way)

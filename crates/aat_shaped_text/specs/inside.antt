@@ -1,0 +1,2 @@
+pub mod KernedRuns
+pub mod PairPlaces

@@ -1,7 +1,0 @@
-use Rattle.std.proofs.Common.{◌≡◌, ◌&&◌, take}
-use Rattle.aat_shaped_text.specs.TextFeatures.{holds, is_kern, is_last_on}
-use Rattle.aat_shaper.proofs.features.is_kerned_at.Given as goal
-
-abbrev pub invariant-loop-feature : goal.invariant-loop-feature
-invariant-loop-feature l =
-    l.on ≡ is_last_on (λ f. is_kern f && holds l.fn.cluster f) (take l.feature-index l.fn.features)
