@@ -127,15 +127,17 @@ fn run_turns<E: Acting, K: KerningKind<E>, A: Allocator + Copy>(
         max_ops,
         registers: run.kind.fresh(),
     };
-    let mut found = look(run, &at);
+    let end = run.table.entry(START_OF_TEXT, END_OF_TEXT);
+    let mut found = look(run, &at, START_OF_TEXT, end);
     loop {
         let cursor = at.cursor;
+        let state = at.state;
         let turn = take_turn(run, &found, &mut at);
         close(opens, &mut span, turn.least, cursor);
         if !turn.goes_on {
             return at.max_ops;
         }
-        found = look(run, &at);
+        found = look(run, &at, state, found.end);
         tell(run, &found, &at, cursor, opens);
     }
 }

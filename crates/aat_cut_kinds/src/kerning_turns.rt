@@ -61,7 +61,7 @@ fn class_of<E: Acting>(table: &ExtendedStateTable<E>, glyph: &hb_glyph_info_t) -
 pub(crate) struct Found<E: Copy> {
     class: u16,
     entry: Option<GenericStateEntry<E>>,
-    end: Option<GenericStateEntry<E>>,
+    pub end: Option<GenericStateEntry<E>>,
 }
 
 /// The class at the cursor: that of the end of the text at the end, and 1, out of bounds, of a glyph without a class.
@@ -78,20 +78,40 @@ fn class_at<E: Acting, K: KerningKind<E>, A: Allocator + Copy>(
     class_of(run.table, run.buffer.info(at.cursor))
 }
 
-/// Looks up what a run finds where it stands.
+/// The entry for the end of the text of the state where a run stands, given that of a state where it stood.
+fn end_at<E: Acting, K: KerningKind<E>, A: Allocator + Copy>(
+    run: &PlainRun<E, K, A>,
+    at: &Standing<K::Registers>,
+    state: u16,
+    end: Option<GenericStateEntry<E>>,
+) -> Option<GenericStateEntry<E>>
+    requires { end ≡ entry_of run.now.table.now state 0 }
+    ensures { result ≡ entry_of run.now.table.now at.now.state 0 }
+{
+    if at.state == state {
+        return end;
+    }
+    run.table.entry(at.state, END_OF_TEXT)
+}
+
+/// Looks up what a run finds where it stands, given the entry for the end of the text of a state where it stood, since
+/// most turns leave the state as it is.
 #[inline(always)]
 pub(crate) fn look<E: Acting, K: KerningKind<E>, A: Allocator + Copy>(
     run: &PlainRun<E, K, A>,
     at: &Standing<K::Registers>,
+    state: u16,
+    end: Option<GenericStateEntry<E>>,
 ) -> Found<E>
     requires ids { IsSmall run.now.buffer.now }
+    requires end { end ≡ entry_of run.now.table.now state 0 }
     ensures { result ≡ found_at run.now.table.now (standing run.now.buffer.now at.now) }
 {
     let class = class_at(run, at);
     Found {
         class,
         entry: run.table.entry(at.state, class),
-        end: run.table.entry(at.state, END_OF_TEXT),
+        end: end_at(run, at, state, end),
     }
 }
 

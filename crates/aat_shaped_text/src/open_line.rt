@@ -3,7 +3,7 @@ ghost use Rattle.std.specs.Prelude.{◌≡◌, ◌<◌, ◌&&◌, ℕ, IfOk, fal
 ghost use Rattle.aat_buffer.specs.Clusters.{IsSmall};
 ghost use Rattle.aat_buffer.specs.Removal.{is_deleted};
 ghost use Rattle.aat_kerning.specs.Positioning.{in_processing_order};
-ghost use Rattle.aat_shaped_text.specs.Breaks.{may_break_by};
+ghost use Rattle.aat_shaped_text.specs.Breaks.{kept_before, may_break_by};
 ghost use Rattle.aat_shaped_text.specs.KernedPlaces.{ClosesChained, TellsOpenPlaces};
 
 use crate::breaks::{BreakRules, may_break_at};
@@ -32,6 +32,23 @@ pub fn is_kept(glyph: &hb_glyph_info_t) -> bool
     glyph.glyph_id != DELETED_GLYPH
 }
 
+/// Whether a place of a line in drawing order stays open, before which so many glyphs are kept: where it is open, and the
+/// line may be broken there by its glyphs, of which no others are asked.
+#[inline(always)]
+fn stays_open(
+    rules: BreakRules,
+    line: &[hb_glyph_info_t],
+    kept: usize,
+    i: usize,
+    is_open: bool,
+) -> bool
+    requires in_line { i < length line.now }
+    requires kept { kept ≡ kept_before line.now i }
+    ensures { result ≡ (may_break_by rules.entry line.now i && is_open) }
+{
+    is_open && may_break_at(rules, line, kept, i)
+}
+
 /// Closes each place of a line in drawing order before which it may not be broken by its glyphs.
 fn close_by_glyphs<H: Allocator>(
     rules: BreakRules,
@@ -45,8 +62,7 @@ fn close_by_glyphs<H: Allocator>(
 {
     let mut kept = 0;
     for i in 0..places.is_open.len() {
-        let may = may_break_at(rules, line, kept, i);
-        places.is_open[i] = may & places.is_open[i];
+        places.is_open[i] = stays_open(rules, line, kept, i, places.is_open[i]);
         if is_kept(&line[i]) {
             kept += 1;
         }

@@ -77,25 +77,28 @@ fn positions_of<H: Allocator + Copy>(
     Ok(positions)
 }
 
-/// Closes each place of a line in drawing order over which a glyph is attached, where each place of it is told of.
+/// Closes each place of a line in drawing order over which a glyph is attached, where each place of it is told of. Answers
+/// the positions of the line, where some glyph of it may be attached to another.
 pub(crate) fn close_attached<H: Allocator + Copy>(
     alloc: H,
     buffer: &hb_buffer_t<H>,
     places: &mut [bool],
-) -> Result<(), AllocError>
+) -> Result<Option<Vec<GlyphPosition, H>>, AllocError>
     requires placed { IsPlaced buffer.now }
-    ensures { length places.old ≡ length buffer.now.line → OnOk result
+    ensures closed { length places.old ≡ length buffer.now.line → OnOk result
         (ClosesChained buffer.now.direction (position_list buffer.now) places.old places.new) }
+    ensures attached { IfOk result (λ found. MatchOption found
+        (IsUnattached buffer.now.direction (position_list buffer.now))
+        (λ positions. positions.items ≡ position_list buffer.now)) }
 {
-    if places.len() != buffer.len() {
-        return Ok(());
-    }
     if is_unattached(buffer) {
-        return Ok(());
+        return Ok(None);
     }
     let positions = positions_of(alloc, buffer)?;
-    close_chained(buffer.direction(), &positions, places);
-    Ok(())
+    if places.len() == buffer.len() {
+        close_chained(buffer.direction(), &positions, places);
+    }
+    Ok(Some(positions))
 }
 
 /// A place of a line as one among the glyphs that are kept.
@@ -113,9 +116,7 @@ fn kept_place(line: &[hb_glyph_info_t], kept: &[usize], place: Option<usize>) ->
 /// What is known of a line that is drawn, where glyphs may be attached to others.
 #[derive(Clone, Copy)]
 struct Drawn<'l> {
-    /// Its positions, with chains.
-    positions: &'l [GlyphPosition],
-    /// The same, with the offsets added up.
+    /// Its positions, with the offsets added up.
     added: &'l [GlyphPosition],
     /// How many glyphs are kept before each place.
     kept: &'l [usize],
@@ -155,7 +156,7 @@ fn attached_to<H: Allocator + Copy>(
 {
     match attached {
         Some(drawn) => {
-            let parent = parent_of(buffer.direction(), drawn.positions, i);
+            let parent = parent_of(buffer.direction(), drawn.added, i);
             kept_place(line, drawn.kept, parent)
         }
         None => None,
@@ -240,31 +241,32 @@ fn put_glyphs<H: Allocator + Copy, A: Allocator>(
     Ok(())
 }
 
-/// Puts the glyphs of a line that are kept behind others, with what they are attached to.
+/// Puts the glyphs of a line that are kept behind others, with what they are attached to, by its positions where some may be
+/// attached.
 fn put_drawn_glyphs<H: Allocator + Copy, A: Allocator>(
     alloc: H,
     breaks: Breaks,
     buffer: &hb_buffer_t<H>,
+    attached: Option<Vec<GlyphPosition, H>>,
     glyphs: &mut Vec<ShapedGlyph, A>,
 ) -> Result<(), AatError>
     requires ids { IsSmall buffer.now }
     requires placed { IsPlaced buffer.now }
     requires front { buffer.now.cursor ≡ 0 }
+    requires attached { MatchOption attached (IsUnattached buffer.now.direction (position_list buffer.now))
+        (λ positions. positions.items ≡ position_list buffer.now) }
     requires empty { glyphs.old.items ≡ [] }
     ensures ok { OnOk result (glyphs.new.items
         ≡ map (drawn_glyph (may_break breaks.entry buffer.now.line) buffer.now) (kept_places buffer.now.line)) }
     ensures memory { IfErr result (λ error. error ≡ AatError.OutOfMemory) }
 {
     let line = buffer.from_cursor();
-    if is_unattached(buffer) {
+    let Some(mut added) = attached else {
         return put_glyphs(breaks, buffer, line, None, glyphs);
-    }
-    let positions = positions_of(alloc, buffer)?;
-    let mut added = Vec::from_slice(alloc, &positions)?;
+    };
     add_up_attachments(alloc, buffer.direction(), &mut added)?;
     let kept = kept_counts(alloc, line)?;
     let drawn = Drawn {
-        positions: &positions,
         added: &added,
         kept: &kept,
     };
@@ -281,16 +283,19 @@ fn take_clusters(line: &[hb_glyph_info_t], glyphs: &mut [ShapedGlyph])
     }
 }
 
-/// Puts what is drawn of a line, which stands in drawing order, into `glyphs`, and takes deleted glyphs out of the
-/// line. Where there are some, its positions go too.
+/// Puts what is drawn of a line, which stands in drawing order, into `glyphs`, by its positions where some glyph may be
+/// attached to another, and takes deleted glyphs out of the line. Where there are some, its positions go too.
 pub(crate) fn draw<H: Allocator + Copy, A: Allocator>(
     alloc: H,
     breaks: Breaks,
     buffer: &mut hb_buffer_t<H>,
+    attached: Option<Vec<GlyphPosition, H>>,
     glyphs: &mut Vec<ShapedGlyph, A>,
 ) -> Result<(), AatError>
     requires ids { IsSmall buffer.old }
     requires placed { IsPlaced buffer.old }
+    requires attached { MatchOption attached (IsUnattached buffer.old.direction (position_list buffer.old))
+        (λ positions. positions.items ≡ position_list buffer.old) }
     requires empty { glyphs.old.items ≡ [] }
     ensures ok { OnOk result (glyphs.new.items ≡ drawn_glyphs (may_break breaks.entry buffer.old.line) buffer.old) }
     ensures clusters { OnOk result (clusters_of glyphs.new.items ≡ map (λ g. g.cluster) buffer.new.line) }
@@ -299,7 +304,7 @@ pub(crate) fn draw<H: Allocator + Copy, A: Allocator>(
     ensures memory { IfErr result (λ error. error ≡ AatError.OutOfMemory) }
 {
     buffer.sync();
-    put_drawn_glyphs(alloc, breaks, buffer, glyphs)?;
+    put_drawn_glyphs(alloc, breaks, buffer, attached, glyphs)?;
     if glyphs.len() < buffer.len() {
         buffer.drop_positions();
         hb_aat_layout_remove_deleted_glyphs(buffer);

@@ -1,6 +1,7 @@
 //! The line of a text.
 ghost use Rattle.std.specs.Prelude.{◌≡◌, ◌≤◌, IfErr, IfOk, length, pos};
 ghost use Rattle.aat_buffer.specs.Clusters.{IsSmall};
+ghost use Rattle.aat_font.specs.Face.{has_classes, props_of};
 ghost use Rattle.aat_shaped_text.specs.Breaks.{is_rising};
 ghost use Rattle.aat_shaped_text.specs.ShapedText.{line_glyph, most_glyphs, most_operations, most_text, text_buffer};
 
@@ -49,8 +50,22 @@ fn most_operations(len: usize) -> i32
     (len * OPS_FACTOR).max(OPS_MIN).min(OPS_MOST) as i32
 }
 
-/// A glyph of a text as one of a line.
-fn line_glyph(face: &hb_font_t, features: &[Feature], glyph: &TextGlyph) -> hb_glyph_info_t
+/// The properties of a glyph, given whether the font has any.
+fn props_of(face: &hb_font_t, has_classes: bool, glyph: GlyphId) -> u16
+    requires { has_classes ≡ has_classes face.now }
+    ensures { result ≡ props_of face.now glyph.0 }
+{
+    if has_classes { face.glyph_props(glyph) } else { 0 }
+}
+
+/// A glyph of a text as one of a line, given whether the font has classes of glyphs.
+fn line_glyph(
+    face: &hb_font_t,
+    has_classes: bool,
+    features: &[Feature],
+    glyph: &TextGlyph,
+) -> hb_glyph_info_t
+    requires { has_classes ≡ has_classes face.now }
     ensures value { result ≡ line_glyph face.now features.now glyph.now }
     ensures small { result.glyph_id ≤ 0xFFFF }
 {
@@ -59,7 +74,7 @@ fn line_glyph(face: &hb_font_t, features: &[Feature], glyph: &TextGlyph) -> hb_g
         glyph_id: u32::from(glyph.glyph_id),
         mask: if is_kerned { KERNED } else { 0 },
         cluster: glyph.cluster,
-        glyph_props: face.glyph_props(GlyphId(glyph.glyph_id)),
+        glyph_props: props_of(face, has_classes, GlyphId(glyph.glyph_id)),
         unicode_props: if glyph.is_ignorable {
             UnicodeProps::IGNORABLE.bits()
         } else {
@@ -84,8 +99,9 @@ pub(crate) fn buffer_of<H: Allocator + Copy>(
     let most = most_glyphs(text.len());
     let mut buffer = hb_buffer_t::new(alloc, most, most_operations(text.len()));
     buffer.set_direction(direction);
+    let has_classes = face.has_glyph_classes();
     for glyph in text {
-        buffer.add(line_glyph(face, features, glyph))?;
+        buffer.add(line_glyph(face, has_classes, features, glyph))?;
     }
     Ok(buffer)
 }

@@ -246,7 +246,7 @@ impl<'f, A: Allocator + Copy> Shaper<'f, A> {
     /// kerning leaves the place open where it does not skip the glyph there, and marks no glyph of that later cluster.
     /// Elsewhere it does by what its runs touch (`kerning_opens` of `aat_shaped_text`), whatever the tables, where no glyph
     /// from there on is attached to one before. Values across the line attach each glyph to the one before it: there a glyph
-    /// says so only where the value -0x8000 detaches it.
+    /// says so only where a machine detaches it.
     ///
     /// A text that is no longer than the one before it, with no more features, is mostly shaped without a request for
     /// memory. It takes as many steps as its line is long for each subtable and for each act, as many as there are features
@@ -422,7 +422,7 @@ fn shape_over<H: Allocator + Copy, A: Allocator>(
     let is_used_up = uses_up(&buffer);
     track_line(workspace, value, &mut buffer)?;
     turn(&mut buffer);
-    close_attached(workspace, &buffer, &mut places)?;
+    let attached = close_attached(workspace, &buffer, &mut places)?;
     let breaks = Breaks {
         is_allowed,
         skips: skips_of(face),
@@ -430,6 +430,6 @@ fn shape_over<H: Allocator + Copy, A: Allocator>(
         by_marks,
         places: &places,
     };
-    draw(workspace, breaks, &mut buffer, glyphs)?;
+    draw(workspace, breaks, &mut buffer, attached, glyphs)?;
     Ok(is_used_up)
 }

@@ -23,7 +23,6 @@ may_break breaks line i = may_cut breaks line (front_of line i)
 
 -- this is known of a line that is drawn
 pub record IsDrawn (b : Buffer) (drawn : Drawn) : Type 0 where
-  pub positions : drawn.positions.now ≡ position_list b
   pub added : drawn.added.now ≡ added_up b.direction (position_list b)
   pub kept : drawn.kept.now ≡ map (kept_before b.line) (range_with_len 0 (length b.line))
 
