@@ -103,6 +103,15 @@ DeletedGlyphsGo =
     (in_row (pos 500) (pos 0) (pos 0) ∷ in_row (pos 0) (pos 0) (pos 0) ∷ in_row (pos 300) (pos 0) (pos 0) ∷ []))
     ≡ shaped 7 1 (pos 500) ∷ record (shaped 5 0 (pos 300)) { may_break_before = true } ∷ []
 
+-- a glyph of an ignorable character says so where it is drawn, and no other does
+abbrev pub IgnorableGlyphsSaySo : Type 0
+IgnorableGlyphsSaySo =
+    map (λ g. g.is_ignorable)
+    (drawn_glyphs (λ i. false)
+    (drawing LeftToRight (glyph_in 7 0 ∷ record (glyph_in 9 1) { unicode_props = 0x20 } ∷ [])
+    (in_row (pos 500) (pos 0) (pos 0) ∷ in_row (pos 300) (pos 0) (pos 0) ∷ [])))
+    ≡ false ∷ true ∷ []
+
 -- what is drawn of a base, a deleted glyph and a mark with a chain
 abbrev pub marked : ℤ → List ShapedGlyph
 marked chain =

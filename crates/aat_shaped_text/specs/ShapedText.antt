@@ -1,7 +1,7 @@
 -- A text that is shaped: its glyphs as a line, what the layer's calls leave of it, and what is drawn. (How a text is
 -- handed in and out is the shaper's own. Apple's TrueType Reference Manual, "The 'morx' table", "The 'kerx' table" and
 -- "The 'kern' table".)
-use Rattle.std.specs.Prelude.{◌≡◌, ◌⊎◌, ℕ, ℤ, is_some, option_map, nat_lt, ◌<◌, ◌≤◌, ◌+◌, ◌*◌, ◌^◌, ◌&&◌, not, Bool, pos, List, AllPairs, Option, Some, None, length, filter, map, max, min, zip, slice_index_or, if◌then◌else◌}
+use Rattle.std.specs.Prelude.{◌≡◌, ◌⊎◌, ℕ, ℤ, is_some, option_map, nat_lt, ◌<◌, ◌≤◌, ◌+◌, ◌*◌, ◌^◌, ◌==◌, ◌&&◌, not, Bool, bit_and, pos, List, AllPairs, Option, Some, None, length, filter, map, max, min, zip, slice_index_or, if◌then◌else◌}
 use Rattle.std.specs.Bool.{MatchBool}
 use Rattle.std.specs.List.{range_with_len}
 use Rattle.std.specs.Ordering.{int_eq}
@@ -132,11 +132,16 @@ abbrev pub kept_place : List hb_glyph_info_t → Option ℕ → Option ℕ
 kept_place line None = None
 kept_place line (Some j) = if is_deleted (glyph_at line j) then None else Some (kept_before line j)
 
+-- a glyph of a line stands for an ignorable character
+abbrev pub is_ignorable : hb_glyph_info_t → Bool
+is_ignorable g = not (bit_and g.unicode_props 0x20 == 0)
+
 -- the glyph at a place of a line that is drawn, where the line may be broken before some places
 abbrev pub drawn_glyph : (ℕ → Bool) → Buffer → ℕ → ShapedGlyph
 drawn_glyph may_break b i = record {
   glyph_id = (glyph_at b.line i).glyph_id;
   cluster = cluster_at b.line i;
+  is_ignorable = is_ignorable (glyph_at b.line i);
   x_advance = (drawn_position b i).x_advance;
   y_advance = (drawn_position b i).y_advance;
   x_offset = (drawn_position b i).x_offset;

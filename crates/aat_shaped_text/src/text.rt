@@ -48,6 +48,8 @@ pub struct ShapedGlyph {
     pub glyph_id: u16,
     /// The character that it came from, or the first of several.
     pub cluster: u32,
+    /// Whether its character is ignorable by default. It is that of the glyph that it came from.
+    pub is_ignorable: bool,
     /// How far the pen moves to the right.
     pub x_advance: i32,
     /// How far the pen moves up: in vertical text it is usually below 0.

@@ -1,5 +1,5 @@
 //! Worked examples of a text that is shaped as theorems. These calls do nothing: what is proved is their contracts.
-ghost use Rattle.aat_shaped_text.specs.Examples.{AttachmentsAreDrawn, BreaksAreBetweenClusters, DeletedGlyphsAreAsked, DeletedGlyphsGo, DeletedGlyphsHandOn, FeaturesStayWhole, KeptGlyphsAreCounted, KerningIsRequested, LastKernDecides, LaterClusterIsAsked, LigaturesBeginWithComponents, RangesBetweenAreAsked, TrackedLinesAreDrawn};
+ghost use Rattle.aat_shaped_text.specs.Examples.{AttachmentsAreDrawn, BreaksAreBetweenClusters, DeletedGlyphsAreAsked, DeletedGlyphsGo, DeletedGlyphsHandOn, FeaturesStayWhole, IgnorableGlyphsSaySo, KeptGlyphsAreCounted, KerningIsRequested, LastKernDecides, LaterClusterIsAsked, LigaturesBeginWithComponents, RangesBetweenAreAsked, TrackedLinesAreDrawn};
 ghost use Rattle.aat_shaped_text.specs.OpenExamples.{AttachedGlyphsStay, ChainsAreAsked, MixedKerningIsTold, OpenPlacesAreTold, SkippedGlyphsStay, UnkernedGlyphsOpen};
 
 /// The definitions of breaks compute to the examples.
@@ -18,6 +18,7 @@ pub fn breaks()
 pub fn drawn()
     ensures places { KeptGlyphsAreCounted }
     ensures deleted { DeletedGlyphsGo }
+    ensures ignorable { IgnorableGlyphsSaySo }
     ensures attached { AttachmentsAreDrawn }
     ensures tracked { TrackedLinesAreDrawn }
 {}
