@@ -145,12 +145,12 @@ example_classes = record {
   mark_classes = Array (0 ∷ 1 ∷ 0 ∷ 2 ∷ 0 ∷ 1 ∷ 0 ∷ 9 ∷ []);
 }
 
--- each glyph has its advance and its properties, and a mark its class in the high byte
+-- each glyph has its advance, and a mark its property, without its class among marks
 abbrev pub GlyphsHaveValues : Type 0
 GlyphsHaveValues =
     (advance_pairs (metrics_of example_metrics 2 3) 3 ≡ (0, 500) ∷ (1, 600) ∷ (2, 600) ∷ [])
     × (advance_pairs (metrics_of example_metrics 0 2) 2 ≡ (0, 0) ∷ (1, 0) ∷ [])
-    × (property_pairs example_classes 3 ≡ (0, 0) ∷ (1, 8) ∷ (2, 2312) ∷ [])
+    × (property_pairs example_classes 3 ≡ (0, 0) ∷ (1, 8) ∷ (2, 8) ∷ [])
 
 -- names 1 and 2 of the Macintosh, and name 2 of Windows
 abbrev pub example_names : List ℕ

@@ -94,7 +94,7 @@ pub record FaceValue : Type 0 where
 abbrev pub advances_in : Tables → ℕ → Option (List (ℕ × ℕ))
 advances_in tables glyph_count = option_map (λ metrics. advance_pairs metrics glyph_count) (found_in tables.hmtx)
 
--- the properties of glyphs, if the font has classes
+-- the property of marks, if the font has classes of glyphs
 abbrev pub properties_in : Tables → ℕ → Option (List (ℕ × ℕ))
 properties_in tables glyph_count = option_map (λ classes. property_pairs classes glyph_count) (found_in tables.gdef)
 

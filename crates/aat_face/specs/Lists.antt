@@ -1,5 +1,5 @@
 -- Values of all glyphs of a font. Apple's TrueType Reference Manual, "The 'hmtx' table".
-use Rattle.std.specs.Prelude.{ℕ, List, map, unwrap_or}
+use Rattle.std.specs.Prelude.{ℕ, List, bit_and, map, unwrap_or}
 use Rattle.std.specs.List.{range_with_len}
 use Rattle.aat_read_sfnt.specs.GlyphClasses.{properties_of}
 use Rattle.aat_read_sfnt.specs.Metrics.{LongMetrics, advance_of}
@@ -13,6 +13,10 @@ pairs_over glyph_count value = map (λ glyph. (glyph, value glyph)) (range_with_
 abbrev pub advance_pairs : LongMetrics → ℕ → List (ℕ × ℕ)
 advance_pairs metrics glyph_count = pairs_over glyph_count (λ glyph. unwrap_or (advance_of metrics glyph) 0)
 
+-- the property of marks, 8, and no other: kerning skips marks alone, as in HarfBuzz
+abbrev pub mark_property : GlyphClasses → ℕ → ℕ
+mark_property classes glyph = bit_and (properties_of classes glyph) 8
+
 -- the properties of glyphs
 abbrev pub property_pairs : GlyphClasses → ℕ → List (ℕ × ℕ)
-property_pairs classes glyph_count = pairs_over glyph_count (properties_of classes)
+property_pairs classes glyph_count = pairs_over glyph_count (mark_property classes)

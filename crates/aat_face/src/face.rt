@@ -133,7 +133,7 @@ fn advances_of(
     }
 }
 
-/// The properties of glyphs, if the font has classes.
+/// The property of marks, if the font has classes of glyphs.
 fn properties_of(
     alloc: Global,
     tables: &Tables<'_>,
@@ -260,8 +260,8 @@ impl<'a> Face<'a> {
     }
 
     /// The font for the layer, with the tables `morx`, `kerx`, `kern`, `feat` and `ankr` where they are read, the advances
-    /// of its glyphs in units of the font, and the properties of their classes. `Shaper` kerns by `kerx`, and by `kern`
-    /// where there is no `kerx`.
+    /// of its glyphs in units of the font, and the property of marks (8), but none of other classes, since HarfBuzz's
+    /// kerning skips marks alone. `Shaper` kerns by `kerx`, and by `kern` where there is no `kerx`.
     pub fn font(&self) -> &hb_font_t
         ensures { font_value result.now ≡ self.now.font }
     {

@@ -2,7 +2,7 @@
 ghost use Rattle.std.specs.Prelude.{◌≡◌, IfOk, IfErr, None};
 ghost use Rattle.aat_bytes.specs.declared.error.ReadError.TheVariants as errors;
 ghost use Rattle.aat_lookup.specs.Keys.{first, first_fall};
-ghost use Rattle.aat_face.specs.Lists.{advance_pairs, property_pairs};
+ghost use Rattle.aat_face.specs.Lists.{advance_pairs, mark_property, property_pairs};
 
 use aat_bytes::ReadError;
 use aat_lookup::{Lookup, TableError};
@@ -47,6 +47,17 @@ pub fn advance_lookup(
     rising_lookup(alloc, &pairs)
 }
 
+/// The property of marks.
+const MARK: u16 = 0x08;
+
+/// The property of a glyph that kerning asks: that of marks, and no other. HarfBuzz's kerning skips marks alone, and that of
+/// the layer by `kerx` bases and ligatures too.
+fn mark_property(classes: &GlyphClasses<'_>, glyph: u16) -> u16
+    ensures { result ≡ mark_property classes.now glyph }
+{
+    classes.properties(glyph) & MARK
+}
+
 /// The pairs of so many glyphs and their properties.
 fn property_pairs(
     alloc: Global,
@@ -56,11 +67,11 @@ fn property_pairs(
     ensures { IfOk result (λ pairs. pairs.items ≡ property_pairs classes.now glyph_count) }
 {
     (0..glyph_count)
-        .map(|glyph| (glyph, classes.properties(glyph)))
+        .map(|glyph| (glyph, mark_property(classes, glyph)))
         .collect(alloc)
 }
 
-/// The properties of so many glyphs.
+/// The property of marks, of so many glyphs.
 pub fn property_lookup(
     alloc: Global,
     classes: &GlyphClasses<'_>,

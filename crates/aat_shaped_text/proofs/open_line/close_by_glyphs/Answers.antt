@@ -20,10 +20,10 @@ loop-i-preserved g c =
     let v = c.loop-i.invariant in
     let count = c.requires.count in
     let low : i < length old = omega (arith, c.loop-i-test.true, c.len-i-end.ensures) in
-    let x = c.may_break_at-may.result && c.index.result.now in
+    let x = c.stays_open.result in
     let test : ℕ → Bool = λ j. may_break_by rules line j && get_or old j false in
     let is : x ≡ test i =
-    ap (λ (t : Bool). t && c.index.result.now) c.may_break_at-may.ensures
+    c.stays_open.ensures
     ∙ ap (λ (t : Bool). may_break_by rules line i && t) (c.index.ensures ∙ (get_or_default so_far i c.index.result.now false (omega (arith, low, v.len)) ∙ v.rest i (omega arith))) in
     record {
       counted = elim c.if-is_kept.branch [
