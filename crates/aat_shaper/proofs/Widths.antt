@@ -81,7 +81,7 @@ pub added_all :
 added_all line old items i all so_far =
     subst (λ (gs : List ShapedGlyph). AreAdded gs old items) (take_all i line all) so_far
 
-module _ {Z : Type 0} (f : Filling Z) (q j : ℕ) (alone drawn : List ShapedGlyph) (line : LineGlyphs) (fits : Bool) where
+module _ (f : Filling) (q j : ℕ) (alone drawn : List ShapedGlyph) (line : LineGlyphs) (fits : Bool) where
   -- a line that was tried
   pub tried_line :
       (stop : LineStop) → stop ≡ stop_at f.stops.now j → IsWithin (length f.whole.now) line
@@ -109,7 +109,7 @@ module _ {Z : Type 0} (f : Filling Z) (q j : ℕ) (alone drawn : List ShapedGlyp
 
 -- the line that was settled for
 pub settled_line :
-    {Z : Type 0} (f : Filling Z) (q guess reached : ℕ) (alone : List ShapedGlyph) (r : Result TriedLine AatError)
+    (f : Filling) (q guess reached : ℕ) (alone : List ShapedGlyph) (r : Result TriedLine AatError)
     → IfOk r (λ line. IsTried f q line.last alone line) → IfOk r (λ line. line.last ≤ reached)
     → IfOk r (λ line. IsFull (paragraph_of f) q line.last) → IfOk r (λ line. q < line.last → line.fits ≡ true)
     → ((i : ℕ) → q ≤ i → i < guess → (stop_at f.stops.now i).is_forced ≡ false)

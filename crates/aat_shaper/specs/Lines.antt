@@ -32,7 +32,7 @@ abbrev pub start_of : List LineStop → ℕ → ℕ
 start_of stops q = if q == 0 then 0 else (stop_at stops (q - 1)).place
 
 -- what is broken into lines: a text, tracked by a value, with its direction and features; the stops where its lines
--- may end; the ids whose glyphs take no room; and the width
+-- may end; whether ignorable glyphs count for no width; and the width
 pub record Paragraph : Type 0 where
   pub value : ℤ
   pub font : hb_font_t
@@ -40,7 +40,7 @@ pub record Paragraph : Type 0 where
   pub features : List Feature
   pub text : List TextGlyph
   pub stops : List LineStop
-  pub takes_no_room : ℕ → Bool
+  pub hides_ignorables : Bool
   pub width : ℕ
 
 -- what is drawn of the text from the place before stop q up to stop j, shaped by itself
@@ -57,7 +57,7 @@ hangs (Some c) g = not (nat_lt g.cluster c)
 -- the room that a glyph takes along the line
 abbrev pub room_of : Paragraph → Option ℕ → ShapedGlyph → ℤ
 room_of p hang g =
-    if hangs hang g || p.takes_no_room g.glyph_id then pos 0
+    if hangs hang g || (p.hides_ignorables && g.is_ignorable) then pos 0
     else if is_horizontal p.direction then g.x_advance else g.y_advance
 
 -- how wide glyphs are

@@ -1,7 +1,5 @@
 //! A text in lines of a width: the stops where its lines may end go in, and the glyphs of each line come out.
 ghost use Rattle.std.specs.Prelude.{◌≡◌, ◌<◌, ◌≤◌, [], Err, IfErr, IfOk, None, OnErr, OnOk, false, length};
-ghost use Rattle.std.specs.BTreeSet.{contains};
-ghost use Rattle.std.specs.Ordering.{nat_cmp};
 ghost use Rattle.aat_font.specs.Face.{tables_of};
 ghost use Rattle.aat_map.specs.Adding.{first_too_large_among};
 ghost use Rattle.aat_shaped_text.specs.ShapedText.{most_text, shaped_text, uses_up_budget};
@@ -25,7 +23,6 @@ use aat_layout::buffer::Direction;
 use aat_layout::font::Feature;
 use aat_shaped_text::{ShapedGlyph, TextGlyph};
 use std::alloc::{Allocator, Global};
-use std::collections::BTreeSet;
 
 /// A place of a text where a line may end.
 #[derive(Clone, Copy)]
@@ -69,7 +66,7 @@ impl<A: Allocator + Copy> Shaper<'_, A> {
     /// the end of the text or at a forced stop, which no line passes. A text without a glyph has no line.
     ///
     /// The width is the absolute value of the sum of the advances along the direction, in units of the font. The glyphs
-    /// that hang over the end do not count, nor do those whose ids `without_room` has.
+    /// that hang over the end do not count, nor, where `hides_ignorables`, do ignorable ones.
     ///
     /// The glyphs of a line look as its part of the text does that is shaped by itself. Where the text may be broken at
     /// both ends of a line, as [`Shaper::shape`] has it, they are those of the whole text, and nothing is shaped anew.
@@ -79,7 +76,7 @@ impl<A: Allocator + Copy> Shaper<'_, A> {
     /// Refused as [`Shaper::shape`] refuses the text or a part of it: as 2, `TooLong`, where the text has more than 2^24
     /// glyphs. Then as 1, `AaltValue`; as 2, `TooLong`, only where substitution makes the line of the text, or of a part
     /// of it, too long; and as 3, `OutOfMemory`, where memory is wanting. Where it is refused there are no glyphs.
-    pub fn shape_lines<S: Allocator>(
+    pub fn shape_lines(
         &mut self,
         global: Global,
         alloc: A,
@@ -87,7 +84,7 @@ impl<A: Allocator + Copy> Shaper<'_, A> {
         text: &[TextGlyph],
         features: &[Feature],
         stops: &[LineStop],
-        without_room: &BTreeSet<u16, S>,
+        hides_ignorables: bool,
         width: u64,
     ) -> Result<TextLines<A>, AatError>
         ensures font { self.new.font ≡ self.old.font }
@@ -100,7 +97,7 @@ impl<A: Allocator + Copy> Shaper<'_, A> {
               features = features.now;
               text = text.now;
               stops = stops_behind 0 (length text.now) stops.now;
-              takes_no_room = contains nat_cmp without_room.now;
+              hides_ignorables = hides_ignorables;
               width = width;
             })
             (length (stops_behind 0 (length text.now) stops.now)) r.glyphs.items r.lines.items) }
@@ -126,7 +123,7 @@ impl<A: Allocator + Copy> Shaper<'_, A> {
             text,
             features,
             stops,
-            without_room,
+            hides_ignorables,
             width,
         );
         if lines.is_err() {
@@ -136,7 +133,7 @@ impl<A: Allocator + Copy> Shaper<'_, A> {
     }
 
     /// The lines of the text that was shaped last.
-    fn lines_of<S: Allocator>(
+    fn lines_of(
         &self,
         global: Global,
         alloc: A,
@@ -144,7 +141,7 @@ impl<A: Allocator + Copy> Shaper<'_, A> {
         text: &[TextGlyph],
         features: &[Feature],
         stops: &[LineStop],
-        without_room: &BTreeSet<u16, S>,
+        hides_ignorables: bool,
         width: u64,
     ) -> Result<TextLines<A>, AatError>
         requires short { length text.now ≤ most_text }
@@ -159,7 +156,7 @@ impl<A: Allocator + Copy> Shaper<'_, A> {
               features = features.now;
               text = text.now;
               stops = stops_behind 0 (length text.now) stops.now;
-              takes_no_room = contains nat_cmp without_room.now;
+              hides_ignorables = hides_ignorables;
               width = width;
             })
             (length (stops_behind 0 (length text.now) stops.now)) r.glyphs.items r.lines.items) }
@@ -176,7 +173,7 @@ impl<A: Allocator + Copy> Shaper<'_, A> {
             text,
             is_rising: is_rising(text),
             stops: &row,
-            without_room,
+            hides_ignorables,
             width,
             whole: self.glyphs(),
         };

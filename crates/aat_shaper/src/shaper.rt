@@ -226,8 +226,8 @@ impl<'f, A: Allocator + Copy> Shaper<'f, A> {
     ///
     /// The text may be broken before each glyph that says so: cut at the later one of the two clusters that meet there,
     /// and its two parts shaped by themselves with the same features, what is drawn before the glyph looks as the one
-    /// part does, and what is drawn from it on as the other one: ids, clusters, advances and offsets. In a backward
-    /// text the later part is drawn first.
+    /// part does, and what is drawn from it on as the other one: ids, clusters, advances and offsets, and which glyphs are
+    /// ignorable. In a backward text the later part is drawn first.
     ///
     /// No glyph says so unless all of this holds. Clusters never fall along the text. No missing entry ends the run of a
     /// machine of `morx`, and none of rearrangement runs on the line in the opposite order. Substitution and kerning take

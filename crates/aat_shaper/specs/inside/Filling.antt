@@ -1,7 +1,5 @@
 -- What is known while lines are filled.
 use Rattle.std.specs.Prelude.{◌≡◌, ◌⊎◌, ◌++◌, ℕ, ◌+◌, ◌<◌, ◌≤◌, Bool, true, false, List, All, length, map, take, drop, slice_range, if◌then◌else◌}
-use Rattle.std.specs.BTreeSet.{contains}
-use Rattle.std.specs.Ordering.{nat_cmp}
 use Rattle.aat_shaped_text.specs.Breaks.{is_rising}
 use Rattle.aat_shaped_text.specs.Parts.{cut_before, looks, shaped_at}
 use Rattle.aat_shaped_text.specs.ShapedText.{most_text, shaped_text}
@@ -16,7 +14,7 @@ use Rattle.aat_shaper.specs.declared.lines.tries.LineGlyphs.TheVariants.{Alone, 
 use Rattle.aat_shaper.specs.declared.lines.tries.TriedLine.{TriedLine}
 
 -- the text that is filled in
-abbrev pub paragraph_of : {Z : Type 0} → Filling Z → Paragraph
+abbrev pub paragraph_of : Filling → Paragraph
 paragraph_of f = record {
   value = f.value;
   font = f.font.now;
@@ -24,7 +22,7 @@ paragraph_of f = record {
   features = f.features.now;
   text = f.text.now;
   stops = f.stops.now;
-  takes_no_room = contains nat_cmp f.without_room.now;
+  hides_ignorables = f.hides_ignorables;
   width = f.width;
 }
 
@@ -34,7 +32,7 @@ pub record AreStops (n : ℕ) (stops : List LineStop) : Type 0 where
   pub within : (j : ℕ) → j < length stops → (stop_at stops j).place ≤ n
 
 -- what is known of a text while its lines are filled
-pub record IsReady {Z : Type 0} (f : Filling Z) : Type 0 where
+pub record IsReady (f : Filling) : Type 0 where
   pub short : length f.text.now ≤ most_text
   pub rises : f.is_rising ≡ is_rising f.text.now
   pub stops : AreStops (length f.text.now) f.stops.now
@@ -42,7 +40,7 @@ pub record IsReady {Z : Type 0} (f : Filling Z) : Type 0 where
   pub bounded : length f.whole.now ≤ 0x3FFFFFFF
 
 -- a shaper shapes parts of the text
-pub record Shapes {Z : Type 0} (f : Filling Z) (shaper : ShaperValue) : Type 0 where
+pub record Shapes (f : Filling) (shaper : ShaperValue) : Type 0 where
   pub font : shaper.font ≡ f.font.now
   pub value : value_along shaper.values f.direction ≡ f.value
 
@@ -77,7 +75,7 @@ IsWithin n Alone = Unit {0}
 
 -- A line was tried that takes in the stops from q up to j, with what was shaped by itself: its glyphs look as its part
 -- of the text does by itself, and it is known whether they are no wider than a line.
-pub record IsTried {Z : Type 0} (f : Filling Z) (q j : ℕ) (alone : List ShapedGlyph) (line : TriedLine) : Type 0 where
+pub record IsTried (f : Filling) (q j : ℕ) (alone : List ShapedGlyph) (line : TriedLine) : Type 0 where
   pub last : line.last ≡ j
   pub within : IsWithin (length f.whole.now) line.glyphs
   pub looks_alone : map looks (glyphs_of line.glyphs f.whole.now alone) ≡ map looks (drawn_alone (paragraph_of f) q j)

@@ -9,7 +9,6 @@ use crate::lines::filling::Filling;
 use aat_layout::buffer::Direction;
 use aat_shaped_text::ShapedGlyph;
 use aat_shaped_text::laws::{parts_keep_breaks, texts_are_drawn_in_parts};
-use std::alloc::Allocator;
 
 /// How many places on either side of the guess are searched before the whole line is.
 const NEAR: usize = 256;
@@ -53,7 +52,7 @@ pub(crate) fn edge_of(
     from + glyphs[from..to].partition_point(|glyph| is_before(direction, cluster, glyph))
 }
 
-impl<S: Allocator> Filling<'_, S> {
+impl Filling<'_> {
     /// Where what is drawn of the whole text may be broken at a place inside the text.
     fn opening_at(&self, place: usize, near: usize) -> Option<usize>
         requires ready { IsReady self.now }

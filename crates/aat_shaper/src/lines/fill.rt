@@ -63,7 +63,7 @@ fn add_glyphs<A: Allocator>(
     Ok(())
 }
 
-impl<S: Allocator> Filling<'_, S> {
+impl Filling<'_> {
     /// Adds a line that was tried to the lines.
     fn add_line<A: Allocator>(
         &self,

@@ -7,12 +7,10 @@ use crate::lines::LineStop;
 use aat_layout::buffer::Direction;
 use aat_layout::font::{Feature, hb_font_t};
 use aat_shaped_text::{ShapedGlyph, TextGlyph};
-use std::alloc::Allocator;
-use std::collections::BTreeSet;
 
 /// A text that is broken into lines.
 #[derive(Drop)]
-pub(crate) struct Filling<'a, S: Allocator> {
+pub(crate) struct Filling<'a> {
     /// The value by which it is tracked.
     pub(crate) value: i32,
     /// Its font.
@@ -27,15 +25,15 @@ pub(crate) struct Filling<'a, S: Allocator> {
     pub(crate) is_rising: bool,
     /// Its stops.
     pub(crate) stops: &'a [LineStop],
-    /// The ids whose glyphs take no room.
-    pub(crate) without_room: &'a BTreeSet<u16, S>,
+    /// Whether ignorable glyphs count for no width.
+    pub(crate) hides_ignorables: bool,
     /// The greatest width of a line.
     pub(crate) width: u64,
     /// What is drawn of the whole text in one line.
     pub(crate) whole: &'a [ShapedGlyph],
 }
 
-impl<S: Allocator> Filling<'_, S> {
+impl Filling<'_> {
     /// Where the line begins whose first stop has a number.
     pub(crate) fn start_of(&self, first: usize) -> usize
         requires { first ≤ length self.now.stops.now }

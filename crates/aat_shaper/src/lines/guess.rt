@@ -6,7 +6,6 @@ ghost use Rattle.aat_shaper.specs.inside.Filling.{IsReady};
 use crate::lines::LineStop;
 use crate::lines::cut::edge_of;
 use crate::lines::filling::Filling;
-use std::alloc::Allocator;
 
 /// How far a line was followed, as it is read, in what is drawn of the whole text.
 #[derive(Clone, Copy)]
@@ -17,7 +16,7 @@ struct Pen {
     sum: i64,
 }
 
-impl<S: Allocator> Filling<'_, S> {
+impl Filling<'_> {
     /// Moves a pen forward over the glyphs of clusters before one.
     fn move_forward(&self, pen: Pen, cluster: u32) -> Pen {
         let mut sum = pen.sum;

@@ -30,7 +30,7 @@ pub(crate) struct TriedLine {
     pub(crate) fits: bool,
 }
 
-impl<S: Allocator> Filling<'_, S> {
+impl Filling<'_> {
     /// The part of the text between two places.
     fn part(&self, start: usize, end: usize) -> &[TextGlyph]
         requires order { start ≤ end }

@@ -5,9 +5,8 @@ ghost use Rattle.aat_shaper.specs.inside.Filling.{paragraph_of};
 
 use crate::lines::filling::Filling;
 use aat_shaped_text::ShapedGlyph;
-use std::alloc::Allocator;
 
-impl<S: Allocator> Filling<'_, S> {
+impl Filling<'_> {
     /// The room that a glyph takes along the line.
     pub(crate) fn room_of(&self, hang: Option<u32>, glyph: &ShapedGlyph) -> i64
         ensures value { result ≡ room_of (paragraph_of self.now) hang glyph.now }
@@ -19,12 +18,12 @@ impl<S: Allocator> Filling<'_, S> {
         } else {
             glyph.y_advance
         };
-        let is_without_room = self.without_room.contains(&glyph.glyph_id);
+        let is_hidden = self.hides_ignorables && glyph.is_ignorable;
         let hangs = match hang {
             None => false,
             Some(cluster) => glyph.cluster >= cluster,
         };
-        if is_without_room || hangs {
+        if is_hidden || hangs {
             0
         } else {
             i64::from(advance)

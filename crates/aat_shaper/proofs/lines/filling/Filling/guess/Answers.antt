@@ -6,7 +6,7 @@ use Rattle.aat_shaper.specs.declared.lines.LineStop.{LineStop}
 use Rattle.aat_shaper.proofs.lines.filling.Filling.guess.Goals as goal
 
 pub loop-last-preserved : goal.loop-last-preserved
-loop-last-preserved g c =
+loop-last-preserved c =
     let row = c.args.self.now.stops.now in
     let last = c.loop-last.last in
     let low : last < length row = omega (arith, c.loop-last-test.true) in

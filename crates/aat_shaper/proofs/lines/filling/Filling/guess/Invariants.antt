@@ -3,4 +3,4 @@ use Rattle.aat_shaper.specs.Lines.{stop_at}
 use Rattle.aat_shaper.proofs.lines.filling.Filling.guess.Given as goal
 
 abbrev pub invariant-loop-last : goal.invariant-loop-last
-invariant-loop-last g l = (i : ℕ) → l.first ≤ i → i < l.last → (stop_at l.self.stops.now i).is_forced ≡ false
+invariant-loop-last l = (i : ℕ) → l.first ≤ i → i < l.last → (stop_at l.self.stops.now i).is_forced ≡ false

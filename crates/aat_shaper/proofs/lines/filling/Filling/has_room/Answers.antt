@@ -8,7 +8,7 @@ use Rattle.aat_shaper.specs.inside.Filling.{paragraph_of}
 use Rattle.aat_shaper.proofs.lines.filling.Filling.has_room.Goals as goal
 
 pub loop-glyph-preserved : goal.loop-glyph-preserved
-loop-glyph-preserved g c =
+loop-glyph-preserved c =
     let a = to_z w64 c.loop-glyph.sum-bits in
     let room = c.room_of-sum.result in
     let i = c.loop-glyph.glyph-index in

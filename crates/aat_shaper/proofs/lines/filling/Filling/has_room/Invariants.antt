@@ -5,7 +5,7 @@ use Rattle.aat_shaper.specs.inside.Filling.{paragraph_of}
 use Rattle.aat_shaper.proofs.lines.filling.Filling.has_room.Given as goal
 
 abbrev pub invariant-loop-glyph : goal.invariant-loop-glyph
-invariant-loop-glyph g l = record {
+invariant-loop-glyph l = record {
   value :
       l.sum ≡ fold (λ s x. s +ℤ room_of (paragraph_of l.self) l.hang x) (pos 0) (take l.glyph-index l.glyphs);
   low : pos 0 ≤ℤ (l.sum +ℤ pos (0x8000_0000 * l.glyph-index));

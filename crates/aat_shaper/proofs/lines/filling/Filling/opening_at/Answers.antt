@@ -8,7 +8,7 @@ abbrev zero_glyph : TextGlyph
 zero_glyph = record { glyph_id = 0; cluster = 0; is_ignorable = false }
 
 pub returns-then-max-cluster : goal.returns-then-max-cluster
-returns-then-max-cluster g c =
+returns-then-max-cluster c =
     let f = c.args.self.now in
     let k = c.edge_of-k.result in
     let behind : 0 < k = omega (arith, c.if-k-eq0.false) in

@@ -5,7 +5,7 @@ use Rattle.aat_shaper.proofs.lines.filling.Filling.stretch_between.Goals as goal
 use Rattle.aat_shaper.proofs.lines.filling.Filling.stretch_between.Goals.{then-is_backward, else-is_backward}
 
 pub returns-then-to-self-clause-alone : goal.returns-then-to-self-clause-alone
-returns-then-to-self-clause-alone g c =
+returns-then-to-self-clause-alone c =
     let f = c.args.self.now in
     elim c.if-is_backward.branch [
       | then-is_backward w ↦
