@@ -13,6 +13,7 @@ pub mod Stops
 pub mod Stretches
 pub mod Taken
 pub mod Texts
+pub mod Told
 pub mod Unattached
 pub mod Undeleted
 pub mod Widths

@@ -126,11 +126,13 @@ struct Drawn<'l> {
 /// The position of the glyph at a place of a line that is drawn.
 fn drawn_position<H: Allocator + Copy>(
     buffer: &hb_buffer_t<H>,
+    line: &[hb_glyph_info_t],
     attached: Option<Drawn>,
     i: usize,
 ) -> GlyphPosition
     requires placed { IsPlaced buffer.now }
-    requires in_line { i < length buffer.now.line }
+    requires line { line.now ≡ buffer.now.line }
+    requires in_line { i < length line.now }
     requires attached { MatchOption attached (IsUnattached buffer.now.direction (position_list buffer.now))
         (IsDrawn buffer.now) }
     ensures { result ≡ drawn_position buffer.now i }
@@ -208,7 +210,7 @@ fn drawn_glyph<H: Allocator + Copy>(
     ensures { result ≡ drawn_glyph (may_break breaks.entry buffer.now.line) buffer.now i }
 {
     let glyph = line[i];
-    let position = drawn_position(buffer, attached, i);
+    let position = drawn_position(buffer, line, attached, i);
     ShapedGlyph {
         glyph_id: glyph.glyph_id as u16,
         cluster: glyph.cluster,

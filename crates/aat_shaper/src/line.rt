@@ -51,21 +51,25 @@ fn most_operations(len: usize) -> i32
 }
 
 /// The properties of a glyph, given whether the font has any.
-fn props_of(face: &hb_font_t, has_classes: bool, glyph: GlyphId) -> u16
-    requires { has_classes ≡ has_classes face.now }
+fn props_of(face: &hb_font_t, is_classed: bool, glyph: GlyphId) -> u16
+    requires { is_classed ≡ has_classes face.now }
     ensures { result ≡ props_of face.now glyph.0 }
 {
-    if has_classes { face.glyph_props(glyph) } else { 0 }
+    if is_classed {
+        face.glyph_props(glyph)
+    } else {
+        0
+    }
 }
 
 /// A glyph of a text as one of a line, given whether the font has classes of glyphs.
 fn line_glyph(
     face: &hb_font_t,
-    has_classes: bool,
+    is_classed: bool,
     features: &[Feature],
     glyph: &TextGlyph,
 ) -> hb_glyph_info_t
-    requires { has_classes ≡ has_classes face.now }
+    requires { is_classed ≡ has_classes face.now }
     ensures value { result ≡ line_glyph face.now features.now glyph.now }
     ensures small { result.glyph_id ≤ 0xFFFF }
 {
@@ -74,7 +78,7 @@ fn line_glyph(
         glyph_id: u32::from(glyph.glyph_id),
         mask: if is_kerned { KERNED } else { 0 },
         cluster: glyph.cluster,
-        glyph_props: props_of(face, has_classes, GlyphId(glyph.glyph_id)),
+        glyph_props: props_of(face, is_classed, GlyphId(glyph.glyph_id)),
         unicode_props: if glyph.is_ignorable {
             UnicodeProps::IGNORABLE.bits()
         } else {
@@ -99,9 +103,9 @@ pub(crate) fn buffer_of<H: Allocator + Copy>(
     let most = most_glyphs(text.len());
     let mut buffer = hb_buffer_t::new(alloc, most, most_operations(text.len()));
     buffer.set_direction(direction);
-    let has_classes = face.has_glyph_classes();
+    let is_classed = face.has_glyph_classes();
     for glyph in text {
-        buffer.add(line_glyph(face, has_classes, features, glyph))?;
+        buffer.add(line_glyph(face, is_classed, features, glyph))?;
     }
     Ok(buffer)
 }

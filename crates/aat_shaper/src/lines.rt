@@ -14,7 +14,6 @@ mod row;
 mod tries;
 mod width;
 
-use crate::line::is_rising;
 use crate::lines::filling::Filling;
 use crate::lines::row::stops_of;
 use crate::shaper::Shaper;
@@ -171,7 +170,6 @@ impl<A: Allocator + Copy> Shaper<'_, A> {
             direction,
             features,
             text,
-            is_rising: is_rising(text),
             stops: &row,
             hides_ignorables,
             width,

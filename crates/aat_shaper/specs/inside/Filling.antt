@@ -1,6 +1,5 @@
 -- What is known while lines are filled.
 use Rattle.std.specs.Prelude.{◌≡◌, ◌⊎◌, ◌++◌, ℕ, ◌+◌, ◌<◌, ◌≤◌, Bool, true, false, List, All, length, map, take, drop, slice_range, if◌then◌else◌}
-use Rattle.aat_shaped_text.specs.Breaks.{is_rising}
 use Rattle.aat_shaped_text.specs.Parts.{cut_before, looks, shaped_at}
 use Rattle.aat_shaped_text.specs.ShapedText.{most_text, shaped_text}
 use Rattle.aat_shaped_text.specs.declared.text.ShapedGlyph.{ShapedGlyph}
@@ -34,7 +33,6 @@ pub record AreStops (n : ℕ) (stops : List LineStop) : Type 0 where
 -- what is known of a text while its lines are filled
 pub record IsReady (f : Filling) : Type 0 where
   pub short : length f.text.now ≤ most_text
-  pub rises : f.is_rising ≡ is_rising f.text.now
   pub stops : AreStops (length f.text.now) f.stops.now
   pub drawn : f.whole.now ≡ shaped_text f.value f.font.now f.direction f.features.now f.text.now
   pub bounded : length f.whole.now ≤ 0x3FFFFFFF

@@ -61,7 +61,7 @@ impl Filling<'_> {
         ensures { IfSome result (λ k. IsOpen self.now.text.now self.now.whole.now k place) }
     {
         let cluster = self.text[place].cluster;
-        if !self.is_rising || self.text[place - 1].cluster == cluster {
+        if self.text[place - 1].cluster == cluster {
             return None;
         }
         let k = edge_of(self.direction, self.whole, cluster, near);

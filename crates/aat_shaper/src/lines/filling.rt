@@ -21,8 +21,6 @@ pub(crate) struct Filling<'a> {
     pub(crate) features: &'a [Feature],
     /// The text.
     pub(crate) text: &'a [TextGlyph],
-    /// Whether its clusters never fall.
-    pub(crate) is_rising: bool,
     /// Its stops.
     pub(crate) stops: &'a [LineStop],
     /// Whether ignorable glyphs count for no width.

@@ -4,6 +4,9 @@ use Rattle.aat_shaped_text.proofs.Chained.{closes_none}
 use Rattle.aat_shaper.proofs.drawn.close_attached.Goals as goal
 
 pub returns-then-is_unattached : goal.returns-then-is_unattached
-returns-then-is_unattached g c = λ long.
-    closes_none c.args.buffer.now.direction (position_list c.args.buffer.now) c.args.places.now
-    (c.if-is_unattached.ensures refl)
+returns-then-is_unattached g c =
+    let alone = c.if-is_unattached.ensures refl in
+    record {
+      closed = λ long. closes_none c.args.buffer.now.direction (position_list c.args.buffer.now) c.args.places.now alone;
+      attached = alone;
+    }

@@ -75,7 +75,7 @@ returns-clause-ok g c =
       long = c.turn.ensures.count ∙ (ap (λ (b : Buffer). length b.line) wider ∙ (c.in_ok-place_with_deleted.ensures.number ∙ (ap (λ (b : Buffer). length b.line) c.in_ok-places.ensures.same ∙ ap (λ (b : Buffer). length b.line) before)));
       chained = λ long.
           closed_lent c.turn.new.buffer told c.deref_mut.result.now c.close_attached.new.places c.deref.result.now c.in_ok-places.places.len
-          c.deref_mut.ensures.value c.deref_mut.ensures.len c.deref.ensures.value c.in_ok-close_attached.ensures long;
+          c.deref_mut.ensures.value c.deref_mut.ensures.len c.deref.ensures.value c.in_ok-attached.ensures.closed long;
     })
     c.draw.new.glyphs.items c.in_ok-draw.ensures.ok
 

@@ -24,7 +24,6 @@ fill-requires-clause-ready g c =
     let font : shaper.font ≡ c.font.result.now = sym c.font.ensures in
     record {
       short = c.requires.short;
-      rises = c.is_rising.ensures;
       stops =
           subst (λ (row : List LineStop). AreStops (length text) row) (sym (c.deref.ensures.value ∙ c.in_ok-row.ensures))
           (stops_are (length text) c.args.stops.now);

@@ -1,7 +1,8 @@
-use Rattle.std.proofs.Common.{◌≡◌, ◌<◌, ◌∙◌, arith, false, get_or, refl, sym}
+use Rattle.std.proofs.Common.{◌≡◌, ◌<◌, arith, false, get_or, refl}
 use Rattle.aat_shaped_text.specs.Parts.{cut_before}
 use Rattle.aat_shaped_text.specs.declared.text.TextGlyph.{TextGlyph}
 use Rattle.aat_shaper.proofs.Texts.{opening}
+use Rattle.aat_shaper.proofs.Told.{rising_where_told}
 use Rattle.aat_shaper.proofs.lines.filling.Filling.opening_at.Goals as goal
 
 abbrev zero_glyph : TextGlyph
@@ -16,6 +17,7 @@ returns-then-max-cluster c =
     omega (arith, c.max.ensures, c.if-max-cluster.true)
     in
     opening f.text.now f.whole.now k c.args.place (get_or f.text.now c.args.place zero_glyph).cluster zero_glyph
-    (sym c.requires.ready.rises ∙ c.if-not-self.false) c.requires.inside c.requires.in_text
+    (rising_where_told f.value f.font.now f.direction f.features.now f.text.now f.whole.now k c.requires.ready.drawn c.if-k-self.false c.if-not-self-k.false)
+    c.requires.inside c.requires.in_text
     refl c.if-self-place.false behind c.if-k-self.false
     c.if-not-self-k.false cut
