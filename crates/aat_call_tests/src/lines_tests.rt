@@ -7,7 +7,6 @@ use aat_layout::font::{FaceTables, Lookup, hb_font_t};
 use aat_shape::described::drop_font;
 use aat_shaper::{LineStop, Shaper, TextGlyph};
 use std::alloc::Global;
-use std::collections::BTreeSet;
 use std::process::Abort;
 use std::test::Fail;
 
@@ -50,8 +49,7 @@ fn ends_of(
     ]
     .map(|(id, cluster)| TextGlyph::new(id, cluster));
     let stops = stops_at(alloc, places)?;
-    let none = BTreeSet::new(alloc);
-    let lines = shaper.shape_lines(alloc, alloc, direction, &text, &[], &stops, &none, 400)?;
+    let lines = shaper.shape_lines(alloc, alloc, direction, &text, &[], &stops, false, 400)?;
     let mut ends = Vec::new(alloc);
     for line in &lines.lines {
         ends.push(line.text_end)?;

@@ -4,7 +4,6 @@ use crate::line::Context;
 use crate::paragraph::Paragraph;
 use aat_layout::font::GlyphId;
 use aat_shaper::{LineStop, ShapedGlyph, Shaper, TextGlyph, TextLines};
-use aat_text::hidden_ids;
 use anyhow::Result;
 use std::alloc::{AllocError, Global};
 
@@ -74,7 +73,6 @@ pub(crate) fn lines_of(
 ) -> Result<TextLines> {
     let text = paragraph.text.as_slice();
     let stops = stops_of(alloc, context.face.glyph_of(' '), paragraph)?;
-    let hidden = hidden_ids(alloc, text)?;
     let lines = shaper.shape_lines(
         alloc,
         alloc,
@@ -82,7 +80,7 @@ pub(crate) fn lines_of(
         text,
         context.request.features.as_slice(),
         &stops,
-        &hidden,
+        true,
         width,
     )?;
     Ok(lines)

@@ -35,37 +35,26 @@ pub(crate) struct ShapedLine {
     pub(crate) trace: Option<Trace>,
 }
 
-/// Where a line may be broken.
-#[derive(Clone, Copy)]
-struct Breaks<'a> {
-    /// The places of the text where a line may end.
-    ends: &'a [LineEnd],
-    /// Whether `may_break_before` of a glyph speaks of the glyph that is drawn before it. In a backward line it does not
-    /// where a glyph between them was taken out.
-    is_whole: bool,
-}
-
-impl Breaks<'_> {
-    /// Whether the text may be broken between two glyphs that are drawn one behind the other: where a line may end at
-    /// the later one of their clusters.
-    fn between(&self, before: &ShapedGlyph, glyph: &ShapedGlyph) -> LineBreak {
-        let place = before.cluster.max(glyph.cluster);
-        let index = self.ends.partition_point(|end| end.place < place);
-        let is_end = self.ends.get(index).is_some_and(|end| end.place == place);
-        if !is_end || before.cluster == glyph.cluster {
-            LineBreak::Never
-        } else if self.is_whole && glyph.may_break_before {
-            LineBreak::AsDrawn
-        } else {
-            LineBreak::ShapedAnew
-        }
+/// Whether the text may be broken between two glyphs that are drawn one behind the other: where a line may end at the
+/// later one of their clusters.
+fn break_between(ends: &[LineEnd], before: &ShapedGlyph, glyph: &ShapedGlyph) -> LineBreak {
+    let place = before.cluster.max(glyph.cluster);
+    let index = ends.partition_point(|end| end.place < place);
+    let is_end = ends.get(index).is_some_and(|end| end.place == place);
+    if !is_end || before.cluster == glyph.cluster {
+        LineBreak::Never
+    } else if glyph.may_break_before {
+        LineBreak::AsDrawn
+    } else {
+        LineBreak::ShapedAnew
     }
 }
 
-/// The glyphs of a line, with where it may be broken and what changed them.
+/// The glyphs of a line, with what changed them, and where it may be broken: `ends` are the places of the text where a
+/// line may end.
 fn drawn_glyphs(
     alloc: Global,
-    breaks: Breaks<'_>,
+    ends: &[LineEnd],
     glyphs: &[ShapedGlyph],
     changes: &[Option<usize>],
 ) -> Result<Vec<DrawnGlyph>, AllocError> {
@@ -74,7 +63,7 @@ fn drawn_glyphs(
     for (place, glyph) in glyphs.iter().enumerate() {
         let break_before = match before {
             None => LineBreak::Never,
-            Some(before) => breaks.between(before, glyph),
+            Some(before) => break_between(ends, before, glyph),
         };
         drawn.push(DrawnGlyph {
             glyph: *glyph,
@@ -120,17 +109,14 @@ pub(crate) fn shaped_line(
     let features = context.request.features.as_slice();
     let direction = paragraph.direction;
     let space = context.face.glyph_of(' ');
-    let visible = hide_ignorables(alloc, space, text, glyphs)?;
+    let visible = hide_ignorables(alloc, space, glyphs)?;
     let trace = if is_traced(context.request.output, text) {
         Some(trace_of(alloc, context.face.font(), direction, text, features)?)
     } else {
         None
     };
     let changes = changes_of(alloc, &trace, direction, glyphs, &visible)?;
-    let is_whole = direction.is_forward() || visible.len() == glyphs.len();
-    let ends = paragraph.ends.as_slice();
-    let breaks = Breaks { ends, is_whole };
-    let glyphs = drawn_glyphs(alloc, breaks, &visible, &changes)?;
+    let glyphs = drawn_glyphs(alloc, &paragraph.ends, &visible, &changes)?;
     let drawn = DrawnLine { direction, glyphs };
     Ok(ShapedLine { drawn, trace })
 }

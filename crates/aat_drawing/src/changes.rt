@@ -118,10 +118,10 @@ pub fn drawn_changes(
         return Ok(kept);
     }
     let mut changes = Vec::new(alloc);
-    let mut pairs = shaped.iter().zip(&kept);
-    for glyph in drawn {
-        let pair = pairs.find(|(shaped, _)| shaped.glyph_id == glyph.glyph_id);
-        changes.push(pair.and_then(|(_, change)| *change))?;
+    for (glyph, change) in shaped.iter().zip(&kept) {
+        if !glyph.is_ignorable {
+            changes.push(*change)?;
+        }
     }
     Ok(changes)
 }

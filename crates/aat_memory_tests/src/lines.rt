@@ -8,7 +8,6 @@ use aat_layout::font::hb_font_t;
 use aat_shaper::{LineStop, Shaper, TextGlyph, TextLines};
 use linked_list_allocator::LocalHeap;
 use std::alloc::{Allocator, Global};
-use std::collections::BTreeSet;
 use std::test::Fail;
 
 /// The ids and clusters of the text. It may be broken between any two glyphs but 1 and 2, which are kerned.
@@ -50,9 +49,8 @@ fn fills<'h>(
         hang: None,
         is_forced: false,
     });
-    let none = BTreeSet::new(alloc);
     let ltr = Direction::LeftToRight;
-    match &shaper.shape_lines(alloc, heap, ltr, &text, &[], &stops, &none, WIDTH) {
+    match &shaper.shape_lines(alloc, heap, ltr, &text, &[], &stops, false, WIDTH) {
         Ok(lines) if are_lines(lines) => Some(true),
         Err(AatError::OutOfMemory) if shaper.glyphs().is_empty() => Some(false),
         _ => None,

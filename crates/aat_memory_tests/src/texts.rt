@@ -1,7 +1,7 @@
 //! The calls for characters, over a heap.
 
 use aat_face::Face;
-use aat_shaped_text::{ShapedGlyph, TextGlyph};
+use aat_shaped_text::ShapedGlyph;
 use aat_text::{ClusterUnit, TextError, hide_ignorables, line_ends, missing_characters, text_of};
 use linked_list_allocator::LocalHeap;
 
@@ -29,10 +29,10 @@ pub(crate) enum Text {
 
 /// Whether what is left of two glyphs, of which the second is hidden, are two.
 fn is_hidden(heap: &LocalHeap, face: &Face) -> Result<bool, TextError> {
-    let text = [TextGlyph::new(2, 0), TextGlyph::ignorable(7, 1)];
-    let glyphs = text.map(|glyph| ShapedGlyph {
-        glyph_id: glyph.glyph_id,
-        cluster: glyph.cluster,
+    let glyphs = [(2, 0), (7, 1)].map(|(glyph_id, cluster)| ShapedGlyph {
+        glyph_id,
+        cluster,
+        is_ignorable: cluster == 1,
         x_advance: 500,
         y_advance: 0,
         x_offset: 0,
@@ -40,7 +40,7 @@ fn is_hidden(heap: &LocalHeap, face: &Face) -> Result<bool, TextError> {
         attached_to: None,
         may_break_before: false,
     });
-    Ok(hide_ignorables(heap, face.glyph_of(' '), &text, &glyphs)?.len() == 2)
+    Ok(hide_ignorables(heap, face.glyph_of(' '), &glyphs)?.len() == 2)
 }
 
 /// Whether a call answers as many as there are, over a heap.

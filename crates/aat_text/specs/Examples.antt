@@ -2,8 +2,8 @@
 use Rattle.std.specs.Prelude.{◌≡◌, ℕ, pos, true, false, List, [], ◌∷◌, map, encode_utf8_all, Option, Some, None}
 use Rattle.aat_face.specs.Faces.{FaceValue}
 use Rattle.aat_glyph.specs.declared.glyph.Direction.TheVariants.{LeftToRight, RightToLeft}
+use Rattle.aat_shaped_text.specs.Parts.{no_shaped_glyph}
 use Rattle.aat_shaped_text.specs.declared.text.ShapedGlyph.{ShapedGlyph}
-use Rattle.aat_shaped_text.specs.declared.text.TextGlyph.{TextGlyph}
 use Rattle.aat_text.specs.Ignorables.{drawn_without_ignorables}
 use Rattle.aat_text.specs.LineEnds.{line_ends}
 use Rattle.aat_text.specs.Missing.{missing_characters}
@@ -81,36 +81,37 @@ IdeographsEndLines =
     line_ends Characters (encode_utf8_all (0x6F22 ∷ 0x5B57 ∷ 0x3002 ∷ 0x6587 ∷ []))
     ≡ may_end 1 ∷ may_end 3 ∷ []
 
--- a glyph that is drawn: where it is attached, and its advance
-abbrev pub drawn : ℕ → Option ℕ → ShapedGlyph
-drawn glyph_id attached_to = record {
-  glyph_id = glyph_id;
-  cluster = 0;
-  x_advance = pos 500;
-  y_advance = pos 0;
-  x_offset = pos 0;
-  y_offset = pos 0;
-  attached_to = attached_to;
-  may_break_before = false;
-}
+-- a glyph that is drawn, with an advance
+abbrev pub drawn : ℕ → ShapedGlyph
+drawn id = record no_shaped_glyph { glyph_id = id; x_advance = pos 500 }
 
--- a text with an ignorable glyph 7, and 9, which is ignorable once and once not
-abbrev pub ignorable_text : List TextGlyph
-ignorable_text =
-    record { glyph_id = 7; cluster = 0; is_ignorable = true }
-    ∷ record { glyph_id = 5; cluster = 1; is_ignorable = false }
-    ∷ record { glyph_id = 9; cluster = 2; is_ignorable = true }
-    ∷ record { glyph_id = 9; cluster = 3; is_ignorable = false } ∷ []
+-- one of an ignorable character, and one before which the text may be broken
+abbrev pub ignorable : ℕ → ShapedGlyph
+ignorable id = record (drawn id) { is_ignorable = true }
 
--- the glyph 7 is hidden as the space 3 without width
+abbrev pub broken_before : ShapedGlyph → ShapedGlyph
+broken_before g = record g { may_break_before = true }
+
+-- a glyph that is attached to another one
+abbrev pub attached : ℕ → ShapedGlyph → ShapedGlyph
+attached place g = record g { attached_to = Some place }
+
+-- the glyph 9 is ignorable, and is seen where another character has it
+abbrev pub ignorable_glyphs : List ShapedGlyph
+ignorable_glyphs =
+    drawn 5 ∷ broken_before (ignorable 9) ∷ broken_before (drawn 9) ∷ broken_before (attached 2 (drawn 6))
+    ∷ attached 1 (drawn 7) ∷ []
+
+-- it is hidden as the space 3 without width
 abbrev pub HiddenGlyphsAreSpaces : Type 0
 HiddenGlyphsAreSpaces =
-    drawn_without_ignorables (Some (record { 0 = 3 })) ignorable_text
-    (drawn 7 None ∷ drawn 5 None ∷ drawn 9 (Some 1) ∷ [])
-    ≡ record (drawn 3 None) { x_advance = pos 0 } ∷ drawn 5 None ∷ drawn 9 (Some 1) ∷ []
+    drawn_without_ignorables (Some (record { 0 = 3 })) ignorable_glyphs
+    ≡ drawn 5 ∷ broken_before (record (ignorable 3) { x_advance = pos 0 }) ∷ broken_before (drawn 9)
+    ∷ broken_before (attached 2 (drawn 6)) ∷ attached 1 (drawn 7) ∷ []
 
--- without a space it goes: what was attached to the glyph 5 counts it as the first, and what was attached to 7 is loose
+-- Without a space it goes, and of a break behind it nothing is said: what was attached to a glyph that stays counts those
+-- that stay, and what was attached to one that goes is loose.
 abbrev pub HiddenGlyphsGo : Type 0
 HiddenGlyphsGo =
-    drawn_without_ignorables None ignorable_text (drawn 7 None ∷ drawn 5 (Some 0) ∷ drawn 9 (Some 1) ∷ [])
-    ≡ drawn 5 None ∷ drawn 9 (Some 0) ∷ []
+    drawn_without_ignorables None ignorable_glyphs
+    ≡ drawn 5 ∷ drawn 9 ∷ broken_before (attached 1 (drawn 6)) ∷ drawn 7 ∷ []

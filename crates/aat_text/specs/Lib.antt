@@ -1,4 +1,5 @@
 pub mod Examples
+pub mod HiddenParts
 pub mod Ignorables
 pub mod LineEnds
 pub mod Missing

@@ -1,50 +1,13 @@
 //! What is drawn of ignorable characters.
-ghost use Rattle.std.specs.Prelude.{◌≡◌, ℕ, length, map, IfOk};
-ghost use Rattle.std.specs.BTreeSet.{contains};
+ghost use Rattle.std.specs.Prelude.{◌≡◌, ◌<◌, ◌-◌, ◌&&◌, length, map, IfOk};
 ghost use Rattle.std.specs.List.{range_with_len};
-ghost use Rattle.std.specs.Ordering.{nat_cmp};
-ghost use Rattle.aat_text.specs.Ignorables.{as_space, drawn_without_ignorables, has_ignorable, is_hidden, kept_glyphs, kept_place, with_spaces};
+ghost use Rattle.aat_shaped_text.specs.Parts.{shaped_at};
+ghost use Rattle.aat_text.specs.Ignorables.{as_space, drawn_without_ignorables, kept_glyph, kept_glyphs, kept_place, stays, with_spaces};
 ghost use Rattle.aat_text.specs.inside.Listed.{listed_place};
 
 use aat_lookup::GlyphId;
-use aat_shaped_text::{ShapedGlyph, TextGlyph};
+use aat_shaped_text::ShapedGlyph;
 use std::alloc::{AllocError, Allocator};
-use std::collections::BTreeSet;
-
-/// The ids of the ignorable glyphs of a text.
-fn ignorable_ids<A: Allocator + Copy>(
-    alloc: A,
-    text: &[TextGlyph],
-) -> Result<BTreeSet<u16, A>, AllocError>
-    ensures { IfOk result (λ ids. (id : ℕ) → contains nat_cmp ids id ≡ has_ignorable text.now id) }
-{
-    let mut ids = BTreeSet::new(alloc);
-    for glyph in text {
-        if glyph.is_ignorable {
-            ids.insert(glyph.glyph_id)?;
-        }
-    }
-    Ok(ids)
-}
-
-/// The ids of the glyphs that are hidden in what is drawn of a text, as [`hide_ignorables`] hides them: those of its
-/// ignorable glyphs that none has that is not ignorable.
-///
-/// Refused where memory is wanting.
-pub fn hidden_ids<A: Allocator + Copy>(
-    alloc: A,
-    text: &[TextGlyph],
-) -> Result<BTreeSet<u16, A>, AllocError>
-    ensures { IfOk result (λ ids. (id : ℕ) → contains nat_cmp ids id ≡ is_hidden text.now id) }
-{
-    let mut ids = ignorable_ids(alloc, text)?;
-    for glyph in text {
-        if !glyph.is_ignorable {
-            ids.remove(&glyph.glyph_id);
-        }
-    }
-    Ok(ids)
-}
 
 /// A glyph as a space without width.
 fn as_space(space: GlyphId, glyph: ShapedGlyph) -> ShapedGlyph
@@ -60,18 +23,17 @@ fn as_space(space: GlyphId, glyph: ShapedGlyph) -> ShapedGlyph
     }
 }
 
-/// Glyphs, with those of the ids `hidden` as spaces.
-fn with_spaces<A: Allocator + Copy>(
+/// Glyphs, with the ignorable ones as spaces.
+fn with_spaces<A: Allocator>(
     alloc: A,
-    hidden: &BTreeSet<u16, A>,
     space: GlyphId,
     glyphs: &[ShapedGlyph],
 ) -> Result<Vec<ShapedGlyph, A>, AllocError>
-    ensures { IfOk result (λ drawn. drawn.items ≡ with_spaces (contains nat_cmp hidden.now) space glyphs.now) }
+    ensures { IfOk result (λ drawn. drawn.items ≡ with_spaces space glyphs.now) }
 {
     let mut drawn = Vec::with_capacity(alloc, glyphs.len())?;
     for glyph in glyphs {
-        if hidden.contains(&glyph.glyph_id) {
+        if glyph.is_ignorable {
             drawn.push(as_space(space, *glyph))?;
         } else {
             drawn.push(*glyph)?;
@@ -81,18 +43,17 @@ fn with_spaces<A: Allocator + Copy>(
 }
 
 /// The place of each glyph among those that stay.
-fn kept_places<A: Allocator + Copy>(
+fn kept_places<A: Allocator>(
     alloc: A,
-    hidden: &BTreeSet<u16, A>,
     glyphs: &[ShapedGlyph],
 ) -> Result<Vec<Option<usize>, A>, AllocError>
     ensures { IfOk result (λ places. places.items
-        ≡ map (kept_place (contains nat_cmp hidden.now) glyphs.now) (range_with_len 0 (length glyphs.now))) }
+        ≡ map (kept_place glyphs.now) (range_with_len 0 (length glyphs.now))) }
 {
     let mut places = Vec::with_capacity(alloc, glyphs.len())?;
     let mut kept = 0;
     for glyph in glyphs {
-        if hidden.contains(&glyph.glyph_id) {
+        if glyph.is_ignorable {
             places.push(None)?;
         } else {
             places.push(Some(kept))?;
@@ -112,54 +73,79 @@ fn kept_place(places: &[Option<usize>], place: Option<usize>) -> Option<usize>
     }
 }
 
+/// Whether the text may be broken before the glyph at a place, and the one before it stays.
+fn may_break(glyphs: &[ShapedGlyph], i: usize) -> bool
+    requires { i < length glyphs.now }
+    ensures { result ≡ ((shaped_at glyphs.now i).may_break_before && stays (shaped_at glyphs.now (i - 1))) }
+{
+    glyphs[i].may_break_before && !glyphs[i.saturating_sub(1)].is_ignorable
+}
+
 /// A glyph that stays, attached among those that stay.
-fn kept_glyph(places: &[Option<usize>], glyph: ShapedGlyph) -> ShapedGlyph
-    ensures { result ≡ record glyph { attached_to = listed_place places.now glyph.attached_to } }
+fn attached_glyph(
+    places: &[Option<usize>],
+    glyph: ShapedGlyph,
+    may_break_before: bool,
+) -> ShapedGlyph
+    ensures { result ≡ record glyph {
+      attached_to = listed_place places.now glyph.attached_to;
+      may_break_before = may_break_before;
+    } }
 {
     ShapedGlyph {
         attached_to: kept_place(places, glyph.attached_to),
+        may_break_before,
         ..glyph
     }
 }
 
-/// Glyphs without those of the ids `hidden`.
+/// The glyph at a place, which stays.
+fn kept_glyph(places: &[Option<usize>], glyphs: &[ShapedGlyph], i: usize) -> ShapedGlyph
+    requires in_glyphs { i < length glyphs.now }
+    requires places { places.now ≡ map (kept_place glyphs.now) (range_with_len 0 (length glyphs.now)) }
+    ensures { result ≡ kept_glyph glyphs.now i }
+{
+    attached_glyph(places, glyphs[i], may_break(glyphs, i))
+}
+
+/// Glyphs without the ignorable ones.
 fn kept_glyphs<A: Allocator + Copy>(
     alloc: A,
-    hidden: &BTreeSet<u16, A>,
     glyphs: &[ShapedGlyph],
 ) -> Result<Vec<ShapedGlyph, A>, AllocError>
-    ensures { IfOk result (λ drawn. drawn.items ≡ kept_glyphs (contains nat_cmp hidden.now) glyphs.now) }
+    ensures { IfOk result (λ drawn. drawn.items ≡ kept_glyphs glyphs.now) }
 {
-    let places = kept_places(alloc, hidden, glyphs)?;
+    let places = kept_places(alloc, glyphs)?;
     let mut drawn = Vec::new(alloc);
-    for glyph in glyphs {
-        if !hidden.contains(&glyph.glyph_id) {
-            drawn.push(kept_glyph(&places, *glyph))?;
+    for i in 0..glyphs.len() {
+        if !glyphs[i].is_ignorable {
+            drawn.push(kept_glyph(&places, glyphs, i))?;
         }
     }
     Ok(drawn)
 }
 
 /// What is drawn of a text, where nothing is to be seen of its ignorable characters, as HarfBuzz has it. `glyphs` is
-/// what a `Shaper` draws of `text`, and `space` the glyph of the space in the font, if it has one.
+/// what a `Shaper` draws of the text, and `space` the glyph of the space in the font, if it has one.
 ///
-/// A glyph that is drawn is hidden if an ignorable glyph of the text has its id, and no other glyph of the text has it.
-/// It is drawn as the space, with advances and offsets of 0. Where the font has no space it is taken out, and
-/// `attached_to` of the others counts those that stay: it is `None` where it was that of one that is taken out, or of
-/// no glyph. All else stays as it was.
+/// An ignorable glyph is drawn as the space, with advances and offsets of 0. Where the font has no space it is taken
+/// out, and `attached_to` of the others counts those that stay: it is `None` where it was that of one that is taken
+/// out, or of no glyph. `may_break_before` of a glyph is `false` where the one right before it is taken out. All else
+/// stays as it was.
+///
+/// Where the text may be broken before a glyph, its two parts, with their ignorable glyphs hidden, look by themselves as
+/// they do here.
 ///
 /// Refused where memory is wanting.
 pub fn hide_ignorables<A: Allocator + Copy>(
     alloc: A,
     space: Option<GlyphId>,
-    text: &[TextGlyph],
     glyphs: &[ShapedGlyph],
 ) -> Result<Vec<ShapedGlyph, A>, AllocError>
-    ensures { IfOk result (λ drawn. drawn.items ≡ drawn_without_ignorables space text.now glyphs.now) }
+    ensures { IfOk result (λ drawn. drawn.items ≡ drawn_without_ignorables space glyphs.now) }
 {
-    let hidden = hidden_ids(alloc, text)?;
     match space {
-        Some(space) => with_spaces(alloc, &hidden, space, glyphs),
-        None => kept_glyphs(alloc, &hidden, glyphs),
+        Some(space) => with_spaces(alloc, space, glyphs),
+        None => kept_glyphs(alloc, glyphs),
     }
 }

@@ -1,5 +1,8 @@
 //! The laws of texts as theorems. These calls do nothing: what is proved is their contracts.
+ghost use Rattle.aat_text.specs.HiddenParts.{BreaksHoldWithoutIgnorables};
 ghost use Rattle.aat_text.specs.TextLaws.{CharactersHaveGlyphs, LineEndsRise, TextsRise};
+
+use aat_shaped_text::laws::texts_are_drawn_in_parts;
 
 /// Clusters never fall along the glyphs of a text.
 #[tactic(auto, using(crate::proofs::Rising::texts_rise))]
@@ -17,3 +20,14 @@ pub fn characters_have_glyphs()
 pub fn line_ends_rise()
     ensures { LineEndsRise }
 {}
+
+/// What is drawn of a text of at most 2^24 glyphs, its ignorable glyphs hidden, may be broken before each glyph that says
+/// so, in whatever font: what is drawn before it looks as one part of the text does, shaped by itself with the same
+/// features and tracked by the same value, with its ignorable glyphs hidden, and what is drawn from it on as the other
+/// part. The text is cut at the later of the two clusters that meet there. In a forward text the part before the cut is
+/// drawn first, and in a backward text the part from the cut on.
+pub fn breaks_hold_without_ignorables()
+    ensures { BreaksHoldWithoutIgnorables }
+{
+    texts_are_drawn_in_parts();
+}

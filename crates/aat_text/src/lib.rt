@@ -25,7 +25,7 @@ pub mod worked;
 pub use direction::first_strong_direction;
 pub use error::TextError;
 pub use glyphs::text_of;
-pub use ignorables::{hidden_ids, hide_ignorables};
+pub use ignorables::hide_ignorables;
 pub use lines::{LineEnd, line_ends};
 pub use missing::{MissingCharacter, missing_characters};
 pub use unit::ClusterUnit;

@@ -1,11 +1,9 @@
-use Rattle.std.proofs.Common.{◌≡◌, take, map}
-use Rattle.std.specs.BTreeSet.{contains}
-use Rattle.std.specs.List.{filter}
-use Rattle.std.specs.Ordering.{nat_cmp}
+use Rattle.std.proofs.Common.{◌≡◌, map}
+use Rattle.std.specs.List.{filter, range_with_len}
+use Rattle.aat_shaped_text.specs.Parts.{shaped_at}
 use Rattle.aat_text.specs.Ignorables.{kept_glyph, stays}
 use Rattle.aat_text.proofs.ignorables.kept_glyphs.Given as goal
 
-abbrev pub invariant-loop-glyph : goal.invariant-loop-glyph
-invariant-loop-glyph g l =
-    let hidden = contains nat_cmp l.hidden in
-    l.drawn.items ≡ map (kept_glyph hidden l.glyphs) (filter (stays hidden) (take l.glyph-index l.glyphs))
+abbrev pub invariant-loop-i : goal.invariant-loop-i
+invariant-loop-i g l =
+    l.drawn.items ≡ map (kept_glyph l.fn.glyphs) (filter (λ i. stays (shaped_at l.fn.glyphs i)) (range_with_len 0 l.i))

@@ -1,0 +1,299 @@
+-- Where what is drawn of a text may be broken, its ignorable glyphs hidden.
+use Rattle.std.proofs.Common.{◌≡◌, ◌∙◌, sym, ap, ap₂, refl, subst, ℕ, zero, suc, ◌+◌, ◌-◌, ◌<◌, ◌≤◌, ◌&&◌, Bool, true, false, not, cond, List, [], ◌∷◌, ◌++◌, Option, Some, None, drop, filter, get_or, length, map, max, take, arith, true≢false}
+use Rattle.std.specs.Bool.{MatchBool}
+use Rattle.std.specs.List.{range_with_len}
+use Rattle.std.specs.Prelude.{ℤ}
+use Rattle.std.proofs.lemmas.List.{drop-map, get_or-append-add, get_or-drop, get_or-map, get_or-take, length-append, length-drop, length-map, length-take-le, take-map}
+use Rattle.aat_font.specs.declared.face.hb_font_t.{hb_font_t}
+use Rattle.aat_font.specs.declared.plan.Feature.{Feature}
+use Rattle.aat_glyph.specs.Directions.{is_backward}
+use Rattle.aat_glyph.specs.declared.glyph.Direction.{Direction}
+use Rattle.aat_lookup.specs.declared.glyph_id.GlyphId.{GlyphId}
+use Rattle.aat_shaped_text.specs.Parts.{IsDrawnInParts, LooksAsParts, TextsAreDrawnInParts, cut_before, looks, no_shaped_glyph, shaped_at, text_before, text_from}
+use Rattle.aat_shaped_text.specs.ShapedText.{most_text, shaped_text}
+use Rattle.aat_shaped_text.specs.declared.text.ShapedGlyph.{ShapedGlyph}
+use Rattle.aat_shaped_text.specs.declared.text.TextGlyph.{TextGlyph}
+use Rattle.aat_text.specs.HiddenParts.{BreaksHoldWithoutIgnorables, IsShownInParts, ShowsAsParts, shown_text}
+use Rattle.aat_text.specs.Ignorables.{as_space, drawn_without_ignorables, kept_glyph, kept_glyphs, places_kept, space_for, stays}
+use Rattle.aat_shaped_text.proofs.Looks.{looks_of_places}
+use Rattle.aat_text.proofs.HiddenGlyphs.{passed_more}
+
+abbrev Drawn : Type 0
+Drawn = List ShapedGlyph
+
+-- the places from a on, of n, that pass a test
+abbrev passed : (ℕ → Bool) → ℕ → ℕ → List ℕ
+passed p a n = filter p (range_with_len a n)
+
+-- the place that passes behind k others, and the places before it and from it on
+record PassedAt (p : ℕ → Bool) (a n k : ℕ) : Type 0 where
+  at : ℕ
+  left : ℕ
+  whole : at + left ≡ n
+  low : at < n
+  is : get_or (passed p a n) k 0 ≡ a + at
+  front : take k (passed p a n) ≡ passed p a at
+  back : drop k (passed p a n) ≡ passed p (a + at) left
+
+passed_at : (p : ℕ → Bool) (a n k : ℕ) → k < length (passed p a n) → PassedAt p a n k
+passed_at p a zero k low = absurd (omega (arith, low))
+passed_at p a (suc n) k low = by (p a) refl k low (λ j lower. passed_at p (a + 1) n j lower)
+  where
+    rest : List ℕ
+    rest = passed p (a + 1) n
+
+    by :
+        (t : Bool) → p a ≡ t → (k : ℕ) → k < length (passed p a (suc n)) → ((j : ℕ) → j < length rest → PassedAt p (a + 1) n j)
+        → PassedAt p a (suc n) k
+    by false fails k low below =
+        let whole : passed p a (suc n) ≡ rest = ap (λ (t : Bool). cond t (a ∷ rest) rest) fails in
+        let x = below k (omega (arith, low, ap length whole)) in
+        let next : (a + 1) + x.at ≡ a + suc x.at = omega arith in
+        record {
+          at = suc x.at;
+          left = x.left;
+          whole = omega (arith, x.whole);
+          low = omega (arith, x.low);
+          is = ap (λ (is : List ℕ). get_or is k 0) whole ∙ (x.is ∙ next);
+          front = ap (take k) whole ∙ (x.front ∙ sym (ap (λ (t : Bool). cond t (a ∷ passed p (a + 1) x.at) (passed p (a + 1) x.at)) fails));
+          back = ap (drop k) whole ∙ (x.back ∙ ap (λ (i : ℕ). passed p i x.left) next);
+        }
+    by true passes zero low below =
+        let whole : passed p a (suc n) ≡ a ∷ rest = ap (λ (t : Bool). cond t (a ∷ rest) rest) passes in
+        let here : a ≡ a + 0 = omega arith in
+        record {
+          at = 0;
+          left = suc n;
+          whole = omega arith;
+          low = omega arith;
+          is = ap (λ (is : List ℕ). get_or is 0 0) whole ∙ here;
+          front = refl;
+          back = ap (λ (i : ℕ). passed p i (suc n)) here;
+        }
+    by true passes (suc k) low below =
+        let whole : passed p a (suc n) ≡ a ∷ rest = ap (λ (t : Bool). cond t (a ∷ rest) rest) passes in
+        let x = below k (omega (arith, low, ap length whole)) in
+        let next : (a + 1) + x.at ≡ a + suc x.at = omega arith in
+        record {
+          at = suc x.at;
+          left = x.left;
+          whole = omega (arith, x.whole);
+          low = omega (arith, x.low);
+          is = ap (λ (is : List ℕ). get_or is (suc k) 0) whole ∙ (x.is ∙ next);
+          front =
+              ap (take (suc k)) whole
+              ∙ (ap (λ (is : List ℕ). a ∷ is) x.front
+              ∙ sym (ap (λ (t : Bool). cond t (a ∷ passed p (a + 1) x.at) (passed p (a + 1) x.at)) passes));
+          back = ap (drop (suc k)) whole ∙ (x.back ∙ ap (λ (i : ℕ). passed p i x.left) next);
+        }
+
+-- where the place right before it passes too, that is the one before
+passed_before :
+    (p : ℕ → Bool) (is : List ℕ) (k i h j : ℕ) → k < length is → take k is ≡ passed p 0 i → get_or is k 0 ≡ i
+    → h ≡ k - 1 → j ≡ i - 1 → p j ≡ true → get_or is h 0 ≡ j
+passed_before p is zero zero h j low front at first before passes =
+    let none : h ≡ 0 = omega (arith, first) in
+    let start : 0 ≡ j = omega (arith, before) in
+    ap (λ (m : ℕ). get_or is m 0) none ∙ (at ∙ start)
+passed_before p is zero (suc i) h j low front at first before passes =
+    let stands : j ≡ i = omega (arith, before) in
+    let more : passed p 0 (i + 1) ≡ passed p 0 i ++ i ∷ [] =
+    passed_more p i ∙ ap (λ (t : Bool). passed p 0 i ++ cond t (i ∷ []) []) (ap p (sym stands) ∙ passes) in
+    let same : suc i ≡ i + 1 = omega arith in
+    let none : 0 ≡ length (passed p 0 i ++ i ∷ []) = ap length (front ∙ (ap (passed p 0) same ∙ more)) in
+    absurd (omega (arith, none, length-append (passed p 0 i) (i ∷ [])))
+passed_before p is (suc k) zero h j low front at first before passes =
+    let none : length (take (suc k) is) ≡ 0 = ap length front in
+    absurd (omega (arith, none, length-take-le (suc k) is (omega (arith, low))))
+passed_before p is (suc k) (suc i) h j low front at first before passes =
+    let stands : j ≡ i = omega (arith, before) in
+    let place : h ≡ k = omega (arith, first) in
+    let more : passed p 0 (i + 1) ≡ passed p 0 i ++ i ∷ [] =
+    passed_more p i ∙ ap (λ (t : Bool). passed p 0 i ++ cond t (i ∷ []) []) (ap p (sym stands) ∙ passes) in
+    let same : suc i ≡ i + 1 = omega arith in
+    let begun : take (suc k) is ≡ passed p 0 i ++ i ∷ [] = front ∙ (ap (passed p 0) same ∙ more) in
+    let long : length (take (suc k) is) ≡ length (passed p 0 i ++ i ∷ []) = ap length begun in
+    let last : h ≡ length (passed p 0 i) + 0 =
+    omega (arith, place, long, length-take-le (suc k) is (omega (arith, low)), length-append (passed p 0 i) (i ∷ [])) in
+    sym (get_or-take (suc k) is h 0 (omega (arith, place)))
+    ∙ (ap (λ (js : List ℕ). get_or js h 0) begun
+    ∙ (ap (λ (m : ℕ). get_or (passed p 0 i ++ i ∷ []) m 0) last
+    ∙ (get_or-append-add (passed p 0 i) (i ∷ []) 0 0 ∙ sym stands)))
+
+-- How hiding changes looks.
+abbrev hidden_looks : Option GlyphId → Drawn → Drawn
+hidden_looks (Some space) glyphs = map (space_for space) glyphs
+hidden_looks None glyphs = filter stays glyphs
+
+space_looks : (space : GlyphId) (glyphs : Drawn) → map looks (map (space_for space) glyphs) ≡ map (space_for space) (map looks glyphs)
+space_looks space [] = refl
+space_looks space (g ∷ glyphs) = ap₂ (λ (h : ShapedGlyph) (hs : Drawn). h ∷ hs) (by g.is_ignorable) (space_looks space glyphs)
+  where
+    by : (t : Bool) → looks (cond t (as_space space g) g) ≡ cond t (as_space space (looks g)) (looks g)
+    by true = refl
+    by false = refl
+
+-- how those of some places look
+looks_from :
+    (glyphs : Drawn) (a : ℕ) (xs : Drawn) → ((j : ℕ) → j < length xs → shaped_at glyphs (a + j) ≡ shaped_at xs j)
+    → map (λ i. looks (shaped_at glyphs i)) (passed (λ i. stays (shaped_at glyphs i)) a (length xs)) ≡ filter stays (map looks xs)
+looks_from glyphs a [] same = refl
+looks_from glyphs a (x ∷ xs) same =
+    let here : a + 0 ≡ a = omega arith in
+    let first : shaped_at glyphs a ≡ x = sym (ap (shaped_at glyphs) here) ∙ same 0 (omega arith) in
+    by x.is_ignorable (ap (λ (g : ShapedGlyph). g.is_ignorable) first) (ap looks first)
+    (looks_from glyphs (a + 1) xs
+    (λ j low. let next : (a + 1) + j ≡ a + suc j = omega arith in ap (shaped_at glyphs) next ∙ same (suc j) (omega (arith, low))))
+  where
+    look_at : ℕ → ShapedGlyph
+    look_at i = looks (shaped_at glyphs i)
+
+    rest : List ℕ
+    rest = passed (λ i. stays (shaped_at glyphs i)) (a + 1) (length xs)
+
+    whole :
+        {t : Bool} → (shaped_at glyphs a).is_ignorable ≡ t
+        → map look_at (cond (not (shaped_at glyphs a).is_ignorable) (a ∷ rest) rest) ≡ map look_at (cond (not t) (a ∷ rest) rest)
+    whole is = ap (λ (u : Bool). map look_at (cond (not u) (a ∷ rest) rest)) is
+
+    by :
+        (t : Bool) → (shaped_at glyphs a).is_ignorable ≡ t → looks (shaped_at glyphs a) ≡ looks x
+        → map look_at rest ≡ filter stays (map looks xs)
+        → map look_at (cond (not (shaped_at glyphs a).is_ignorable) (a ∷ rest) rest)
+        ≡ cond (not t) (looks x ∷ filter stays (map looks xs)) (filter stays (map looks xs))
+    by true is look below = whole is ∙ below
+    by false is look below = whole is ∙ ap₂ (λ (h : ShapedGlyph) (hs : Drawn). h ∷ hs) look below
+
+looks_hidden : (space : Option GlyphId) (glyphs : Drawn) → map looks (drawn_without_ignorables space glyphs) ≡ hidden_looks space (map looks glyphs)
+looks_hidden (Some space) glyphs = space_looks space glyphs
+looks_hidden None glyphs =
+    looks_of_places (kept_glyph glyphs) (places_kept glyphs)
+    ∙ looks_from glyphs 0 glyphs (λ j low. let same : 0 + j ≡ j = omega arith in ap (shaped_at glyphs) same)
+
+-- The place of a glyph that is shown: it says the same of a break, which cuts the text at the same cluster, and the glyphs
+-- before it and from it on look as those before and from it on do, hidden.
+record ShownAt (space : Option GlyphId) (glyphs shown : Drawn) (k : ℕ) : Type 0 where
+  at : ℕ
+  low : at < length glyphs
+  breaks : (shaped_at glyphs at).may_break_before ≡ true
+  cut : cut_before shown k ≡ cut_before glyphs at
+  front : map looks (take k shown) ≡ hidden_looks space (map looks (take at glyphs))
+  back : map looks (drop k shown) ≡ hidden_looks space (map looks (drop at glyphs))
+
+-- where ignorable glyphs are spaces
+module _ (space : GlyphId) (glyphs : Drawn) where
+  cluster_as_space : (g : ShapedGlyph) → (space_for space g).cluster ≡ g.cluster
+  cluster_as_space g = by g.is_ignorable
+    where
+      by : (t : Bool) → (cond t (as_space space g) g).cluster ≡ g.cluster
+      by true = refl
+      by false = refl
+
+  break_as_space : (g : ShapedGlyph) → (space_for space g).may_break_before ≡ g.may_break_before
+  break_as_space g = by g.is_ignorable
+    where
+      by : (t : Bool) → (cond t (as_space space g) g).may_break_before ≡ g.may_break_before
+      by true = refl
+      by false = refl
+
+  space_at : (k : ℕ) → k < length glyphs → shaped_at (map (space_for space) glyphs) k ≡ space_for space (shaped_at glyphs k)
+  space_at k low = get_or-map (space_for space) glyphs k no_shaped_glyph no_shaped_glyph low
+
+  shown_as_space :
+      (k : ℕ) → k < length (map (space_for space) glyphs) → (shaped_at (map (space_for space) glyphs) k).may_break_before ≡ true
+      → ShownAt (Some space) glyphs (map (space_for space) glyphs) k
+  shown_as_space k low may =
+      let within : k < length glyphs = omega (arith, low, length-map glyphs (space_for space)) in
+      let cluster : (j : ℕ) → j < length glyphs → (shaped_at (map (space_for space) glyphs) j).cluster ≡ (shaped_at glyphs j).cluster =
+      λ j inside. ap (λ (g : ShapedGlyph). g.cluster) (space_at j inside) ∙ cluster_as_space (shaped_at glyphs j) in
+      record {
+        at = k;
+        low = within;
+        breaks = sym (ap (λ (g : ShapedGlyph). g.may_break_before) (space_at k within) ∙ break_as_space (shaped_at glyphs k)) ∙ may;
+        cut = ap₂ max (cluster (k - 1) (omega (arith, within))) (cluster k within);
+        front = ap (map looks) (take-map (space_for space) k glyphs) ∙ space_looks space (take k glyphs);
+        back = ap (map looks) (drop-map (space_for space) k glyphs) ∙ space_looks space (drop k glyphs);
+      }
+
+both : (t u : Bool) → (t && u) ≡ true → (t ≡ true) × (u ≡ true)
+both true u e = (refl, e)
+both false u e = absurd (true≢false (sym e))
+
+-- where they are taken out
+module _ (glyphs : Drawn) where
+  abbrev stays_at : ℕ → Bool
+  stays_at i = stays (shaped_at glyphs i)
+
+  abbrev look_at : ℕ → ShapedGlyph
+  look_at i = looks (shaped_at glyphs i)
+
+  kept_at : (k : ℕ) → k < length (places_kept glyphs) → shaped_at (kept_glyphs glyphs) k ≡ kept_glyph glyphs (get_or (places_kept glyphs) k 0)
+  kept_at k low = get_or-map (kept_glyph glyphs) (places_kept glyphs) k 0 no_shaped_glyph low
+
+  shown_kept :
+      (k : ℕ) → k < length (kept_glyphs glyphs) → (shaped_at (kept_glyphs glyphs) k).may_break_before ≡ true
+      → ShownAt None glyphs (kept_glyphs glyphs) k
+  shown_kept k low may =
+      let is = places_kept glyphs in
+      let inside : k < length is = omega (arith, low, length-map is (kept_glyph glyphs)) in
+      let x = passed_at stays_at 0 (length glyphs) k inside in
+      let zero_more : 0 + x.at ≡ x.at = omega arith in
+      let place : get_or is k 0 ≡ x.at = x.is ∙ zero_more in
+      let here : shaped_at (kept_glyphs glyphs) k ≡ kept_glyph glyphs x.at = kept_at k inside ∙ ap (kept_glyph glyphs) place in
+      let says = both (shaped_at glyphs x.at).may_break_before (stays_at (x.at - 1)) (sym (ap (λ (g : ShapedGlyph). g.may_break_before) here) ∙ may) in
+      let before : get_or is (k - 1) 0 ≡ x.at - 1 =
+      passed_before stays_at is k x.at (k - 1) (x.at - 1) inside x.front place refl refl says.1 in
+      let there : shaped_at (kept_glyphs glyphs) (k - 1) ≡ kept_glyph glyphs (x.at - 1) =
+      kept_at (k - 1) (omega (arith, inside)) ∙ ap (kept_glyph glyphs) before in
+      let long_front : length (take x.at glyphs) ≡ x.at = length-take-le x.at glyphs (omega (arith, x.low)) in
+      let long_back : length (drop x.at glyphs) ≡ x.left = omega (arith, length-drop x.at glyphs, x.whole) in
+      record {
+        at = x.at;
+        low = x.low;
+        breaks = says.0;
+        cut = ap₂ max (ap (λ (g : ShapedGlyph). g.cluster) there) (ap (λ (g : ShapedGlyph). g.cluster) here);
+        front =
+            ap (map looks) (take-map (kept_glyph glyphs) k is)
+            ∙ (looks_of_places (kept_glyph glyphs) (take k is)
+            ∙ (ap (map look_at) (x.front ∙ ap (passed stays_at 0) (sym long_front))
+            ∙ looks_from glyphs 0 (take x.at glyphs)
+            (λ j less. let same : 0 + j ≡ j = omega arith in
+            ap (shaped_at glyphs) same ∙ sym (get_or-take x.at glyphs j no_shaped_glyph (omega (arith, less, long_front))))));
+        back =
+            ap (map looks) (drop-map (kept_glyph glyphs) k is)
+            ∙ (looks_of_places (kept_glyph glyphs) (drop k is)
+            ∙ (ap (map look_at) (x.back ∙ (ap (λ (i : ℕ). passed stays_at i x.left) zero_more ∙ ap (passed stays_at x.at) (sym long_back)))
+            ∙ looks_from glyphs x.at (drop x.at glyphs) (λ j less. sym (get_or-drop x.at glyphs j no_shaped_glyph))));
+      }
+
+shown_at :
+    (space : Option GlyphId) (glyphs : Drawn) (k : ℕ) → k < length (drawn_without_ignorables space glyphs)
+    → (shaped_at (drawn_without_ignorables space glyphs) k).may_break_before ≡ true
+    → ShownAt space glyphs (drawn_without_ignorables space glyphs) k
+shown_at (Some space) glyphs k low may = shown_as_space space glyphs k low may
+shown_at None glyphs k low may = shown_kept glyphs k low may
+
+match_map : {A B C D : Type 0} (t : Bool) → (A → C) → (B → D) → MatchBool t A B → MatchBool t C D
+match_map true f g m = f m
+match_map false f g m = g m
+
+-- what is shown of a text may be broken before each glyph that says so
+pub breaks_hold : TextsAreDrawnInParts → BreaksHoldWithoutIgnorables
+breaks_hold holds space v face d features text short k low may =
+    let glyphs = shaped_text v face d features text in
+    let shown = shown_text space v face d features text in
+    let x = shown_at space glyphs k low may in
+    let parts : IsDrawnInParts v face d features text glyphs x.at = holds v face d features text short x.at x.low x.breaks in
+    let part : (first second : List TextGlyph) → LooksAsParts v face d features first second glyphs x.at
+    → ShowsAsParts space v face d features first second shown k =
+    λ first second as_parts. record {
+      before = x.front ∙ (ap (hidden_looks space) as_parts.before ∙ sym (looks_hidden space (shaped_text v face d features first)));
+      behind = x.back ∙ (ap (hidden_looks space) as_parts.behind ∙ sym (looks_hidden space (shaped_text v face d features second)));
+    } in
+    subst
+    (λ (c : ℕ). MatchBool (is_backward d) (ShowsAsParts space v face d features (text_from c text) (text_before c text) shown k)
+    (ShowsAsParts space v face d features (text_before c text) (text_from c text) shown k))
+    (sym x.cut)
+    (match_map (is_backward d)
+    (part (text_from (cut_before glyphs x.at) text) (text_before (cut_before glyphs x.at) text))
+    (part (text_before (cut_before glyphs x.at) text) (text_from (cut_before glyphs x.at) text)) parts)

@@ -1,0 +1,44 @@
+-- Where what is drawn of a text may be broken, its ignorable glyphs hidden. (No chapter of the manual: where a line may be
+-- broken is the shaper's own.)
+use Rattle.std.specs.Prelude.{◌≡◌, ℕ, ℤ, ◌<◌, ◌≤◌, true, drop, List, length, map, Option, take}
+use Rattle.std.specs.Bool.{MatchBool}
+use Rattle.aat_font.specs.declared.face.hb_font_t.{hb_font_t}
+use Rattle.aat_font.specs.declared.plan.Feature.{Feature}
+use Rattle.aat_glyph.specs.Directions.{is_backward}
+use Rattle.aat_glyph.specs.declared.glyph.Direction.{Direction}
+use Rattle.aat_lookup.specs.declared.glyph_id.GlyphId.{GlyphId}
+use Rattle.aat_shaped_text.specs.Parts.{cut_before, looks, shaped_at, text_before, text_from}
+use Rattle.aat_shaped_text.specs.ShapedText.{most_text, shaped_text}
+use Rattle.aat_shaped_text.specs.declared.text.ShapedGlyph.{ShapedGlyph}
+use Rattle.aat_shaped_text.specs.declared.text.TextGlyph.{TextGlyph}
+use Rattle.aat_text.specs.Ignorables.{drawn_without_ignorables}
+
+-- what is drawn of a text that is tracked by a value, its ignorable glyphs hidden
+abbrev pub shown_text : Option GlyphId → ℤ → hb_font_t → Direction → List Feature → List TextGlyph → List ShapedGlyph
+shown_text space v face d features text = drawn_without_ignorables space (shaped_text v face d features text)
+
+-- what is shown looks before place k as what is shown of one text by itself, and from place k on as that of another
+pub record ShowsAsParts
+    (space : Option GlyphId) (v : ℤ) (face : hb_font_t) (d : Direction) (features : List Feature)
+    (first second : List TextGlyph) (glyphs : List ShapedGlyph) (k : ℕ) : Type 0
+  where
+    pub before : map looks (take k glyphs) ≡ map looks (shown_text space v face d features first)
+    pub behind : map looks (drop k glyphs) ≡ map looks (shown_text space v face d features second)
+
+-- What is shown of a text looks before place k as the text before the cut does by itself, and from place k on as the text
+-- from the cut on does. In a backward text the parts change places.
+abbrev pub IsShownInParts :
+    Option GlyphId → ℤ → hb_font_t → Direction → List Feature → List TextGlyph → List ShapedGlyph → ℕ → Type 0
+IsShownInParts space v face d features text glyphs k =
+    let early = text_before (cut_before glyphs k) text in
+    let late = text_from (cut_before glyphs k) text in
+    MatchBool (is_backward d) (ShowsAsParts space v face d features late early glyphs k)
+    (ShowsAsParts space v face d features early late glyphs k)
+
+-- so it is with each text of at most 2^24 glyphs, before each glyph that says so
+abbrev pub BreaksHoldWithoutIgnorables : Type 0
+BreaksHoldWithoutIgnorables =
+    (space : Option GlyphId) (v : ℤ) (face : hb_font_t) (d : Direction) (features : List Feature) (text : List TextGlyph)
+    → length text ≤ most_text → (k : ℕ) → k < length (shown_text space v face d features text)
+    → (shaped_at (shown_text space v face d features text) k).may_break_before ≡ true
+    → IsShownInParts space v face d features text (shown_text space v face d features text) k
