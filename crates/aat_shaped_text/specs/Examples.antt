@@ -103,12 +103,13 @@ DeletedGlyphsGo =
     (in_row (pos 500) (pos 0) (pos 0) ∷ in_row (pos 0) (pos 0) (pos 0) ∷ in_row (pos 300) (pos 0) (pos 0) ∷ []))
     ≡ shaped 7 1 (pos 500) ∷ record (shaped 5 0 (pos 300)) { may_break_before = true } ∷ []
 
--- a glyph of an ignorable character says so where it is drawn, and no other does
+-- a glyph of an ignorable character says so where it is drawn, and no other does, such as a component that was deleted
 abbrev pub IgnorableGlyphsSaySo : Type 0
 IgnorableGlyphsSaySo =
     map (λ g. g.is_ignorable)
     (drawn_glyphs (λ i. false)
-    (drawing LeftToRight (glyph_in 7 0 ∷ record (glyph_in 9 1) { unicode_props = 0x20 } ∷ [])
+    (drawing LeftToRight
+    (record (glyph_in 7 0) { unicode_props = 0x20 } ∷ record (glyph_in 9 1) { unicode_props = 0x60 } ∷ [])
     (in_row (pos 500) (pos 0) (pos 0) ∷ in_row (pos 300) (pos 0) (pos 0) ∷ [])))
     ≡ false ∷ true ∷ []
 

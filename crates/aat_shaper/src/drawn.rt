@@ -10,11 +10,10 @@ ghost use Rattle.aat_shaped_text.specs.KernedPlaces.{ClosesChained};
 ghost use Rattle.aat_shaper.specs.inside.Drawing.{IsDrawn, clusters_of, may_break};
 ghost use Rattle.aat_shaped_text.specs.ShapedText.{drawn_glyph, drawn_glyphs, drawn_position, is_ignorable, kept_place, kept_places, with_clusters_of};
 
-use aat_layout::buffer::{GlyphPosition, UnicodeProps, hb_buffer_t, hb_glyph_info_t};
+use aat_layout::buffer::{GlyphPosition, hb_buffer_t, hb_glyph_info_t};
 use aat_layout::{AatError, hb_aat_layout_remove_deleted_glyphs, is_solid};
 use aat_placement::{add_up_attachments, parent_of};
 use aat_shaped_text::{BreakRules, ShapedGlyph, close_chained, front_of, is_kept, may_break_at};
-use bitflags::Flags;
 use std::alloc::{AllocError, Allocator};
 
 /// What allows a line to be broken.
@@ -184,11 +183,14 @@ fn may_break(breaks: Breaks, line: &[hb_glyph_info_t], kept: usize, i: usize) ->
     front < breaks.places.len() && breaks.places[front]
 }
 
+/// Of what an ignorable character has on a line, the bit that the layer leaves as it is.
+const IGNORABLE_CHARACTER: u16 = 0x40;
+
 /// Whether a glyph stands for an ignorable character.
 fn is_ignorable(glyph: &hb_glyph_info_t) -> bool
     ensures { result ≡ is_ignorable glyph.now }
 {
-    glyph.unicode_props & UnicodeProps::IGNORABLE.bits() != 0
+    glyph.unicode_props & IGNORABLE_CHARACTER != 0
 }
 
 /// The glyph at a place of a line that is drawn, before which so many glyphs are kept.

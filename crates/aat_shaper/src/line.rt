@@ -6,10 +6,9 @@ ghost use Rattle.aat_shaped_text.specs.Breaks.{is_rising};
 ghost use Rattle.aat_shaped_text.specs.ShapedText.{line_glyph, most_glyphs, most_operations, most_text, text_buffer};
 
 use aat_layout::AatError;
-use aat_layout::buffer::{Direction, UnicodeProps, hb_buffer_t, hb_glyph_info_t, hb_mask_t};
+use aat_layout::buffer::{Direction, hb_buffer_t, hb_glyph_info_t, hb_mask_t};
 use aat_layout::font::{Feature, GlyphId, hb_font_t};
 use aat_shaped_text::{TextGlyph, is_kerned_at};
-use bitflags::Flags;
 use std::alloc::Allocator;
 
 /// The longest text.
@@ -31,6 +30,10 @@ const OPS_MOST: usize = 0x7FFF_FFFF;
 
 /// The bit of a glyph's mask by which it is kerned, above those of `glyph_flag`.
 pub(crate) const KERNED: hb_mask_t = 8;
+
+/// What an ignorable character has: the layer's property `IGNORABLE`, 0x20, and 0x40, which the layer leaves as it is. A
+/// component that a ligature deletes gets 0x20 alone, and may be given a glyph again.
+const IGNORABLE_CHARACTER: u16 = 0x60;
 
 /// The most glyphs that the line of a text may have.
 fn most_glyphs(len: usize) -> usize
@@ -80,7 +83,7 @@ fn line_glyph(
         cluster: glyph.cluster,
         glyph_props: props_of(face, is_classed, GlyphId(glyph.glyph_id)),
         unicode_props: if glyph.is_ignorable {
-            UnicodeProps::IGNORABLE.bits()
+            IGNORABLE_CHARACTER
         } else {
             0
         },
