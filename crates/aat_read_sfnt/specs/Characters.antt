@@ -1,6 +1,7 @@
 -- The character map. Apple's TrueType Reference Manual, "The 'cmap' table".
-use Rattle.std.specs.Prelude.{ℕ, ◌+◌, ◌*◌, List, [], ◌∷◌, length, Option, Some, None, Result, Ok, Err, if◌then◌else◌, nat_lt, ◌==◌, find, is_some, option_and_then}
+use Rattle.std.specs.Prelude.{ℕ, ◌+◌, ◌*◌, List, [], ◌∷◌, length, Option, Some, None, Result, Ok, Err, if◌then◌else◌, nat_lt, ◌==◌, find, is_ok, is_some}
 use Rattle.std.specs.List.{range_with_len}
+use Rattle.std.specs.Option.{option_or}
 use Rattle.aat_bytes.specs.Faults.{after, fault_at}
 use Rattle.aat_bytes.specs.Numbers.{be16, be32, slice_from}
 use Rattle.aat_bytes.specs.declared.error.Fault.{Fault}
@@ -30,10 +31,6 @@ record_with bytes encoding = find (λ i. be32 bytes (record_place i) == encoding
 unfoldable pub first_encoding : List ℕ → List ℕ → Option ℕ
 first_encoding bytes among = find (λ encoding. is_some (record_with bytes encoding)) among
 
--- the record whose subtable is read
-abbrev pub best_record : List ℕ → Option ℕ
-best_record bytes = option_and_then (record_with bytes) (first_encoding bytes encodings)
-
 -- what comes of a subtable
 abbrev pub as_map : (List ℕ → Cmap) → Result (List ℕ) Fault → Result Cmap Fault
 as_map form subtable = after subtable (λ bytes. Ok (form bytes))
@@ -49,8 +46,7 @@ subtable_at bytes place =
     if be16 bytes 0 == 12 then as_map SegmentedCoverage (groups_at bytes place) else
     Err (fault_at CMAP UnknownFormat place)
 
--- the subtable of a record, if there is one. HarfBuzz goes on to the next record where it has a fault, and here the
--- table has that fault
+-- the subtable of a record, if there is one
 unfoldable pub subtable_of : List ℕ → Option ℕ → Result Cmap Fault
 subtable_of bytes None = Err (fault_at CMAP Missing 4)
 subtable_of bytes (Some i) = elim (slice_from bytes (be32 bytes (record_place i + 4))) [
@@ -58,13 +54,31 @@ subtable_of bytes (Some i) = elim (slice_from bytes (be32 bytes (record_place i 
   | Some subtable ↦ subtable_at subtable (be32 bytes (record_place i + 4))
 ]
 
+-- the subtable of a platform and encoding
+abbrev pub subtable_with : List ℕ → ℕ → Result Cmap Fault
+subtable_with bytes encoding = subtable_of bytes (record_with bytes encoding)
+
+-- the first of some encodings whose subtable has no fault
+unfoldable pub sound_encoding : List ℕ → List ℕ → Option ℕ
+sound_encoding bytes among = find (λ encoding. is_ok (subtable_with bytes encoding)) among
+
+-- the encoding that is taken: the first without a fault, as HarfBuzz 6.0.0 does, where 12.3.2 drops the table; and where
+-- each has one the first that has a record, whose fault is that of the table
+abbrev pub best_encoding : List ℕ → Option ℕ
+best_encoding bytes = option_or (sound_encoding bytes encodings) (first_encoding bytes encodings)
+
+-- the map of an encoding, if there is one
+abbrev pub map_of : List ℕ → Option ℕ → Result Cmap Fault
+map_of bytes None = Err (fault_at CMAP Missing 4)
+map_of bytes (Some encoding) = subtable_with bytes encoding
+
 -- the map of a table: a header of 4 bytes, of version 0, and all its records
 unfoldable pub cmap_of : List ℕ → Result Cmap Fault
 cmap_of bytes =
     if nat_lt (length bytes) 4 then Err (fault_at CMAP PastEnd 0) else
     if be16 bytes 0 == 0 then
     (if nat_lt (length bytes) (4 + 8 * be16 bytes 2) then Err (fault_at CMAP PastEnd 4) else
-    subtable_of bytes (best_record bytes))
+    map_of bytes (best_encoding bytes))
     else Err (fault_at CMAP UnknownFormat 0)
 
 -- the glyph of a character, if it has one that is not 0

@@ -1,14 +1,16 @@
 -- Worked examples of a font's bytes.
-use Rattle.std.specs.Prelude.{◌≡◌, ℕ, List, [], ◌∷◌, Some, None, Ok, Err, replicate}
+use Rattle.std.specs.Prelude.{◌≡◌, ℕ, List, [], ◌∷◌, take, drop, Some, None, Ok, Err, replicate}
 use Rattle.aat_bytes.specs.Faults.{fault_at}
-use Rattle.aat_bytes.specs.declared.error.FaultKind.TheVariants.{PastEnd, ShortLength, Missing, NotRising}
+use Rattle.aat_bytes.specs.declared.error.FaultKind.TheVariants.{PastEnd, UnknownFormat, ShortLength, Missing, NotRising}
 use Rattle.aat_bytes.specs.declared.tags.TheConstants.{CMAP, GDEF, HEAD, MAXP, SFNT, TTCF}
+use Rattle.aat_read_sfnt.specs.Characters.{cmap_of}
 use Rattle.aat_read_sfnt.specs.ClassDefinition.{class_in_ranges, class_ranges_at}
 use Rattle.aat_read_sfnt.specs.Directory.{Directory, directory_of, table_of}
 use Rattle.aat_read_sfnt.specs.Header.{glyph_count}
 use Rattle.aat_read_sfnt.specs.Metrics.{advance_of, metrics_of}
 use Rattle.aat_read_sfnt.specs.SegmentMapping.{segment_glyph, segments_at}
 use Rattle.aat_read_sfnt.specs.SegmentedCoverage.{group_glyph, groups_at}
+use Rattle.aat_read_sfnt.specs.declared.cmap.Cmap.TheVariants.{TrimmedTable}
 
 -- a profile of version 0.5 and 7 glyphs
 abbrev pub example_profile : List ℕ
@@ -111,6 +113,18 @@ abbrev pub FallingGroupsAreAFault : Type 0
 FallingGroupsAreAFault =
     (groups_at example_groups 100 ≡ Ok example_groups)
     × (groups_at falling_groups 100 ≡ Err (fault_at CMAP NotRising 132))
+
+-- two subtables: platform 0 and encoding 3 at 22, where a is the glyph 7, and 3 with 10 at 20, of a format that is none
+abbrev pub example_cmap : List ℕ
+example_cmap =
+    0 ∷ 0 ∷ 0 ∷ 2 ∷ 0 ∷ 0 ∷ 0 ∷ 3 ∷ 0 ∷ 0 ∷ 0 ∷ 22 ∷ 0 ∷ 3 ∷ 0 ∷ 10 ∷ 0 ∷ 0 ∷ 0 ∷ 20 ∷ 0 ∷ 5
+    ∷ 0 ∷ 6 ∷ 0 ∷ 12 ∷ 0 ∷ 0 ∷ 0 ∷ 97 ∷ 0 ∷ 1 ∷ 0 ∷ 7 ∷ []
+
+-- behind a subtable with a fault the next is taken, and where that has one too the first fault is told
+abbrev pub FaultySubtablesArePassedOver : Type 0
+FaultySubtablesArePassedOver =
+    (cmap_of example_cmap ≡ Ok (TrimmedTable (drop 22 example_cmap)))
+    × (cmap_of (take 24 example_cmap) ≡ Err (fault_at CMAP UnknownFormat 20))
 
 -- a range of class 3 from glyph 5 to 7
 abbrev pub example_ranges : List ℕ

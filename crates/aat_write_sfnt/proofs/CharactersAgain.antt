@@ -1,6 +1,7 @@
 -- Glyphs of characters that are written are read again.
 use Rattle.std.proofs.Common.{◌≡◌, ◌∙◌, sym, ap, refl, subst, ℕ, zero, suc, ◌+◌, ◌*◌, ◌-◌, ◌/◌, ◌%◌, ◌<◌, ◌≤◌, Bool, true, false, List, [], ◌∷◌, length, get_or, drop, take, All, Option, None, Some, Result, Ok, Err, inl, inr, cond, arith}
 use Rattle.std.specs.List.{find, flat_map, range_with_len}
+use Rattle.std.specs.Option.{option_or}
 use Rattle.std.specs.Prelude.{nat_le, nat_lt, ◌&&◌, ◌==◌, option_and_then}
 use Rattle.std.proofs.lemmas.Bool.{cases_eq, cases_lt, le-ltb, ltb-false}
 use Rattle.std.proofs.lemmas.Bool.Decides.{nat_tests}
@@ -12,7 +13,7 @@ use Rattle.aat_bytes.specs.declared.error.Fault.{Fault}
 use Rattle.aat_bytes.specs.declared.error.FaultKind.TheVariants.{PastEnd}
 use Rattle.aat_lookup.specs.Keys.{IsRising, at_key, first_fall}
 use Rattle.aat_lookup.specs.facts.Falls.{rising}
-use Rattle.aat_read_sfnt.specs.Characters.{best_record, cmap_of, first_encoding, record_with, subtable_at, subtable_of}
+use Rattle.aat_read_sfnt.specs.Characters.{best_encoding, cmap_of, encodings, first_encoding, map_of, record_with, sound_encoding, subtable_at, subtable_of, subtable_with}
 use Rattle.aat_read_sfnt.specs.RisingEnds.{end_falls}
 use Rattle.aat_read_sfnt.specs.SegmentedCoverage.{end_char, glyph_in_group, group_glyph, groups_at, known_glyph, start_char, start_glyph}
 use Rattle.aat_read_sfnt.specs.declared.cmap.Cmap.{Cmap}
@@ -28,15 +29,17 @@ use Rattle.aat_bytes.specs.declared.tags.TheConstants.{CMAP}
 use Rattle.aat_write_lookup.specs.facts.WordPlaces.{AreWords, length_words, long_again}
 use Rattle.aat_write_lookup.specs.facts.Written.{written_is}
 
--- the record of all of Unicode is the best
+-- the record of all of Unicode is there, and its subtable has no fault
 first_is :
     (bytes : List ℕ) → be16 bytes 2 ≡ 1 → be32 bytes 4 ≡ 0x3000A → record_with bytes 0x3000A ≡ Some 0
 unfolding record_with
 first_is bytes count encoding = rw (count, encoding) refl
 
-best_is : (bytes : List ℕ) → record_with bytes 0x3000A ≡ Some 0 → best_record bytes ≡ Some 0
-unfolding first_encoding
-best_is bytes first = rw first first
+sound_is :
+    (bytes : List ℕ) (map : Cmap)
+    → subtable_with bytes 0x3000A ≡ Ok map → sound_encoding bytes encodings ≡ Some 0x3000A
+unfolding sound_encoding
+sound_is bytes map first = rw first refl
 
 -- a subtable of format 12 whose groups rise
 groups_are :
@@ -90,21 +93,20 @@ found_is bytes map long offset subtable =
 
 -- the table of such a subtable
 map_is :
-    (bytes : List ℕ) (map : Result Cmap Fault)
+    (bytes : List ℕ) (map : Cmap)
     → 12 ≤ length bytes
     → be16 bytes 0 ≡ 0
     → be16 bytes 2 ≡ 1
-    → best_record bytes ≡ Some 0
-    → subtable_of bytes (Some 0) ≡ map
-    → cmap_of bytes ≡ map
+    → subtable_with bytes 0x3000A ≡ Ok map
+    → cmap_of bytes ≡ Ok map
 unfolding cmap_of
-map_is bytes map long version count best subtable =
+map_is bytes map long version count subtable =
     let header : nat_lt (length bytes) 4 ≡ false = le-ltb (length bytes) 4 (omega arith) in
     let records : nat_lt (length bytes) 12 ≡ false = le-ltb (length bytes) 12 (omega arith) in
     rw (header, version) (
-    ap (λ (k : ℕ). cond (nat_lt (length bytes) (4 + 8 * k)) (Err (fault_at CMAP PastEnd 4)) (subtable_of bytes (best_record bytes))) count
-    ∙ ap (λ (b : Bool). cond b (Err (fault_at CMAP PastEnd 4)) (subtable_of bytes (best_record bytes))) records
-    ∙ ap (subtable_of bytes) best
+    ap (λ (k : ℕ). cond (nat_lt (length bytes) (4 + 8 * k)) (Err (fault_at CMAP PastEnd 4)) (map_of bytes (best_encoding bytes))) count
+    ∙ ap (λ (b : Bool). cond b (Err (fault_at CMAP PastEnd 4)) (map_of bytes (best_encoding bytes))) records
+    ∙ ap (λ (sound : Option ℕ). map_of bytes (option_or sound (first_encoding bytes encodings))) (sound_is bytes map subtable)
     ∙ subtable)
 
 -- no mapping has a character below all of theirs
@@ -280,7 +282,8 @@ module _ (mappings : List Mapping) (small : All IsMapping mappings) (few : lengt
       let long : 12 ≤ length whole = omega (arith, sub_long) in
       let subtable = subtable_is sub (omega (arith, sub_long)) refl groups in
       let found = found_is whole (Ok (SegmentedCoverage sub)) long refl subtable in
-      let map = map_is whole (Ok (SegmentedCoverage sub)) long refl refl (best_is whole (first_is whole refl refl)) found in (
+      let recorded = ap (subtable_of whole) (first_is whole refl refl) in
+      let map = map_is whole (SegmentedCoverage sub) long refl refl (recorded ∙ found) in (
         map,
         λ character.
             ap (λ (m : ℕ). option_and_then (glyph_in_group sub character) (find (λ i. nat_le character (end_char sub i)) (range_with_len 0 m))) count_read
