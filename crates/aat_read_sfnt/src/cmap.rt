@@ -1,22 +1,25 @@
 //! The character map.
 ghost use Rattle.std.specs.Prelude.{◌≡◌, ◌+◌, ◌*◌, ◌<◌, ◌≤◌, ◌==◌, IfSome, length};
 ghost use Rattle.aat_bytes.specs.Numbers.{be16, be32};
-ghost use Rattle.aat_read_sfnt.specs.Characters.{best_encoding, cmap_of, first_encoding, glyph_of, map_of, record_place, record_with, sound_encoding, subtable_at, subtable_with};
+ghost use Rattle.aat_read_sfnt.specs.CharacterSets.{mac_glyph, symbol_glyph};
+ghost use Rattle.aat_read_sfnt.specs.Characters.{best_encoding, cmap_of, first_encoding, glyph_of, map_of, mapped_glyph, record_place, record_with, sound_encoding, subtable_at, subtable_with};
 
+pub mod character_set;
 pub mod segment_mapping;
 pub mod segmented_coverage;
 pub mod short_tables;
 
 use crate::tags::CMAP;
 use aat_bytes::{Fault, FaultKind, be16, be32, slice_from};
+use character_set::{CharacterSet, mac_roman_code, private_symbol, set_of};
 use segment_mapping::SegmentMapping;
 use segmented_coverage::SegmentedCoverage;
 use short_tables::{ByteEncoding, TrimmedTable};
 
 /// Platforms and encodings in the order in which they are taken.
-const ENCODINGS: [u32; 8] = [0x3000A, 6, 4, 0x30001, 3, 2, 1, 0];
+const ENCODINGS: [u32; 10] = [0x30000, 0x3000A, 6, 4, 0x30001, 3, 2, 1, 0, 0x10000];
 
-/// The subtable of characters that is read, by its format.
+/// A subtable of characters, by its format.
 ///
 /// Apple's TrueType Reference Manual, "The 'cmap' table".
 #[derive(Drop)]
@@ -29,6 +32,17 @@ pub enum Cmap<'a> {
     TrimmedTable(TrimmedTable<'a>),
     /// Format 12.
     SegmentedCoverage(SegmentedCoverage<'a>),
+}
+
+/// The map of characters: the subtable that is taken, and under which numbers it has them.
+///
+/// Apple's TrueType Reference Manual, "The 'cmap' table".
+#[derive(Drop)]
+pub struct CharacterMap<'a> {
+    /// The subtable.
+    pub subtable: Cmap<'a>,
+    /// Under which numbers it has characters.
+    pub character_set: CharacterSet,
 }
 
 /// Whether the record at an index has a platform and encoding.
@@ -119,18 +133,35 @@ fn best_encoding(cmap: &[u8]) -> Option<u32>
     }
 }
 
-/// The subtable of the platform and encoding that is taken.
-fn best_subtable(cmap: &[u8]) -> Result<Cmap<'_>, Fault>
+/// The map of the platform and encoding that is taken.
+fn best_map(cmap: &[u8]) -> Result<CharacterMap<'_>, Fault>
     requires { 4 + 8 * be16 cmap.now 2 ≤ length cmap.now }
     ensures { result ≡ map_of cmap.now (best_encoding cmap.now) }
 {
     match best_encoding(cmap) {
-        Some(encoding) => subtable_with(cmap, encoding),
+        Some(encoding) => Ok(CharacterMap {
+            subtable: subtable_with(cmap, encoding)?,
+            character_set: set_of(encoding),
+        }),
         None => Err(Fault::new(CMAP, FaultKind::Missing, 4)),
     }
 }
 
 impl<'a> Cmap<'a> {
+    /// The glyph of a number, or `None` where it has none that is not 0.
+    pub fn glyph(&self, character: char) -> Option<u16>
+        ensures { result ≡ glyph_of self.now character }
+    {
+        match self {
+            Cmap::ByteEncoding(subtable) => subtable.glyph(character),
+            Cmap::SegmentMapping(subtable) => subtable.glyph(character),
+            Cmap::TrimmedTable(subtable) => subtable.glyph(character),
+            Cmap::SegmentedCoverage(subtable) => subtable.glyph(character),
+        }
+    }
+}
+
+impl<'a> CharacterMap<'a> {
     /// The map of the table `cmap`.
     ///
     /// It is that of the first platform and encoding whose subtable has no fault.
@@ -142,7 +173,7 @@ impl<'a> Cmap<'a> {
     /// `NotRising`, at the first of the last characters of formats 4 and 12 that is not above the one before it.
     /// HarfBuzz bisects them and believes that they rise.
     #[tactic(auto, unfolding(crate::specs::Characters::cmap_of))]
-    pub fn read(cmap: &'a [u8]) -> Result<Cmap<'a>, Fault>
+    pub fn read(cmap: &'a [u8]) -> Result<CharacterMap<'a>, Fault>
         ensures { result ≡ cmap_of cmap.now }
     {
         if cmap.len() < 4 {
@@ -154,18 +185,43 @@ impl<'a> Cmap<'a> {
         if cmap.len() < 4 + 8 * be16(cmap, 2) as usize {
             return Err(Fault::new(CMAP, FaultKind::PastEnd, 4));
         }
-        best_subtable(cmap)
+        best_map(cmap)
+    }
+
+    /// The glyph of a character where the subtable has symbols.
+    fn symbol_glyph(&self, character: char) -> Option<u16>
+        ensures { result ≡ symbol_glyph (glyph_of self.now.subtable) character }
+    {
+        if let Some(glyph) = self.subtable.glyph(character) {
+            return Some(glyph);
+        }
+        match private_symbol(character) {
+            Some(other) => self.subtable.glyph(other),
+            None => None,
+        }
+    }
+
+    /// The glyph of a character where the subtable is of the Macintosh.
+    fn mac_glyph(&self, character: char) -> Option<u16>
+        ensures { result ≡ mac_glyph (glyph_of self.now.subtable) character }
+    {
+        if character < '\u{80}' {
+            return self.subtable.glyph(character);
+        }
+        match mac_roman_code(character) {
+            Some(code) => self.subtable.glyph(code),
+            None => None,
+        }
     }
 
     /// The glyph of a character, or `None` where it has none that is not 0.
     pub fn glyph(&self, character: char) -> Option<u16>
-        ensures { result ≡ glyph_of self.now character }
+        ensures { result ≡ mapped_glyph self.now character }
     {
-        match self {
-            Cmap::ByteEncoding(subtable) => subtable.glyph(character),
-            Cmap::SegmentMapping(subtable) => subtable.glyph(character),
-            Cmap::TrimmedTable(subtable) => subtable.glyph(character),
-            Cmap::SegmentedCoverage(subtable) => subtable.glyph(character),
+        match self.character_set {
+            CharacterSet::Unicode => self.subtable.glyph(character),
+            CharacterSet::Symbol => self.symbol_glyph(character),
+            CharacterSet::MacRoman => self.mac_glyph(character),
         }
     }
 }
