@@ -11,7 +11,8 @@ bytes are built here, and stand in the place of those that were written.
 - noncontextual_N.ttf: the lookup of the subtable in the format N, of 0, 2, 4, 6, 8 and 10.
 - kern_old_0.ttf, kern_old_2.ttf: the pairs and the classes of `kern` behind the header of version 0. kern_3.ttf: the
   classes in format 3.
-- cmap_N.ttf: the characters of noncontextual.ttf in format N, of 0, 4, 6 and 12.
+- cmap_N.ttf: the characters of noncontextual.ttf in format N, of 0, 4, 6 and 12. cmap_symbol.ttf: from U+F000 on, for
+  symbols. cmap_macintosh.ttf: for the Macintosh, which has U+00C4, U+20AC and U+F8FF too.
 - kerx_4_points.ttf, kerx_4_coordinates.ttf: the machine of kerx_4.ttf with the two other types of actions.
 """
 import os
@@ -208,8 +209,8 @@ def characters_of(cmap):
     return {first: glyph for first, _, glyph in groups}
 
 
-def cmap(number, characters):
-    """The table of one subtable in a format."""
+def cmap(number, characters, platform=None):
+    """The table of one subtable in a format, for a platform and encoding."""
     low, high = min(characters), max(characters)
     if number == 0:
         body = words(0, 262, 0) + bytes(characters.get(character, 0) for character in range(256))
@@ -230,7 +231,7 @@ def cmap(number, characters):
     else:
         groups = b"".join(longs(first, last, values[0]) for first, last, values in in_steps(characters))
         body = words(12, 0) + longs(16 + len(groups), 0, len(groups) // 12) + groups
-    platform = (3, 10) if number == 12 else (0, 3) if number == 0 else (3, 1)
+    platform = platform or ((3, 10) if number == 12 else (0, 3) if number == 0 else (3, 1))
     return words(0, 1, *platform) + longs(12) + body
 
 
@@ -254,6 +255,10 @@ def variants(fonts):
     for number in (0, 4, 6, 12):
         found = characters_of(tables_of(plain)[b"cmap"])
         made[f"cmap_{number}"] = with_table(plain, b"cmap", cmap(number, found))
+    symbols = {0xF000 + character: glyph for character, glyph in found.items()}
+    made["cmap_symbol"] = with_table(plain, b"cmap", cmap(4, symbols, (3, 0)))
+    letters = {**found, 0x80: found[ord("a")], 0xDB: found[ord("b")], 0xF0: found[ord("c")]}
+    made["cmap_macintosh"] = with_table(plain, b"cmap", cmap(0, letters, (1, 0)))
     pairs, classes = (fonts[name] for name in ("kern_pairs", "kern_classes"))
     listed = kern_subtables(tables_of(pairs)[b"kern"])[0]
     made["kern_old_0"] = with_table(pairs, b"kern", old_kern(listed, 0))

@@ -13,9 +13,9 @@ use Rattle.aat_lookup.specs.declared.glyph_id.GlyphId.{GlyphId}
 use Rattle.aat_read_pairs.specs.declared.left_out.LeftOutSubtable.{LeftOutSubtable}
 use Rattle.aat_read_lookup.specs.Features.{feature_name_id, setting_name_id}
 use Rattle.aat_read_morx.specs.Chains.{ChainValue, values_of_morx}
-use Rattle.aat_read_sfnt.specs.Characters.{glyph_of}
+use Rattle.aat_read_sfnt.specs.Characters.{mapped_glyph}
 use Rattle.aat_read_sfnt.specs.Directory.{Directory, directory_of}
-use Rattle.aat_read_sfnt.specs.declared.cmap.Cmap.{Cmap}
+use Rattle.aat_read_sfnt.specs.declared.cmap.CharacterMap.{CharacterMap}
 use Rattle.aat_placement.specs.Tracks.{TrackingTable}
 use Rattle.aat_face.specs.Chains.{chains_in}
 use Rattle.aat_face.specs.English.{Text, english_text}
@@ -80,7 +80,7 @@ font_value font = record {
 pub record FaceValue : Type 0 where
   pub glyph_count : ℕ
   pub units_per_em : ℕ
-  pub characters : Option Cmap
+  pub characters : Option CharacterMap
   pub names : Option (List ℕ)
   pub features : Option (List ℕ)
   pub font : FontValue
@@ -130,7 +130,7 @@ face_of_tables tables = record {
 abbrev pub glyph_of_character : FaceValue → ℕ → Option GlyphId
 glyph_of_character face character =
     option_map (λ glyph. record { 0 = glyph })
-    (option_and_then (λ characters. glyph_of characters character) face.characters)
+    (option_and_then (λ characters. mapped_glyph characters character) face.characters)
 
 -- the English text of a name, if the font has names
 abbrev pub name_of : FaceValue → ℕ → Option Text

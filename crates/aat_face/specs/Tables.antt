@@ -12,7 +12,7 @@ use Rattle.aat_read_sfnt.specs.GlyphClasses.{glyph_classes_of}
 use Rattle.aat_read_sfnt.specs.Header.{glyph_count, units_per_em}
 use Rattle.aat_read_sfnt.specs.Metrics.{LongMetrics, long_metric_count, metrics_of}
 use Rattle.aat_read_sfnt.specs.Names.{names_of}
-use Rattle.aat_read_sfnt.specs.declared.cmap.Cmap.{Cmap}
+use Rattle.aat_read_sfnt.specs.declared.cmap.CharacterMap.{CharacterMap}
 use Rattle.aat_read_sfnt.specs.declared.gdef.GlyphClasses.{GlyphClasses}
 
 -- nothing where the fault is that a table is missing
@@ -55,7 +55,7 @@ metrics_in file long_metric_count glyph_count =
     table_in file HMTX (λ bytes. Ok (metrics_of bytes long_metric_count glyph_count))
 
 -- the character map
-abbrev pub characters_in : Directory → Result (Option Cmap) Fault
+abbrev pub characters_in : Directory → Result (Option CharacterMap) Fault
 characters_in file = table_in file CMAP cmap_of
 
 -- the classes of glyphs

@@ -22,7 +22,7 @@ use aat_lookup::{GlyphId, Lookup};
 use aat_placement::Tracking;
 use aat_read_lookup::{feature_name_id, setting_name_id};
 use aat_read_pairs::LeftOutSubtable;
-use aat_read_sfnt::{Cmap, FontFile, Names};
+use aat_read_sfnt::{CharacterMap, FontFile, Names};
 use std::alloc::{AllocError, Global};
 use std::marker::Model;
 
@@ -33,7 +33,7 @@ use std::marker::Model;
 pub struct Face<'a> {
     glyph_count: u16,
     units_per_em: u16,
-    characters: Option<Cmap<'a>>,
+    characters: Option<CharacterMap<'a>>,
     names: Option<Names<'a>>,
     features: Option<&'a [u8]>,
     font: hb_font_t,

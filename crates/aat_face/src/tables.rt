@@ -11,7 +11,7 @@ use aat_placement::Tracking;
 use aat_read_kern::KernRead;
 use aat_read_kerx::KerxRead;
 use aat_read_sfnt::tags::{CMAP, GDEF, HEAD, HHEA, HMTX, MAXP, NAME};
-use aat_read_sfnt::{Cmap, FontFile, GlyphClasses, Metrics, Names};
+use aat_read_sfnt::{CharacterMap, FontFile, GlyphClasses, Metrics, Names};
 
 /// The bytes of a table, or nothing where the table is missing.
 pub fn optional_table<'a>(file: &FontFile<'a>, tag: Tag) -> Result<Option<&'a [u8]>, Fault>
@@ -72,11 +72,11 @@ pub fn metrics_in<'a>(
 }
 
 /// The character map of the table `cmap`.
-pub fn characters_in<'a>(file: &FontFile<'a>) -> Result<Option<Cmap<'a>>, Fault>
+pub fn characters_in<'a>(file: &FontFile<'a>) -> Result<Option<CharacterMap<'a>>, Fault>
     ensures { result ≡ characters_in file.now }
 {
     match optional_table(file, CMAP)? {
-        Some(bytes) => Ok(Some(Cmap::read(bytes)?)),
+        Some(bytes) => Ok(Some(CharacterMap::read(bytes)?)),
         None => Ok(None),
     }
 }
@@ -138,7 +138,7 @@ pub struct Tables<'a> {
     pub head: Result<Option<u16>, Fault>,
     pub hhea: Result<Option<u16>, Fault>,
     pub hmtx: Result<Option<Metrics<'a>>, Fault>,
-    pub cmap: Result<Option<Cmap<'a>>, Fault>,
+    pub cmap: Result<Option<CharacterMap<'a>>, Fault>,
     pub gdef: Result<Option<GlyphClasses<'a>>, Fault>,
     pub name: Result<Option<Names<'a>>, Fault>,
     pub feat: Result<Option<Features<'a>>, Fault>,

@@ -1,14 +1,20 @@
 -- Worked examples of a font's bytes.
-use Rattle.std.specs.Prelude.{◌≡◌, ℕ, List, [], ◌∷◌, Some, None, Ok, Err, replicate}
+use Rattle.std.specs.Prelude.{◌≡◌, ℕ, List, [], ◌∷◌, take, drop, Some, None, Ok, Err, replicate}
 use Rattle.aat_bytes.specs.Faults.{fault_at}
-use Rattle.aat_bytes.specs.declared.error.FaultKind.TheVariants.{PastEnd, ShortLength, Missing, NotRising}
+use Rattle.aat_bytes.specs.declared.error.FaultKind.TheVariants.{PastEnd, UnknownFormat, ShortLength, Missing, NotRising}
 use Rattle.aat_bytes.specs.declared.tags.TheConstants.{CMAP, GDEF, HEAD, MAXP, SFNT, TTCF}
+use Rattle.aat_read_sfnt.specs.Characters.{cmap_of, mapped_glyph}
+use Rattle.aat_read_sfnt.specs.CharacterSets.{mac_roman_code}
 use Rattle.aat_read_sfnt.specs.ClassDefinition.{class_in_ranges, class_ranges_at}
 use Rattle.aat_read_sfnt.specs.Directory.{Directory, directory_of, table_of}
 use Rattle.aat_read_sfnt.specs.Header.{glyph_count}
 use Rattle.aat_read_sfnt.specs.Metrics.{advance_of, metrics_of}
 use Rattle.aat_read_sfnt.specs.SegmentMapping.{segment_glyph, segments_at}
 use Rattle.aat_read_sfnt.specs.SegmentedCoverage.{group_glyph, groups_at}
+use Rattle.aat_read_sfnt.specs.declared.cmap.Cmap.TheVariants.{TrimmedTable}
+use Rattle.aat_read_sfnt.specs.declared.cmap.CharacterMap.{CharacterMap}
+use Rattle.aat_read_sfnt.specs.declared.cmap.character_set.CharacterSet.{CharacterSet}
+use Rattle.aat_read_sfnt.specs.declared.cmap.character_set.CharacterSet.TheVariants.{Unicode, Symbol, MacRoman}
 
 -- a profile of version 0.5 and 7 glyphs
 abbrev pub example_profile : List ℕ
@@ -111,6 +117,47 @@ abbrev pub FallingGroupsAreAFault : Type 0
 FallingGroupsAreAFault =
     (groups_at example_groups 100 ≡ Ok example_groups)
     × (groups_at falling_groups 100 ≡ Err (fault_at CMAP NotRising 132))
+
+-- two subtables: platform 0 and encoding 3 at 22, where a is the glyph 7, and 3 with 10 at 20, of a format that is none
+abbrev pub example_cmap : List ℕ
+example_cmap =
+    0 ∷ 0 ∷ 0 ∷ 2 ∷ 0 ∷ 0 ∷ 0 ∷ 3 ∷ 0 ∷ 0 ∷ 0 ∷ 22 ∷ 0 ∷ 3 ∷ 0 ∷ 10 ∷ 0 ∷ 0 ∷ 0 ∷ 20 ∷ 0 ∷ 5
+    ∷ 0 ∷ 6 ∷ 0 ∷ 12 ∷ 0 ∷ 0 ∷ 0 ∷ 97 ∷ 0 ∷ 1 ∷ 0 ∷ 7 ∷ []
+
+-- behind a subtable with a fault the next is taken, and where that has one too the first fault is told
+abbrev pub FaultySubtablesArePassedOver : Type 0
+FaultySubtablesArePassedOver =
+    (cmap_of example_cmap ≡ Ok (record { subtable = TrimmedTable (drop 22 example_cmap); character_set = Unicode }))
+    × (cmap_of (take 24 example_cmap) ≡ Err (fault_at CMAP UnknownFormat 20))
+
+-- a subtable of format 6 from a character on, of the glyphs 7 and 8, and a map of it
+abbrev pub trimmed_map : CharacterSet → ℕ → ℕ → CharacterMap
+trimmed_map set high low = record {
+  subtable = TrimmedTable (0 ∷ 6 ∷ 0 ∷ 14 ∷ 0 ∷ 0 ∷ high ∷ low ∷ 0 ∷ 2 ∷ 0 ∷ 7 ∷ 0 ∷ 8 ∷ []);
+  character_set = set;
+}
+
+-- symbols from 0xF061 on are also a and b; letters of their own are not symbols from there on
+abbrev pub SymbolsAreDoubled : Type 0
+SymbolsAreDoubled =
+    (mapped_glyph (trimmed_map Symbol 240 97) 97 ≡ Some 7)
+    × (mapped_glyph (trimmed_map Symbol 240 97) 0xF062 ≡ Some 8)
+    × (mapped_glyph (trimmed_map Symbol 240 255) 255 ≡ Some 7)
+    × (mapped_glyph (trimmed_map Symbol 241 0) 256 ≡ None)
+    × (mapped_glyph (trimmed_map Symbol 0 97) 97 ≡ Some 7)
+    × (mapped_glyph (trimmed_map Symbol 0 97) 0xF061 ≡ None)
+    × (mapped_glyph (trimmed_map Unicode 240 97) 97 ≡ None)
+
+-- the Macintosh has Ä as 0x80, the euro as 0xDB and its apple as 0xF0; 0x80 of Unicode is no character of it
+abbrev pub MacRomanIsRead : Type 0
+MacRomanIsRead =
+    (mac_roman_code 0xC4 ≡ Some 0x80)
+    × (mac_roman_code 0x20AC ≡ Some 0xDB)
+    × (mac_roman_code 0xF8FF ≡ Some 0xF0)
+    × (mac_roman_code 0x2C7 ≡ Some 0xFF)
+    × (mapped_glyph (trimmed_map MacRoman 0 127) 127 ≡ Some 7)
+    × (mapped_glyph (trimmed_map MacRoman 0 127) 0xC4 ≡ Some 8)
+    × (mapped_glyph (trimmed_map MacRoman 0 127) 128 ≡ None)
 
 -- a range of class 3 from glyph 5 to 7
 abbrev pub example_ranges : List ℕ

@@ -1,3 +1,4 @@
+pub mod CharacterSets
 pub mod Characters
 pub mod ClassDefinition
 pub mod Directory

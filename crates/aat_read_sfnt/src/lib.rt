@@ -18,10 +18,11 @@ pub mod tags;
 pub mod worked;
 
 pub use class_definition::{ClassArray, ClassDefinition, ClassRanges};
-pub use cmap::Cmap;
+pub use cmap::character_set::CharacterSet;
 pub use cmap::segment_mapping::SegmentMapping;
 pub use cmap::segmented_coverage::SegmentedCoverage;
 pub use cmap::short_tables::{ByteEncoding, TrimmedTable};
+pub use cmap::{CharacterMap, Cmap};
 pub use directory::FontFile;
 pub use gdef::GlyphClasses;
 pub use header::{glyph_count, units_per_em};

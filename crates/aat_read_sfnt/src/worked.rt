@@ -1,5 +1,5 @@
 //! Worked examples of a font's bytes as theorems. These calls do nothing: what is proved is their contracts.
-ghost use Rattle.aat_read_sfnt.specs.Examples.{AdvancesAreListed, CollectionsListTheirFonts, FallingGroupsAreAFault, FallingRangesAreAFault, GroupsMapCharacters, RangesHaveTheirEnds, SegmentsMapCharacters, ShortSegmentsAreAFault, TablesAreSlices};
+ghost use Rattle.aat_read_sfnt.specs.Examples.{AdvancesAreListed, CollectionsListTheirFonts, FallingGroupsAreAFault, FallingRangesAreAFault, FaultySubtablesArePassedOver, GroupsMapCharacters, MacRomanIsRead, RangesHaveTheirEnds, SegmentsMapCharacters, ShortSegmentsAreAFault, SymbolsAreDoubled, TablesAreSlices};
 
 /// The definitions of directories and of the profile compute to the examples.
 #[tactic(auto, unfolding(aat_bytes::specs::Numbers::slice, crate::specs::Directory::place_in_collection, crate::specs::Directory::directory_place, crate::specs::Directory::directory_at, crate::specs::Header::glyph_count))]
@@ -13,6 +13,14 @@ pub fn directories()
 pub fn segments()
     ensures segments { SegmentsMapCharacters }
     ensures short { ShortSegmentsAreAFault }
+{}
+
+/// The definitions of a map and of its characters compute to the examples.
+#[tactic(auto, unfolding(aat_bytes::specs::Numbers::slice_from, crate::specs::Characters::record_with, crate::specs::Characters::first_encoding, crate::specs::Characters::sound_encoding, crate::specs::Characters::subtable_at, crate::specs::Characters::subtable_of, crate::specs::Characters::cmap_of, crate::specs::ShortTables::trimmed_table_at, crate::specs::CharacterSets::place_of))]
+pub fn maps()
+    ensures faulty { FaultySubtablesArePassedOver }
+    ensures symbols { SymbolsAreDoubled }
+    ensures mac_roman { MacRomanIsRead }
 {}
 
 /// The definitions of metrics, of format 12 and of classes compute to the examples.

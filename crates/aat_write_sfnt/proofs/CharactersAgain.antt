@@ -1,22 +1,24 @@
 -- Glyphs of characters that are written are read again.
 use Rattle.std.proofs.Common.{◌≡◌, ◌∙◌, sym, ap, refl, subst, ℕ, zero, suc, ◌+◌, ◌*◌, ◌-◌, ◌/◌, ◌%◌, ◌<◌, ◌≤◌, Bool, true, false, List, [], ◌∷◌, length, get_or, drop, take, All, Option, None, Some, Result, Ok, Err, inl, inr, cond, arith}
 use Rattle.std.specs.List.{find, flat_map, range_with_len}
+use Rattle.std.specs.Option.{option_or}
 use Rattle.std.specs.Prelude.{nat_le, nat_lt, ◌&&◌, ◌==◌, option_and_then}
 use Rattle.std.proofs.lemmas.Bool.{cases_eq, cases_lt, le-ltb, ltb-false}
 use Rattle.std.proofs.lemmas.Bool.Decides.{nat_tests}
 use Rattle.std.proofs.lemmas.List.{get_or-append-add, length-take-le}
 use Rattle.std.proofs.lemmas.List.Concat.{get_or-flat_map}
 use Rattle.aat_bytes.specs.Numbers.{be16, be32, slice_from}
-use Rattle.aat_bytes.specs.Faults.{fault_at}
+use Rattle.aat_bytes.specs.Faults.{after, fault_at}
 use Rattle.aat_bytes.specs.declared.error.Fault.{Fault}
-use Rattle.aat_bytes.specs.declared.error.FaultKind.TheVariants.{PastEnd}
+use Rattle.aat_bytes.specs.declared.error.FaultKind.TheVariants.{Missing, PastEnd}
 use Rattle.aat_lookup.specs.Keys.{IsRising, at_key, first_fall}
 use Rattle.aat_lookup.specs.facts.Falls.{rising}
-use Rattle.aat_read_sfnt.specs.Characters.{best_record, cmap_of, first_encoding, record_with, subtable_at, subtable_of}
+use Rattle.aat_read_sfnt.specs.Characters.{best_encoding, cmap_of, encodings, first_encoding, map_of, record_with, sound_encoding, subtable_at, subtable_of, subtable_with}
 use Rattle.aat_read_sfnt.specs.RisingEnds.{end_falls}
 use Rattle.aat_read_sfnt.specs.SegmentedCoverage.{end_char, glyph_in_group, group_glyph, groups_at, known_glyph, start_char, start_glyph}
 use Rattle.aat_read_sfnt.specs.declared.cmap.Cmap.{Cmap}
 use Rattle.aat_read_sfnt.specs.declared.cmap.Cmap.TheVariants.{SegmentedCoverage}
+use Rattle.aat_read_sfnt.specs.declared.cmap.character_set.CharacterSet.TheVariants.{Unicode}
 use Rattle.aat_bytes.specs.facts.Ranges.{none_found}
 use Rattle.aat_write_sfnt.specs.CharacterLaws.{IsMapping, WrittenCharactersAreRead}
 use Rattle.aat_write_sfnt.specs.CharacterMaps.{character_of, cmap_words, group_words, subtable_words}
@@ -28,15 +30,28 @@ use Rattle.aat_bytes.specs.declared.tags.TheConstants.{CMAP}
 use Rattle.aat_write_lookup.specs.facts.WordPlaces.{AreWords, length_words, long_again}
 use Rattle.aat_write_lookup.specs.facts.Written.{written_is}
 
--- the record of all of Unicode is the best
+-- the record of all of Unicode is there, none of symbols is, and its subtable has no fault
 first_is :
     (bytes : List ℕ) → be16 bytes 2 ≡ 1 → be32 bytes 4 ≡ 0x3000A → record_with bytes 0x3000A ≡ Some 0
 unfolding record_with
 first_is bytes count encoding = rw (count, encoding) refl
 
-best_is : (bytes : List ℕ) → record_with bytes 0x3000A ≡ Some 0 → best_record bytes ≡ Some 0
-unfolding first_encoding
-best_is bytes first = rw first first
+no_symbols :
+    (bytes : List ℕ) → be16 bytes 2 ≡ 1 → be32 bytes 4 ≡ 0x3000A → record_with bytes 0x30000 ≡ None
+unfolding record_with
+no_symbols bytes count encoding = rw (count, encoding) refl
+
+none_is : (bytes : List ℕ) → subtable_of bytes None ≡ Err (fault_at CMAP Missing 4)
+unfolding subtable_of
+none_is bytes = refl
+
+sound_is :
+    (bytes : List ℕ) (map : Cmap)
+    → record_with bytes 0x30000 ≡ None
+    → subtable_with bytes 0x3000A ≡ Ok map
+    → sound_encoding bytes encodings ≡ Some 0x3000A
+unfolding sound_encoding
+sound_is bytes map none first = rw (none, none_is bytes, first) refl
 
 -- a subtable of format 12 whose groups rise
 groups_are :
@@ -90,22 +105,22 @@ found_is bytes map long offset subtable =
 
 -- the table of such a subtable
 map_is :
-    (bytes : List ℕ) (map : Result Cmap Fault)
+    (bytes : List ℕ) (map : Cmap)
     → 12 ≤ length bytes
     → be16 bytes 0 ≡ 0
     → be16 bytes 2 ≡ 1
-    → best_record bytes ≡ Some 0
-    → subtable_of bytes (Some 0) ≡ map
-    → cmap_of bytes ≡ map
+    → record_with bytes 0x30000 ≡ None
+    → subtable_with bytes 0x3000A ≡ Ok map
+    → cmap_of bytes ≡ Ok (record { subtable = map; character_set = Unicode })
 unfolding cmap_of
-map_is bytes map long version count best subtable =
+map_is bytes map long version count none subtable =
     let header : nat_lt (length bytes) 4 ≡ false = le-ltb (length bytes) 4 (omega arith) in
     let records : nat_lt (length bytes) 12 ≡ false = le-ltb (length bytes) 12 (omega arith) in
     rw (header, version) (
-    ap (λ (k : ℕ). cond (nat_lt (length bytes) (4 + 8 * k)) (Err (fault_at CMAP PastEnd 4)) (subtable_of bytes (best_record bytes))) count
-    ∙ ap (λ (b : Bool). cond b (Err (fault_at CMAP PastEnd 4)) (subtable_of bytes (best_record bytes))) records
-    ∙ ap (subtable_of bytes) best
-    ∙ subtable)
+    ap (λ (k : ℕ). cond (nat_lt (length bytes) (4 + 8 * k)) (Err (fault_at CMAP PastEnd 4)) (map_of bytes (best_encoding bytes))) count
+    ∙ ap (λ (b : Bool). cond b (Err (fault_at CMAP PastEnd 4)) (map_of bytes (best_encoding bytes))) records
+    ∙ ap (λ (sound : Option ℕ). map_of bytes (option_or sound (first_encoding bytes encodings))) (sound_is bytes map none subtable)
+    ∙ ap (λ (read : Result Cmap Fault). after read (λ subtable. Ok (record { subtable = subtable; character_set = Unicode }))) subtable)
 
 -- no mapping has a character below all of theirs
 none_behind :
@@ -268,7 +283,7 @@ module _ (mappings : List Mapping) (small : All IsMapping mappings) (few : lengt
       ap (λ (b : Bool). b && nat_le (end_char sub (suc i)) (end_char sub (suc i - 1))) later ∙ keeps_order
 
   pub characters_are_read :
-      (cmap_of (word_bytes (cmap_words mappings)) ≡ Ok (SegmentedCoverage sub))
+      (cmap_of (word_bytes (cmap_words mappings)) ≡ Ok (record { subtable = SegmentedCoverage sub; character_set = Unicode }))
       × ((character : ℕ)
       → group_glyph sub character
       ≡ option_and_then (λ mapping. known_glyph mapping.glyph) (at_key character_of mappings character))
@@ -280,7 +295,8 @@ module _ (mappings : List Mapping) (small : All IsMapping mappings) (few : lengt
       let long : 12 ≤ length whole = omega (arith, sub_long) in
       let subtable = subtable_is sub (omega (arith, sub_long)) refl groups in
       let found = found_is whole (Ok (SegmentedCoverage sub)) long refl subtable in
-      let map = map_is whole (Ok (SegmentedCoverage sub)) long refl refl (best_is whole (first_is whole refl refl)) found in (
+      let recorded = ap (subtable_of whole) (first_is whole refl refl) in
+      let map = map_is whole (SegmentedCoverage sub) long refl refl (no_symbols whole refl refl) (recorded ∙ found) in (
         map,
         λ character.
             ap (λ (m : ℕ). option_and_then (glyph_in_group sub character) (find (λ i. nat_le character (end_char sub i)) (range_with_len 0 m))) count_read
@@ -294,5 +310,5 @@ pub written_characters_are_read : WrittenCharactersAreRead
 written_characters_are_read mappings bytes small is =
     let made = written_is (first_fall character_of mappings) (nat_lt 357913939 (length mappings)) (word_bytes (cmap_words mappings)) bytes is in
     let few : length mappings ≤ 357913939 = ltb-false 357913939 (length mappings) made.1 in
-    subst (λ (b : List ℕ). (cmap_of b ≡ Ok (SegmentedCoverage (drop 12 b))) × ((character : ℕ) → group_glyph (drop 12 b) character ≡ option_and_then (λ mapping. known_glyph mapping.glyph) (at_key character_of mappings character))) made.2
+    subst (λ (b : List ℕ). (cmap_of b ≡ Ok (record { subtable = SegmentedCoverage (drop 12 b); character_set = Unicode })) × ((character : ℕ) → group_glyph (drop 12 b) character ≡ option_and_then (λ mapping. known_glyph mapping.glyph) (at_key character_of mappings character))) made.2
     (characters_are_read mappings small few made.0)
