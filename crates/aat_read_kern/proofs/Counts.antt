@@ -5,33 +5,27 @@ use Rattle.std.proofs.Math.Nat.{div-le_self}
 use Rattle.std.proofs.lemmas.Bool.{ltb-false}
 use Rattle.std.proofs.lemmas.List.FromFn.{length-map-range_with_len}
 use Rattle.aat_bytes.specs.Numbers.{be16}
+use Rattle.aat_bytes.specs.declared.tags.TheConstants.{KERN}
 use Rattle.aat_bytes.specs.facts.Parts.{none_of, ok_parts, parts, passes}
 use Rattle.aat_kerning_tables.specs.Classes.{ClassValues}
-use Rattle.aat_lookup.specs.Keys.{first_fall}
-use Rattle.aat_kerning_tables.specs.Pairs.{key_of_pair}
 use Rattle.aat_read_lookup.specs.Sizes.{pairs_size}
 use Rattle.aat_read_pairs.specs.ClassTables.{class_table_at}
 use Rattle.aat_read_pairs.specs.KernClasses.{checked_table_at, grid_at, grid_value, kern_classes_at, value_count}
 use Rattle.aat_read_pairs.specs.KernIndexes.{index_count, indexed_value, indexes_at, kern_indexes_at, left_place, right_place}
 use Rattle.aat_read_pairs.specs.KerningValues.{no_tuples}
-use Rattle.aat_read_pairs.specs.ListedPairs.{kern_pairs_at, listed_pairs, pair_at, pairs_at}
+use Rattle.aat_read_pairs.specs.ListedPairs.{kern_pairs_at}
+use Rattle.aat_read_pairs.proofs.RisingPairs.{listed_few}
 use Rattle.aat_read_kern.specs.Weights.{class_pairs_weight}
 use Rattle.aat_read_kern.proofs.ClassSizes.{classes_size, numbered_size}
 
 -- pairs that are listed stand in the bytes
 pub pairs_fit : (bytes : List ℕ) (place : ℕ) (pairs : List (ℕ × ℕ × ℤ))
     → kern_pairs_at bytes place ≡ Ok pairs → place + 8 + 6 * length pairs ≤ length bytes
-unfolding kern_pairs_at listed_pairs
+unfolding kern_pairs_at
 pairs_fit bytes place pairs is =
-    let count = be16 bytes place in
     let header = passes (nat_lt (length bytes) (place + 8)) _ _ pairs is in
-    let whole = passes (nat_lt (length bytes) (place + 8 + 6 * count)) _ _ pairs header.1 in
-    let rising = none_of (first_fall key_of_pair (pairs_at bytes no_tuples (place + 8) count)) _ _ pairs whole.1 in
-    let same : pairs_at bytes no_tuples (place + 8) count ≡ pairs = ok_parts _ pairs rising.1 in
-    let long : length pairs ≡ count =
-    sym (ap length same) ∙ length-map-range_with_len (pair_at bytes no_tuples (place + 8)) 0 count in
-    let inside = ltb-false (length bytes) (place + 8 + 6 * count) whole.0 in
-    omega (arith, long, inside)
+    let few = listed_few KERN bytes no_tuples (place + 8) (be16 bytes place) pairs header.1 in
+    omega (arith, few.0, few.1)
 
 -- what holds of a value holds of an equal one, and their functions are equal
 holds_of : {X : Type 0} {x y : X} → x ≡ y → (P : X → Type 0) → P x → P y

@@ -10,15 +10,14 @@ use Rattle.aat_bytes.specs.declared.error.FaultKind.TheVariants.{UnknownFormat}
 use Rattle.aat_bytes.specs.facts.Parts.{none_of, ok_parts, parts, passes}
 use Rattle.aat_bytes.specs.declared.tags.TheConstants.{KERX}
 use Rattle.aat_kerning_tables.specs.Classes.{ClassValues}
-use Rattle.aat_lookup.specs.Keys.{first_fall}
-use Rattle.aat_kerning_tables.specs.Pairs.{key_of_pair}
 use Rattle.aat_read_lookup.specs.Lookups.{lookup_at}
 use Rattle.aat_read_lookup.specs.Rows.{rows_at}
 use Rattle.aat_read_lookup.specs.LongLookups.{long_rows_at}
 use Rattle.aat_read_pairs.specs.KerxClasses.{array_grid_at, array_value, array_values, class_grid_at, column_count_at, grid_pairs, kerx_arrays_at, kerx_classes_at}
-use Rattle.aat_read_pairs.specs.ListedPairs.{kerx_pairs_at, listed_pairs, pair_at, pairs_at}
+use Rattle.aat_read_pairs.specs.ListedPairs.{kerx_pairs_at, listed_pairs}
 use Rattle.aat_read_pairs.specs.LongArrays as long
 use Rattle.aat_read_pairs.specs.LongArrays.{kerx_long_arrays_at, long_grid_at, long_grid_pairs, short_grid, value_count, wide_place}
+use Rattle.aat_read_pairs.proofs.RisingPairs.{listed_few}
 use Rattle.aat_read_pairs.specs.declared.kerx_classes.KerxGrid.{KerxGrid}
 use Rattle.aat_read_pairs.specs.declared.long_arrays.LongGrid.{LongGrid}
 use Rattle.aat_read_pairs.specs.declared.values.Tuples.{Tuples}
@@ -26,15 +25,8 @@ use Rattle.aat_read_pairs.specs.declared.values.Tuples.{Tuples}
 -- pairs that are listed stand in the bytes
 listed_fit : (bytes : List ℕ) (tuples : Tuples) (place count : ℕ) (pairs : List (ℕ × ℕ × ℤ))
     → listed_pairs KERX bytes tuples place count ≡ Ok pairs → place + 6 * length pairs ≤ length bytes
-unfolding listed_pairs
 listed_fit bytes tuples place count pairs is =
-    let whole = passes (nat_lt (length bytes) (place + 6 * count)) _ _ pairs is in
-    let rising = none_of (first_fall key_of_pair (pairs_at bytes tuples place count)) _ _ pairs whole.1 in
-    let same : pairs_at bytes tuples place count ≡ pairs = ok_parts _ pairs rising.1 in
-    let long : length pairs ≡ count =
-    sym (ap length same) ∙ length-map-range_with_len (pair_at bytes tuples place) 0 count in
-    let inside = ltb-false (length bytes) (place + 6 * count) whole.0 in
-    omega (arith, long, inside)
+    let few = listed_few KERX bytes tuples place count pairs is in omega (arith, few.0, few.1)
 
 pub pairs_fit : (bytes : List ℕ) (start tuple_count : ℕ) (pairs : List (ℕ × ℕ × ℤ))
     → kerx_pairs_at bytes start tuple_count ≡ Ok pairs → start + 28 + 6 * length pairs ≤ length bytes

@@ -2,4 +2,5 @@ pub mod AddedUp
 pub mod Counts
 pub mod OffsetClasses
 pub mod OffsetSums
+pub mod PassedRows
 pub mod RisingPairs

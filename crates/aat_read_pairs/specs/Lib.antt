@@ -1,3 +1,4 @@
+pub mod Bisection
 pub mod ClassTables
 pub mod KernClasses
 pub mod KernIndexes

@@ -1,15 +1,15 @@
 -- Pairs that are listed: format 0 of both tables. Apple's TrueType Reference Manual, "The 'kern' table" and "The 'kerx'
 -- table".
-use Rattle.std.specs.Prelude.{ℕ, ℤ, ◌+◌, ◌*◌, ◌-◌, ◌/◌, List, length, map, Some, None, Result, Ok, Err, if◌then◌else◌, nat_lt}
+use Rattle.std.specs.Prelude.{ℕ, ℤ, ◌+◌, ◌*◌, ◌-◌, ◌/◌, List, length, map, Result, Ok, Err, if◌then◌else◌, nat_lt}
 use Rattle.std.specs.List.{range_with_len}
 use Rattle.aat_bytes.specs.Faults.{fault_at}
 use Rattle.aat_bytes.specs.Numbers.{be16, be32}
 use Rattle.aat_bytes.specs.declared.error.Fault.{Fault}
-use Rattle.aat_bytes.specs.declared.error.FaultKind.TheVariants.{PastEnd, NotRising}
+use Rattle.aat_bytes.specs.declared.error.FaultKind.TheVariants.{PastEnd}
 use Rattle.aat_bytes.specs.declared.tag.Tag.{Tag}
 use Rattle.aat_bytes.specs.declared.tags.TheConstants.{KERN, KERX}
-use Rattle.aat_lookup.specs.Keys.{first_fall}
-use Rattle.aat_kerning_tables.specs.Pairs.{key_of_pair}
+use Rattle.aat_kerning_tables.specs.Pairs.{pair_key}
+use Rattle.aat_read_pairs.specs.Bisection.{found_rows}
 use Rattle.aat_read_pairs.specs.KerningValues.{kerning_value, no_tuples}
 use Rattle.aat_read_pairs.specs.declared.values.Tuples.{Tuples}
 
@@ -29,20 +29,20 @@ pair_at bytes tuples place i = (
 abbrev pub pairs_at : List ℕ → Tuples → ℕ → ℕ → List (ℕ × ℕ × ℤ)
 pairs_at bytes tuples place count = map (pair_at bytes tuples place) (range_with_len 0 count)
 
--- pairs that rise strictly by left, then by right glyph, or the place of the first that does not. HarfBuzz bisects pairs
--- that do not rise and finds some of them; here they are a fault
-abbrev pub rising_pairs : Tag → ℕ → List (ℕ × ℕ × ℤ) → Result (List (ℕ × ℕ × ℤ)) Fault
-rising_pairs table place pairs = elim (first_fall key_of_pair pairs) [
-  | None ↦ Ok pairs
-  | Some i ↦ Err (fault_at table NotRising (pair_place place i))
-]
+-- the number by which a pair is searched: its left glyph, then its right one
+abbrev pub key_at : List ℕ → ℕ → ℕ → ℕ
+key_at bytes place i = pair_key (be16 bytes (pair_place place i)) (be16 bytes (pair_place place i + 2))
 
--- so many pairs from a place on, or the first that is not there as a whole, or that does not rise
+-- those of so many pairs that a bisection for their own glyphs finds, as HarfBuzz does: all, where they rise strictly
+abbrev pub found_pairs : List ℕ → Tuples → ℕ → ℕ → List (ℕ × ℕ × ℤ)
+found_pairs bytes tuples place count = map (pair_at bytes tuples place) (found_rows (key_at bytes place) count)
+
+-- what is found of so many pairs from a place on, or the first that is not there as a whole
 unfoldable pub listed_pairs : Tag → List ℕ → Tuples → ℕ → ℕ → Result (List (ℕ × ℕ × ℤ)) Fault
 listed_pairs table bytes tuples place count =
     if nat_lt (length bytes) (place + 6 * count) then
     Err (fault_at table PastEnd (pair_place place ((length bytes - place) / 6))) else
-    rising_pairs table place (pairs_at bytes tuples place count)
+    Ok (found_pairs bytes tuples place count)
 
 -- the pairs of a subtable of `kern` that goes on at a place behind its header: their number, three numbers for a search
 -- that are not believed, and the pairs

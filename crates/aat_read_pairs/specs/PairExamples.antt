@@ -1,7 +1,7 @@
 -- Worked examples of subtables of pairs.
 use Rattle.std.specs.Prelude.{◌≡◌, ℕ, ℤ, pos, negsuc, List, [], ◌∷◌, take, Some, None, Ok, Err}
 use Rattle.aat_bytes.specs.Faults.{fault_at}
-use Rattle.aat_bytes.specs.declared.error.FaultKind.TheVariants.{PastEnd, ShortLength, UnknownFormat, NotRising}
+use Rattle.aat_bytes.specs.declared.error.FaultKind.TheVariants.{PastEnd, ShortLength, UnknownFormat}
 use Rattle.aat_bytes.specs.declared.tags.TheConstants.{KERN, KERX}
 use Rattle.aat_read_pairs.specs.KernClasses.{kern_classes_at}
 use Rattle.aat_read_pairs.specs.KernIndexes.{kern_indexes_at}
@@ -14,13 +14,28 @@ abbrev pub example_pairs : ℕ → ℕ → List ℕ
 example_pairs left right =
     0 ∷ 2 ∷ 0 ∷ 0 ∷ 0 ∷ 0 ∷ 0 ∷ 0 ∷ 0 ∷ 1 ∷ 0 ∷ 2 ∷ 255 ∷ 255 ∷ 0 ∷ left ∷ 0 ∷ right ∷ 0 ∷ 5 ∷ []
 
--- pairs that rise, one that is cut, and one that does not rise
+-- pairs that rise, one that is cut, one whose glyphs an earlier one has, and one below the pair before it
 abbrev pub PairsAreListed : Type 0
 PairsAreListed =
     (kern_pairs_at (example_pairs 1 3) 0 ≡ Ok ((1, 2, negsuc 0) ∷ (1, 3, pos 5) ∷ []))
     × (kern_pairs_at (take 7 (example_pairs 1 3)) 0 ≡ Err (fault_at KERN PastEnd 0))
     × (kern_pairs_at (take 19 (example_pairs 1 3)) 0 ≡ Err (fault_at KERN PastEnd 14))
-    × (kern_pairs_at (example_pairs 1 2) 0 ≡ Err (fault_at KERN NotRising 14))
+    × (kern_pairs_at (example_pairs 1 2) 0 ≡ Ok ((1, 2, negsuc 0) ∷ []))
+    × (kern_pairs_at (example_pairs 0 9) 0 ≡ Ok ((1, 2, negsuc 0) ∷ []))
+
+-- the pairs of glyph 1 and three others, with 7, -1 and 5
+abbrev pub example_rows : ℕ → ℕ → ℕ → List ℕ
+example_rows a b c =
+    0 ∷ 3 ∷ 0 ∷ 0 ∷ 0 ∷ 0 ∷ 0 ∷ 0
+    ∷ 0 ∷ 1 ∷ 0 ∷ a ∷ 0 ∷ 7 ∷ 0 ∷ 1 ∷ 0 ∷ b ∷ 255 ∷ 255 ∷ 0 ∷ 1 ∷ 0 ∷ c ∷ 0 ∷ 5 ∷ []
+
+-- pairs that rise; the first above the middle one, where it is not found; the last below it; three of the same glyphs
+abbrev pub RowsAreBisected : Type 0
+RowsAreBisected =
+    (kern_pairs_at (example_rows 2 3 4) 0 ≡ Ok ((1, 2, pos 7) ∷ (1, 3, negsuc 0) ∷ (1, 4, pos 5) ∷ []))
+    × (kern_pairs_at (example_rows 4 2 3) 0 ≡ Ok ((1, 2, negsuc 0) ∷ (1, 3, pos 5) ∷ []))
+    × (kern_pairs_at (example_rows 3 4 2) 0 ≡ Ok ((1, 3, pos 7) ∷ (1, 4, negsuc 0) ∷ []))
+    × (kern_pairs_at (example_rows 2 2 2) 0 ≡ Ok ((1, 2, negsuc 0) ∷ []))
 
 -- the pair of the glyphs 1 and 2 with 34, as `kerx` has it, and behind it two numbers, -2 and 7
 abbrev pub example_tuples : List ℕ

@@ -1,11 +1,14 @@
 -- What pairs that are read say, in the words of their bytes.
-use Rattle.std.specs.Prelude.{◌≡◌, ℕ, ℤ, pos, ◌+◌, ◌*◌, ◌-◌, ◌<◌, ◌≤◌, List, length, if◌then◌else◌, nat_le, nat_lt, ◌==◌, ◌&&◌, Ok, None}
-use Rattle.aat_bytes.specs.Numbers.{be16, signed16}
+use Rattle.std.specs.Prelude.{◌≡◌, ℕ, ℤ, pos, ◌+◌, ◌*◌, ◌-◌, ◌<◌, ◌≤◌, List, length, if◌then◌else◌, nat_le, nat_lt, ◌==◌, ◌&&◌, option_map, Ok, None}
+use Rattle.aat_bytes.specs.Numbers.{be16, be32, signed16}
 use Rattle.aat_kerning_tables.specs.Classes.{ClassValues, kerning_by_classes}
 use Rattle.aat_lookup.specs.Keys.{first_fall}
-use Rattle.aat_kerning_tables.specs.Pairs.{key_of_pair}
+use Rattle.aat_kerning_tables.specs.Pairs.{kerning_of, key_of_pair, pair_key}
+use Rattle.aat_read_pairs.specs.Bisection.{row_found}
 use Rattle.aat_read_pairs.specs.KernClasses.{kern_classes_at}
-use Rattle.aat_read_pairs.specs.ListedPairs.{kern_pairs_at, kerx_pairs_at}
+use Rattle.aat_read_pairs.specs.KerningValues.{no_tuples}
+use Rattle.aat_read_pairs.specs.ListedPairs.{found_pairs, kern_pairs_at, kerx_pairs_at, key_at, pair_at, pairs_at}
+use Rattle.aat_read_pairs.specs.declared.values.Tuples.{Tuples}
 
 -- pairs that are read rise strictly
 abbrev pub PairsRise : Type 0
@@ -18,6 +21,31 @@ abbrev pub ExtendedPairsRise : Type 0
 ExtendedPairsRise =
     (bytes : List ℕ) (start tuple_count : ℕ) (pairs : List (ℕ × ℕ × ℤ))
     → kerx_pairs_at bytes start tuple_count ≡ Ok pairs → first_fall key_of_pair pairs ≡ None
+
+-- the value of two glyphs by pairs that are read is that of the row, of all their rows, that a bisection finds for them
+abbrev pub PairsAreThoseFound : Type 0
+PairsAreThoseFound =
+    (bytes : List ℕ) (place left right : ℕ) (pairs : List (ℕ × ℕ × ℤ))
+    → kern_pairs_at bytes place ≡ Ok pairs
+    → kerning_of pairs left right
+    ≡ option_map (λ i. (pair_at bytes no_tuples (place + 8) i).2)
+    (row_found (key_at bytes (place + 8)) (be16 bytes place) (pair_key left right))
+
+-- that by pairs of `kerx` too
+abbrev pub ExtendedPairsAreThoseFound : Type 0
+ExtendedPairsAreThoseFound =
+    (bytes : List ℕ) (start tuple_count left right : ℕ) (pairs : List (ℕ × ℕ × ℤ))
+    → kerx_pairs_at bytes start tuple_count ≡ Ok pairs
+    → kerning_of pairs left right
+    ≡ option_map (λ i. (pair_at bytes (record { place = start; count = tuple_count }) (start + 28) i).2)
+    (row_found (key_at bytes (start + 28)) (be32 bytes (start + 12)) (pair_key left right))
+
+-- pairs whose rows rise strictly are all of their rows
+abbrev pub RisingPairsAreAll : Type 0
+RisingPairsAreAll =
+    (bytes : List ℕ) (tuples : Tuples) (place count : ℕ)
+    → first_fall key_of_pair (pairs_at bytes tuples place count) ≡ None
+    → found_pairs bytes tuples place count ≡ pairs_at bytes tuples place count
 
 -- the offset that a class table of `kern` at a place has for a glyph, and 0 where it has none
 abbrev pub offset_in : List ℕ → ℕ → ℕ → ℕ

@@ -1,1 +1,2 @@
+pub mod Bisections
 pub mod Starts

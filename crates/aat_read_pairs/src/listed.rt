@@ -1,21 +1,22 @@
 //! Pairs that are listed: format 0 of both tables.
-ghost use Rattle.std.specs.Prelude.{◌≡◌, ◌+◌, ◌*◌, ◌^◌, ◌<◌, ◌≤◌, length, IfOk, IfSome};
-ghost use Rattle.aat_bytes.specs.Numbers.{be16};
+ghost use Rattle.std.specs.Prelude.{◌≡◌, ◌+◌, ◌*◌, ◌^◌, ◌<◌, ◌≤◌, length, IfOk, None};
 ghost use Rattle.aat_lookup.specs.Keys.{first_fall};
-ghost use Rattle.aat_kerning_tables.specs.Pairs.{key_of_pair, pair_key};
+ghost use Rattle.aat_kerning_tables.specs.Pairs.{key_of_pair};
+ghost use Rattle.aat_read_pairs.specs.Bisection.{is_found, row_found};
 ghost use Rattle.aat_read_lookup.specs.Lookups.{Gives};
-ghost use Rattle.aat_read_pairs.specs.ListedPairs.{kern_pairs_at, kerx_pairs_at, listed_pairs, pair_at, pair_place, pairs_at};
+ghost use Rattle.aat_read_pairs.specs.ListedPairs.{found_pairs, kern_pairs_at, kerx_pairs_at, key_at, listed_pairs, pair_at, pairs_at};
 
 use crate::values::Tuples;
 use aat_bytes::tags::{KERN, KERX};
 use aat_bytes::{Fault, FaultKind, ReadError, Tag, be16, be32};
 use aat_kerning_tables::Pairs;
+use aat_lookup::TableError;
 use std::alloc::{AllocError, Allocator};
 
 /// The number by which pairs rise.
 fn key_at(bytes: &[u8], place: usize, i: usize) -> u32
     requires { place + 6 * i + 6 ≤ length bytes.now }
-    ensures { result ≡ pair_key (be16 bytes.now (pair_place place i)) (be16 bytes.now (pair_place place i + 2)) }
+    ensures { result ≡ key_at bytes.now place i }
 {
     let at = place + 6 * i;
     be16(bytes, at) as u32 * 65536 + be16(bytes, at + 2) as u32
@@ -38,8 +39,7 @@ fn pair_at(bytes: &[u8], tuples: Tuples, place: usize, i: usize) -> (u16, u16, i
 /// The first pair that is not above the one before it.
 fn first_fall(bytes: &[u8], tuples: Tuples, place: usize, count: usize) -> Option<usize>
     requires { place + 6 * count ≤ length bytes.now }
-    ensures first { result ≡ first_fall key_of_pair (pairs_at bytes.now tuples place count) }
-    ensures below { IfSome result (λ i. i < count) }
+    ensures { result ≡ first_fall key_of_pair (pairs_at bytes.now tuples place count) }
 {
     for i in 1..count {
         if key_at(bytes, place, i) <= key_at(bytes, place, i - 1) {
@@ -47,6 +47,40 @@ fn first_fall(bytes: &[u8], tuples: Tuples, place: usize, count: usize) -> Optio
         }
     }
     None
+}
+
+/// Which of so many pairs a bisection for a key finds. Of two pairs in the middle it looks at the lower one, as HarfBuzz
+/// does.
+fn row_found(bytes: &[u8], place: usize, count: usize, key: u32) -> Option<usize>
+    requires { place + 6 * count ≤ length bytes.now }
+    ensures { result ≡ row_found (key_at bytes.now place) count key }
+{
+    let mut from = 0;
+    let mut to = count;
+    while from < to {
+        let middle = (from + (to - 1)) / 2;
+        let found = key_at(bytes, place, middle);
+        if key < found {
+            to = middle;
+        } else if found < key {
+            from = middle + 1;
+        } else {
+            return Some(middle);
+        }
+    }
+    None
+}
+
+/// Whether a bisection for the key of a pair finds that very pair.
+fn is_found(bytes: &[u8], place: usize, count: usize, i: usize) -> bool
+    requires inside { place + 6 * count ≤ length bytes.now }
+    requires below { i < count }
+    ensures { result ≡ is_found (key_at bytes.now place) count i }
+{
+    match row_found(bytes, place, count, key_at(bytes, place, i)) {
+        Some(found) => found == i,
+        None => false,
+    }
 }
 
 /// What so many pairs say.
@@ -66,7 +100,61 @@ fn pairs_at<A: Allocator>(
         .collect(alloc)
 }
 
-/// So many pairs from a place on.
+/// What those of so many pairs say that a bisection finds.
+fn bisected_pairs<A: Allocator>(
+    alloc: A,
+    bytes: &[u8],
+    tuples: Tuples,
+    place: usize,
+    count: usize,
+) -> Result<Vec<(u16, u16, i16), A>, AllocError>
+    requires inside { place + 6 * count ≤ length bytes.now }
+    requires tuples { tuples.place < 2 ^ 63 + 2 ^ 32 }
+    ensures { IfOk result (λ pairs. pairs.items ≡ found_pairs bytes.now tuples place count) }
+{
+    let mut pairs = Vec::new(alloc);
+    for i in 0..count {
+        if is_found(bytes, place, count, i) {
+            pairs.push(pair_at(bytes, tuples, place, i))?;
+        }
+    }
+    Ok(pairs)
+}
+
+/// The same, without a search where all rise strictly, as they ought to.
+fn found_pairs<A: Allocator>(
+    alloc: A,
+    bytes: &[u8],
+    tuples: Tuples,
+    place: usize,
+    count: usize,
+) -> Result<Vec<(u16, u16, i16), A>, AllocError>
+    requires inside { place + 6 * count ≤ length bytes.now }
+    requires tuples { tuples.place < 2 ^ 63 + 2 ^ 32 }
+    ensures { IfOk result (λ pairs. pairs.items ≡ found_pairs bytes.now tuples place count) }
+{
+    match first_fall(bytes, tuples, place, count) {
+        None => pairs_at(alloc, bytes, tuples, place, count),
+        Some(_) => bisected_pairs(alloc, bytes, tuples, place, count),
+    }
+}
+
+/// The table of pairs. Fails only where it gets no memory.
+fn table_of<A: Allocator + Copy>(
+    alloc: A,
+    pairs: &[(u16, u16, i16)],
+) -> Result<Pairs<A>, AllocError>
+    requires { first_fall key_of_pair pairs.now ≡ None }
+    ensures { IfOk result (λ table. table ≡ pairs.now) }
+{
+    match Pairs::new(alloc, pairs) {
+        Ok(table) => Ok(table),
+        Err(TableError::OutOfMemory) => Err(AllocError),
+        Err(_) => unreachable!(),
+    }
+}
+
+/// What is found of so many pairs from a place on.
 #[tactic(auto, unfolding(crate::specs::ListedPairs::listed_pairs))]
 fn listed_pairs<A: Allocator + Copy>(
     alloc: A,
@@ -85,24 +173,20 @@ fn listed_pairs<A: Allocator + Copy>(
         let whole = (bytes.len() - place) / 6;
         return Err(ReadError::Fault(Fault::new(table, FaultKind::PastEnd, place + 6 * whole)));
     }
-    if let Some(i) = first_fall(bytes, tuples, place, count) {
-        return Err(ReadError::Fault(Fault::new(table, FaultKind::NotRising, place + 6 * i)));
-    }
-    let pairs = pairs_at(alloc, bytes, tuples, place, count)?;
-    match Pairs::new(alloc, &pairs) {
-        Ok(pairs) => Ok(pairs),
-        Err(_) => Err(ReadError::OutOfMemory),
-    }
+    let pairs = found_pairs(alloc, bytes, tuples, place, count)?;
+    Ok(table_of(alloc, &pairs)?)
 }
 
 /// Reads the pairs of a subtable of format 0 of the table `kern`. `bytes` is the table from its start, up to where the
 /// subtable may reach, and `place` is where it goes on behind its header. The three numbers for a search are not
 /// believed.
 ///
-/// The first fault in this order, of `kern`, with its place from the start of the table: 1, `PastEnd`, 8 bytes that are
-/// not there, at `place`, and pairs that are not there, at the first of them; 5, `NotRising`, at the first pair that is
-/// not above the one before it, by the left glyph, then by the right one. `OutOfMemory` comes only if the bytes have no
-/// fault.
+/// The value of two glyphs is what a bisection over all pairs finds for them, by the left glyph, then by the right one.
+/// Where pairs rise strictly all are found. Else the pairs that are found are the table; to find them takes as many
+/// bisections as there are pairs.
+///
+/// The first fault, of `kern`, with its place from the start of the table: 1, `PastEnd`, 8 bytes that are not there, at
+/// `place`, and pairs that are not there, at the first of them. `OutOfMemory` comes only if the bytes have no fault.
 ///
 /// Apple's TrueType Reference Manual, "The 'kern' table", format 0.
 #[tactic(auto, unfolding(crate::specs::ListedPairs::kern_pairs_at))]
@@ -125,10 +209,10 @@ pub fn read_kern_pairs<A: Allocator + Copy>(
 /// first of its tuple, whose offset from `start` stands for it, and 0 where the tuple is not there as a whole. The three
 /// numbers for a search are not believed.
 ///
-/// The first fault in this order, of `kerx`, with its place from the start of the table: 1, `PastEnd`, 28 bytes that are
-/// not there, at `start`, and pairs that are not there, at the first of them; 5, `NotRising`, at the first pair that is
-/// not above the one before it, by the left glyph, then by the right one. `OutOfMemory` comes only if the bytes have no
-/// fault.
+/// The value of two glyphs is what a bisection over all pairs finds for them, as `read_kern_pairs` says.
+///
+/// The first fault, of `kerx`, with its place from the start of the table: 1, `PastEnd`, 28 bytes that are not there, at
+/// `start`, and pairs that are not there, at the first of them. `OutOfMemory` comes only if the bytes have no fault.
 ///
 /// Apple's TrueType Reference Manual, "The 'kerx' table", format 0.
 #[tactic(auto, unfolding(crate::specs::ListedPairs::kerx_pairs_at))]

@@ -1,10 +1,11 @@
 //! Worked examples of subtables of pairs as theorems. These calls do nothing: what is proved is their contracts.
-ghost use Rattle.aat_read_pairs.specs.PairExamples.{ArraysHaveRowsAndColumns, FirstOfATupleCounts, IndexesNameValues, LongArraysHaveRowsAndColumns, OffsetsAreRowsAndColumns, PairsAreListed};
+ghost use Rattle.aat_read_pairs.specs.PairExamples.{ArraysHaveRowsAndColumns, FirstOfATupleCounts, IndexesNameValues, LongArraysHaveRowsAndColumns, OffsetsAreRowsAndColumns, PairsAreListed, RowsAreBisected};
 
 /// The definitions of pairs that are listed compute to the examples.
 #[tactic(auto, unfolding(crate::specs::ListedPairs::listed_pairs, crate::specs::ListedPairs::kern_pairs_at, crate::specs::ListedPairs::kerx_pairs_at))]
 pub fn lists()
     ensures pairs { PairsAreListed }
+    ensures rows { RowsAreBisected }
     ensures tuples { FirstOfATupleCounts }
 {}
 

@@ -1,16 +1,17 @@
 -- Pairs that are written are read again.
-use Rattle.std.proofs.Common.{◌≡◌, ℕ, ℤ, ◌+◌, ◌*◌, ◌<◌, ◌≤◌, List, [], ◌∷◌, ◌++◌, length, get_or, All, Option, None, Some, Ok, Err, refl, sym, ap, ◌∙◌, arith}
+use Rattle.std.proofs.Common.{◌≡◌, ℕ, ℤ, ◌+◌, ◌*◌, ◌<◌, ◌≤◌, List, [], ◌∷◌, ◌++◌, length, get_or, All, None, Ok, refl, sym, ap, ◌∙◌, arith}
 use Rattle.std.specs.Prelude.{pos}
 use Rattle.std.specs.List.{flat_map}
 use Rattle.std.proofs.lemmas.Bool.{le-ltb}
 use Rattle.std.proofs.lemmas.List.{get_or-append-add, length-append}
 use Rattle.std.proofs.lemmas.List.FromFn.{fill_by_all}
-use Rattle.aat_bytes.specs.Faults.{fault_at}
 use Rattle.aat_bytes.specs.Numbers.{be16, signed16}
-use Rattle.aat_bytes.specs.declared.error.FaultKind.TheVariants.{NotRising}
 use Rattle.aat_bytes.specs.declared.tags.TheConstants.{KERN}
+use Rattle.aat_kerning_tables.specs.Pairs.{key_of_pair}
+use Rattle.aat_lookup.specs.Keys.{first_fall}
 use Rattle.aat_read_pairs.specs.KerningValues.{no_tuples}
-use Rattle.aat_read_pairs.specs.ListedPairs.{kern_pairs_at, listed_pairs, pair_at, pair_place, pairs_at, rising_pairs}
+use Rattle.aat_read_pairs.specs.ListedPairs.{kern_pairs_at, listed_pairs, pair_at, pair_place, pairs_at}
+use Rattle.aat_read_pairs.proofs.RisingPairs.{rising_pairs_are_all}
 use Rattle.aat_write_lookup.specs.Words.{word_bytes}
 use Rattle.aat_write_lookup.specs.facts.WordPlaces.{AreWords, length_words, word_at}
 use Rattle.aat_write_kern.specs.KernLaws.{ArePairs}
@@ -79,9 +80,10 @@ module _ (pairs : List (ℕ × ℕ × ℤ)) (front rest : List ℕ) (small : Are
   unfolding listed_pairs
   listed d =
       let inside : place + 8 + 6 * length pairs ≤ length whole = omega (arith, whole_long) in
+      let rising : first_fall key_of_pair (pairs_at whole no_tuples (place + 8) (length pairs)) ≡ None =
+      ap (first_fall key_of_pair) (pairs_are d) ∙ small.1 in
       rw (le-ltb (length whole) (place + 8 + 6 * length pairs) inside)
-      (ap (rising_pairs KERN (place + 8)) (pairs_are d)
-      ∙ ap (λ (o : Option ℕ). elim o [ None ↦ Ok pairs | Some i ↦ Err (fault_at KERN NotRising (pair_place (place + 8) i)) ]) small.1)
+      (ap Ok (rising_pairs_are_all whole no_tuples (place + 8) (length pairs) rising ∙ pairs_are d))
 
   -- the pairs are read wherever they stand
   pub pairs_are_read : kern_pairs_at whole place ≡ Ok pairs

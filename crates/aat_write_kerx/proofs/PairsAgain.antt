@@ -1,16 +1,14 @@
 -- Listed pairs that are written are read again.
-use Rattle.std.proofs.Common.{◌≡◌, ℕ, ℤ, zero, suc, ◌+◌, ◌*◌, ◌<◌, ◌≤◌, List, [], ◌∷◌, ◌++◌, length, get_or, map, Bool, Option, Some, None, Result, Ok, Err, All, refl, sym, ap, ◌∙◌, subst, append_assoc, arith}
+use Rattle.std.proofs.Common.{◌≡◌, ℕ, ℤ, zero, suc, ◌+◌, ◌*◌, ◌<◌, ◌≤◌, List, [], ◌∷◌, ◌++◌, length, get_or, map, Bool, Option, None, Result, Ok, Err, All, refl, sym, ap, ◌∙◌, subst, append_assoc, arith}
 use Rattle.std.specs.Prelude.{nat_lt, pos}
 use Rattle.std.specs.List.{flat_map, range_with_len}
 use Rattle.std.proofs.lemmas.Bool.{le-ltb, ltb-false}
 use Rattle.std.proofs.lemmas.List.{append-nil, length-append}
-use Rattle.aat_bytes.specs.Faults.{fault_at}
 use Rattle.aat_bytes.specs.Numbers.{be16, be32, signed16}
-use Rattle.aat_bytes.specs.declared.error.FaultKind.TheVariants.{NotRising}
-use Rattle.aat_bytes.specs.declared.tags.TheConstants.{KERX}
 use Rattle.aat_lookup.specs.Keys.{first_fall}
 use Rattle.aat_kerning_tables.specs.Pairs.{key_of_pair}
-use Rattle.aat_read_pairs.specs.ListedPairs.{kerx_pairs_at, listed_pairs, pair_place, pairs_at, rising_pairs}
+use Rattle.aat_read_pairs.specs.ListedPairs.{kerx_pairs_at, listed_pairs, pairs_at}
+use Rattle.aat_read_pairs.proofs.RisingPairs.{rising_pairs_are_all}
 use Rattle.aat_write_lookup.specs.Words.{long_bytes, word_bytes}
 use Rattle.aat_write_lookup.specs.WriteErrors.{unless_refused}
 use Rattle.aat_write_lookup.specs.declared.error.WriteError.{WriteError}
@@ -63,11 +61,12 @@ pairs_by :
     → kerx_pairs_at bytes start 0 ≡ Ok pairs
 unfolding kerx_pairs_at listed_pairs
 pairs_by bytes start pairs inside counted is rising =
+    let falls : first_fall key_of_pair (pairs_at bytes (record { place = start; count = 0 }) (start + 28) (length pairs)) ≡ None =
+    ap (first_fall key_of_pair) is ∙ rising in
     rw (le-ltb (length bytes) (start + 28) (omega (arith, inside)))
     (rw counted
     (rw (le-ltb (length bytes) (start + 28 + 6 * length pairs) inside)
-    (ap (rising_pairs KERX (start + 28)) is
-    ∙ ap (λ (o : Option ℕ). elim o [ None ↦ Ok pairs | Some i ↦ Err (fault_at KERX NotRising (pair_place (start + 28) i)) ]) rising)))
+    (ap Ok (rising_pairs_are_all bytes (record { place = start; count = 0 }) (start + 28) (length pairs) falls ∙ is))))
 
 pairs_are_read :
     (pairs : List (ℕ × ℕ × ℤ)) (front : List ℕ) (start : ℕ)

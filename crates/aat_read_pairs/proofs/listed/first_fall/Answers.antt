@@ -11,10 +11,10 @@ pub loop-i-preserved : goal.loop-i-preserved
 loop-i-preserved c =
     goes_on key_of_pair (pair_at c.args.bytes.now c.args.tuples c.args.place) c.loop-i.i c.args.count _ c.loop-i-test.true c.loop-i.invariant (omega arith)
 
-pub returns-clause-first : goal.returns-clause-first
-returns-clause-first c =
+pub returns : goal.returns
+returns c =
     none_falls key_of_pair (pair_at c.args.bytes.now c.args.tuples c.args.place) c.loop-i.i c.args.count _ (omega arith) c.loop-i.invariant
 
-pub returns-then-key_at-clause-first : goal.returns-then-key_at-clause-first
-returns-then-key_at-clause-first c =
+pub returns-then-key_at : goal.returns-then-key_at
+returns-then-key_at c =
     falls key_of_pair (pair_at c.args.bytes.now c.args.tuples c.args.place) c.loop-i.i c.args.count _ c.loop-i-test.true c.loop-i.invariant (omega arith)
