@@ -1,5 +1,4 @@
--- Under which numbers subtables of symbols and of the Macintosh have characters. Apple's TrueType Reference Manual, "The
--- 'cmap' table".
+-- Under which numbers subtables have characters. Apple's TrueType Reference Manual, "The 'cmap' table".
 use Rattle.std.specs.Prelude.{ℕ, ◌+◌, List, length, Option, Some, None, if◌then◌else◌, nat_lt, ◌==◌, find, option_map, option_and_then, slice_index}
 use Rattle.std.specs.List.{range_with_len}
 use Rattle.std.specs.Option.{option_or}

@@ -63,8 +63,8 @@ subtable_with bytes encoding = subtable_of bytes (record_with bytes encoding)
 unfoldable pub sound_encoding : List ℕ → List ℕ → Option ℕ
 sound_encoding bytes among = find (λ encoding. is_ok (subtable_with bytes encoding)) among
 
--- the encoding that is taken: the first without a fault, as HarfBuzz 6.0.0 does, where 12.3.2 drops the table; and where
--- each has one the first that has a record, whose fault is that of the table
+-- the encoding that is taken: the first without a fault, as HarfBuzz 6.0.0 does, where 12.3.2 drops the table; and
+-- where each has one the first that has a record, whose fault is that of the table
 abbrev pub best_encoding : List ℕ → Option ℕ
 best_encoding bytes = option_or (sound_encoding bytes encodings) (first_encoding bytes encodings)
 
@@ -72,7 +72,8 @@ best_encoding bytes = option_or (sound_encoding bytes encodings) (first_encoding
 abbrev pub map_of : List ℕ → Option ℕ → Result CharacterMap Fault
 map_of bytes None = Err (fault_at CMAP Missing 4)
 map_of bytes (Some encoding) =
-    after (subtable_with bytes encoding) (λ subtable. Ok (record { subtable = subtable; character_set = set_of encoding }))
+    after (subtable_with bytes encoding)
+    (λ subtable. Ok (record { subtable = subtable; character_set = set_of encoding }))
 
 -- the map of a table: a header of 4 bytes, of version 0, and all its records
 unfoldable pub cmap_of : List ℕ → Result CharacterMap Fault
