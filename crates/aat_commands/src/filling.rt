@@ -39,7 +39,18 @@ fn spaces_before(text: &[TextGlyph], space: Option<GlyphId>, place: usize) -> Op
     }
 }
 
-/// The places where a line of a paragraph may end, with its own end. The spaces before them hang.
+/// The first place of a text from one on whose cluster is not before another, or its end.
+fn place_of(text: &[TextGlyph], from: usize, cluster: u32) -> usize {
+    let behind = part(text, from, text.len());
+    let count = match behind.iter().position(|glyph| glyph.cluster >= cluster) {
+        Some(count) => count,
+        None => behind.len(),
+    };
+    from.saturating_add(count)
+}
+
+/// The places where a line of a paragraph may end, with its own end. The spaces before them hang. Each is looked for from
+/// the one before it on, so that the text is gone through once.
 fn stops_of(
     alloc: Global,
     space: Option<GlyphId>,
@@ -47,8 +58,9 @@ fn stops_of(
 ) -> Result<Vec<LineStop>, AllocError> {
     let text = paragraph.text.as_slice();
     let mut stops = Vec::new(alloc);
+    let mut place = 0;
     for end in &paragraph.ends {
-        let place = text.partition_point(|glyph| glyph.cluster < end.place);
+        place = place_of(text, place, end.place);
         stops.push(LineStop {
             place,
             hang: spaces_before(text, space, place),

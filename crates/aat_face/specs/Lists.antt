@@ -17,6 +17,6 @@ advance_pairs metrics glyph_count = pairs_over glyph_count (λ glyph. unwrap_or 
 abbrev pub mark_property : GlyphClasses → ℕ → ℕ
 mark_property classes glyph = bit_and (properties_of classes glyph) 8
 
--- the properties of glyphs
+-- that property of glyphs
 abbrev pub property_pairs : GlyphClasses → ℕ → List (ℕ × ℕ)
 property_pairs classes glyph_count = pairs_over glyph_count (mark_property classes)

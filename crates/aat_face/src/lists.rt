@@ -50,15 +50,15 @@ pub fn advance_lookup(
 /// The property of marks.
 const MARK: u16 = 0x08;
 
-/// The property of a glyph that kerning asks: that of marks, and no other. HarfBuzz's kerning skips marks alone, and that of
-/// the layer by `kerx` bases and ligatures too.
+/// The property of a glyph that kerning asks: that of marks, and no other. HarfBuzz's kerning skips marks alone, and
+/// that of the layer by `kerx` bases and ligatures too.
 fn mark_property(classes: &GlyphClasses<'_>, glyph: u16) -> u16
     ensures { result ≡ mark_property classes.now glyph }
 {
     classes.properties(glyph) & MARK
 }
 
-/// The pairs of so many glyphs and their properties.
+/// The pairs of so many glyphs and that property.
 fn property_pairs(
     alloc: Global,
     classes: &GlyphClasses<'_>,

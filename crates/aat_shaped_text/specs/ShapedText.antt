@@ -51,8 +51,8 @@ most_glyphs n = min (max (n * 64) 16384) 0x3FFFFFFF
 abbrev pub most_operations : ℕ → ℕ
 most_operations n = min (max (n * 1024) 16384) 0x7FFFFFFF
 
--- a glyph of a text as one of a line: its properties are those of its class in the font, where it is kerned it has the
--- bit 8, and an ignorable character has the layer's property, 0x20, and 0x40, which the layer leaves as it is
+-- a glyph of a text as one of a line: its properties are those of the font, where it is kerned it has the bit 8, and an
+-- ignorable character has the layer's property, 0x20, and 0x40, which the layer leaves as it is
 abbrev pub line_glyph : hb_font_t → List Feature → TextGlyph → hb_glyph_info_t
 line_glyph face features g = record {
   glyph_id = g.glyph_id;
@@ -132,7 +132,7 @@ abbrev pub kept_place : List hb_glyph_info_t → Option ℕ → Option ℕ
 kept_place line None = None
 kept_place line (Some j) = if is_deleted (glyph_at line j) then None else Some (kept_before line j)
 
--- a glyph of a line stands for an ignorable character; a component that a ligature deleted has 0x20 alone
+-- a glyph of a line stands for an ignorable character; a component that a ligature deletes gets 0x20 alone
 abbrev pub is_ignorable : hb_glyph_info_t → Bool
 is_ignorable g = not (bit_and g.unicode_props 0x40 == 0)
 

@@ -32,8 +32,8 @@ pub fn is_kept(glyph: &hb_glyph_info_t) -> bool
     glyph.glyph_id != DELETED_GLYPH
 }
 
-/// Whether a place of a line in drawing order stays open, before which so many glyphs are kept: where it is open, and the
-/// line may be broken there by its glyphs, of which no others are asked.
+/// Whether a place of a line in drawing order stays open, before which so many glyphs are kept: where it is open, and
+/// the line may be broken there by its glyphs, of which no others are asked.
 #[inline(always)]
 fn stays_open(
     rules: BreakRules,

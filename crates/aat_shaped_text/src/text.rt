@@ -48,7 +48,7 @@ pub struct ShapedGlyph {
     pub glyph_id: u16,
     /// The character that it came from, or the first of several.
     pub cluster: u32,
-    /// Whether its character is ignorable by default. It is that of the glyph that it came from.
+    /// Whether the glyph of the text that it came from is ignorable.
     pub is_ignorable: bool,
     /// How far the pen moves to the right.
     pub x_advance: i32,

@@ -77,8 +77,8 @@ fn positions_of<H: Allocator + Copy>(
     Ok(positions)
 }
 
-/// Closes each place of a line in drawing order over which a glyph is attached, where each place of it is told of. Answers
-/// the positions of the line, where some glyph of it may be attached to another.
+/// Closes each place of a line in drawing order over which a glyph is attached, where each place of it is told of.
+/// Answers the positions of the line, where some glyph of it may be attached to another.
 pub(crate) fn close_attached<H: Allocator + Copy>(
     alloc: H,
     buffer: &hb_buffer_t<H>,
@@ -254,8 +254,8 @@ fn put_glyphs<H: Allocator + Copy, A: Allocator>(
     Ok(())
 }
 
-/// Puts the glyphs of a line that are kept behind others, with what they are attached to, by its positions where some may be
-/// attached.
+/// Puts the glyphs of a line that are kept behind others, with what they are attached to, by its positions where some
+/// may be attached.
 fn put_drawn_glyphs<H: Allocator + Copy, A: Allocator>(
     alloc: H,
     breaks: Breaks,

@@ -31,8 +31,8 @@ const OPS_MOST: usize = 0x7FFF_FFFF;
 /// The bit of a glyph's mask by which it is kerned, above those of `glyph_flag`.
 pub(crate) const KERNED: hb_mask_t = 8;
 
-/// What an ignorable character has: the layer's property `IGNORABLE`, 0x20, and 0x40, which the layer leaves as it is. A
-/// component that a ligature deletes gets 0x20 alone, and may be given a glyph again.
+/// What an ignorable character has: the layer's property `IGNORABLE`, 0x20, and 0x40, which the layer leaves as it is.
+/// A component that a ligature deletes gets 0x20 alone, and may be given a glyph again.
 const IGNORABLE_CHARACTER: u16 = 0x60;
 
 /// The most glyphs that the line of a text may have.

@@ -209,8 +209,8 @@ impl<'f, A: Allocator + Copy> Shaper<'f, A> {
     /// along the line, off over its range: no glyph there is one of a pair. Features that the font does not have change
     /// nothing but where the text may be broken.
     ///
-    /// The glyphs have the properties of their classes in the font. So pairs of `kerx` skip the font's bases, ligatures
-    /// and marks, and those of `kern` its marks. The glyphs are shaped at the cluster level 0, in a line of at most 64
+    /// The glyphs have the properties that the font has for them. By these pairs of `kerx` skip bases, ligatures and
+    /// marks, and those of `kern` marks. The glyphs are shaped at the cluster level 0, in a line of at most 64
     /// glyphs for each one of the text, or 16384 if that is more, but never more than 0x3FFFFFFF, and with a budget of
     /// 1024 operations for each, or 16384 if that is more, but never more than 0x7FFFFFFF;
     /// [`Shaper::is_budget_used_up`] tells whether none of it is left.
