@@ -31,7 +31,6 @@ use Rattle.aat_read_lookup.specs.Features.{feat_of, feature_count, feature_name,
 use Rattle.aat_read_lookup.specs.Sizes.{cells_beside, pairs_size}
 use Rattle.aat_read_morx.specs.Weights.{morx_weight}
 use Rattle.aat_read_morx.proofs.Bounded.{memory_bounded}
-use Rattle.aat_read_sfnt.specs.GlyphClasses.{properties_of}
 use Rattle.aat_read_sfnt.specs.Metrics.{LongMetrics, advance_of}
 use Rattle.aat_read_sfnt.specs.declared.gdef.GlyphClasses.{GlyphClasses}
 use Rattle.aat_read_sfnt.specs.Directory.{Directory, bytes_of_record, directory_at, directory_of, directory_place, is_font_version, record_of, table_of}
@@ -43,7 +42,7 @@ use Rattle.aat_face.specs.FaceLaws.{FaceMemoryIsBounded, IsBounded}
 use Rattle.aat_face.specs.Faces.{face_of_tables, faults_of, tables_in}
 use Rattle.aat_face.specs.Features.{FeatureTable, feature_table_of, features_in}
 use Rattle.aat_face.specs.Kerning.{ankr_values_of, kerx_values_of}
-use Rattle.aat_face.specs.Lists.{advance_pairs, pairs_over, property_pairs}
+use Rattle.aat_face.specs.Lists.{advance_pairs, mark_property, pairs_over, property_pairs}
 use Rattle.aat_face.specs.Tables.{fault_in, found_in, none_if_missing, number_in, glyph_count_in, read_if_found, table_in, unless_missing}
 use Rattle.aat_face.specs.declared.tables.Tables.{Tables}
 use Rattle.aat_face.specs.Weights.{bytes_of_table, features_weight, plain_weight}
@@ -284,7 +283,7 @@ module _ (file : List ℕ) (index : ℕ) (directory : Directory) (is : directory
       let advances = light (λ (metrics : LongMetrics). advance_pairs metrics n) pairs_size (8 * n) (found_in tables.hmtx)
       (λ metrics found. values_light (λ glyph. unwrap_or (advance_of metrics glyph) 0) n) in
       let properties = light (λ (classes : GlyphClasses). property_pairs classes n) pairs_size (8 * n) (found_in tables.gdef)
-      (λ classes found. values_light (properties_of classes) n) in
+      (λ classes found. values_light (mark_property classes) n) in
       let faults : length (faults_of tables) ≤ 13 = few_of (all_faults tables) in
       let features = features_weigh (face_of_tables tables).font.feat in
       let morx = table_light MORX (chain_values_of n) (λ bytes chains. morx_weight bytes n) 24
