@@ -3,12 +3,11 @@ pub mod ClosedPlaces
 pub mod Cutting
 pub mod Examples
 pub mod KerningExamples
+pub mod KerningFalls
 pub mod KerningOpenExamples
 pub mod Labelled
 pub mod Opening
-pub mod PlainActs
-pub mod PlainMachines
-pub mod PlainRuns
-pub mod PlainTurns
 pub mod Taking
+pub mod Touches
 pub mod Unsettled
+pub mod WrittenBack

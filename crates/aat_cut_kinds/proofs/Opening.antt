@@ -9,10 +9,11 @@ use Rattle.aat_run.specs.Budget.{potential}
 use Rattle.aat_run.specs.Context.{Config}
 use Rattle.aat_run.specs.Machine.{Ends, Goes, OnGoes, Turn}
 use Rattle.aat_cut_kinds.specs.KerningClosing.{Touching, first_at, is_apart, passes_each}
-use Rattle.aat_cut_kinds.specs.inside.PlainRuns.{is_harmless, stays_apart, will_open}
+use Rattle.aat_cut_kinds.specs.inside.OpenRuns.{is_harmless, stays_apart, will_open}
 
--- behind a turn: less is left to do, and the cursor has moved by at most one place
+-- behind a turn: less is left to do, the line is as long, and the cursor has moved by at most one place
 pub record Behind {R : Type 0} (c d : Config R) : Type 0 where
+  pub long : length d.buffer.line ≡ length c.buffer.line
   pub lower : potential d.buffer < potential c.buffer
   pub no_less : c.buffer.cursor ≤ d.buffer.cursor
   pub no_more : d.buffer.cursor ≤ c.buffer.cursor + 1

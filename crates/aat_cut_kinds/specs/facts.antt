@@ -14,6 +14,7 @@ pub mod FewerMarks
 pub mod FirstFlags
 pub mod Flags
 pub mod FrontRuns
+pub mod HeldAnchors
 pub mod InsertionActs
 pub mod InsertionCuts
 pub mod Inside

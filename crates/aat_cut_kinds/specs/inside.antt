@@ -1,3 +1,3 @@
 pub mod ClosedSpans
-pub mod PlainRuns
+pub mod OpenRuns
 pub mod Standings

@@ -1,31 +1,26 @@
-//! Which places of a line the run of a kerning machine leaves open.
-ghost use Rattle.std.specs.Prelude.{◌≡◌, ◌≢◌, ◌<◌, ◌≤◌, ℕ, ◌&&◌, ◌||◌, Bool, IfOk, Option, false, is_some, true, get_or, length, nat_le, not};
-ghost use Rattle.aat_buffer.specs.Buffer.{with_max_ops};
+//! Which places of a line the run of a kerning machine leaves open, told as it kerns.
+ghost use Rattle.std.specs.Prelude.{◌≡◌, ◌≢◌, ◌<◌, ◌≤◌, ℕ, ◌&&◌, ◌||◌, IfOk, OnErr, false, get_or, length, nat_le, not, option_copied, true};
 ghost use Rattle.aat_buffer.specs.Clusters.{IsSmall};
-ghost use Rattle.aat_cut_kinds.specs.KerningCuts.{by_anchors, kern_stack, kerx_stack};
-ghost use Rattle.aat_cut_kinds.specs.OpenPlaces.{TellsPlaces};
+ghost use Rattle.aat_cut_kinds.specs.KerningCuts.{by_anchors, kern_stack, kerned_run, kerx_stack};
+ghost use Rattle.aat_cut_kinds.specs.OpenPlaces.{KernsOpenly};
 ghost use Rattle.aat_cut_kinds.specs.inside.ClosedSpans.{AreClosed};
-ghost use Rattle.aat_cut_kinds.specs.inside.PlainRuns.{is_harmless, plainly_kerned};
-ghost use Rattle.aat_cut_kinds.specs.inside.Standings.{found_at, standing};
-ghost use Rattle.aat_kerning_tables.specs.AnchorPoints.{Points};
+ghost use Rattle.aat_cut_kinds.specs.inside.OpenRuns.{is_harmless, will_open};
+ghost use Rattle.aat_cut_kinds.specs.inside.Standings.{found_at};
+ghost use Rattle.aat_kerning_machines.specs.KerningMachine.{kerning_turn, kerning_whole};
+ghost use Rattle.aat_kerning_machines.specs.Positions.{IsPlaced};
+ghost use Rattle.aat_kerning_machines.specs.Runs.{config, driver_over, machine_over};
+ghost use Rattle.aat_run.specs.Context.{first_config};
 
-use crate::kerning_kinds::{AnchorMark, KernStack, KerningKind, KerxStack};
-use crate::kerning_turns::{Found, PlainRun, Standing, is_harmless, look, take_turn};
+use crate::kerning_touches::TouchingDriver;
+use crate::kerning_turns::{Found, TellingRun, is_harmless, least_touched, look};
 use aat_buffer::hb_buffer_t;
-use aat_kerning_tables::{KernMachine, Subtable1, Subtable4};
+use aat_font::hb_ot_shape_plan_t;
+use aat_kerning_machines::{Driver1, Driver4, KerningRun, RunState, StateMachineDriver, turn_once};
+use aat_kerning_tables::{Ankr, KernMachine, Subtable1, Subtable4};
+use aat_machine_tables::Acting;
 use aat_machine_tables::entry_bits::class::END_OF_TEXT;
 use aat_machine_tables::entry_bits::state::START_OF_TEXT;
-use aat_machine_tables::{Acting, ExtendedStateTable};
 use std::alloc::{AllocError, Allocator};
-
-/// What is told of a run that kerns a line: of a machine, of pairs, or of all subtables.
-#[derive(Drop)]
-pub struct KerningOpens<H: Allocator> {
-    /// Whether each place of the line is open to the run. Of place 0, where no line is cut, it says nothing.
-    pub is_open: Vec<bool, H>,
-    /// What the run leaves of the budget, with which the next subtable begins.
-    pub max_ops: i32,
-}
 
 /// The places behind one up to another, which are closed already.
 #[derive(Drop)]
@@ -62,7 +57,7 @@ fn close_span(opens: &mut [bool], least: usize, cursor: usize)
 }
 
 /// Closes the places behind the least one that a turn touched, up to the cursor, but for those of a span that are closed
-/// already. The span is then that of this turn, if it touched a place.
+/// already. The span is then that of this turn, if it touched a place before the cursor.
 ///
 /// What a turn touches waited on a stack since the cursor was there, and eight places wait at most; or it is the mark,
 /// which is never before that of an earlier turn. So stacks close a glyph eight times at most, and anchors once.
@@ -84,166 +79,219 @@ fn close(opens: &mut [bool], span: &mut ClosedSpan, least: usize, cursor: usize)
 }
 
 /// Tells of the place at the cursor, where the run has just come there from another.
-fn tell<E: Acting, K: KerningKind<E>, A: Allocator + Copy>(
-    run: &PlainRun<E, K, A>,
+fn tell<Table, E: Acting, D: TouchingDriver<Table, E>, A: Allocator + Copy>(
+    telling: &TellingRun<Table, E>,
+    driver: &D,
     found: &Found<E>,
-    at: &Standing<K::Registers>,
+    buffer: &hb_buffer_t<A>,
+    at: RunState,
     before: usize,
     opens: &mut [bool],
 )
-    requires found { found.now ≡ found_at run.now.table.now (standing run.now.buffer.now at.now) }
-    requires long { length opens.old ≡ length run.now.buffer.now.line }
-    requires within { at.now.cursor ≤ length run.now.buffer.now.line }
+    requires found { found.now ≡ found_at telling.now.run.state_table.now at.state buffer.now }
     ensures long { length opens.new ≡ length opens.old }
-    ensures stays { at.now.cursor ≡ before → opens.new ≡ opens.old }
-    ensures here { at.now.cursor ≢ before → at.now.cursor < length opens.old → get_or opens.new at.now.cursor false
-        ≡ is_harmless (K.plain run.now.kind.now).touching run.now.table.now (standing run.now.buffer.now at.now) }
-    ensures elsewhere { (q : ℕ) → q ≢ at.now.cursor → get_or opens.new q false ≡ get_or opens.old q false }
+    ensures stays { buffer.now.cursor ≡ before → opens.new ≡ opens.old }
+    ensures here { buffer.now.cursor ≢ before → buffer.now.cursor < length opens.old
+        → get_or opens.new buffer.now.cursor false
+        ≡ is_harmless (D.touching telling.now.run.table.now telling.now.run.tuple_count)
+        telling.now.run.state_table.now (config buffer.now driver.now at) }
+    ensures elsewhere { (q : ℕ) → q ≢ buffer.now.cursor → get_or opens.new q false ≡ get_or opens.old q false }
 {
-    if at.cursor != before && at.cursor < opens.len() {
-        opens[at.cursor] = is_harmless(run, found, at);
+    let cursor = buffer.backtrack_len();
+    if cursor != before && cursor < opens.len() {
+        opens[cursor] = is_harmless(telling, driver, found, buffer, at);
     }
 }
 
-/// Takes turns until one ends, and answers what is left of the budget.
-fn run_turns<E: Acting, K: KerningKind<E>, A: Allocator + Copy>(
-    run: &PlainRun<E, K, A>,
-    max_ops: i32,
+/// Takes turns from the front until one ends, and tells of each place inside the line.
+fn run_turns<Table, E: Acting, D: TouchingDriver<Table, E>, A: Allocator + Copy>(
+    telling: &TellingRun<Table, E>,
+    pays_first: bool,
+    driver: &mut D,
+    buffer: &mut hb_buffer_t<A>,
     opens: &mut [bool],
-) -> i32
-    requires ids { IsSmall run.now.buffer.now }
-    requires long { length opens.old ≡ length run.now.buffer.now.line }
+)
+    requires fit { D.fits driver.old buffer.old.cursor (length buffer.old.line) }
+    requires ids { IsSmall buffer.old }
+    requires placed { IsPlaced buffer.old }
+    requires front { buffer.old.cursor ≡ 0 }
+    requires long { length opens.old ≡ length buffer.old.line }
     requires none { (q : ℕ) → get_or opens.old q false ≡ false }
-    ensures { TellsPlaces (plainly_kerned (K.plain run.now.kind.now) run.now.pays_first run.now.table.now)
-        (with_max_ops run.now.buffer.now max_ops) opens.new result }
+    ensures run { buffer.new ≡ (kerning_whole (machine_over telling.now.run D.actionable D.act pays_first)
+        (first_config buffer.old driver.old)).buffer }
+    ensures long { length opens.new ≡ length buffer.old.line }
+    ensures opens { (q : ℕ) → 0 < q → q < length buffer.old.line → get_or opens.new q false
+        ≡ will_open (D.touching telling.now.run.table.now telling.now.run.tuple_count)
+        telling.now.run.state_table.now (kerning_turn (machine_over telling.now.run D.actionable D.act pays_first)) q
+        (first_config buffer.old driver.old) }
+    ensures ids { IsSmall buffer.new }
+    ensures placed { IsPlaced buffer.new }
 {
+    let _length = buffer.len();
+    let _budget = buffer.max_ops();
     let mut span = ClosedSpan {
         behind: 0,
         up_to: 0,
     };
-    let mut at = Standing {
-        cursor: 0,
+    let mut at = RunState {
         state: START_OF_TEXT,
-        max_ops,
-        registers: run.kind.fresh(),
+        turns: 0,
     };
-    let end = run.table.entry(START_OF_TEXT, END_OF_TEXT);
-    let mut found = look(run, &at, START_OF_TEXT, end);
+    let end = telling.run.state_table.entry(START_OF_TEXT, END_OF_TEXT);
+    let mut found = look(
+        telling.run.state_table,
+        buffer,
+        START_OF_TEXT,
+        START_OF_TEXT,
+        end,
+    );
     loop {
-        let cursor = at.cursor;
+        let cursor = buffer.backtrack_len();
         let state = at.state;
-        let turn = take_turn(run, &found, &mut at);
-        close(opens, &mut span, turn.least, cursor);
-        if !turn.goes_on {
-            return at.max_ops;
+        let least = least_touched(telling, &*driver, &found, buffer, at);
+        let goes_on = turn_once(
+            &telling.run,
+            pays_first,
+            driver,
+            buffer,
+            found.entry,
+            &mut at,
+        );
+        close(opens, &mut span, least, cursor);
+        if !goes_on {
+            return;
         }
-        found = look(run, &at, state, found.end);
-        tell(run, &found, &at, cursor, opens);
+        found = look(telling.run.state_table, buffer, at.state, state, found.end);
+        tell(telling, &*driver, &found, buffer, at, cursor, opens);
     }
 }
 
-/// Goes over the turns of a plain run, and tells which places are open.
-fn opens_of<E: Acting, K: KerningKind<E>, A: Allocator + Copy, H: Allocator>(
+/// Runs a machine over a line from the front, and tells which places the run leaves open.
+fn kern_openly<Table, E: Acting, D: TouchingDriver<Table, E>, A: Allocator + Copy, H: Allocator>(
     alloc: H,
-    table: &ExtendedStateTable<E>,
-    kind: &K,
+    run: KerningRun<Table, E>,
     pays_first: bool,
-    max_ops: i32,
-    buffer: &hb_buffer_t<A>,
-) -> Result<KerningOpens<H>, AllocError>
-    requires { IsSmall buffer.now }
-    ensures { IfOk result (λ told. TellsPlaces (plainly_kerned (K.plain kind.now) pays_first table.now)
-        (with_max_ops buffer.now max_ops) told.is_open.items told.max_ops) }
+    driver: &mut D,
+    buffer: &mut hb_buffer_t<A>,
+) -> Result<Vec<bool, H>, AllocError>
+    requires fit { D.fits driver.old 0 (length buffer.old.line) }
+    requires ids { IsSmall buffer.old }
+    requires placed { IsPlaced buffer.old }
+    ensures kerned { IfOk result (λ told. KernsOpenly (kerned_run (D.touching run.entry.table.now run.entry.tuple_count)
+        pays_first run.entry.state_table.now (driver_over run.entry D.actionable D.act driver.old))
+        buffer.old buffer.new told.items) }
+    ensures refused { OnErr result (buffer.new ≡ buffer.old) }
+    ensures ids { IsSmall buffer.new }
+    ensures placed { IsPlaced buffer.new }
 {
-    let run = PlainRun {
-        table,
-        kind,
-        pays_first,
-        buffer,
-        glyph_count: buffer.len(),
-        has_first_end: table.entry(START_OF_TEXT, END_OF_TEXT).is_some(),
-    };
-    let mut is_open = vec![in alloc; false; run.glyph_count]?;
-    let max_ops = run_turns(&run, max_ops, &mut is_open);
-    Ok(KerningOpens { is_open, max_ops })
+    let mut opens = vec![in alloc; false; buffer.len()]?;
+    let has_first_end = run.state_table.entry(START_OF_TEXT, END_OF_TEXT).is_some();
+    let telling = TellingRun { run, has_first_end };
+    buffer.sync();
+    run_turns(&telling, pays_first, driver, buffer, &mut opens);
+    buffer.sync();
+    Ok(opens)
 }
 
-/// Which places of a line the run of a `kern` machine leaves open, whatever the table, and what it leaves of a budget of
-/// operations with which it begins. Whether its values go across the line, and the kern mask, make no difference.
+/// Kerns a line, which stands in the order of the machine, by one of the `kern` table, as `hb_ot_layout_kern` runs it, and
+/// tells which places of it, in that order, the run leaves open, whatever the table.
 ///
 /// At a place inside the line that is open the line may be cut, by the premises of `kerning_laws::runs_leave_parts`: its
-/// positions are those that the run leaves of the two parts.
+/// positions are those that the run leaves of the two parts. Of place 0, where no line is cut, nothing is told.
 ///
-/// Of the buffer the glyph ids alone are read, each of which has to be at most 0xFFFF, and nothing is changed. It takes
-/// the turns that the run takes, each in a bounded number of steps but for the look-ups in the table, and up to eight
-/// steps a glyph besides. It takes a byte of memory a glyph, and fails where it gets none.
+/// Each glyph id has to be at most 0xFFFF, and each glyph has to have its position. It takes the turns of the run, each in
+/// a bounded number of steps but for the look-ups in the table, and up to eight steps a glyph besides. It takes a byte of
+/// memory a glyph. It is refused only where it gets none, and the line is then as before.
 ///
 /// Apple's TrueType Reference Manual, "The 'kern' table", format 1.
-pub fn kern_opens<A: Allocator + Copy, H: Allocator>(
+pub fn kern_by_machine<A: Allocator + Copy, H: Allocator>(
     alloc: H,
+    plan: &hb_ot_shape_plan_t,
+    has_cross_stream: bool,
     machine: &KernMachine,
-    max_ops: i32,
-    buffer: &hb_buffer_t<A>,
-) -> Result<KerningOpens<H>, AllocError>
-    requires { IsSmall buffer.now }
-    ensures { IfOk result (λ told. (is_cross : Bool) (kern_mask : ℕ) →
-        TellsPlaces (kern_stack true is_cross kern_mask machine.now.values machine.now.state_table)
-        (with_max_ops buffer.now max_ops) told.is_open.items told.max_ops) }
+    buffer: &mut hb_buffer_t<A>,
+) -> Result<Vec<bool, H>, AllocError>
+    requires ids { IsSmall buffer.old }
+    requires placed { IsPlaced buffer.old }
+    ensures kerned { IfOk result (λ told. KernsOpenly (kern_stack true has_cross_stream plan.now.kern_mask
+        machine.now.values machine.now.state_table) buffer.old buffer.new told.items) }
+    ensures refused { OnErr result (buffer.new ≡ buffer.old) }
+    ensures ids { IsSmall buffer.new }
+    ensures placed { IsPlaced buffer.new }
 {
-    let kind = KernStack {
-        values: &machine.values,
+    let run = KerningRun {
+        state_table: &machine.state_table,
+        table: machine,
+        has_cross_stream,
+        tuple_count: 1,
+        plan,
     };
-    opens_of(alloc, &machine.state_table, &kind, true, max_ops, buffer)
+    let mut driver = StateMachineDriver::new();
+    kern_openly(alloc, run, true, &mut driver, buffer)
 }
 
-/// Which places of a line the run of a stack machine of `kerx` leaves open, and what it leaves of a budget, as
-/// `kern_opens` tells it of one of `kern`. `tuple_count` values stand together for each one that the machine takes, of
-/// which the first one counts: 0 means 1, and above 65535 none is taken.
+/// Kerns a line by a stack machine of the `kerx` table, and tells which places the run leaves open, as `kern_by_machine`
+/// does by one of `kern`. `tuple_count` values stand together for each one that the machine takes, of which the first one
+/// counts: 0 means 1, and above 65535 none is taken.
 ///
 /// Apple's TrueType Reference Manual, "The 'kerx' table", format 1.
-pub fn kerx_opens<A: Allocator + Copy, H: Allocator>(
+pub fn kern_by_stack<A: Allocator + Copy, H: Allocator>(
     alloc: H,
-    subtable: &Subtable1,
+    plan: &hb_ot_shape_plan_t,
+    has_cross_stream: bool,
     tuple_count: u32,
-    max_ops: i32,
-    buffer: &hb_buffer_t<A>,
-) -> Result<KerningOpens<H>, AllocError>
-    requires { IsSmall buffer.now }
-    ensures { IfOk result (λ told. (is_cross : Bool) (kern_mask : ℕ) →
-        TellsPlaces (kerx_stack false is_cross kern_mask tuple_count subtable.now.values subtable.now.state_table)
-        (with_max_ops buffer.now max_ops) told.is_open.items told.max_ops) }
+    machine: &Subtable1,
+    buffer: &mut hb_buffer_t<A>,
+) -> Result<Vec<bool, H>, AllocError>
+    requires ids { IsSmall buffer.old }
+    requires placed { IsPlaced buffer.old }
+    ensures kerned { IfOk result (λ told. KernsOpenly (kerx_stack false has_cross_stream plan.now.kern_mask tuple_count
+        machine.now.values machine.now.state_table) buffer.old buffer.new told.items) }
+    ensures refused { OnErr result (buffer.new ≡ buffer.old) }
+    ensures ids { IsSmall buffer.new }
+    ensures placed { IsPlaced buffer.new }
 {
-    let kind = KerxStack {
-        values: &subtable.values,
+    let run = KerningRun {
+        state_table: &machine.state_table,
+        table: machine,
+        has_cross_stream,
         tuple_count,
+        plan,
     };
-    opens_of(alloc, &subtable.state_table, &kind, false, max_ops, buffer)
+    let mut driver = Driver1::new();
+    kern_openly(alloc, run, false, &mut driver, buffer)
 }
 
-/// Which places of a line the run of a machine of anchors leaves open, and what it leaves of a budget, as `kern_opens`
-/// tells it of a stack. Whether the font has anchor points has to be told: with them an index without a pair ends an act
-/// before the mark is set. The points themselves make no difference.
+/// Attaches the glyphs of a line by a machine of anchors, over the anchor points of a font, where it has them, and tells
+/// which places the run leaves open, as `kern_by_machine` does by a stack.
 ///
 /// A turn whose entry has an index, with a mark set and a glyph at the cursor, closes the places behind the marked one up to
 /// the cursor, also where its pair is missing. Each place is closed once, so that beside the turns it takes one step a
-/// glyph.
+/// glyph. The plan does not matter.
 ///
-/// Apple's TrueType Reference Manual, "The 'kerx' table", format 4.
-pub fn anchors_open<A: Allocator + Copy, H: Allocator>(
+/// Apple's TrueType Reference Manual, "The 'kerx' table", format 4, and "The 'ankr' table".
+pub fn kern_by_anchors<A: Allocator + Copy, H: Allocator>(
     alloc: H,
-    subtable: &Subtable4,
-    has_points: bool,
-    max_ops: i32,
-    buffer: &hb_buffer_t<A>,
-) -> Result<KerningOpens<H>, AllocError>
-    requires { IsSmall buffer.now }
-    ensures { IfOk result (λ told. (points : Option Points) → is_some points ≡ has_points →
-        TellsPlaces (by_anchors false points subtable.now.anchor_points subtable.now.state_table)
-        (with_max_ops buffer.now max_ops) told.is_open.items told.max_ops) }
+    plan: &hb_ot_shape_plan_t,
+    ankr: Option<&Ankr>,
+    machine: &Subtable4,
+    buffer: &mut hb_buffer_t<A>,
+) -> Result<Vec<bool, H>, AllocError>
+    requires ids { IsSmall buffer.old }
+    requires placed { IsPlaced buffer.old }
+    ensures kerned { IfOk result (λ told. KernsOpenly (by_anchors false (option_copied ankr.entry)
+        machine.now.anchor_points machine.now.state_table) buffer.old buffer.new told.items) }
+    ensures refused { OnErr result (buffer.new ≡ buffer.old) }
+    ensures ids { IsSmall buffer.new }
+    ensures placed { IsPlaced buffer.new }
 {
-    let kind = AnchorMark {
-        has_points,
-        pair_count: subtable.anchor_points.len(),
+    let run = KerningRun {
+        state_table: &machine.state_table,
+        table: machine,
+        has_cross_stream: false,
+        tuple_count: 0,
+        plan,
     };
-    opens_of(alloc, &subtable.state_table, &kind, false, max_ops, buffer)
+    let mut driver = Driver4::new(ankr);
+    kern_openly(alloc, run, false, &mut driver, buffer)
 }

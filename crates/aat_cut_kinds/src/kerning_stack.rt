@@ -1,7 +1,7 @@
 //! The places that wait on the stack of a kerning machine.
-ghost use Rattle.std.specs.Prelude.{◌≡◌, ◌≤◌, ◌&&◌, [], ◌∷◌, if◌then◌else◌, length, nat_lt, not, true, MatchOption};
+ghost use Rattle.std.specs.Prelude.{◌≡◌, ◌≤◌, ◌&&◌, [], ◌∷◌, if◌then◌else◌, length, nat_lt, not, reverse, true, MatchOption};
 ghost use Rattle.aat_kerning_machines.specs.Stack.{with_place_pushed};
-ghost use Rattle.aat_cut_kinds.specs.inside.PlainRuns.{least_of};
+ghost use Rattle.aat_cut_kinds.specs.inside.OpenRuns.{least_of};
 
 use std::marker::Model;
 
@@ -36,6 +36,18 @@ impl Places {
         }
     }
 
+    /// These places, the newest last.
+    pub fn of(places: &[usize]) -> Places
+        requires { length places.now ≤ 8 }
+        ensures { result ≡ reverse places.now }
+    {
+        let mut made = Places::new();
+        for place in places {
+            made.push(*place);
+        }
+        made
+    }
+
     /// How many places wait.
     pub fn len(&self) -> usize
         ensures count { result ≡ length self.now }
@@ -66,7 +78,7 @@ impl Places {
     }
 
     /// Takes all places away, and answers the least of them and of one more.
-    #[tactic(auto, unfolding(crate::specs::inside::PlainRuns::least_of))]
+    #[tactic(auto, unfolding(crate::specs::inside::OpenRuns::least_of))]
     fn drain(&mut self, most: usize) -> usize
         ensures empty { self.new ≡ [] }
         ensures least { result ≡ least_of self.old most }
@@ -80,7 +92,7 @@ impl Places {
 
     /// Where it is asked for, puts a place on the stack as the newest, or takes all places away where it holds eight.
     /// Answers the least of those that it takes away, and of the place.
-    #[tactic(auto, unfolding(crate::specs::inside::PlainRuns::least_of))]
+    #[tactic(auto, unfolding(crate::specs::inside::OpenRuns::least_of))]
     pub fn push_if(&mut self, place: usize, does_push: bool) -> usize
         ensures pushed { self.new ≡ (if does_push then with_place_pushed place self.old else self.old) }
         ensures least { result

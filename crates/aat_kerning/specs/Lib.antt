@@ -10,5 +10,6 @@ pub mod PairKerning
 pub mod Pairs
 pub mod Positioning
 pub mod RowWords
+pub mod Values
 pub mod Zeroing
 pub mod inside

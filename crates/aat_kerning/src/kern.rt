@@ -12,7 +12,7 @@ ghost use Rattle.aat_kerning.specs.Pairs.{kern_skips};
 ghost use Rattle.aat_kerning.specs.Positioning.{AreKernPairs, is_kern_pairs, kerning_of_kern_subtable, line_marked, run_of_kern_subtable};
 ghost use Rattle.aat_kerning_machines.specs.Positions.{IsPlaced};
 ghost use Rattle.aat_kerning_machines.specs.Stack.{kern_driver};
-ghost use Rattle.aat_kerning.specs.inside.Values.{values_of};
+ghost use Rattle.aat_kerning.specs.Values.{values_of};
 ghost use Rattle.aat_run.specs.Budget.{operations_left};
 
 use crate::kerning_subtable::{KerningSubtable, kern_by_subtables};

@@ -7,7 +7,7 @@ ghost use Rattle.aat_run.specs.Switches.{meets};
 ghost use Rattle.aat_kerning.specs.PairKerning.{half, in_stream, kerned, pair_kerning};
 ghost use Rattle.aat_kerning.specs.Pairs.{is_solid};
 ghost use Rattle.aat_kerning_machines.specs.Positions.{IsPlaced, on_position, with_advance, with_attachment_flag, with_cross_offset, with_shift};
-ghost use Rattle.aat_kerning.specs.inside.Values.{values_of};
+ghost use Rattle.aat_kerning.specs.Values.{values_of};
 ghost use Rattle.aat_kerning.specs.inside.Walk.{kerned_where, left_behind, pair_with};
 
 use crate::pair_values::{PairValues, value_of};
@@ -18,7 +18,7 @@ use std::alloc::Allocator;
 
 /// What kerning by the pairs of a subtable is given besides the line.
 #[derive(Clone, Copy)]
-pub(crate) struct PairRun<'a> {
+pub struct PairRun<'a> {
     /// The values of the pairs.
     pub values: PairValues<'a>,
     /// The glyph properties that are skipped.

@@ -6,7 +6,7 @@ ghost use Rattle.aat_lookup.specs.Truth.{is_alike};
 ghost use Rattle.aat_kerning.specs.PairKerning.{pair_kerning};
 ghost use Rattle.aat_kerning.specs.Positioning.{cursively_attached, in_processing_order, line_marked, turned_round};
 ghost use Rattle.aat_kerning_machines.specs.Positions.{IsPlaced, attached_as};
-ghost use Rattle.aat_kerning.specs.inside.Values.{values_of};
+ghost use Rattle.aat_kerning.specs.Values.{values_of};
 
 use crate::pair_kerning::{PairRun, kern_pairs};
 use aat_buffer::{Direction, GlyphPosition, hb_buffer_t};
@@ -54,8 +54,12 @@ fn attach_cursively<A: Allocator + Copy>(buffer: &mut hb_buffer_t<A>)
     }
 }
 
-/// Attaches all glyphs at a subtable with cross-stream, unless an earlier one has done it.
-pub(crate) fn attach_once<A: Allocator + Copy>(
+/// Attaches each glyph of a line in processing order cursively to the one before it, at a subtable with cross-stream,
+/// unless an earlier one has done it, as `is_attached` says, which is true behind it. Each glyph has to have its position.
+/// In as many steps as the line is long.
+///
+/// Apple's TrueType Reference Manual, "The 'kern' table", cross-stream kerning.
+pub fn attach_once<A: Allocator + Copy>(
     has_cross_stream: bool,
     is_attached: &mut bool,
     buffer: &mut hb_buffer_t<A>,
@@ -73,8 +77,8 @@ pub(crate) fn attach_once<A: Allocator + Copy>(
     }
 }
 
-/// Turns a line round, where asked.
-pub(crate) fn turn_round<A: Allocator + Copy>(is_asked: bool, buffer: &mut hb_buffer_t<A>)
+/// Turns a line round, where asked, with its positions. In as many steps as the line is long.
+pub fn turn_round<A: Allocator + Copy>(is_asked: bool, buffer: &mut hb_buffer_t<A>)
     ensures { buffer.new ≡ turned_round is_asked buffer.old }
 {
     if is_asked {
@@ -89,9 +93,10 @@ pub(crate) fn reorder<A: Allocator + Copy>(buffer: &mut hb_buffer_t<A>)
     turn_round(buffer.direction().is_backward(), buffer);
 }
 
-/// Marks the whole line against joining, where a subtable asks for it.
+/// Marks the whole line against joining, where a subtable asks for it and the buffer for such marks. Each glyph id has to
+/// be at most 0xFFFF, and each glyph has to have its position. In as many steps as the line is long.
 #[tactic(auto, using(aat_buffer::specs::facts::Small::small_concat, aat_buffer::specs::facts::Lines::length_concat))]
-pub(crate) fn mark_line<A: Allocator + Copy>(is_asked: bool, buffer: &mut hb_buffer_t<A>)
+pub fn mark_line<A: Allocator + Copy>(is_asked: bool, buffer: &mut hb_buffer_t<A>)
     requires ids { IsSmall buffer.old }
     requires placed { IsPlaced buffer.old }
     ensures marked { buffer.new ≡ line_marked is_asked buffer.old }
@@ -103,12 +108,12 @@ pub(crate) fn mark_line<A: Allocator + Copy>(is_asked: bool, buffer: &mut hb_buf
     }
 }
 
-/// Kerns by pairs, and marks the whole line against joining first where asked.
-pub(crate) fn kern_line<A: Allocator + Copy>(
-    run: &PairRun,
-    marks_line: bool,
-    buffer: &mut hb_buffer_t<A>,
-)
+/// Kerns a line in processing order by pairs, and marks the whole line against joining first where asked. Each glyph id
+/// has to be at most 0xFFFF, and each glyph has to have its position. It takes no memory and cannot be refused. In as many
+/// steps as the line is long, a search of the pairs for each pair of the line, and the marks.
+///
+/// Apple's TrueType Reference Manual, "The 'kern' table" and "The 'kerx' table".
+pub fn kern_line<A: Allocator + Copy>(run: &PairRun, marks_line: bool, buffer: &mut hb_buffer_t<A>)
     requires ids { IsSmall buffer.old }
     requires placed { IsPlaced buffer.old }
     ensures kerned { buffer.new

@@ -1,5 +1,5 @@
 //! The machine of the extended kerning table that gives values to the glyphs of a stack.
-ghost use Rattle.std.specs.Prelude.{◌≡◌, ◌≤◌, [], length, max, if◌then◌else◌};
+ghost use Rattle.std.specs.Prelude.{◌≡◌, ◌≤◌, [], length, max, reverse, if◌then◌else◌};
 ghost use Rattle.aat_buffer.specs.Clusters.{IsSmall};
 ghost use Rattle.aat_machine_tables.specs.Entries.{has_flag};
 ghost use Rattle.aat_run.specs.Laws.{FitsAlways};
@@ -58,6 +58,15 @@ impl Driver1 {
         Driver1 {
             stack: Stack::new(),
         }
+    }
+
+    /// The places that wait for values, at most eight, the newest last.
+    pub fn places(&self) -> &[usize]
+        ensures places { reverse result.now ≡ self.now }
+        ensures count { length result.now ≡ length self.now }
+        ensures few { length result.now ≤ 8 }
+    {
+        self.stack.places()
     }
 
     /// Empties the stack, and then pushes a place, as the entry says.

@@ -49,6 +49,13 @@ impl<'a> Driver4<'a> {
         Driver4 { ankr, mark: None }
     }
 
+    /// The marked place, if one was marked.
+    pub fn mark(&self) -> Option<usize>
+        ensures { result ≡ self.now.mark }
+    {
+        self.mark
+    }
+
     /// Moves the glyph at the cursor so that its point meets the marked glyph's, by the pair of points that an index
     /// names. Without anchor points all stays. Answers whether there is such a pair, or are no anchor points.
     fn anchor<A: Allocator + Copy>(

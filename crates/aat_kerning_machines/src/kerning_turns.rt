@@ -1,6 +1,6 @@
 //! One turn of a kerning machine, by its parts: the marks before the cursor, the look ahead, the act, and what follows
 //! it.
-ghost use Rattle.std.specs.Prelude.{◌≡◌, ◌+◌, ◌-◌, ◌<◌, ◌^◌, ◌==◌, ◌&&◌, ◌||◌, if◌then◌else◌, Bool, Some, length, not};
+ghost use Rattle.std.specs.Prelude.{◌≡◌, ◌+◌, ◌-◌, ◌<◌, ◌^◌, ◌==◌, ◌&&◌, ◌||◌, if◌then◌else◌, Bool, Some, false, length, not, true};
 ghost use Rattle.aat_buffer.specs.Buffer.{Buffer};
 ghost use Rattle.aat_buffer.specs.Clusters.{IsSmall};
 ghost use Rattle.aat_buffer.specs.Marks.{unsafe_to_break};
@@ -9,10 +9,11 @@ ghost use Rattle.aat_machine_tables.specs.Table.{TableValue};
 ghost use Rattle.aat_machine_tables.specs.declared.state_table.GenericStateEntry.{GenericStateEntry};
 ghost use Rattle.aat_kerning_machines.specs.KerningMachine.{break_marked_behind, kerning_acted, kerning_by_entry, kerning_machine_with, kerning_marked, kerning_turn, moved_on, stepped};
 ghost use Rattle.aat_kerning_machines.specs.Positions.{IsPlaced};
-ghost use Rattle.aat_kerning_machines.specs.Runs.{machine_over};
-ghost use Rattle.aat_kerning_machines.specs.inside.RunStates.{acted_if, behind_marks, config};
+ghost use Rattle.aat_kerning_machines.specs.Runs.{config, machine_over};
+ghost use Rattle.aat_kerning_machines.specs.inside.RunStates.{acted_if, behind_marks};
 ghost use Rattle.aat_run.specs.Budget.{paid};
 ghost use Rattle.aat_run.specs.Context.{Moved, entry_at, is_at_end};
+ghost use Rattle.aat_run.specs.Machine.{Ends, Goes};
 ghost use Rattle.aat_run.specs.inside.Places.{turn_of};
 
 use crate::run::KerningRun;
@@ -244,9 +245,18 @@ fn take_entry<Table, E: Acting, D: StateTableDriver<Table, E>, A: Allocator + Co
     act(run, pays_first, driver, buffer, entry, run_state)
 }
 
-/// One turn, by the entry of the state and of the glyph at the cursor: whether the run goes on.
+/// Takes one turn of a run, as [`drive_kerning`](crate::drive_kerning) has it, by the entry of its state for the glyph at
+/// the cursor, or for the end of the text there. Answers whether the run goes on; else it has ended.
+///
+/// The entry has to be that one, the registers have to fit, each glyph id has to be at most 0xFFFF, each glyph has to have
+/// its position, and fewer than 2^64 - 1 turns have been taken. It takes a bounded number of steps but for its act and a
+/// look-up. It is never refused, and takes no memory.
+///
+/// Apple's TrueType Reference Manual, "State tables" in "Font Tables".
+// two runs take it, of which one tells of open places; a turn of either needs no call
+#[inline(always)]
 #[tactic(auto, unfolding(crate::specs::KerningMachine::kerning_turn, crate::specs::KerningMachine::kerning_by_entry))]
-pub(crate) fn turn_once<Table, E: Acting, D: StateTableDriver<Table, E>, A: Allocator + Copy>(
+pub fn turn_once<Table, E: Acting, D: StateTableDriver<Table, E>, A: Allocator + Copy>(
     run: &KerningRun<Table, E>,
     pays_first: bool,
     driver: &mut D,
@@ -259,9 +269,10 @@ pub(crate) fn turn_once<Table, E: Acting, D: StateTableDriver<Table, E>, A: Allo
     requires placed { IsPlaced buffer.old }
     requires entry { entry ≡ entry_at run.now.state_table.now run_state.old.state buffer.old }
     requires turns { run_state.old.turns + 1 < 2 ^ 64 }
-    ensures turn { kerning_turn (machine_over run.now D.actionable D.act pays_first)
-        (config buffer.old driver.old run_state.old)
-        ≡ turn_of result (config buffer.new driver.new run_state.new) }
+    ensures goes { result ≡ true → kerning_turn (machine_over run.now D.actionable D.act pays_first)
+        (config buffer.old driver.old run_state.old) ≡ Goes (config buffer.new driver.new run_state.new) }
+    ensures ends { result ≡ false → kerning_turn (machine_over run.now D.actionable D.act pays_first)
+        (config buffer.old driver.old run_state.old) ≡ Ends (config buffer.new driver.new run_state.new) }
     ensures ids { IsSmall buffer.new }
     ensures placed { IsPlaced buffer.new }
 {

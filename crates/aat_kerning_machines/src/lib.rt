@@ -25,6 +25,8 @@ pub use attachment::{meets, note_attachment};
 pub use driver1::Driver1;
 pub use driver4::Driver4;
 pub use kerning_run::drive_kerning;
+pub use kerning_turns::turn_once;
 pub use run::KerningRun;
+pub use run_state::RunState;
 pub use state_machine_driver::StateMachineDriver;
 pub use state_table_driver::StateTableDriver;

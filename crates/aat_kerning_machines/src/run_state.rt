@@ -1,8 +1,10 @@
 //! How far a run is, beside its buffer and its registers.
 
-/// The state, and the turns so far.
+/// The state of a run, and the turns so far.
 #[derive(Clone, Copy)]
-pub(crate) struct RunState {
+pub struct RunState {
+    /// The state, by whose entries the next turn goes.
     pub state: u16,
+    /// How many turns have been taken.
     pub turns: u64,
 }

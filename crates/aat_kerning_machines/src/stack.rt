@@ -1,5 +1,5 @@
 //! The stack of a kerning machine: places of the line whose glyphs get values.
-ghost use Rattle.std.specs.Prelude.{◌≡◌, ◌≤◌, [], ◌∷◌, if◌then◌else◌, length, MatchOption};
+ghost use Rattle.std.specs.Prelude.{◌≡◌, ◌≤◌, [], ◌∷◌, if◌then◌else◌, length, reverse, MatchOption};
 ghost use Rattle.aat_kerning_machines.specs.Stack.{with_place_pushed};
 
 use std::marker::Model;
@@ -43,6 +43,15 @@ impl Stack {
         ensures few { result ≤ 8 }
     {
         self.depth
+    }
+
+    /// The places, the newest last.
+    pub fn places(&self) -> &[usize]
+        ensures places { reverse result.now ≡ self.now }
+        ensures count { length result.now ≡ length self.now }
+        ensures few { length result.now ≤ 8 }
+    {
+        &self.places[..self.depth]
     }
 
     /// Takes all places away.

@@ -1,5 +1,5 @@
 //! The machine of the kerning table that gives values to the glyphs of a stack.
-ghost use Rattle.std.specs.Prelude.{◌≡◌, [], length};
+ghost use Rattle.std.specs.Prelude.{◌≡◌, ◌≤◌, [], length, reverse};
 ghost use Rattle.aat_buffer.specs.Clusters.{IsSmall};
 ghost use Rattle.aat_run.specs.Laws.{FitsAlways};
 ghost use Rattle.aat_kerning_machines.specs.Positions.{IsPlaced};
@@ -50,6 +50,15 @@ impl StateMachineDriver {
         StateMachineDriver {
             stack: Stack::new(),
         }
+    }
+
+    /// The places that wait for values, at most eight, the newest last.
+    pub fn places(&self) -> &[usize]
+        ensures places { reverse result.now ≡ self.now }
+        ensures count { length result.now ≡ length self.now }
+        ensures few { length result.now ≤ 8 }
+    {
+        self.stack.places()
     }
 
     /// Pushes a place, where the entry says so.

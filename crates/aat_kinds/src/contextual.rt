@@ -185,6 +185,8 @@ impl<'a> driver_context_t<ContextualEntryData> for ContextualCtx<'a> {
     /// Does what the entry says. At the end nothing happens while no mark is set, and a missing lookup ends the act.
     /// The number of glyphs stays. Never refused. The registers have to fit, and each glyph id has to be at most
     /// 0xFFFF, and is so again.
+    // two runs take it, of which one closes what acts look at; a turn of either needs no call
+    #[inline(always)]
     #[tactic(auto, unfolding(crate::specs::Contextual::act))]
     fn transition<A: Allocator + Copy>(
         &mut self,

@@ -351,6 +351,8 @@ impl<'a, const SLOTS: usize> driver_context_t<u16> for LigatureCtx<'a, SLOTS> {
     ///
     /// Holding a component is O(1); taking components in is O(of their number, and for each ligature that is stored of
     /// the glyphs that its merge makes one cluster).
+    // two runs take it, of which one closes what acts look at; a turn of either needs no call
+    #[inline(always)]
     #[tactic(auto, unfolding(crate::specs::Ligature::act))]
     fn transition<A: Allocator + Copy>(
         &mut self,

@@ -179,6 +179,8 @@ impl<const LONGEST: usize> driver_context_t<()> for RearrangementCtx<LONGEST> {
 
     /// Does what the entry says. The glyph ids are permuted. Never refused. The registers have to fit, and each glyph
     /// id has to be at most 0xFFFF, and is so again.
+    // two runs take it, of which one closes what acts look at; a turn of either needs no call
+    #[inline(always)]
     #[tactic(auto, unfolding(crate::specs::Rearrangement::act))]
     fn transition<A: Allocator + Copy>(
         &mut self,

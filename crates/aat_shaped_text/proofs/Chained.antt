@@ -1,20 +1,14 @@
--- The places of a line over which a glyph is attached, from its end to its front, and what is told of open places.
-use Rattle.std.proofs.Common.{◌≡◌, ◌∙◌, ap, refl, sym, ℕ, ℤ, zero, suc, ◌+◌, ◌-◌, ◌<◌, ◌≤◌, ◌&&◌, Bool, true, false, List, [], ◌∷◌, arith, get_or, length, min, nat_le}
+-- The places of a line over which a glyph is attached, from its end to its front.
+use Rattle.std.proofs.Common.{◌≡◌, ◌∙◌, ap, refl, sym, ℕ, zero, suc, ◌+◌, ◌-◌, ◌≤◌, ◌&&◌, Bool, true, false, List, arith, get_or, length, min, nat_le}
 use Rattle.std.proofs.lemmas.Bool.Decides.{nat_tests}
 use Rattle.std.specs.List.{list_all, range_with_len}
 use Rattle.std.specs.Option.{option_map_or}
 use Rattle.std.specs.Prelude.{Option, Some, None, unwrap_or}
-use Rattle.aat_buffer.specs.Buffer.{Buffer, with_positions}
-use Rattle.aat_font.specs.declared.face.hb_font_t.{hb_font_t}
 use Rattle.aat_glyph.specs.declared.glyph.Direction.{Direction}
 use Rattle.aat_glyph.specs.declared.glyph.GlyphPosition.{GlyphPosition}
-use Rattle.aat_glyph.specs.declared.glyph.hb_glyph_info_t.{hb_glyph_info_t}
-use Rattle.aat_kerning.specs.Cut.{ordered_line}
 use Rattle.aat_placement.specs.Attachments.{IsUnattached, parent}
-use Rattle.aat_shaped_text.specs.Breaks.{is_unchained, may_break_by}
-use Rattle.aat_shaped_text.specs.KernedBreaks.{kerning_opens}
-use Rattle.aat_shaped_text.specs.KernedPlaces.{ClosesChained, TellsKerning, TellsOpenPlaces}
-use Rattle.aat_shaped_text.specs.declared.breaks.BreakRules.{BreakRules}
+use Rattle.aat_shaped_text.specs.Breaks.{is_unchained}
+use Rattle.aat_shaped_text.specs.KernedPlaces.{ClosesChained}
 
 -- none of m glyphs from place a on is attached to one before place i
 abbrev pub are_from : Direction → List GlyphPosition → ℕ → ℕ → ℕ → Bool
@@ -55,28 +49,3 @@ closes_none d qs places alone = record {
     kept : (t : Bool) → t ≡ (t && true)
     kept true = refl
     kept false = refl
-
--- no line may be broken before its first glyph
-never_first : (rules : BreakRules) (line : List hb_glyph_info_t) → may_break_by rules line 0 ≡ false
-never_first rules [] = refl
-never_first rules (g ∷ line) = refl
-
-pub told_so :
-    (face : hb_font_t) (rules : BreakRules) (b : Buffer) (line : List hb_glyph_info_t) (d : Direction) (told new : List Bool) (left : ℤ)
-    → d ≡ b.direction → line ≡ ordered_line b
-    → TellsKerning face d rules.features.now b told left → length new ≡ length told
-    → ((i : ℕ) → i < length told → get_or new i false ≡ (may_break_by rules line i && get_or told i false))
-    → TellsOpenPlaces face rules b new
-told_so face rules b line d told new left way line_is tells long closed = record {
-  long = long ∙ tells.long;
-  opens = λ qs i low. closed i (omega (arith, low, tells.long)) ∙ (ap (λ (gs : List hb_glyph_info_t). may_break_by rules gs i && get_or told i false) line_is ∙ by qs i low);
-}
-  where
-    by :
-        (qs : List GlyphPosition) (i : ℕ) → i < length b.line
-        → (may_break_by rules (ordered_line b) i && get_or told i false)
-        ≡ (may_break_by rules (ordered_line b) i && kerning_opens face b.direction rules.features.now (with_positions b qs) i)
-    by qs zero low = ap (λ (t : Bool). t && get_or told 0 false) (never_first rules (ordered_line b)) ∙ sym (ap (λ (t : Bool). t && kerning_opens face b.direction rules.features.now (with_positions b qs) 0) (never_first rules (ordered_line b)))
-    by qs (suc i) low =
-        ap (λ (t : Bool). may_break_by rules (ordered_line b) (suc i) && t)
-        (tells.opens qs (suc i) (omega arith) low ∙ ap (λ (e : Direction). kerning_opens face e rules.features.now (with_positions b qs) (suc i)) way)

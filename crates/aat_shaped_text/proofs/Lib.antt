@@ -17,7 +17,6 @@ pub mod KernedGlyphs
 pub mod KernedPairs
 pub mod KernedText
 pub mod KernedTexts
-pub mod KernedTold
 pub mod KernsApart
 pub mod LaterRuns
 pub mod LineRuns
@@ -29,6 +28,8 @@ pub mod MarkedWay
 pub mod OpenExamples
 pub mod OpenKept
 pub mod OpenParts
+pub mod OpenRuns
+pub mod OpenTables
 pub mod OpenWay
 pub mod OrderedFront
 pub mod PairsTold
@@ -37,8 +38,6 @@ pub mod PartsHold
 pub mod Places
 pub mod RisingText
 pub mod Runs
-pub mod RunsAsk
-pub mod RunsTold
 pub mod Spots
 pub mod SpotsBegun
 pub mod SpotsEnds

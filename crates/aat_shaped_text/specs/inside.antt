@@ -1,2 +1,1 @@
 pub mod KernedRuns
-pub mod PairPlaces

@@ -1,208 +1,126 @@
-//! Which places of a line kerning leaves open.
-ghost use Rattle.std.specs.Prelude.{◌≡◌, ◌<◌, ◌-◌, ◌&&◌, ℕ, IfOk, List, OnOk, false, get_or, if◌then◌else◌, length, map};
+//! Kerning of a line by all subtables in one run, which tells where it leaves the line open.
+ghost use Rattle.std.specs.Prelude.{◌≡◌, ◌<◌, ◌&&◌, List, OnOk, false, length, map};
 ghost use Rattle.aat_buffer.specs.Clusters.{IsSmall};
+ghost use Rattle.aat_cut_kinds.specs.KernedTables.{runs_over};
 ghost use Rattle.aat_cut_kinds.specs.KerningCuts.{kerned_by_all};
 ghost use Rattle.aat_font.specs.declared.plan.Feature.{Feature};
 ghost use Rattle.aat_font.specs.Face.{tables_of};
-ghost use Rattle.aat_kerning.specs.Positioning.{turned_round};
-ghost use Rattle.aat_shaped_text.specs.KernedPlaces.{TellsKerning};
-ghost use Rattle.aat_shaped_text.specs.inside.KernedRuns.{Closes, all_runs, kern_run, kerx_run};
+ghost use Rattle.aat_kerning_machines.specs.Positions.{IsPlaced};
 ghost use Rattle.aat_shaped_text.specs.TextFeatures.{requests_kerning};
+ghost use Rattle.aat_shaped_text.specs.inside.KernedRuns.{ClosesKerned, Kerns, all_runs, is_attached_behind, runs_of};
+ghost use Rattle.aat_shaping.specs.Shaping.{kerned_by_font};
 
-use crate::kerned_subtables::{
-    TextKerning, does_kern_run, does_kerx_run, opens_of_kern, opens_of_kerx, takes_turned_line,
-};
+use crate::kerned_subtables::{OpenKerning, TextKerning};
+use crate::open_line::turn;
 use aat_buffer::hb_buffer_t;
-use aat_cut_kinds::KerningOpens;
-use aat_font::hb_font_t;
-use aat_glyph::Direction;
-use aat_kerning_tables::{KernSubtable, KerxSubtable};
+use aat_kerning::{attach_once, mark_line};
 use std::alloc::{AllocError, Allocator};
 
-/// Closes the places of a line that are not told open too, of the line as it stands or turned round.
-fn close_places(opens: &mut [bool], told: &[bool], is_turned: bool)
-    requires count { length told.now ≡ length opens.old }
-    ensures long { length opens.new ≡ length opens.old }
-    ensures closed { (q : ℕ) → 0 < q → q < length opens.old → get_or opens.new q false
-        ≡ (get_or opens.old q false && get_or told.now (if is_turned then length opens.old - q else q) false) }
-{
-    for i in 1..opens.len() {
-        let asked = if is_turned { opens.len() - i } else { i };
-        // both are read, whatever the first is, so that many places are closed at a time
-        opens[i] = opens[i] & told[asked];
-    }
-}
-
-/// Closes the places of a line that are not open to a run too, which ran over the line as it stands or turned round, and
-/// takes over what it left of the budget.
-fn close<H: Allocator>(places: &mut KerningOpens<H>, told: &KerningOpens<H>, is_turned: bool)
-    requires count { length told.now.is_open.items ≡ length places.old.is_open.items }
-    ensures long { length places.new.is_open.items ≡ length places.old.is_open.items }
-    ensures closed { (q : ℕ) → 0 < q → q < length places.old.is_open.items → get_or places.new.is_open.items q false
-        ≡ (get_or places.old.is_open.items q false
-        && get_or told.now.is_open.items (if is_turned then length places.old.is_open.items - q else q) false) }
-    ensures budget { places.new.max_ops ≡ told.now.max_ops }
-{
-    close_places(&mut places.is_open, &told.is_open, is_turned);
-    places.max_ops = told.max_ops;
-}
-
-/// Turns a line round, where asked.
-fn turn_round<A: Allocator + Copy>(asked: bool, buffer: &mut hb_buffer_t<A>)
-    ensures { buffer.new ≡ turned_round asked buffer.old }
-{
-    if asked {
-        buffer.reverse();
-    }
-}
-
-/// Closes the places that a subtable of the extended kerning table does not leave open, where it runs over a text.
-fn close_kerx<A: Allocator + Copy, H: Allocator + Copy>(
+/// Kerns by one subtable, on a line in processing order, and closes the places that it does not leave open.
+fn kern_by_subtable<S: OpenKerning, A: Allocator + Copy, H: Allocator + Copy>(
     alloc: H,
     kerning: &TextKerning,
-    subtable: &KerxSubtable,
+    subtable: &S,
+    is_attached: &mut bool,
     buffer: &mut hb_buffer_t<A>,
-    places: &mut KerningOpens<H>,
+    places: &mut [bool],
 ) -> Result<(), AllocError>
     requires ids { IsSmall buffer.old }
-    requires count { length places.old.is_open.items ≡ length buffer.old.line }
-    ensures same { buffer.new ≡ buffer.old }
-    ensures closed { OnOk result (Closes
-        (kerx_run kerning.now.requested kerning.now.direction (tables_of kerning.now.face.now).ankr subtable.now)
-        buffer.old places.old.is_open.items places.old.max_ops places.new.is_open.items places.new.max_ops) }
+    requires placed { IsPlaced buffer.old }
+    requires count { length places.old ≡ length buffer.old.line }
+    requires mask { kerning.now.plan.now.kern_mask ≡ 8 }
+    ensures kerned { OnOk result (Kerns (kerned_by_all (runs_of kerning.now.plan.now.requested_kerning
+        buffer.old.direction is_attached.old (S.kerned (tables_of kerning.now.face.now).ankr subtable.now)))
+        buffer.old places.old buffer.new places.new) }
+    ensures noted { OnOk result (is_attached.new ≡ is_attached_behind buffer.old.direction is_attached.old
+        (S.kerned (tables_of kerning.now.face.now).ankr subtable.now)) }
+    ensures ids { IsSmall buffer.new }
+    ensures placed { IsPlaced buffer.new }
 {
-    if !does_kerx_run(kerning, subtable) {
+    if !subtable.is_for_text(buffer.direction()) {
         return Ok(());
     }
-    let has_points = kerning.face.tables().ankr.is_some();
-    let is_turned = takes_turned_line(subtable);
-    turn_round(is_turned, buffer);
-    let told = opens_of_kerx(alloc, has_points, subtable, places.max_ops, buffer);
-    turn_round(is_turned, buffer);
-    close(places, &told?, is_turned);
-    Ok(())
-}
-
-/// Closes those that a subtable of the kerning table does not leave open.
-fn close_kern<A: Allocator + Copy, H: Allocator + Copy>(
-    alloc: H,
-    kerning: &TextKerning,
-    subtable: &KernSubtable,
-    buffer: &hb_buffer_t<A>,
-    places: &mut KerningOpens<H>,
-) -> Result<(), AllocError>
-    requires ids { IsSmall buffer.now }
-    requires count { length places.old.is_open.items ≡ length buffer.now.line }
-    ensures closed { OnOk result (Closes (kern_run kerning.now.requested kerning.now.direction subtable.now)
-        buffer.now places.old.is_open.items places.old.max_ops places.new.is_open.items places.new.max_ops) }
-{
-    if !does_kern_run(kerning, subtable) {
+    attach_once(subtable.has_cross_stream(), is_attached, buffer);
+    if subtable.is_of_pairs() && !kerning.plan.requested_kerning {
         return Ok(());
     }
-    let told = opens_of_kern(alloc, subtable, places.max_ops, buffer)?;
-    close(places, &told, false);
-    Ok(())
+    subtable.kern_openly(alloc, kerning, buffer, places)
 }
 
-/// Closes the places that some subtable of the extended kerning table does not leave open.
-fn close_all_kerx<A: Allocator + Copy, H: Allocator + Copy>(
+/// Kerns by the subtables of a table in their order, on a line in processing order, and closes the places that some of
+/// them does not leave open.
+fn kern_by_subtables<S: OpenKerning, A: Allocator + Copy, H: Allocator + Copy>(
     alloc: H,
     kerning: &TextKerning,
-    subtables: &[KerxSubtable],
+    subtables: &[S],
     buffer: &mut hb_buffer_t<A>,
-    places: &mut KerningOpens<H>,
+    places: &mut [bool],
 ) -> Result<(), AllocError>
     requires ids { IsSmall buffer.old }
-    requires count { length places.old.is_open.items ≡ length buffer.old.line }
-    ensures same { buffer.new ≡ buffer.old }
-    ensures closed { OnOk result (Closes (kerned_by_all (map
-        (kerx_run kerning.now.requested kerning.now.direction (tables_of kerning.now.face.now).ankr) subtables.now))
-        buffer.old places.old.is_open.items places.old.max_ops places.new.is_open.items places.new.max_ops) }
+    requires placed { IsPlaced buffer.old }
+    requires count { length places.old ≡ length buffer.old.line }
+    requires mask { kerning.now.plan.now.kern_mask ≡ 8 }
+    ensures kerned { OnOk result (Kerns (kerned_by_all (runs_over kerning.now.plan.now.requested_kerning
+        buffer.old.direction false (map (S.kerned (tables_of kerning.now.face.now).ankr) subtables.now)))
+        buffer.old places.old buffer.new places.new) }
 {
+    let mut is_attached = false;
     for subtable in subtables {
-        close_kerx(alloc, kerning, subtable, buffer, places)?;
+        kern_by_subtable(alloc, kerning, subtable, &mut is_attached, buffer, places)?;
     }
     Ok(())
 }
 
-/// Closes those that some subtable of the kerning table does not leave open.
-fn close_all_kern<A: Allocator + Copy, H: Allocator + Copy>(
-    alloc: H,
-    kerning: &TextKerning,
-    subtables: &[KernSubtable],
-    buffer: &hb_buffer_t<A>,
-    places: &mut KerningOpens<H>,
-) -> Result<(), AllocError>
-    requires ids { IsSmall buffer.now }
-    requires count { length places.old.is_open.items ≡ length buffer.now.line }
-    ensures closed { OnOk result (Closes
-        (kerned_by_all (map (kern_run kerning.now.requested kerning.now.direction) subtables.now))
-        buffer.now places.old.is_open.items places.old.max_ops places.new.is_open.items places.new.max_ops) }
-{
-    for subtable in subtables {
-        close_kern(alloc, kerning, subtable, buffer, places)?;
-    }
-    Ok(())
-}
-
-/// Closes those that some subtable of the kerning table in use does not leave open.
-fn close_all<A: Allocator + Copy, H: Allocator + Copy>(
+/// Kerns by the subtables of the kerning table in use, on a line in processing order, and closes the places that some of
+/// them does not leave open.
+fn kern_ordered<A: Allocator + Copy, H: Allocator + Copy>(
     alloc: H,
     kerning: &TextKerning,
     buffer: &mut hb_buffer_t<A>,
-    places: &mut KerningOpens<H>,
+    places: &mut [bool],
 ) -> Result<(), AllocError>
     requires ids { IsSmall buffer.old }
-    requires count { length places.old.is_open.items ≡ length buffer.old.line }
-    ensures same { buffer.new ≡ buffer.old }
-    ensures closed { OnOk result (Closes
-        (all_runs kerning.now.requested kerning.now.direction kerning.now.face.now) buffer.old
-        places.old.is_open.items places.old.max_ops places.new.is_open.items places.new.max_ops) }
+    requires placed { IsPlaced buffer.old }
+    requires count { length places.old ≡ length buffer.old.line }
+    requires mask { kerning.now.plan.now.kern_mask ≡ 8 }
+    ensures kerned { OnOk result (Kerns (all_runs kerning.now.plan.now.requested_kerning buffer.old.direction
+        kerning.now.face.now) buffer.old places.old buffer.new places.new) }
 {
     let face = kerning.face;
     if face.tables().kerx.is_some() {
-        close_all_kerx(alloc, kerning, face.kerx_subtables(), buffer, places)
+        kern_by_subtables(alloc, kerning, face.kerx_subtables(), buffer, places)
     } else {
-        close_all_kern(alloc, kerning, face.kern_subtables(), buffer, places)
+        kern_by_subtables(alloc, kerning, face.kern_subtables(), buffer, places)
     }
 }
 
-/// Which places of a line, in drawing order, kerning of a text of `direction` leaves open, by the extended kerning table
-/// where the font has it, and else by the kerning table, and what it leaves of the line's budget. Pairs kern where
-/// `requested` says that the features of the text request kerning.
+/// Kerns a line, which stands in reading order, by the extended kerning table where the font has it, and else by the
+/// kerning table, and closes those of its places in drawing order that kerning does not leave open.
 ///
-/// Of the line, which stands in reading order, the glyph ids and properties and the budget are read, and which masks meet
-/// the kern mask (8), whatever positions it has: each id has to be at most 0xFFFF. It is turned round on the way, and is
-/// then as before. It takes the turns that the machines take (`kern_opens` of `aat_cut_kinds`), a search of pairs for each
-/// pair of the line, and some steps a glyph for each subtable. It takes two bytes of memory a glyph at a time, and fails
-/// where it gets none.
+/// Each subtable that is for the text kerns the line as `hb_aat_layout_position` and `hb_ot_layout_kern` of `aat_kerning`
+/// tell, and tells which places it leaves open, a machine in the same run. It takes what these take, a search of pairs once more for
+/// each pair of the line, and some steps a glyph for each subtable. It takes some bytes of memory a glyph at a time, and
+/// fails where it gets none: how the line is left then is not said.
 ///
 /// Apple's TrueType Reference Manual, "The 'kerx' table" and "The 'kern' table".
-pub fn kerning_opens<A: Allocator + Copy, H: Allocator + Copy>(
+pub(crate) fn kern_openly<A: Allocator + Copy, H: Allocator + Copy>(
     alloc: H,
-    face: &hb_font_t,
-    direction: Direction,
-    requested: bool,
+    kerning: &TextKerning,
     buffer: &mut hb_buffer_t<A>,
-) -> Result<KerningOpens<H>, AllocError>
+    places: &mut [bool],
+) -> Result<(), AllocError>
     requires ids { IsSmall buffer.old }
-    ensures same { buffer.new ≡ buffer.old }
-    ensures told { IfOk result (λ told. (features : List Feature) → requests_kerning features ≡ requested →
-        TellsKerning face.now direction features buffer.old told.is_open.items told.max_ops) }
+    requires placed { IsPlaced buffer.old }
+    requires count { length places.old ≡ length buffer.old.line }
+    requires mask { kerning.now.plan.now.kern_mask ≡ 8 }
+    ensures kerned { OnOk result (buffer.new
+        ≡ (kerned_by_font kerning.now.plan.now kerning.now.face.now buffer.old).buffer) }
+    ensures closed { (features : List Feature) → requests_kerning features ≡ kerning.now.plan.now.requested_kerning →
+        OnOk result (ClosesKerned kerning.now.face.now features buffer.old places.old places.new) }
 {
-    let kerning = TextKerning {
-        face,
-        direction,
-        requested,
-    };
-    let mut places = KerningOpens {
-        is_open: vec![in alloc; true; buffer.len()]?,
-        max_ops: buffer.max_ops(),
-    };
-    let is_turned = direction.is_backward();
-    turn_round(is_turned, buffer);
-    let closed = close_all(alloc, &kerning, buffer, &mut places);
-    turn_round(is_turned, buffer);
-    closed?;
-    Ok(places)
+    mark_line(kerning.face.tables().kerx.is_some(), buffer);
+    turn(buffer);
+    kern_ordered(alloc, kerning, buffer, places)?;
+    turn(buffer);
+    Ok(())
 }

@@ -24,6 +24,5 @@ pub mod worked;
 pub use breaks::{BreakRules, front_of, may_break_at, operations_left, takes_few_operations};
 pub use features::{is_kerned_at, requests_kerning};
 pub use font::{kerns_by_pairs, skips_of, substitutes_apart};
-pub use kerned_places::kerning_opens;
-pub use open_line::{close_chained, is_kept, open_places, turn};
+pub use open_line::{close_chained, is_kept, place_openly, turn};
 pub use text::{ShapedGlyph, TextGlyph};

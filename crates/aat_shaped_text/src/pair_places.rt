@@ -1,45 +1,19 @@
-//! Which places of a line kerning by pairs leaves open.
-ghost use Rattle.std.specs.Prelude.{◌≡◌, ◌<◌, ◌≤◌, ◌+◌, ℕ, Bool, IfOk, false, get_or, length};
-ghost use Rattle.aat_buffer.specs.Buffer.{with_max_ops};
+//! Kerning by pairs, and which places of a line it leaves open.
+ghost use Rattle.std.specs.Prelude.{◌≡◌, ◌<◌, ◌+◌, ℕ, IfOk, false, get_or, length};
 ghost use Rattle.aat_buffer.specs.Clusters.{IsSmall};
 ghost use Rattle.aat_cut_kinds.specs.KernedTables.{by_marked_pairs, by_pairs};
-ghost use Rattle.aat_cut_kinds.specs.OpenPlaces.{TellsPlaces};
+ghost use Rattle.aat_cut_kinds.specs.OpenPlaces.{KernsOpenly};
 ghost use Rattle.aat_kerning.specs.Pairs.{left_of};
-ghost use Rattle.aat_shaped_text.specs.inside.PairPlaces.{values_of};
+ghost use Rattle.aat_kerning.specs.Values.{values_of};
+ghost use Rattle.aat_kerning_machines.specs.Positions.{IsPlaced};
 
 use aat_buffer::hb_buffer_t;
-use aat_cut_kinds::KerningOpens;
-use aat_kerning::is_solid;
+use aat_kerning::{PairRun, PairValues, is_solid, kern_line, value_of};
 use aat_kerning_machines::meets;
-use aat_kerning_tables::{ClassPairs, Pairs};
-use aat_lookup::GlyphId;
 use std::alloc::{AllocError, Allocator};
 
 /// The bit of a glyph's mask at which it is kerned.
-const KERN_MASK: u32 = 8;
-
-/// The kerning values of pairs of glyphs.
-#[derive(Clone, Copy)]
-pub(crate) enum PairValues<'a> {
-    /// Pairs that are listed.
-    Listed(&'a Pairs),
-    /// Pairs of classes.
-    Classes(&'a ClassPairs),
-}
-
-/// The kerning value of two glyphs, 0 where the table has none.
-fn value_of(values: PairValues, left: u32, right: u32) -> i16
-    requires left_id { left ≤ 65535 }
-    requires right_id { right ≤ 65535 }
-    ensures { result ≡ values_of values.entry left right }
-{
-    let left = GlyphId(left as u16);
-    let right = GlyphId(right as u16);
-    match values {
-        PairValues::Listed(pairs) => pairs.glyphs_kerning(left, right).unwrap_or(0),
-        PairValues::Classes(pairs) => pairs.glyphs_kerning(left, right),
-    }
-}
+pub(crate) const KERN_MASK: u32 = 8;
 
 /// Whether kerning by pairs leaves a place open, where `left` is the left glyph of the pair whose right glyph stands
 /// there, if it is one.
@@ -108,25 +82,29 @@ fn tell_pairs<A: Allocator + Copy>(
     }
 }
 
-/// Which places of a line kerning by the pairs of a subtable leaves open, which skips the glyph properties `skips`: those
-/// whose glyph is not skipped, and which no pair with a value other than 0 has as its right glyph. Of the budget it takes
-/// none. Whether the values go across the line, and whether the line is marked first, make no difference.
+/// Kerns a line in processing order by the pairs of a subtable, marks it against joining first where asked, and tells
+/// which places the pairs leave open: those whose glyph is not skipped, and which no pair with a value other than 0 has as
+/// its right glyph. Whether the values go across the line, and whether the line is marked, make no difference to that.
 ///
-/// Of the line, the glyph ids and properties are read, and whether masks meet the kern mask. It takes some steps a glyph
-/// and a search of the pairs for each pair of the line, and a byte of memory a glyph, and fails where it gets none.
-pub(crate) fn pair_opens<A: Allocator + Copy, H: Allocator>(
+/// It takes what [`kern_line`] takes and a search of the pairs for each pair of the line once more, and a byte of memory a
+/// glyph. It fails where it gets none, and nothing changes then.
+pub(crate) fn kern_by_pairs<A: Allocator + Copy, H: Allocator>(
     alloc: H,
-    values: PairValues,
-    skips: u16,
-    max_ops: i32,
-    buffer: &hb_buffer_t<A>,
-) -> Result<KerningOpens<H>, AllocError>
-    requires { IsSmall buffer.now }
-    ensures { IfOk result (λ told. (is_marked : Bool) (is_cross : Bool) →
-        TellsPlaces (by_marked_pairs is_marked skips 8 is_cross (values_of values.entry))
-        (with_max_ops buffer.now max_ops) told.is_open.items told.max_ops) }
+    run: &PairRun,
+    marks_line: bool,
+    buffer: &mut hb_buffer_t<A>,
+) -> Result<Vec<bool, H>, AllocError>
+    requires ids { IsSmall buffer.old }
+    requires placed { IsPlaced buffer.old }
+    requires mask { run.now.kern_mask ≡ 8 }
+    ensures kerned { IfOk result (λ told. KernsOpenly
+        (by_marked_pairs marks_line run.now.skips 8 run.now.is_cross_stream (values_of run.now.values))
+        buffer.old buffer.new told.items) }
+    ensures ids { IsSmall buffer.new }
+    ensures placed { IsPlaced buffer.new }
 {
     let mut is_open = vec![in alloc; false; buffer.len()]?;
-    tell_pairs(values, skips, buffer, &mut is_open);
-    Ok(KerningOpens { is_open, max_ops })
+    tell_pairs(run.values, run.skips, buffer, &mut is_open);
+    kern_line(run, marks_line, buffer);
+    Ok(is_open)
 }

@@ -18,7 +18,6 @@ use Rattle.aat_font.specs.declared.plan.Feature.{Feature}
 use Rattle.aat_font.specs.declared.plan.hb_ot_shape_plan_t.{hb_ot_shape_plan_t}
 use Rattle.aat_glyph.specs.Directions.{is_backward, is_horizontal}
 use Rattle.aat_glyph.specs.declared.glyph.Direction.{Direction}
-use Rattle.aat_glyph.specs.declared.glyph.GlyphPosition.{GlyphPosition}
 use Rattle.aat_glyph.specs.declared.glyph.hb_glyph_info_t.{hb_glyph_info_t}
 use Rattle.aat_kerning.specs.Cut.{ordered_line, ordered_positions}
 use Rattle.aat_kerning.specs.Pairs.{is_solid}
@@ -71,14 +70,6 @@ small_ordered b small = by_way (is_backward b.direction)
         let within : k < length b.line = omega (arith, low, long) in
         rw (get_or-reverse b.line k e within) (small (length b.line - 1 - k) e (omega (arith, within)))
     by_way false = small
-
--- positions change no glyphs
-ordered_placed : (b : Buffer) (ps : List GlyphPosition) → ordered_line b ≡ ordered_line (with_positions b ps)
-ordered_placed b ps = by_way (is_backward b.direction)
-  where
-    by_way : (t : Bool) → (cond t (reversed b) b).line ≡ (cond t (reversed (with_positions b ps)) (with_positions b ps)).line
-    by_way true = refl
-    by_way false = refl
 
 -- what is drawn asks no more than the places of the line before which it may be broken
 places_within : (f g : ℕ → ShapedGlyph) (test : ℕ → Bool) (a n : ℕ) → ((i : ℕ) → i < a + n → f i ≡ g i)
@@ -180,10 +171,10 @@ module _ (v : ℤ) (face : hb_font_t) (d : Direction) (features : List Feature) 
           by_closing true = sym (alike.lengths face d features text)
           by_closing false = refl
 
-      pub left_so : (closes : Bool) (behind_it left : Buffer) (turns : ℕ) → behind_it ≡ substituted_so closes face m made
-          → record { buffer = left; turns = turns } ≡ placing plan face behind_it → left ≡ zeroed (kerned_behind closes)
-      left_so closes behind_it left turns substituted placed =
-          ap (λ (o : Outcome). o.buffer) placed
+      pub left_so : (closes : Bool) (behind_it left : Buffer) → behind_it ≡ substituted_so closes face m made
+          → left ≡ (placing plan face behind_it).buffer → left ≡ zeroed (kerned_behind closes)
+      left_so closes behind_it left substituted placed =
+          placed
           ∙ (planned_placing face features plan planned behind_it
           ∙ ap (λ (b : Buffer). zeroed (text_kerning face features (with_advances (advance_of face) b)).buffer) (substituted ∙ substituted_is closes))
 
@@ -223,7 +214,7 @@ module _ (v : ℤ) (face : hb_font_t) (d : Direction) (features : List Feature) 
     pub asked : rules.features.now ≡ features
     pub marks : breaks.by_marks ≡ kerns_by_pairs face d
     pub way : (behind_text closes).direction ≡ d
-    pub opens : tells ≡ true → breaks.by_marks ≡ false → TellsOpenPlaces face rules (behind_text closes) told
+    pub opens : tells ≡ true → breaks.by_marks ≡ false → TellsOpenPlaces face rules (with_advances (advance_of face) (behind_text closes)) told
     pub drawn_is : b ≡ in_processing_order (tracked_line v (zeroed (kerned_behind closes)))
     pub long : length b.line ≡ length (behind_text closes).line
     pub chained : length told ≡ length b.line → ClosesChained b.direction (position_list b) told breaks.places.now
@@ -252,7 +243,7 @@ module _ (v : ℤ) (face : hb_font_t) (d : Direction) (features : List Feature) 
 
       by_kerning : kerns_by_pairs face d ≡ false → (i : ℕ) → i < length b.line → get_or breaks.places.now i false ≡ is_open_by_kerning face d features text i
       by_kerning apart i low =
-          let opens : TellsOpenPlaces face rules closed told = subst (λ (t : Bool). TellsOpenPlaces face rules (behind_text t) told) closes_is (a.opens tells_it (a.marks ∙ apart)) in
+          let opens : TellsOpenPlaces face rules (with_advances (advance_of face) closed) told = subst (λ (t : Bool). TellsOpenPlaces face rules (with_advances (advance_of face) (behind_text t)) told) closes_is (a.opens tells_it (a.marks ∙ apart)) in
           let long : length b.line ≡ length closed.line = a.long ∙ ap (λ (t : Bool). length (behind_text t).line) closes_is in
           let ps = map (λ (g : hb_glyph_info_t). advanced (is_horizontal closed.direction) (advance_of face g.glyph_id)) closed.line in
           let way : closed.direction ≡ d = ap (λ (t : Bool). (behind_text t).direction) (sym closes_is) ∙ a.way in
@@ -260,9 +251,9 @@ module _ (v : ℤ) (face : hb_font_t) (d : Direction) (features : List Feature) 
           let kerned_way : kerned.direction ≡ d = (text_changes_little face features (with_advances (advance_of face) closed) kerning_changes_little).text.settings.direction ∙ way in
           let shut = a.chained (opens.long ∙ sym long) in
           shut.opens i (omega (arith, low, long, opens.long))
-          ∙ (ap (λ (t : Bool). t && is_unchained b.direction (position_list b) i) (opens.opens ps i (omega (arith, low, long)))
+          ∙ (ap (λ (t : Bool). t && is_unchained b.direction (position_list b) i) (opens.opens i (omega (arith, low, long)))
           ∙ (ap (λ (t : Bool). (t && kerning_opens face closed.direction rules.features.now (with_positions closed ps) i) && is_unchained b.direction (position_list b) i)
-          (by_rules (ordered_line closed) i ∙ ap (λ (line : List hb_glyph_info_t). may_break_line face d features line i) (ordered_placed closed ps))
+          (by_rules (ordered_line (with_positions closed ps)) i)
           ∙ (ap (λ (e : Direction). (may_break_line face d features (ordered_line (with_positions closed ps)) i && kerning_opens face e rules.features.now (with_positions closed ps) i) && is_unchained b.direction (position_list b) i) way
           ∙ (ap (λ (fs : List Feature). (may_break_line face d features (ordered_line (with_positions closed ps)) i && kerning_opens face d fs (with_positions closed ps) i) && is_unchained b.direction (position_list b) i) a.asked
           ∙ (ap (λ (c : Buffer). (may_break_line face d features (ordered_line (with_positions closed ps)) i && kerning_opens face d features (with_positions closed ps) i) && is_unchained c.direction (position_list c) i) shown_is

@@ -11,6 +11,7 @@ pub mod Rising
 pub mod ShownChains
 pub mod Stops
 pub mod Stretches
+pub mod Sums
 pub mod Taken
 pub mod Texts
 pub mod Told

@@ -1,11 +1,15 @@
 -- The stops of a text rise, and end with it.
-use Rattle.std.proofs.Common.{◌≡◌, ◌∙◌, ap, refl, sym, subst, None, ℕ, zero, suc, ◌+◌, ◌-◌, ◌<◌, ◌≤◌, Bool, true, false, cond, ◌&&◌, List, [], ◌∷◌, ◌++◌, arith, append_assoc, drop, get_or, length}
+use Rattle.std.proofs.Common.{◌≡◌, ◌∙◌, ap, refl, sym, subst, None, ℕ, zero, suc, ◌+◌, ◌-◌, ◌<◌, ◌≤◌, Bool, true, false, cond, ◌&&◌, List, [], ◌∷◌, ◌++◌, arith, append_assoc, drop, get_or, length, take}
 use Rattle.std.proofs.lemmas.Bool.{and_from, and_parts, le-leb, leb-true, lt-ltb, ltb-false, ltb-true, ne_eqb}
-use Rattle.std.proofs.lemmas.List.{drop_more, get_or_default}
+use Rattle.std.proofs.lemmas.List.{append-nil, drop_all, drop_more, get_or_default, take_all, take_more}
 use Rattle.std.specs.Prelude.{nat_le, nat_lt}
 use Rattle.aat_shaper.specs.Lines.{start_of, stop_at, stops_behind, text_end}
 use Rattle.aat_shaper.specs.declared.lines.LineStop.{LineStop}
 use Rattle.aat_shaper.specs.inside.Filling.{AreStops}
+
+-- what is read of a stop
+abbrev pub zero_stop : LineStop
+zero_stop = record { place = 0; hang = None; is_forced = false }
 
 -- a stop that rises, and another one
 stops_taken :
@@ -48,6 +52,33 @@ module _ (row stops whole : List LineStop) (i s n : ℕ) (d : LineStop) (low : i
       ap (λ (ts : List LineStop). row ++ ts)
       (sym (stops_left s n (get_or stops i d) (drop (i + 1) stops) not))
       ∙ (ap (λ (ts : List LineStop). row ++ stops_behind s n ts) (sym (drop_more stops i d low)) ∙ so_far)
+
+-- a stop more that is taken as it is
+pub take_next :
+    (stops : List LineStop) (i s n : ℕ) → i < length stops
+    → take i stops ++ stops_behind s n (drop i stops) ≡ stops_behind 0 n stops → s < (get_or stops i zero_stop).place
+    → (get_or stops i zero_stop).place ≤ n
+    → take (i + 1) stops ++ stops_behind (get_or stops i zero_stop).place n (drop (i + 1) stops)
+    ≡ stops_behind 0 n stops
+take_next stops i s n low so_far above within =
+    let stop = get_or stops i zero_stop in
+    ap (λ (ts : List LineStop). ts ++ stops_behind stop.place n (drop (i + 1) stops)) (take_more stops i zero_stop low)
+    ∙ take_stop (take i stops) stops (stops_behind 0 n stops) i s n zero_stop low so_far above within
+
+no_stop_behind : (n : ℕ) (b : Bool) → nat_lt n n ≡ b → cond b (text_end n ∷ []) [] ≡ []
+no_stop_behind n true e = absurd (omega (arith, ltb-true n n e))
+no_stop_behind n false e = refl
+
+-- all stops are taken as they are, and the last is the text's end
+pub all_taken :
+    (stops : List LineStop) (i s n : ℕ) → length stops ≤ i
+    → take i stops ++ stops_behind s n (drop i stops) ≡ stops_behind 0 n stops → s ≡ n → stops_behind 0 n stops ≡ stops
+all_taken stops i s n all so_far end =
+    sym so_far
+    ∙ (ap (λ (ts : List LineStop). take i stops ++ stops_behind s n ts) (drop_all i stops all)
+    ∙ (ap (λ (m : ℕ). take i stops ++ stops_behind m n []) end
+    ∙ (ap (λ (ts : List LineStop). take i stops ++ ts) (no_stop_behind n (nat_lt n n) refl)
+    ∙ (append-nil (take i stops) ∙ take_all i stops all))))
 
 -- stops rise from s on, up to n
 record Rise (s n : ℕ) (row : List LineStop) : Type 0 where
@@ -138,10 +169,6 @@ module _ (n : ℕ) (row : List LineStop) (are : AreStops n row) (q : ℕ) where
   start_below j le low =
       let same : q + (j - q) ≡ j = omega arith in
       subst (λ (m : ℕ). start_of row q < (stop_at row m).place) same (climb (j - q) (omega (arith, low, same)))
-
--- what is read of a stop
-abbrev pub zero_stop : LineStop
-zero_stop = record { place = 0; hang = None; is_forced = false }
 
 pub stop_read : (row : List LineStop) (j : ℕ) → j < length row → get_or row j zero_stop ≡ stop_at row j
 stop_read row j low = get_or_default row j zero_stop (text_end 0) low

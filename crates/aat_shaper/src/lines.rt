@@ -3,8 +3,9 @@ ghost use Rattle.std.specs.Prelude.{◌≡◌, ◌<◌, ◌≤◌, [], Err, IfEr
 ghost use Rattle.aat_font.specs.Face.{tables_of};
 ghost use Rattle.aat_map.specs.Adding.{first_too_large_among};
 ghost use Rattle.aat_shaped_text.specs.ShapedText.{most_text, shaped_text, uses_up_budget};
-ghost use Rattle.aat_shaper.specs.Lines.{AreLines, RefusesLines, end_of, stops_behind};
+ghost use Rattle.aat_shaper.specs.Lines.{AreLines, RefusesLines, end_of, start_of, stops_behind};
 ghost use Rattle.aat_shaper.specs.Shaper.{value_along};
+ghost use Rattle.aat_shaper.specs.inside.Filling.{AreStops};
 
 mod cut;
 mod fill;
@@ -15,7 +16,7 @@ mod tries;
 mod width;
 
 use crate::lines::filling::Filling;
-use crate::lines::row::stops_of;
+use crate::lines::row::{is_row, stops_of};
 use crate::shaper::Shaper;
 use aat_layout::AatError;
 use aat_layout::buffer::Direction;
@@ -60,7 +61,7 @@ impl<A: Allocator + Copy> Shaper<'_, A> {
     /// Shapes a text and breaks it into lines of a width.
     ///
     /// A line may end at a stop and at the end of the text. Stops that do not rise, or are past the text, are none; one at
-    /// its end says what hangs there. A line takes in as many stops as fit, and at least one: it is no wider than
+    /// its end says what hangs there. A line takes in stops as long as the next one fits, and at least one: it is no wider than
     /// `width`, unless it ends at its first stop, and the text up to the next one by itself is wider, unless it ends at
     /// the end of the text or at a forced stop, which no line passes. A text without a glyph has no line.
     ///
@@ -68,7 +69,7 @@ impl<A: Allocator + Copy> Shaper<'_, A> {
     /// that hang over the end do not count, nor, where `hides_ignorables`, do ignorable ones.
     ///
     /// The glyphs of a line look as its part of the text does that is shaped by itself. Where the text may be broken at
-    /// both ends of a line, as [`Shaper::shape`] has it, they are those of the whole text, and nothing is shaped anew.
+    /// both ends of a line, as [`Shaper::shape`] has it, they are those of the whole text, and not shaped anew.
     /// Elsewhere lines that seem to be the right ones are shaped by themselves, mostly two for each line.
     /// [`Shaper::glyphs`] has what is drawn of the text in one line.
     ///
@@ -162,7 +163,63 @@ impl<A: Allocator + Copy> Shaper<'_, A> {
         ensures end { IfOk result (λ r. end_of r.lines.items ≡ length text.now) }
         ensures refused { IfErr result (RefusesLines self.now.font direction features.now text.now) }
     {
+        if is_row(text.len(), stops) {
+            return self.lines_at(
+                global,
+                alloc,
+                direction,
+                text,
+                features,
+                stops,
+                hides_ignorables,
+                width,
+            );
+        }
         let row = stops_of(alloc, text.len(), stops)?;
+        self.lines_at(
+            global,
+            alloc,
+            direction,
+            text,
+            features,
+            &row,
+            hides_ignorables,
+            width,
+        )
+    }
+
+    /// The lines of the text that was shaped last, by stops that rise and end with it.
+    fn lines_at(
+        &self,
+        global: Global,
+        alloc: A,
+        direction: Direction,
+        text: &[TextGlyph],
+        features: &[Feature],
+        stops: &[LineStop],
+        hides_ignorables: bool,
+        width: u64,
+    ) -> Result<TextLines<A>, AatError>
+        requires short { length text.now ≤ most_text }
+        requires shaped { self.now.glyphs
+            ≡ shaped_text (value_along self.now.values direction) self.now.font direction features.now text.now }
+        requires bounded { length self.now.glyphs ≤ 0x3FFFFFFF }
+        requires stops { AreStops (length text.now) stops.now }
+        ensures lines { IfOk result (λ r. AreLines
+            (record {
+              value = value_along self.now.values direction;
+              font = self.now.font;
+              direction = direction;
+              features = features.now;
+              text = text.now;
+              stops = stops.now;
+              hides_ignorables = hides_ignorables;
+              width = width;
+            })
+            (length stops.now) r.glyphs.items r.lines.items) }
+        ensures end { IfOk result (λ r. end_of r.lines.items ≡ start_of stops.now (length stops.now)) }
+        ensures refused { IfErr result (RefusesLines self.now.font direction features.now text.now) }
+    {
         let mut alone = self.twin(global);
         let filling = Filling {
             value: self.tracking_along(direction),
@@ -170,7 +227,7 @@ impl<A: Allocator + Copy> Shaper<'_, A> {
             direction,
             features,
             text,
-            stops: &row,
+            stops,
             hides_ignorables,
             width,
             whole: self.glyphs(),

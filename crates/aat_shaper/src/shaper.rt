@@ -1,17 +1,22 @@
 //! The shaper: a text goes in, and what is drawn comes out.
-ghost use Rattle.std.specs.Prelude.{◌≡◌, ◌≢◌, ◌≤◌, ◌<◌, [], ◌+◌, ◌&&◌, All, Err, IfErr, IfOk, None, OnErr, OnOk, false, length, nat_lt, not, pos, true};
-ghost use Rattle.aat_buffer.specs.Clusters.{IsSmall};
+ghost use Rattle.std.specs.Prelude.{◌≡◌, ◌≢◌, ◌≤◌, ◌<◌, ◌⊎◌, ◌↔◌, [], ◌+◌, ◌&&◌, All, Err, IfErr, IfOk, IsErrOf, IsSome, None, OnErr, OnOk, false, length, nat_lt, not, pos, true};
+ghost use Rattle.aat_buffer.specs.Buffer.{with_scratch_flags};
+ghost use Rattle.aat_buffer.specs.Clusters.{IsSmall, KeepsOrder};
 ghost use Rattle.aat_buffer.specs.Removal.{deleted_glyph};
-ghost use Rattle.aat_font.specs.Face.{tables_of};
+ghost use Rattle.aat_font.specs.Face.{advance_of, tables_of};
+ghost use Rattle.aat_kerning_machines.specs.Positions.{IsPlaced};
 ghost use Rattle.aat_map.specs.Adding.{first_too_large_among};
 ghost use Rattle.aat_run.specs.Budget.{has_operations, operations_left};
+ghost use Rattle.aat_run.specs.Laws.{SameSettings};
 ghost use Rattle.aat_shaped_text.specs.Breaks.{is_rising};
 ghost use Rattle.aat_shaped_text.specs.KernedPlaces.{TellsOpenPlaces};
 ghost use Rattle.aat_shaped_text.specs.Parts.{BreaksHold};
 ghost use Rattle.aat_shaped_text.specs.ShapedText.{AreInOrder, RefusesText, most_glyphs, most_text, shaped_text, uses_up_budget};
+ghost use Rattle.aat_shaped_text.specs.TextFeatures.{requests_kerning};
 ghost use Rattle.aat_shaper.specs.Named.{has_feature};
 ghost use Rattle.aat_shaper.specs.Shaper.{no_values, value_along, values_at};
 ghost use Rattle.aat_shaper.specs.inside.TextPlan.{IsPlanOf};
+ghost use Rattle.aat_shaping.specs.Shaping.{placing, with_advances};
 
 use crate::drawn::{Breaks, close_attached, draw};
 use crate::line::{KERNED, LONGEST_TEXT, buffer_of, is_rising};
@@ -24,7 +29,7 @@ use aat_layout::{AatError, compiled_map};
 use aat_placement::Tracking;
 use aat_shaped_text::laws::{closing_draws_alike, texts_are_drawn_in_parts};
 use aat_shaped_text::{
-    BreakRules, ShapedGlyph, TextGlyph, kerns_by_pairs, open_places, operations_left,
+    BreakRules, ShapedGlyph, TextGlyph, kerns_by_pairs, operations_left, place_openly,
     requests_kerning, skips_of, takes_few_operations, turn,
 };
 use aat_shaping::place_with_deleted;
@@ -244,9 +249,9 @@ impl<'f, A: Allocator + Copy> Shaper<'f, A> {
     ///
     /// Where subtables of the kerning table in use are for the direction, and all of these are of pairs along the line,
     /// kerning leaves the place open where it does not skip the glyph there, and marks no glyph of that later cluster.
-    /// Elsewhere it does by what its runs touch (`kerning_opens` of `aat_shaped_text`), whatever the tables, where no glyph
-    /// from there on is attached to one before. Values across the line attach each glyph to the one before it: there a glyph
-    /// says so only where a machine detaches it.
+    /// Elsewhere it does by what its runs touch (`place_openly` of `aat_shaped_text`), whatever the tables, where no glyph
+    /// from there on is attached to one before. A subtable across the line attaches each glyph to the one before it: there a
+    /// glyph says so only where a machine attaches it otherwise, or detaches it.
     ///
     /// A text that is no longer than the one before it, with no more features, is mostly shaped without a request for
     /// memory. It takes as many steps as its line is long for each subtable and for each act, as many as there are features
@@ -359,26 +364,38 @@ fn tells_breaks<H: Allocator + Copy>(is_told: bool, before: u64, buffer: &hb_buf
     is_told && takes_few_operations(before, buffer)
 }
 
-/// Before which places of the line of a text it may be broken by its glyphs and by what kerning leaves open, where machines
-/// tell what is open and marks do not decide; else it tells of no place.
-fn places_of<H: Allocator + Copy>(
+/// Gives the glyphs of a text their advances, kerns them, and has deleted ones take no room. Where machines tell what is
+/// open and marks do not decide, it tells before which places of the line it may be broken by its glyphs and by what kerning
+/// leaves open; else of no place.
+fn place<H: Allocator + Copy>(
     workspace: H,
+    plan: &hb_ot_shape_plan_t,
     face: &hb_font_t,
     is_told: bool,
     by_marks: bool,
     rules: BreakRules,
     buffer: &mut hb_buffer_t<H>,
-) -> Result<Vec<bool, H>, AllocError>
+) -> Result<Vec<bool, H>, AatError>
     requires ids { IsSmall buffer.old }
-    ensures same { buffer.new ≡ buffer.old }
+    requires mask { plan.now.kern_mask ≡ 8 }
+    requires requested { requests_kerning rules.features.now ≡ plan.now.requested_kerning }
+    ensures failed { IsErrOf result AatError.BufferFailed ↔ (buffer.old.successful ≡ false) }
+    ensures reason { IfErr result (λ error. (error ≡ AatError.BufferFailed) ⊎ (error ≡ AatError.OutOfMemory)) }
+    ensures placing { OnOk result (buffer.new ≡ (placing plan.now face.now buffer.old).buffer) }
     ensures told { is_told ≡ true → by_marks ≡ false → IfOk result (λ places.
-        TellsOpenPlaces face.now rules.entry buffer.old places.items) }
+        TellsOpenPlaces face.now rules.entry (with_advances (advance_of face.now) buffer.old) places.items) }
+    ensures ids { OnOk result (IsSmall buffer.new) }
+    ensures number { OnOk result (length buffer.new.line ≡ length buffer.old.line) }
+    ensures standing { OnOk result (IsSome buffer.new.positions) }
+    ensures placed { OnOk result (IsPlaced buffer.new) }
+    ensures settings { OnOk result (SameSettings (with_scratch_flags buffer.old buffer.new.scratch_flags) buffer.new) }
+    ensures order { OnOk result (KeepsOrder buffer.old.line buffer.new.line) }
 {
     if is_told && !by_marks {
-        open_places(workspace, face, rules, buffer)
-    } else {
-        Ok(Vec::new(workspace))
+        return place_openly(workspace, plan, face, rules, buffer);
     }
+    place_with_deleted(plan, face, buffer)?;
+    Ok(Vec::new(workspace))
 }
 
 /// Shapes a text in a workspace, tracks it by a value, puts what is drawn into `glyphs`, and answers whether the budget
@@ -416,8 +433,7 @@ fn shape_over<H: Allocator + Copy, A: Allocator>(
     let by_marks = kerns_by_pairs(face, direction);
     let operations = operations_left(&buffer);
     let is_told = substitute(face, lists, is_rising(text), &mut buffer)?;
-    let mut places = places_of(workspace, face, is_told, by_marks, rules, &mut buffer)?;
-    place_with_deleted(plan, face, &mut buffer)?;
+    let mut places = place(workspace, plan, face, is_told, by_marks, rules, &mut buffer)?;
     let is_allowed = tells_breaks(is_told, operations, &buffer);
     let is_used_up = uses_up(&buffer);
     track_line(workspace, value, &mut buffer)?;

@@ -11,4 +11,4 @@ mod shaping;
 #[doc(hidden)]
 pub mod worked;
 
-pub use shaping::{place_with_deleted, shape, shape_with_deleted};
+pub use shaping::{advance, place_with_deleted, shape, shape_with_deleted};

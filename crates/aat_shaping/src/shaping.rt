@@ -201,8 +201,14 @@ fn advanced(face: &hb_font_t, is_horizontal: bool, glyph: hb_glyph_info_t) -> Gl
     }
 }
 
-/// Gives each glyph the position that its advance gives it. In as many steps as the line is long.
-fn advance<A: Allocator + Copy>(
+/// Gives each glyph the position that its advance in the font gives it, in font units: to the right in horizontal text,
+/// and in vertical text down. All else of its position is 0. In as many steps as the line is long.
+///
+/// Each glyph id has to be at most 0xFFFF.
+///
+/// Refused as 3, `OutOfMemory`, where the positions get no memory: the buffer has failed then, no positions stand, and
+/// all else is as it was.
+pub fn advance<A: Allocator + Copy>(
     face: &hb_font_t,
     buffer: &mut hb_buffer_t<A>,
 ) -> Result<(), AatError>

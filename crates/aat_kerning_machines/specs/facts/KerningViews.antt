@@ -116,6 +116,15 @@ module _ {R S E : Type 0} (plain : KerningMachine R E) (held_act : E → S → B
     good_turn c good =
         good_by_entry (plain.entry c.state (class_at plain.class_of c.buffer)) (record c { turns = c.turns + 1 }) good
 
+    -- a turn of the driver, seen by the registers of the definition, is a turn of the definition
+    pub turn_is_seen : (c : Config S) → Good c.registers → kerning_turn plain (seen c) ≡ mapped seen (kerning_turn held c)
+    unfolding GoodAt
+    turn_is_seen c good = same_turn c good
+
+    pub turn_stays_good : (c : Config S) → Good c.registers → OnGoes (λ d. Good d.registers) (kerning_turn held c)
+    unfolding GoodAt
+    turn_stays_good c good = good_turn c good
+
     -- the run of the driver, seen by the registers of the definition, is the run of the definition
     pub kerning_is_seen : (c : Config S) → Good c.registers → kerning_whole plain (seen c) ≡ seen (kerning_whole held c)
     unfolding kerning_whole GoodAt

@@ -1,14 +1,8 @@
--- How far a kerning machine's run is.
+-- The rest of a kerning machine's turn.
 use Rattle.std.specs.Prelude.{◌+◌, Bool, length, nat_lt, if◌then◌else◌}
-use Rattle.aat_buffer.specs.Buffer.{Buffer}
-use Rattle.aat_run.specs.Context.{Config, first_config}
+use Rattle.aat_run.specs.Context.{Config}
 use Rattle.aat_run.specs.Machine.{Turn, Ends}
 use Rattle.aat_kerning_machines.specs.KerningMachine.{KerningMachine, kerning_acted, looked_ahead}
-use Rattle.aat_kerning_machines.specs.declared.run_state.RunState.{RunState}
-
--- a buffer, registers and a state make up how far a run is, which looks at no cluster
-abbrev pub config : {R : Type 0} → Buffer → R → RunState → Config R
-config b r at = record (first_config b r) { state = at.state; turns = at.turns }
 
 module _ {R E : Type 0} (m : KerningMachine R E) (e : E) (c : Config R) where
   -- the rest of an entry's turn, behind the marks before the cursor: the look ahead where two glyphs or more are left

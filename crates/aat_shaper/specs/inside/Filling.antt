@@ -1,16 +1,17 @@
 -- What is known while lines are filled.
-use Rattle.std.specs.Prelude.{◌≡◌, ◌⊎◌, ◌++◌, ℕ, ◌+◌, ◌<◌, ◌≤◌, Bool, true, false, List, All, length, map, take, drop, slice_range, if◌then◌else◌}
+use Rattle.std.specs.Prelude.{◌≡◌, ◌⊎◌, ◌++◌, ℕ, ℤ, ◌+◌, ◌-◌, ◌*◌, ◌<◌, ◌≤◌, ◌+ℤ◌, ◌≤ℤ◌, pos, Bool, true, false, List, Option, None, Some, All, fold, length, map, take, drop, slice_range, if◌then◌else◌}
 use Rattle.aat_shaped_text.specs.Parts.{cut_before, looks, shaped_at}
 use Rattle.aat_shaped_text.specs.ShapedText.{most_text, shaped_text}
 use Rattle.aat_shaped_text.specs.declared.text.ShapedGlyph.{ShapedGlyph}
 use Rattle.aat_shaped_text.specs.declared.text.TextGlyph.{TextGlyph}
-use Rattle.aat_shaper.specs.Lines.{Paragraph, drawn_alone, start_of, stop_at, width_of}
+use Rattle.aat_shaper.specs.Lines.{Paragraph, drawn_alone, room_of, start_of, stop_at, width_of}
 use Rattle.aat_shaper.specs.Shaper.{ShaperValue, value_along}
 use Rattle.aat_shaper.specs.declared.lines.LineStop.{LineStop}
 use Rattle.aat_shaper.specs.declared.lines.filling.Filling.{Filling}
 use Rattle.aat_shaper.specs.declared.lines.tries.LineGlyphs.{LineGlyphs}
 use Rattle.aat_shaper.specs.declared.lines.tries.LineGlyphs.TheVariants.{Alone, Stretch}
 use Rattle.aat_shaper.specs.declared.lines.tries.TriedLine.{TriedLine}
+use Rattle.aat_shaper.specs.declared.lines.width.Summed.{Summed}
 
 -- the text that is filled in
 abbrev pub paragraph_of : Filling → Paragraph
@@ -36,6 +37,25 @@ pub record IsReady (f : Filling) : Type 0 where
   pub stops : AreStops (length f.text.now) f.stops.now
   pub drawn : f.whole.now ≡ shaped_text f.value f.font.now f.direction f.features.now f.text.now
   pub bounded : length f.whole.now ≤ 0x3FFFFFFF
+
+-- the room that glyphs take
+abbrev pub room_of_all : Paragraph → Option ℕ → List ShapedGlyph → ℤ
+room_of_all p hang glyphs = fold (λ sum g. sum +ℤ room_of p hang g) (pos 0) glyphs
+
+-- what hangs, if anything does, is of clusters from c on
+abbrev pub HangsFrom : ℕ → Option ℕ → Type 0
+HangsFrom c None = Unit {0}
+HangsFrom c (Some h) = c ≤ h
+
+-- a stretch of what is drawn of the whole text was summed up: its room is known wherever none of its glyphs hangs
+pub record IsSummed (f : Filling) (s : Summed) : Type 0 where
+  pub order : s.from ≤ s.to
+  pub within : s.to ≤ length f.whole.now
+  pub sum :
+      (hang : Option ℕ) → HangsFrom s.past hang
+      → s.sum ≡ room_of_all (paragraph_of f) hang (slice_range f.whole.now s.from s.to)
+  pub low : pos 0 ≤ℤ (s.sum +ℤ pos (0x8000_0000 * (s.to - s.from)))
+  pub high : s.sum ≤ℤ pos (0x8000_0000 * (s.to - s.from))
 
 -- a shaper shapes parts of the text
 pub record Shapes (f : Filling) (shaper : ShaperValue) : Type 0 where

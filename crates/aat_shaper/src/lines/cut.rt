@@ -6,6 +6,7 @@ ghost use Rattle.aat_shaped_text.specs.ShapedText.{shaped_text};
 ghost use Rattle.aat_shaper.specs.inside.Filling.{IsCut, IsOpen, IsReady};
 
 use crate::lines::filling::Filling;
+use crate::lines::width::Summed;
 use aat_layout::buffer::Direction;
 use aat_shaped_text::ShapedGlyph;
 use aat_shaped_text::laws::{parts_keep_breaks, texts_are_drawn_in_parts};
@@ -30,7 +31,8 @@ fn is_edge(direction: Direction, glyphs: &[ShapedGlyph], cluster: u32, place: us
 }
 
 /// Where in drawing order, of what is drawn of a text whose clusters never fall, a cluster begins or, in a backward
-/// text, ends. It is looked for near a place first, since lines are short.
+/// text, ends. It is looked for at a place first, then at the next one of the text, since mostly one space hangs there,
+/// and then near it, since lines are short.
 pub(crate) fn edge_of(
     direction: Direction,
     glyphs: &[ShapedGlyph],
@@ -39,6 +41,14 @@ pub(crate) fn edge_of(
 ) -> usize {
     if is_edge(direction, glyphs, cluster, near) {
         return near;
+    }
+    let next = if direction.is_backward() {
+        near.saturating_sub(1)
+    } else {
+        near.saturating_add(1)
+    };
+    if is_edge(direction, glyphs, cluster, next) {
+        return next;
     }
     let low = near.saturating_sub(NEAR).min(glyphs.len());
     let high = near.saturating_add(NEAR).min(glyphs.len());
@@ -92,13 +102,22 @@ impl Filling<'_> {
         }
     }
 
+    /// The ends of what was summed up, as the text is read.
+    fn ends_of(&self, summed: Summed) -> (usize, usize) {
+        if self.direction.is_backward() {
+            (summed.to, summed.from)
+        } else {
+            (summed.from, summed.to)
+        }
+    }
+
     /// The stretch of what is drawn of the whole text that looks as its part between two places does by itself, if the
-    /// text may be broken at both. Both are looked for near a place of it first.
+    /// text may be broken at both. They are looked for near the ends of what was summed up first.
     pub(crate) fn stretch_between(
         &self,
         start: usize,
         end: usize,
-        near: usize,
+        summed: Summed,
     ) -> Option<(usize, usize)>
         requires ready { IsReady self.now }
         requires order { start < end }
@@ -110,8 +129,9 @@ impl Filling<'_> {
     {
         texts_are_drawn_in_parts();
         parts_keep_breaks();
-        let first = self.cut_at(start, near)?;
-        let last = self.cut_at(end, near)?;
+        let (near_start, near_end) = self.ends_of(summed);
+        let first = self.cut_at(start, near_start)?;
+        let last = self.cut_at(end, near_end)?;
         let (from, to) = if self.direction.is_backward() {
             (last, first)
         } else {

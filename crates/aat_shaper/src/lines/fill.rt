@@ -29,7 +29,11 @@ fn of_line(glyph: &ShapedGlyph, from: usize, is_first: bool) -> ShapedGlyph
 
 /// Whether no glyph is attached to another one.
 fn is_unattached(line: &[ShapedGlyph]) -> bool {
-    line.iter().all(|glyph| glyph.attached_to.is_none())
+    let mut is_attached = false;
+    for glyph in line {
+        is_attached |= glyph.attached_to.is_some();
+    }
+    !is_attached
 }
 
 /// Adds the glyphs of a line as they are, but that it is not broken before the first.
@@ -124,9 +128,11 @@ impl Filling<'_> {
         };
         let mut first = 0;
         let mut near = 0;
+        let mut more = 0;
         while first < self.stops.len() {
-            let line = self.line_from(shaper, &mut lines.shaped, first, near)?;
+            let line = self.line_from(shaper, &mut lines.shaped, first, near, more)?;
             self.add_line(line, shaper.glyphs(), &mut lines)?;
+            more = line.last - first;
             first = line.last + 1;
             near = self.near_end(line, near);
         }

@@ -2,9 +2,10 @@
 ghost use Rattle.std.specs.Prelude.{◌≡◌, ◌+◌, ◌<◌, ◌≤◌, ◌↔◌, ℕ, IfErr, IfOk, IsTrue, false, true, length, map, slice_range};
 ghost use Rattle.aat_shaped_text.specs.Parts.{looks};
 ghost use Rattle.aat_shaper.specs.Lines.{IsLine, RefusesLines, drawn_alone, stop_at, width_of};
-ghost use Rattle.aat_shaper.specs.inside.Filling.{IsFull, IsReady, IsTried, IsWithin, Shapes, glyphs_of, paragraph_of};
+ghost use Rattle.aat_shaper.specs.inside.Filling.{IsFull, IsReady, IsSummed, IsTried, IsWithin, Shapes, glyphs_of, paragraph_of};
 
 use crate::lines::filling::Filling;
+use crate::lines::width::Summed;
 use crate::shaper::Shaper;
 use aat_layout::AatError;
 use aat_shaped_text::{ShapedGlyph, TextGlyph};
@@ -63,7 +64,7 @@ impl Filling<'_> {
         shaped: &mut usize,
         first: usize,
         last: usize,
-        near: usize,
+        summed: Summed,
     ) -> Result<LineGlyphs, AatError>
         requires ready { IsReady self.now }
         requires shaper { Shapes self.now shaper.old }
@@ -80,7 +81,7 @@ impl Filling<'_> {
     {
         let start = self.start_of(first);
         let end = self.stops[last].place;
-        if let Some((from, to)) = self.stretch_between(start, end, near) {
+        if let Some((from, to)) = self.stretch_between(start, end, summed) {
             return Ok(LineGlyphs::Stretch(from, to));
         }
         shaper.shape(self.direction, self.part(start, end), self.features)?;
@@ -95,9 +96,10 @@ impl Filling<'_> {
         shaped: &mut usize,
         first: usize,
         last: usize,
-        near: usize,
+        summed: Summed,
     ) -> Result<TriedLine, AatError>
         requires ready { IsReady self.now }
+        requires summed { IsSummed self.now summed }
         requires shaper { Shapes self.now shaper.old }
         requires order { first ≤ last }
         requires in_stops { last < length self.now.stops.now }
@@ -106,9 +108,8 @@ impl Filling<'_> {
         ensures refused { IfErr result
             (RefusesLines self.now.font.now self.now.direction self.now.features.now self.now.text.now) }
     {
-        let glyphs = self.draw(shaper, shaped, first, last, near)?;
-        let drawn = self.glyphs_of(glyphs, shaper.glyphs());
-        let fits = self.has_room(self.stops[last].hang, drawn);
+        let glyphs = self.draw(shaper, shaped, first, last, summed)?;
+        let fits = self.has_room(self.stops[last].hang, glyphs, shaper.glyphs(), summed);
         Ok(TriedLine { last, glyphs, fits })
     }
 
@@ -119,9 +120,10 @@ impl Filling<'_> {
         shaped: &mut usize,
         first: usize,
         guess: usize,
-        near: usize,
+        summed: Summed,
     ) -> Result<usize, AatError>
         requires ready { IsReady self.now }
+        requires summed { IsSummed self.now summed }
         requires shaper { Shapes self.now shaper.old }
         requires order { first ≤ guess }
         requires in_stops { guess < length self.now.stops.now }
@@ -138,7 +140,7 @@ impl Filling<'_> {
             if self.stops[last].is_forced {
                 return Ok(last);
             }
-            if !self.try_line(shaper, shaped, first, last + 1, near)?.fits {
+            if !self.try_line(shaper, shaped, first, last + 1, summed)?.fits {
                 return Ok(last);
             }
         }
@@ -153,9 +155,10 @@ impl Filling<'_> {
         shaped: &mut usize,
         first: usize,
         reached: usize,
-        near: usize,
+        summed: Summed,
     ) -> Result<TriedLine, AatError>
         requires ready { IsReady self.now }
+        requires summed { IsSummed self.now summed }
         requires shaper { Shapes self.now shaper.old }
         requires order { first ≤ reached }
         requires in_stops { reached < length self.now.stops.now }
@@ -169,20 +172,22 @@ impl Filling<'_> {
         ensures refused { IfErr result
             (RefusesLines self.now.font.now self.now.direction self.now.features.now self.now.text.now) }
     {
-        let mut line = self.try_line(shaper, shaped, first, reached, near)?;
+        let mut line = self.try_line(shaper, shaped, first, reached, summed)?;
         while line.last > first && !line.fits {
-            line = self.try_line(shaper, shaped, first, line.last - 1, near)?;
+            line = self.try_line(shaper, shaped, first, line.last - 1, summed)?;
         }
         Ok(line)
     }
 
-    /// The line that takes in the stops from `first` on, whose ends are looked for near a place of what is drawn first.
+    /// The line that takes in the stops from `first` on. Where it begins is looked for near a place of what is drawn
+    /// first, and where it ends by how many more stops than one the line before took in.
     pub(crate) fn line_from<A: Allocator + Copy>(
         &self,
         shaper: &mut Shaper<'_, A>,
         shaped: &mut usize,
         first: usize,
         near: usize,
+        more: usize,
     ) -> Result<TriedLine, AatError>
         requires ready { IsReady self.now }
         requires shaper { Shapes self.now shaper.old }
@@ -196,8 +201,8 @@ impl Filling<'_> {
         ensures refused { IfErr result
             (RefusesLines self.now.font.now self.now.direction self.now.features.now self.now.text.now) }
     {
-        let guess = self.guess(first, near);
-        let reached = self.reach(shaper, shaped, first, guess, near)?;
-        self.settle(shaper, shaped, first, reached, near)
+        let guess = self.guess(first, near, more);
+        let reached = self.reach(shaper, shaped, first, guess.last, guess.next)?;
+        self.settle(shaper, shaped, first, reached, guess.line)
     }
 }

@@ -1,6 +1,6 @@
 use Rattle.aat_kerning.proofs.Walk.{IsWalk}
 use Rattle.aat_kerning.proofs.pair_kerning.kern_pairs.Given as goal
-use Rattle.aat_kerning.specs.inside.Values.{values_of}
+use Rattle.aat_kerning.specs.Values.{values_of}
 
 abbrev pub invariant-loop-place : goal.invariant-loop-place
 invariant-loop-place g l = record {

@@ -3,7 +3,7 @@ use Rattle.aat_run.specs.Budget.{operations_left}
 use Rattle.aat_run.specs.Context.{Config, first_config}
 use Rattle.aat_run.specs.Machine.{Goes, Ends}
 use Rattle.aat_kerning_machines.specs.KerningMachine.{kerning_machine_with, kerning_turn}
-use Rattle.aat_kerning_machines.specs.inside.RunStates.{config}
+use Rattle.aat_kerning_machines.specs.Runs.{config}
 use Rattle.aat_kerning_machines.proofs.Coming.{come_then, few_operations, goes_on, ends, ends_paid}
 use Rattle.aat_kerning_machines.proofs.kerning_run.run_turns.Goals as goal
 
@@ -59,7 +59,7 @@ loop-run_state-smaller g c =
     let mid = config c.next_entry-entry.new.buffer c.loop-run_state.driver c.next_entry-entry.new.run_state in
     let come = come_then (kerning_turn m) d.fits from old mid c.loop-run_state.invariant.come (c.next_entry-entry.ensures.come c.args.pays_first) in
     let new = config c.turn_once.new.buffer c.turn_once.new.driver c.turn_once.new.run_state in
-    let goes : kerning_turn m mid ≡ Goes new = rw c.if-not-turn_once.false at c.turn_once.ensures.turn in
+    let goes : kerning_turn m mid ≡ Goes new = c.turn_once.ensures.goes c.if-not-turn_once.false in
     let on = goes_on m d.fits places keeps laws.passes_fit from mid come new goes in
     omega (arith, on.0, c.next_entry-entry.ensures.less)
 
@@ -79,7 +79,7 @@ loop-run_state-preserved g c =
     let mid = config c.next_entry-entry.new.buffer c.loop-run_state.driver c.next_entry-entry.new.run_state in
     let come = come_then (kerning_turn m) d.fits from old mid c.loop-run_state.invariant.come (c.next_entry-entry.ensures.come c.args.pays_first) in
     let new = config c.turn_once.new.buffer c.turn_once.new.driver c.turn_once.new.run_state in
-    let goes : kerning_turn m mid ≡ Goes new = rw c.if-not-turn_once.false at c.turn_once.ensures.turn in
+    let goes : kerning_turn m mid ≡ Goes new = c.turn_once.ensures.goes c.if-not-turn_once.false in
     let on = goes_on m d.fits places keeps laws.passes_fit from mid come new goes in
     record { come = on.1; ids = c.turn_once.ensures.ids; placed = c.turn_once.ensures.placed }
 
@@ -99,7 +99,7 @@ returns-then-not-turn_once-clause-run g c =
     let mid = config c.next_entry-entry.new.buffer c.loop-run_state.driver c.next_entry-entry.new.run_state in
     let come = come_then (kerning_turn m) d.fits from old mid c.loop-run_state.invariant.come (c.next_entry-entry.ensures.come c.args.pays_first) in
     let new = config c.turn_once.new.buffer c.turn_once.new.driver c.turn_once.new.run_state in
-    let last : kerning_turn m mid ≡ Ends new = rw c.if-not-turn_once.true at c.turn_once.ensures.turn in
+    let last : kerning_turn m mid ≡ Ends new = c.turn_once.ensures.ends c.if-not-turn_once.true in
     let done = ends m d.fits places keeps laws.passes_fit from mid come new last in
     record {
       buffer = ap (λ (x : Config _). x.buffer) done;
@@ -123,6 +123,6 @@ returns-then-not-turn_once-clause-paid g c =
     let mid = config c.next_entry-entry.new.buffer c.loop-run_state.driver c.next_entry-entry.new.run_state in
     let come = come_then (kerning_turn m) d.fits from old mid c.loop-run_state.invariant.come (c.next_entry-entry.ensures.come c.args.pays_first) in
     let new = config c.turn_once.new.buffer c.turn_once.new.driver c.turn_once.new.run_state in
-    let last : kerning_turn m mid ≡ Ends new = rw c.if-not-turn_once.true at c.turn_once.ensures.turn in
+    let last : kerning_turn m mid ≡ Ends new = c.turn_once.ensures.ends c.if-not-turn_once.true in
     let done = ends m d.fits places keeps laws.passes_fit from mid come new last in
     omega (arith, ends_paid m d.fits places keeps laws.passes_fit from new c.requires.fit done)

@@ -4,7 +4,7 @@ use Rattle.aat_run.specs.Context.{first_config}
 use Rattle.aat_run.specs.inside.Standing.{HasCome}
 use Rattle.aat_kerning_machines.specs.KerningMachine.{kerning_machine_with, kerning_turn}
 use Rattle.aat_kerning_machines.specs.Positions.{IsPlaced}
-use Rattle.aat_kerning_machines.specs.inside.RunStates.{config}
+use Rattle.aat_kerning_machines.specs.Runs.{config}
 use Rattle.aat_kerning_machines.proofs.kerning_run.run_turns.Given as goal
 
 abbrev pub invariant-loop-run_state : goal.invariant-loop-run_state

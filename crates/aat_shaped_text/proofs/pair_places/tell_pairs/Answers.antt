@@ -3,7 +3,7 @@ use Rattle.std.proofs.lemmas.List.{length-set}
 use Rattle.aat_cut_kinds.specs.KernedTables.{by_pairs}
 use Rattle.aat_shaped_text.proofs.PairsTold.{told_more}
 use Rattle.aat_shaped_text.proofs.pair_places.tell_pairs.Goals as goal
-use Rattle.aat_shaped_text.specs.inside.PairPlaces.{values_of}
+use Rattle.aat_kerning.specs.Values.{values_of}
 
 pub loop-place-preserved : goal.loop-place-preserved
 loop-place-preserved g c =

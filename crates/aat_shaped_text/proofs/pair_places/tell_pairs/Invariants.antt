@@ -2,7 +2,7 @@ use Rattle.std.proofs.Common.{◌≡◌, ◌<◌, ℕ, false, get_or, length}
 use Rattle.aat_cut_kinds.specs.KernedTables.{by_pairs}
 use Rattle.aat_kerning.specs.Pairs.{left_of}
 use Rattle.aat_shaped_text.proofs.pair_places.tell_pairs.Given as goal
-use Rattle.aat_shaped_text.specs.inside.PairPlaces.{values_of}
+use Rattle.aat_kerning.specs.Values.{values_of}
 
 abbrev pub invariant-loop-place : goal.invariant-loop-place
 invariant-loop-place g l = record {

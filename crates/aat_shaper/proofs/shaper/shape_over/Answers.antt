@@ -4,7 +4,7 @@ use Rattle.std.proofs.lemmas.Result.{err_from_is_err_and}
 use Rattle.std.specs.Option.{option_copied}
 use Rattle.aat_buffer.specs.Buffer.{Buffer}
 use Rattle.aat_buffer.specs.Clusters.{IsRisingLine}
-use Rattle.aat_font.specs.Face.{chains_in, tables_of}
+use Rattle.aat_font.specs.Face.{advance_of, chains_in, tables_of}
 use Rattle.aat_glyph.specs.Directions.{is_backward}
 use Rattle.aat_kerning.specs.Positioning.{in_processing_order}
 use Rattle.aat_glyph.specs.declared.glyph.Direction.{Direction}
@@ -14,6 +14,7 @@ use Rattle.aat_run.specs.Budget.{operations_left}
 use Rattle.aat_shaped_text.specs.KernedPlaces.{TellsOpenPlaces}
 use Rattle.aat_shaped_text.specs.ShapedText.{tracked_line}
 use Rattle.aat_shaped_text.specs.declared.breaks.BreakRules.{BreakRules}
+use Rattle.aat_shaping.specs.Shaping.{with_advances}
 use Rattle.aat_shaper.specs.declared.drawn.Breaks.{Breaks}
 use Rattle.aat_shaper.proofs.DrawnText.{as_long, behind_text, closed_lent, drawn_so, drawn_text_so, few_so, left_so, made_is, small_ordered, substituted_is, tells_is, text_direction, text_merges, used_so}
 use Rattle.aat_shaper.proofs.Ordered.{IsTurnedLine, drawn_glyphs_ordered, drawn_kept, drawn_line}
@@ -33,7 +34,7 @@ returns-clause-ok g c =
     let asked = c.as_slice-features.result.now in
     let made = c.in_ok-buffer.buffer in
     let closes = c.is_rising.result in
-    let left = c.place_with_deleted.new.buffer in
+    let left = c.place.new.buffer in
     let lists = option_copied c.as_ref-lists.result in
     let compiled : switched_by (chains_in (tables_of c.args.face.now).morx) (lists_for (option_copied c.as_ref-lists.result) (chains_in (tables_of c.args.face.now).morx))
     ≡ switched c.args.plan.now.apply_morx (plan_requests c.args.plan.now c.args.face.now) (chains_in (tables_of c.args.face.now).morx) =
@@ -41,7 +42,7 @@ returns-clause-ok g c =
     let wider : c.track_line.new.buffer ≡ tracked_line v left =
     c.in_ok-track_line.ensures.ok ∙ ap (λ n. tracked_line n left) (to_z-of_z w32 v c.ranges.value) in
     let is = left_so v face d features text plan c.requires.planned lists compiled asked made c.as_slice-features.ensures.value c.in_ok-buffer.ensures.ok
-    closes c.places_of.new.buffer left c.in_ok-place_with_deleted.field-0 (c.in_ok-places.ensures.same ∙ c.in_ok-is_told.ensures.left) c.in_ok-place_with_deleted.ensures.placing in
+    closes c.substitute.new.buffer left c.in_ok-is_told.ensures.left c.in_ok-places.ensures.placing in
     let behind = c.substitute.new.buffer in
     let before : behind ≡ behind_text v face d features text closes =
     c.in_ok-is_told.ensures.left ∙ substituted_is v face d features text plan c.requires.planned lists compiled asked made c.as_slice-features.ensures.value c.in_ok-buffer.ensures.ok closes in
@@ -70,9 +71,9 @@ returns-clause-ok g c =
       asked = c.as_slice-features.ensures.value;
       marks = c.kerns_by_pairs-by_marks.ensures;
       way = sym (ap (λ (b : Buffer). b.direction) before) ∙ text_direction v face d features text asked made behind c.in_ok-buffer.ensures.ok c.in_ok-is_told.ensures.settings.direction;
-      opens = λ tells_it apart. subst (λ (b : Buffer). TellsOpenPlaces face rules b told) before (c.in_ok-places.ensures.told tells_it apart);
+      opens = λ tells_it apart. subst (λ (b : Buffer). TellsOpenPlaces face rules (with_advances (advance_of face) b) told) before (c.in_ok-places.ensures.told tells_it apart);
       drawn_is = drawn_text_so v face d features text closes left c.track_line.new.buffer c.turn.new.buffer is wider c.turn.ensures.after;
-      long = c.turn.ensures.count ∙ (ap (λ (b : Buffer). length b.line) wider ∙ (c.in_ok-place_with_deleted.ensures.number ∙ (ap (λ (b : Buffer). length b.line) c.in_ok-places.ensures.same ∙ ap (λ (b : Buffer). length b.line) before)));
+      long = c.turn.ensures.count ∙ (ap (λ (b : Buffer). length b.line) wider ∙ (c.in_ok-places.ensures.number ∙ ap (λ (b : Buffer). length b.line) before));
       chained = λ long.
           closed_lent c.turn.new.buffer told c.deref_mut.result.now c.close_attached.new.places c.deref.result.now c.in_ok-places.places.len
           c.deref_mut.ensures.value c.deref_mut.ensures.len c.deref.ensures.value c.in_ok-attached.ensures.closed long;
@@ -88,16 +89,15 @@ returns-clause-order g c = λ up.
     let text = c.args.text.now in
     let made = c.in_ok-buffer.buffer in
     let behind = c.substitute.new.buffer in
-    let left = c.place_with_deleted.new.buffer in
+    let left = c.place.new.buffer in
     let tracked : Buffer = tracked_line v left in
     let back = is_backward d in
     let built = c.in_ok-buffer.ensures.ok in
     let first : IsRisingLine made.line = rw built (rising_line face features text up) in
     let substituted : IsRisingLine behind.line = c.in_ok-is_told.ensures.order.rising (text_merges v face d features text features made built) first in
-    let placed : IsRisingLine c.places_of.new.buffer.line = rw c.in_ok-places.ensures.same substituted in
-    let shaped : IsRisingLine tracked.line = c.in_ok-place_with_deleted.ensures.order.rising placed in
+    let shaped : IsRisingLine tracked.line = c.in_ok-places.ensures.order.rising substituted in
     let way : tracked.direction ≡ d =
-    text_direction v face d features text features made left built (c.in_ok-place_with_deleted.ensures.settings.direction ∙ (ap (λ (b : Buffer). b.direction) c.in_ok-places.ensures.same ∙ c.in_ok-is_told.ensures.settings.direction)) in
+    text_direction v face d features text features made left built (c.in_ok-places.ensures.settings.direction ∙ c.in_ok-is_told.ensures.settings.direction) in
     let wider : c.track_line.new.buffer ≡ tracked =
     c.in_ok-track_line.ensures.ok ∙ ap (λ n. tracked_line n left) (to_z-of_z w32 v c.ranges.value) in
     let turned : IsTurnedLine back c.turn.new.buffer.line =
@@ -117,13 +117,13 @@ returns-clause-used g c =
     let asked = c.as_slice-features.result.now in
     let made = c.in_ok-buffer.buffer in
     let closes = c.is_rising.result in
-    let left = c.place_with_deleted.new.buffer in
+    let left = c.place.new.buffer in
     let compiled : switched_by (chains_in (tables_of c.args.face.now).morx) (lists_for (option_copied c.as_ref-lists.result) (chains_in (tables_of c.args.face.now).morx))
     ≡ switched c.args.plan.now.apply_morx (plan_requests c.args.plan.now c.args.face.now) (chains_in (tables_of c.args.face.now).morx) =
     rw c.as_ref-lists.ensures.value c.in_ok-map.ensures.ok in
     used_so v face d features text c.closing_draws_alike.ensures closes c.uses_up-is_used_up.result left c.uses_up-is_used_up.ensures
     (left_so v face d features text plan c.requires.planned (option_copied c.as_ref-lists.result) compiled asked made c.as_slice-features.ensures.value c.in_ok-buffer.ensures.ok
-    closes c.places_of.new.buffer left c.in_ok-place_with_deleted.field-0 (c.in_ok-places.ensures.same ∙ c.in_ok-is_told.ensures.left) c.in_ok-place_with_deleted.ensures.placing)
+    closes c.substitute.new.buffer left c.in_ok-is_told.ensures.left c.in_ok-places.ensures.placing)
 
 pub returns-in_err-is_told-clause-refused : goal.returns-in_err-is_told-clause-refused
 returns-in_err-is_told-clause-refused g c =
@@ -151,7 +151,7 @@ returns-in_err-is_told-clause-refused g c =
 pub draw-requires-clause-ids : goal.draw-requires-clause-ids
 draw-requires-clause-ids g c =
     let v = c.args.value in
-    let left = c.place_with_deleted.new.buffer in
+    let left = c.place.new.buffer in
     let wider : c.track_line.new.buffer ≡ tracked_line v left =
     c.in_ok-track_line.ensures.ok ∙ ap (λ n. tracked_line n left) (to_z-of_z w32 v c.ranges.value) in
-    rw c.turn.ensures.after (rw wider (small_ordered (tracked_line v left) c.in_ok-place_with_deleted.ensures.ids))
+    rw c.turn.ensures.after (rw wider (small_ordered (tracked_line v left) c.in_ok-places.ensures.ids))

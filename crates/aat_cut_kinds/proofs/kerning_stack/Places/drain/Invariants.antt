@@ -1,5 +1,5 @@
 use Rattle.std.proofs.Common.{◌≡◌, length}
-use Rattle.aat_cut_kinds.specs.inside.PlainRuns.{least_of}
+use Rattle.aat_cut_kinds.specs.inside.OpenRuns.{least_of}
 use Rattle.aat_cut_kinds.proofs.kerning_stack.Places.drain.Given as goal
 
 abbrev pub invariant-loop-place : goal.invariant-loop-place

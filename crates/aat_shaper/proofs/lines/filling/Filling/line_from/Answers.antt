@@ -4,5 +4,5 @@ use Rattle.aat_shaper.proofs.lines.filling.Filling.line_from.Goals as goal
 pub returns-clause-line : goal.returns-clause-line
 returns-clause-line g c =
     let e = c.settle.ensures in
-    settled_line c.args.self.now c.args.first c.guess-guess.result c.in_ok-reached.reached c.settle.new.shaper.glyphs
+    settled_line c.args.self.now c.args.first c.guess-guess.result.last c.in_ok-reached.reached c.settle.new.shaper.glyphs
     c.settle.result e.tried e.up_to e.full e.fits c.guess-guess.ensures.unforced c.in_ok-reached.ensures.unforced
