@@ -24,9 +24,8 @@ use aat_write_lookup::{append_longs, append_words};
 use aat_write_morx::write_morx;
 use aat_write_sfnt::{
     EnglishName, FontTable, write_cmap, write_font, write_gdef, write_head, write_hhea, write_maxp,
-    write_name,
+    write_name, write_trak,
 };
-use aat_write_trak::write_trak;
 use anyhow::{Context, Result};
 use serde_json::Value;
 use std::alloc::Global;

@@ -6,3 +6,7 @@ mod NamesAgain
 mod RecordPlaces
 mod SettingCounts
 mod TablesAgain
+pub mod TrackDataAgain
+pub mod TrackEntries
+pub mod TrackWords
+pub mod TrakAgain

@@ -11,3 +11,7 @@ pub mod NamedFeatureLaws
 pub mod NamedFeatures
 pub mod Records
 pub mod TableLaws
+pub mod TrakBytes
+pub mod TrakExamples
+pub mod TrakLaws
+pub mod TrakWriteErrors

@@ -4,6 +4,7 @@ ghost use Rattle.aat_write_sfnt.specs.FontLaws.{WrittenTablesAreFound};
 ghost use Rattle.aat_write_sfnt.specs.NameLaws.{WrittenNamesAreFound};
 ghost use Rattle.aat_write_sfnt.specs.NamedFeatureLaws.{WrittenFeaturesAreRead};
 ghost use Rattle.aat_write_sfnt.specs.TableLaws.{WrittenAdvancesAreRead, WrittenClassesAreRead, WrittenCountsAreRead, WrittenHeadersAreRead, WrittenProfilesAreRead};
+ghost use Rattle.aat_write_sfnt.specs.TrakLaws.{WrittenTracksAreRead};
 
 /// The numbers of glyphs, of units of the em and of long metrics are read again.
 pub fn written_headers_are_read()
@@ -40,4 +41,9 @@ pub fn written_characters_are_read()
 /// The features that are written are read again, and each name of theirs and of their settings is found.
 pub fn written_features_are_read()
     ensures { WrittenFeaturesAreRead }
+{}
+
+/// A tracking table that is written is read again as the very same.
+pub fn written_tracks_are_read()
+    ensures { WrittenTracksAreRead }
 {}

@@ -1,5 +1,5 @@
-//! Writers of a font file: its directory, and the tables of characters, metrics, classes, names and named features.
-//! `aat_read_sfnt` reads each of them again, and `aat_read_lookup` the features.
+//! Writers of a font file: its directory, and the tables of characters, metrics, classes, names, named features and
+//! tracks. `aat_read_sfnt` reads each of them again, but `aat_read_lookup` the features, and `aat_read_trak` the tracks.
 //!
 //! ```
 //! let file = write_font(alloc, &[FontTable { tag: MORX, bytes: &morx }])?;
@@ -16,6 +16,9 @@ pub mod laws;
 mod longs;
 mod metrics;
 mod name;
+mod trak;
+#[doc(hidden)]
+pub mod worked;
 
 pub use cmap::{Mapping, write_cmap};
 pub use feat::{NamedFeature, NamedSetting, write_named_feat};
@@ -24,3 +27,5 @@ pub use gdef::write_gdef;
 pub use header::{write_head, write_maxp};
 pub use metrics::{write_hhea, write_hmtx};
 pub use name::{EnglishName, write_name};
+pub use trak::error::TrakWriteError;
+pub use trak::write_trak;

@@ -1,6 +1,6 @@
 //! The places of tracks, sizes and values.
 ghost use Rattle.std.specs.Prelude.{◌≡◌, ◌+◌, ◌*◌, ◌<◌, ◌≤◌, ◌||◌, false, length, nat_lt, option_copied};
-ghost use Rattle.aat_write_trak.specs.TrakBytes.{are_too_many, first_far, offset_of, part_far, part_size, part_too_many, place_of_sizes, place_of_values};
+ghost use Rattle.aat_write_sfnt.specs.TrakBytes.{are_too_many, first_far, offset_of, part_far, part_size, part_too_many, place_of_sizes, place_of_values};
 
 use aat_placement::TrackData;
 use std::alloc::Allocator;

@@ -5,8 +5,8 @@ use Rattle.std.specs.List.{flat_map, range_with_len}
 use Rattle.aat_placement.specs.Tracks.{TrackTable, TrackingTable, track_at}
 use Rattle.aat_placement.specs.declared.track_data.Track.{Track}
 use Rattle.aat_write_lookup.specs.Words.{long, word_bytes}
-use Rattle.aat_write_trak.specs.declared.error.TrakWriteError.{TrakWriteError}
-use Rattle.aat_write_trak.specs.declared.error.TrakWriteError.TheVariants.{TooMany, RowValues, ColumnsTooFar, ColumnValues}
+use Rattle.aat_write_sfnt.specs.declared.trak.error.TrakWriteError.{TrakWriteError}
+use Rattle.aat_write_sfnt.specs.declared.trak.error.TrakWriteError.TheVariants.{TooMany, RowValues, ColumnsTooFar, ColumnValues}
 
 -- a signed number of 32 bits, in two's complement
 abbrev pub fixed_words : ℤ → List ℕ

@@ -1,8 +1,8 @@
 -- Why a tracking table is not written.
 use Rattle.std.specs.Prelude.{◌≡◌, ℕ, List, Result, Ok, Err, IsOk}
 use Rattle.std.specs.declared.vec.Vec.{Vec}
-use Rattle.aat_write_trak.specs.declared.error.TrakWriteError.{TrakWriteError}
-use Rattle.aat_write_trak.specs.declared.error.TrakWriteError.TheVariants.{TooMany, RowValues, ColumnsTooFar, ColumnValues, OutOfMemory}
+use Rattle.aat_write_sfnt.specs.declared.trak.error.TrakWriteError.{TrakWriteError}
+use Rattle.aat_write_sfnt.specs.declared.trak.error.TrakWriteError.TheVariants.{TooMany, RowValues, ColumnsTooFar, ColumnValues, OutOfMemory}
 
 -- the numbers of the errors
 abbrev pub number_of_trak_error : TrakWriteError → ℕ

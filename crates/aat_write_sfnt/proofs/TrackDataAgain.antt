@@ -22,10 +22,10 @@ use Rattle.aat_placement.specs.declared.track_data.Track.{Track}
 use Rattle.aat_read_trak.specs.Trak as reader
 use Rattle.aat_write_lookup.specs.Words.{word_bytes}
 use Rattle.aat_write_lookup.specs.facts.WordPlaces.{AreWords, length_words, long_again, word_at, words_joined}
-use Rattle.aat_write_trak.specs.TrakBytes.{are_too_many, data_words, entries, entry_of, first_far, fixed_words, place_of_sizes, place_of_values, value_word}
-use Rattle.aat_write_trak.specs.TrakLaws.{IsData, IsTrack}
-use Rattle.aat_write_trak.proofs.Appended.{near_each}
-use Rattle.aat_write_trak.proofs.Words.{entry_word, size_word, value_here, words_long}
+use Rattle.aat_write_sfnt.specs.TrakBytes.{are_too_many, data_words, entries, entry_of, first_far, fixed_words, place_of_sizes, place_of_values, value_word}
+use Rattle.aat_write_sfnt.specs.TrakLaws.{IsData, IsTrack}
+use Rattle.aat_write_sfnt.proofs.TrackEntries.{near_each}
+use Rattle.aat_write_sfnt.proofs.TrackWords.{entry_word, size_word, value_here, words_long}
 
 -- a test of two that fails
 pub neither : (a b : Bool) → (a || b) ≡ false → (a ≡ false) × (b ≡ false)

@@ -1,6 +1,6 @@
 //! Why a tracking table is not written.
 ghost use Rattle.std.specs.Prelude.{◌≡◌};
-ghost use Rattle.aat_write_trak.specs.TrakWriteErrors.{number_of_trak_error};
+ghost use Rattle.aat_write_sfnt.specs.TrakWriteErrors.{number_of_trak_error};
 
 use std::alloc::AllocError;
 use thiserror::Error;
@@ -42,7 +42,7 @@ impl TrakWriteError {
 
 impl From<AllocError> for TrakWriteError {
     ghost use Rattle.std.specs.Prelude.{◌≡◌};
-    ghost use Rattle.aat_write_trak.specs.declared.error.TrakWriteError.TheVariants.{OutOfMemory};
+    ghost use Rattle.aat_write_sfnt.specs.declared.trak.error.TrakWriteError.TheVariants.{OutOfMemory};
 
     ghost from_gives = { λ _ e. e ≡ OutOfMemory };
 

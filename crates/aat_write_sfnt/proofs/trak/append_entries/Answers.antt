@@ -1,6 +1,6 @@
 use Rattle.std.proofs.Common.{◌<◌, length, arith}
-use Rattle.aat_write_trak.proofs.Appended.{entry_more, near_each}
-use Rattle.aat_write_trak.proofs.write.append_entries.Goals as goal
+use Rattle.aat_write_sfnt.proofs.TrackEntries.{entry_more, near_each}
+use Rattle.aat_write_sfnt.proofs.trak.append_entries.Goals as goal
 
 pub overflow_cast-place : goal.overflow_cast-place
 overflow_cast-place g c =

@@ -5,7 +5,7 @@ use Rattle.std.proofs.lemmas.List.{get_or-append-add, get_or_append_left, get_or
 use Rattle.std.proofs.lemmas.List.Concat.{get_or-flat_map}
 use Rattle.std.proofs.lemmas.List.FromFn.{get_or-range_with_len, length-range_with_len}
 use Rattle.aat_placement.specs.Tracks.{TrackTable}
-use Rattle.aat_write_trak.specs.TrakBytes.{data_header, data_words, entries, entry_of, fixed_words, value_word}
+use Rattle.aat_write_sfnt.specs.TrakBytes.{data_header, data_words, entries, entry_of, fixed_words, value_word}
 
 -- lists of one length, joined
 module _ {X : Type 0} (f : X → List ℕ) (size : ℕ) (each : (x : X) → length (f x) ≡ size) where

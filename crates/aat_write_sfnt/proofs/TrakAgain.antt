@@ -14,12 +14,12 @@ use Rattle.aat_placement.specs.Tracks.{TrackTable, TrackingTable}
 use Rattle.aat_read_trak.specs.Trak as reader
 use Rattle.aat_write_lookup.specs.Words.{word_bytes}
 use Rattle.aat_write_lookup.specs.facts.WordPlaces.{AreWords, length_words, word_at}
-use Rattle.aat_write_trak.specs.declared.error.TrakWriteError.{TrakWriteError}
-use Rattle.aat_write_trak.specs.declared.error.TrakWriteError.TheVariants.{TooMany, RowValues, ColumnsTooFar, ColumnValues}
-use Rattle.aat_write_trak.specs.TrakBytes.{columns_offset, data_words, offset_of, part_bytes, part_far, part_size, part_too_many, rows_offset, trak_bytes, trak_header}
-use Rattle.aat_write_trak.specs.TrakLaws.{IsPart, WrittenTracksAreRead}
-use Rattle.aat_write_trak.proofs.DataAgain.{counted, data_read, neither, no_fault}
-use Rattle.aat_write_trak.proofs.Words.{words_long}
+use Rattle.aat_write_sfnt.specs.declared.trak.error.TrakWriteError.{TrakWriteError}
+use Rattle.aat_write_sfnt.specs.declared.trak.error.TrakWriteError.TheVariants.{TooMany, RowValues, ColumnsTooFar, ColumnValues}
+use Rattle.aat_write_sfnt.specs.TrakBytes.{columns_offset, data_words, offset_of, part_bytes, part_far, part_size, part_too_many, rows_offset, trak_bytes, trak_header}
+use Rattle.aat_write_sfnt.specs.TrakLaws.{IsPart, WrittenTracksAreRead}
+use Rattle.aat_write_sfnt.proofs.TrackDataAgain.{counted, data_read, neither, no_fault}
+use Rattle.aat_write_sfnt.proofs.TrackWords.{words_long}
 
 -- what holds where a table is written
 written_is :

@@ -2,7 +2,7 @@
 use Rattle.std.specs.Prelude.{◌≡◌, ℕ, List, [], ◌∷◌, ◌++◌, pos, negsuc, Some, None, Ok}
 use Rattle.aat_placement.specs.Tracks.{TrackTable}
 use Rattle.aat_read_trak.specs.TrakExamples as reader
-use Rattle.aat_write_trak.specs.TrakBytes.{first_far, trak_written}
+use Rattle.aat_write_sfnt.specs.TrakBytes.{first_far, trak_written}
 
 -- two tracks with two sizes, those of the reader's example
 abbrev pub example_tracks : TrackTable

@@ -1,4 +1,0 @@
-pub mod Appended
-pub mod DataAgain
-pub mod TrakAgain
-pub mod Words

@@ -1,4 +1,0 @@
-pub mod TrakBytes
-pub mod TrakExamples
-pub mod TrakLaws
-pub mod TrakWriteErrors
