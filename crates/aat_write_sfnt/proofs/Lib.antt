@@ -4,5 +4,6 @@ mod FeaturesAgain
 mod FontAgain
 mod NamesAgain
 mod RecordPlaces
+mod RisingRows
 mod SettingCounts
 mod TablesAgain
