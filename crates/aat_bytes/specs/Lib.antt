@@ -1,3 +1,4 @@
+pub mod Bisection
 pub mod Faults
 pub mod NumberExamples
 pub mod Numbers

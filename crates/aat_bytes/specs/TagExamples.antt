@@ -2,7 +2,7 @@
 use Rattle.std.specs.Prelude.{◌≡◌, ℕ, List, codes, Some}
 use Rattle.aat_bytes.specs.Numbers.{tag_at}
 use Rattle.aat_bytes.specs.declared.tag.Tag.{Tag}
-use Rattle.aat_bytes.specs.declared.tags.TheConstants.{ANKR, CMAP, FEAT, GDEF, GLYF, GPOS, HEAD, HHEA, HMTX, KERN, KERX, LOCA, MAXP, MORX, NAME, SFNT, TRAK, TTCF}
+use Rattle.aat_bytes.specs.declared.tags.TheConstants.{ANKR, CMAP, FEAT, GDEF, GLYF, GPOS, HEAD, HHEA, HMTX, KERN, KERX, LOCA, MAXP, MORX, NAME, SFNT, STAT, TRAK, TTCF}
 
 -- a tag is that of these letters
 abbrev pub Is : List ℕ → Tag → Type 0
@@ -27,4 +27,5 @@ pub record TagExamples : Type 0 where
   pub maxp : Is (codes "maxp") MAXP
   pub morx : Is (codes "morx") MORX
   pub name : Is (codes "name") NAME
+  pub stat : Is (codes "STAT") STAT
   pub trak : Is (codes "trak") TRAK

@@ -23,8 +23,8 @@ pub enum FaultKind {
     /// 4: what is asked for is not listed: a table of a font, a font of a file, or a subtable of `cmap` that is read.
     #[error("is missing")]
     Missing,
-    /// 5: a key is not above the one before it: a unit of a lookup, also one whose last glyph is below its first one, a
-    /// type of `feat`, a character of `cmap`, a range of `GDEF`, a kerning pair, or the last point of a contour.
+    /// 5: a number is not above the one before it that has to be: the last point of a contour. Also where a unit of a
+    /// lookup of format 4 has a last glyph below its first one.
     #[error("has a key that is not above the one before it")]
     NotRising,
 }

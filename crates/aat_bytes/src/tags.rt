@@ -53,5 +53,8 @@ pub const MORX: Tag = Tag(0x6D6F_7278);
 /// Names: the texts of features and settings.
 pub const NAME: Tag = Tag(0x6E61_6D65);
 
+/// Style attributes, of which only is told whether they are there.
+pub const STAT: Tag = Tag(0x5354_4154);
+
 /// Tracking: how much closer or wider letters stand at each size.
 pub const TRAK: Tag = Tag(0x7472_616B);

@@ -1,14 +1,15 @@
 -- What a face weighs that is read.
 use Rattle.std.proofs.Common.{◌≡◌, ◌∙◌, sym, ap, refl, subst, cond, ℕ, zero, suc, ◌+◌, ◌*◌, ◌-◌, ◌/◌, ◌≤◌, Bool, true, false, List, [], ◌∷◌, length, get_or, take, drop, Option, None, Some, Result, Ok, Err, arith}
 use Rattle.std.specs.Prelude.{nat_le, nat_lt, ◌==◌, option_map, unwrap_or}
-use Rattle.std.specs.List.{filter_map}
+use Rattle.std.specs.List.{filter_map, range_with_len}
 use Rattle.std.specs.Option.{option_map_or}
 use Rattle.std.proofs.lemmas.Bool.{ltb-false}
 use Rattle.std.proofs.lemmas.Bool.Decides.{nat_tests}
-use Rattle.std.proofs.lemmas.List.{length-drop, length-take}
-use Rattle.std.proofs.lemmas.List.FromFn.{get_or-map-range_with_len, length-map-range_with_len}
+use Rattle.std.proofs.lemmas.List.{length-drop, length-map, length-take}
+use Rattle.std.proofs.lemmas.List.FromFn.{get_or-map-range_with_len, length-map-range_with_len, length-range_with_len}
+use Rattle.aat_bytes.specs.Bisection.{found_rows, is_found}
 use Rattle.aat_bytes.specs.Faults.{after}
-use Rattle.aat_bytes.specs.Numbers.{be16, be32, slice}
+use Rattle.aat_bytes.specs.Numbers.{be16, be32, slice_from}
 use Rattle.aat_bytes.specs.declared.error.Fault.{Fault}
 use Rattle.aat_bytes.specs.declared.error.FaultKind.{FaultKind}
 use Rattle.aat_bytes.specs.declared.error.FaultKind.TheVariants.{PastEnd, UnknownFormat, ShortLength, Missing, NotRising}
@@ -27,13 +28,14 @@ use Rattle.aat_read_kerx.specs.KerxTables.{KerxValue}
 use Rattle.aat_read_kerx.specs.Weights.{kerx_weight}
 use Rattle.aat_read_kerx.proofs.AnchorRows.{points_bounded}
 use Rattle.aat_read_kerx.proofs.TableBounded.{kerx_bounded}
-use Rattle.aat_read_lookup.specs.Features.{feat_of, feature_count, feature_name, feature_names, rising_names}
+use Rattle.aat_read_lookup.specs.Features.{feat_of, feature_count, feature_name, feature_names, kind_at}
 use Rattle.aat_read_lookup.specs.Sizes.{cells_beside, pairs_size}
+use Rattle.aat_read_lookup.specs.facts.FoundRows.{keeps_few}
 use Rattle.aat_read_morx.specs.Weights.{morx_weight}
 use Rattle.aat_read_morx.proofs.Bounded.{memory_bounded}
 use Rattle.aat_read_sfnt.specs.Metrics.{LongMetrics, advance_of}
 use Rattle.aat_read_sfnt.specs.declared.gdef.GlyphClasses.{GlyphClasses}
-use Rattle.aat_read_sfnt.specs.Directory.{Directory, bytes_of_record, directory_at, directory_of, directory_place, is_font_version, record_of, table_of}
+use Rattle.aat_read_sfnt.specs.Directory.{Directory, cut_table_of, directory_at, directory_of, directory_place, is_font_version, part_of_record, record_of}
 use Rattle.aat_read_trak.specs.Trak.{trak_of}
 use Rattle.aat_read_trak.specs.TrakLaws.{table_size}
 use Rattle.aat_read_trak.proofs.Bounded.{traks_are_bounded}
@@ -143,33 +145,33 @@ some_parts : {X : Type 0} (b : Bool) (x y : X) → cond b (Some x) None ≡ Some
 some_parts true x y is = cc
 some_parts false x y is = absurd (let wrong : ⊥ = cc in wrong)
 
-slice_within : (file : List ℕ) (offset size : ℕ) (bytes : List ℕ) → slice file offset size ≡ Some bytes → length bytes ≤ length file
-unfolding slice
-slice_within file offset size bytes is =
-    let same : take size (drop offset file) ≡ bytes = some_parts (nat_le (offset + size) (length file)) _ bytes is in
-    omega (arith, ap length same, length-take size (drop offset file), length-drop offset file)
+part_within : (o : Option (List ℕ)) (n most : ℕ)
+    → ((rest : List ℕ) → o ≡ Some rest → length rest ≤ most)
+    → (let part : List ℕ = elim o [ None ↦ [] | Some rest ↦ take n rest ] in length part ≤ most)
+part_within None n most each = omega arith
+part_within (Some rest) n most each = omega (arith, each rest refl, length-take n rest)
 
-bytes_parts : (o : Option (List ℕ)) (fault : Fault) (bytes : List ℕ)
-    → (let r : Result (List ℕ) Fault = elim o [ None ↦ Err fault | Some content ↦ Ok content ] in r ≡ Ok bytes)
-    → o ≡ Some bytes
-bytes_parts None fault bytes is = absurd (let wrong : ⊥ = cc in wrong)
-bytes_parts (Some content) fault bytes is = let same : content ≡ bytes = cc in ap Some same
+rest_within : (file : List ℕ) (offset : ℕ) (rest : List ℕ) → slice_from file offset ≡ Some rest → length rest ≤ length file
+unfolding slice_from
+rest_within file offset rest is =
+    let same : drop offset file ≡ rest = some_parts (nat_le (offset + 0) (length file)) _ rest is in
+    omega (arith, ap length same, length-drop offset file)
 
-record_parts : (o : Option ℕ) (of : ℕ → Option (List ℕ)) (missing past : Fault) (bytes : List ℕ)
-    → (let r : Result (List ℕ) Fault = elim o [
-      | None ↦ Err missing
-      | Some i ↦ elim (of i) [ None ↦ Err past | Some content ↦ Ok content ]
-    ] in r ≡ Ok bytes)
-    → (i : ℕ) × (of i ≡ Some bytes)
-record_parts None of missing past bytes is = absurd (let wrong : ⊥ = cc in wrong)
-record_parts (Some i) of missing past bytes is = (i, bytes_parts (of i) past bytes is)
+record_parts : (o : Option ℕ) (of : ℕ → List ℕ) (missing : Fault) (bytes : List ℕ)
+    → (let r : Result (List ℕ) Fault = elim o [ None ↦ Err missing | Some i ↦ Ok (of i) ] in r ≡ Ok bytes)
+    → (i : ℕ) × (of i ≡ bytes)
+record_parts None of missing bytes is = absurd (let wrong : ⊥ = cc in wrong)
+record_parts (Some i) of missing bytes is = let same : of i ≡ bytes = cc in (i, same)
 
 table_within : (directory : Directory) (tag : Tag) (bytes : List ℕ)
-    → table_of directory tag ≡ Ok bytes → length bytes ≤ length directory.file
+    → cut_table_of directory tag ≡ Ok bytes → length bytes ≤ length directory.file
 table_within directory tag bytes is =
-    let here = record_parts (record_of directory tag.0) (bytes_of_record directory) _ _ bytes is in
-    slice_within directory.file (be32 directory.file (directory.place + 12 + 16 * here.0 + 8))
-    (be32 directory.file (directory.place + 12 + 16 * here.0 + 12)) bytes here.1
+    let here = record_parts (record_of directory tag.0) (part_of_record directory) _ bytes is in
+    let offset : ℕ = be32 directory.file (directory.place + 12 + 16 * here.0 + 8) in
+    let size : ℕ = be32 directory.file (directory.place + 12 + 16 * here.0 + 12) in
+    let few : length (part_of_record directory here.0) ≤ length directory.file =
+    part_within (slice_from directory.file offset) size (length directory.file) (rest_within directory.file offset) in
+    omega (arith, few, ap length here.1)
 
 directory_whole : (file : List ℕ) (place : ℕ) (directory : Directory) → directory_at file place ≡ Ok directory → directory.file ≡ file
 unfolding directory_at
@@ -189,19 +191,16 @@ features_counted bytes count is =
     let same : be16 bytes 4 ≡ count = ok_parts _ count records.1 in
     omega (arith, same, ltb-false (length bytes) (12 + 12 * be16 bytes 4) records.0)
 
-rising_parts : (o : Option ℕ) (names read : List FeatureName) (fault : ℕ → Fault)
-    → (let r : Result (List FeatureName) Fault = elim o [ None ↦ Ok names | Some i ↦ Err (fault i) ] in r ≡ Ok read)
-    → names ≡ read
-rising_parts None names read fault is = cc
-rising_parts (Some i) names read fault is = absurd (let wrong : ⊥ = cc in wrong)
-
 features_light : (bytes : List ℕ) (names : List FeatureName) → feat_of bytes ≡ Ok names → 12 + 12 * length names ≤ length bytes
 features_light bytes names is =
-    let read = parts (feature_count bytes) (λ count. rising_names (feature_names bytes count)) names is in
+    let read = parts (feature_count bytes) (λ count. Ok (feature_names bytes count)) names is in
     let count = read.0 in
-    let same = rising_parts (first_fall kind_of (feature_names bytes count)) (feature_names bytes count) names _ read.2 in
-    let long : length (feature_names bytes count) ≡ count = length-map-range_with_len (feature_name bytes) 0 count in
-    omega (arith, ap length same, long, features_counted bytes count read.1)
+    let same = ok_parts (feature_names bytes count) names read.2 in
+    let found : List ℕ = found_rows (kind_at bytes) count in
+    let long : length (feature_names bytes count) ≡ length found = length-map found (feature_name bytes) in
+    let few : length found ≤ length (range_with_len 0 count) = keeps_few (is_found (kind_at bytes) count) (range_with_len 0 count) in
+    let all : length (range_with_len 0 count) ≡ count = length-range_with_len 0 count in
+    omega (arith, ap length same, long, few, all, features_counted bytes count read.1)
 
 -- what is read of a table weighs so much, whatever a font keeps of it
 mapped_weight : {X Y : Type 0} (f : X → Y) (weight : ℕ) (o : Option X)
@@ -224,22 +223,22 @@ module _ (file : List ℕ) (index : ℕ) (directory : Directory) (is : directory
       let place = parts (directory_place file index) (directory_at file) directory is in
       directory_whole file place.0 directory place.2
 
-  within : (tag : Tag) (bytes : List ℕ) → table_of directory tag ≡ Ok bytes → length bytes ≤ length file
+  within : (tag : Tag) (bytes : List ℕ) → cut_table_of directory tag ≡ Ok bytes → length bytes ≤ length file
   within tag bytes here = omega (arith, table_within directory tag bytes here, ap length whole)
 
-  bytes_are : (tag : Tag) (bytes : List ℕ) → table_of directory tag ≡ Ok bytes → bytes_of_table file index tag ≡ bytes
+  bytes_are : (tag : Tag) (bytes : List ℕ) → cut_table_of directory tag ≡ Ok bytes → bytes_of_table file index tag ≡ bytes
   bytes_are tag bytes here =
       let of : Result (List ℕ) Fault → List ℕ = λ r. elim r [ Ok content ↦ content | Err fault ↦ [] ] in
-      ap (λ (d : Result Directory Fault). of (after d (λ found. table_of found tag))) is ∙ ap of here
+      ap (λ (d : Result Directory Fault). of (after d (λ found. cut_table_of found tag))) is ∙ ap of here
 
-  none_is : (tag : Tag) (fault : Fault) → table_of directory tag ≡ Err fault → bytes_of_table file index tag ≡ []
+  none_is : (tag : Tag) (fault : Fault) → cut_table_of directory tag ≡ Err fault → bytes_of_table file index tag ≡ []
   none_is tag fault here =
       let of : Result (List ℕ) Fault → List ℕ = λ r. elim r [ Ok content ↦ content | Err fault ↦ [] ] in
-      ap (λ (d : Result Directory Fault). of (after d (λ found. table_of found tag))) is ∙ ap of here
+      ap (λ (d : Result Directory Fault). of (after d (λ found. cut_table_of found tag))) is ∙ ap of here
 
   features_fit : 12 * option_map_or length (option_map (λ (t : FeatureTable). t.names) (found_in (features_in directory))) 0 ≤ length file
   features_fit = few_names (found_in (features_in directory)) (λ table found.
-      let there = found_parts (table_of directory FEAT) feature_table_of table found in
+      let there = found_parts (cut_table_of directory FEAT) feature_table_of table found in
       let read = parts (feat_of there.0) _ table there.2 in
       let names = ap (λ (t : FeatureTable). t.names) (ok_parts _ table read.2) in
       let few = features_light there.0 read.0 read.1 in
@@ -264,14 +263,14 @@ module _ (file : List ℕ) (index : ℕ) (directory : Directory) (is : directory
   table_light tag read weight each light =
       found_light (weight (bytes_of_table file index tag)) (each * length (bytes_of_table file index tag))
       (found_in (table_in directory tag read)) (λ x found.
-      let there = found_parts (table_of directory tag) read x found in
+      let there = found_parts (cut_table_of directory tag) read x found in
       subst (λ (bytes : List ℕ). weight bytes x ≤ each * length bytes) (sym (bytes_are tag there.0 there.1))
       (light there.0 x there.2))
 
   -- a table has no more bytes than the file
   table_fits : (tag : Tag) → length (bytes_of_table file index tag) ≤ length file
-  table_fits tag = fits (table_of directory tag) refl where
-    fits : (r : Result (List ℕ) Fault) → table_of directory tag ≡ r
+  table_fits tag = fits (cut_table_of directory tag) refl where
+    fits : (r : Result (List ℕ) Fault) → cut_table_of directory tag ≡ r
         → length (bytes_of_table file index tag) ≤ length file
     fits (Ok bytes) here = omega (arith, ap length (bytes_are tag bytes here), within tag bytes here)
     fits (Err fault) here = omega (arith, ap length (none_is tag fault here))

@@ -20,9 +20,9 @@ use Rattle.aat_placement.specs.Tracks.{TrackingTable}
 use Rattle.aat_face.specs.Chains.{chains_in}
 use Rattle.aat_face.specs.English.{Text, english_text}
 use Rattle.aat_face.specs.Features.{feature_bytes, feature_tables, features_in}
-use Rattle.aat_face.specs.Kerning.{ankr_in, has_gpos_in, kern_in, kerx_in, left_out_of, left_out_of_kern}
+use Rattle.aat_face.specs.Kerning.{ankr_in, has_gpos_in, has_stat_in, kern_in, kerx_in, left_out_of, left_out_of_kern}
 use Rattle.aat_face.specs.Lists.{advance_pairs, property_pairs}
-use Rattle.aat_face.specs.Tables.{characters_in, classes_in, fault_in, found_in, glyph_count_in, long_metric_count_in, metrics_in, names_in, number_in, units_per_em_in}
+use Rattle.aat_face.specs.Tables.{characters_in, classes_fault, classes_in, fault_in, found_in, glyph_count_in, long_metric_count_in, metrics_in, names_in, number_in, units_per_em_in}
 use Rattle.aat_face.specs.Tracking.{trak_in}
 use Rattle.aat_face.specs.declared.tables.Tables.{Tables}
 
@@ -44,13 +44,14 @@ tables_in file = record {
   ankr = ankr_in file (number_in (glyph_count_in file));
   trak = trak_in file;
   has_gpos = has_gpos_in file;
+  has_stat = has_stat_in file;
 }
 
 -- the faults of tables in their order
 abbrev pub faults_of : Tables → List Fault
 faults_of tables = filter_map (λ fault. fault)
     (fault_in tables.maxp ∷ fault_in tables.head ∷ fault_in tables.hhea ∷ fault_in tables.hmtx
-    ∷ fault_in tables.cmap ∷ fault_in tables.gdef ∷ fault_in tables.name ∷ fault_in tables.feat
+    ∷ fault_in tables.cmap ∷ classes_fault tables.gdef ∷ fault_in tables.name ∷ fault_in tables.feat
     ∷ fault_in tables.morx ∷ fault_in tables.kerx ∷ fault_in tables.kern ∷ fault_in tables.ankr
     ∷ fault_in tables.trak ∷ [])
 
@@ -86,6 +87,7 @@ pub record FaceValue : Type 0 where
   pub font : FontValue
   pub tracking : Option TrackingTable
   pub has_gpos : Bool
+  pub has_stat : Bool
   pub faults : List Fault
   pub left_out : List LeftOutSubtable
   pub left_out_of_kern : List LeftOutSubtable
@@ -121,6 +123,7 @@ face_of_tables tables = record {
   font = font_of tables;
   tracking = found_in tables.trak;
   has_gpos = tables.has_gpos;
+  has_stat = tables.has_stat;
   faults = faults_of tables;
   left_out = left_out_of tables.kerx;
   left_out_of_kern = left_out_of_kern tables.kern;

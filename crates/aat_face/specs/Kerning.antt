@@ -3,7 +3,7 @@
 use Rattle.std.specs.Prelude.{ℕ, List, [], Option, Bool, Result, is_ok}
 use Rattle.std.specs.Option.{option_map_or}
 use Rattle.aat_bytes.specs.declared.error.Fault.{Fault}
-use Rattle.aat_bytes.specs.declared.tags.TheConstants.{ANKR, GPOS, KERN, KERX}
+use Rattle.aat_bytes.specs.declared.tags.TheConstants.{ANKR, GPOS, KERN, KERX, STAT}
 use Rattle.aat_kerning_tables.specs.AnchorPoints.{Points}
 use Rattle.aat_read_kern.specs.Kern.{KernValue, kern_of}
 use Rattle.aat_read_kerx.specs.Anchors.{ankr_of}
@@ -31,6 +31,10 @@ kern_in file = table_in file KERN kern_of
 -- the anchor points of a file whose font has so many glyphs
 abbrev pub ankr_in : Directory → ℕ → Result (Option Points) Fault
 ankr_in file glyph_count = table_in file ANKR (ankr_values_of glyph_count)
+
+-- whether a file has the table `STAT`
+abbrev pub has_stat_in : Directory → Bool
+has_stat_in file = is_ok (table_of file STAT)
 
 -- whether a file has the table `GPOS`
 abbrev pub has_gpos_in : Directory → Bool

@@ -7,8 +7,8 @@ use Rattle.aat_bytes.specs.declared.error.FaultKind.TheVariants.{PastEnd, Unknow
 use Rattle.aat_bytes.specs.declared.tag.Tag.{Tag}
 use Rattle.aat_bytes.specs.declared.tags.TheConstants.{CMAP, GDEF, HEAD, HHEA, HMTX, MAXP, NAME}
 use Rattle.aat_read_sfnt.specs.Characters.{cmap_of}
-use Rattle.aat_read_sfnt.specs.Directory.{Directory, table_of}
-use Rattle.aat_read_sfnt.specs.GlyphClasses.{glyph_classes_of}
+use Rattle.aat_read_sfnt.specs.Directory.{Directory, cut_table_of}
+use Rattle.aat_read_sfnt.specs.GlyphClasses.{class_fault, glyph_classes_of}
 use Rattle.aat_read_sfnt.specs.Header.{glyph_count, units_per_em}
 use Rattle.aat_read_sfnt.specs.Metrics.{LongMetrics, long_metric_count, metrics_of}
 use Rattle.aat_read_sfnt.specs.Names.{names_of}
@@ -33,9 +33,9 @@ abbrev pub read_if_found : {X : Type 0} → (List ℕ → Result X Fault) → Op
 read_if_found read None = Ok None
 read_if_found read (Some bytes) = after (read bytes) (λ x. Ok (Some x))
 
--- what is read of a table of a font file
+-- what is read of a table of a font file, which is cut at the end of the file
 abbrev pub table_in : {X : Type 0} → Directory → Tag → (List ℕ → Result X Fault) → Result (Option X) Fault
-table_in file tag read = after (unless_missing (table_of file tag)) (read_if_found read)
+table_in file tag read = after (unless_missing (cut_table_of file tag)) (read_if_found read)
 
 -- the number of glyphs
 abbrev pub glyph_count_in : Directory → Result (Option ℕ) Fault
@@ -53,6 +53,12 @@ long_metric_count_in file = table_in file HHEA long_metric_count
 abbrev pub metrics_in : Directory → ℕ → ℕ → Result (Option LongMetrics) Fault
 metrics_in file long_metric_count glyph_count =
     table_in file HMTX (λ bytes. Ok (metrics_of bytes long_metric_count glyph_count))
+
+-- the fault of classes, also of some by which no glyph has a class
+abbrev pub classes_fault : Result (Option GlyphClasses) Fault → Option Fault
+classes_fault (Ok None) = None
+classes_fault (Ok (Some classes)) = class_fault classes
+classes_fault (Err fault) = Some fault
 
 -- the character map
 abbrev pub characters_in : Directory → Result (Option CharacterMap) Fault

@@ -16,15 +16,15 @@ use Rattle.aat_read_kerx.specs.Weights.{kerx_weight}
 use Rattle.aat_read_lookup.specs.Sizes.{pairs_size}
 use Rattle.aat_read_morx.specs.Chains.{ChainValue}
 use Rattle.aat_read_morx.specs.Weights.{morx_weight}
-use Rattle.aat_read_sfnt.specs.Directory.{directory_of, table_of}
+use Rattle.aat_read_sfnt.specs.Directory.{cut_table_of, directory_of}
 use Rattle.aat_placement.specs.Tracks.{TrackingTable}
 use Rattle.aat_read_trak.specs.TrakLaws.{table_size}
 use Rattle.aat_face.specs.Faces.{FaceValue}
 use Rattle.aat_face.specs.declared.weights.TheConstants.{FACE_SIZE, FAULT_SIZE, FEATURE_NAME_SIZE}
 
--- the bytes of a table of the font at an index of a file, none where they cannot be had
+-- the bytes of a table of the font at an index of a file, as far as the file has them
 abbrev pub bytes_of_table : List ℕ → ℕ → Tag → List ℕ
-bytes_of_table file index tag = elim (after (directory_of file index) (λ directory. table_of directory tag)) [
+bytes_of_table file index tag = elim (after (directory_of file index) (λ directory. cut_table_of directory tag)) [
   | Ok bytes ↦ bytes
   | Err fault ↦ []
 ]

@@ -7,11 +7,11 @@ ghost use Rattle.aat_face.specs.Faces.{advances_in, face_of, face_of_tables, fau
 use crate::chains::{chains_in, layer_tables};
 use crate::features::{feature_bytes, features_in};
 use crate::kerning::{
-    ankr_in, has_gpos_in, kern_in, kern_parts, kerx_in, kerx_parts, with_kerning,
+    ankr_in, has_gpos_in, has_stat_in, kern_in, kern_parts, kerx_in, kerx_parts, with_kerning,
 };
 use crate::lists::{advance_lookup, property_lookup};
 use crate::tables::{
-    Tables, characters_in, classes_in, fault_in, found_in, glyph_count_in, long_metric_count_in,
+    Tables, characters_in, classes_fault, classes_in, fault_in, found_in, glyph_count_in, long_metric_count_in,
     metrics_in, names_in, number_in, units_per_em_in,
 };
 use crate::text::{NameText, english_text};
@@ -39,6 +39,7 @@ pub struct Face<'a> {
     font: hb_font_t,
     tracking: Option<Tracking>,
     has_gpos: bool,
+    has_stat: bool,
     faults: Vec<Fault>,
     left_out: Vec<LeftOutSubtable>,
     left_out_of_kern: Vec<LeftOutSubtable>,
@@ -59,6 +60,7 @@ impl<'a> Model for Face<'a> {
       font = font_value m.font;
       tracking = m.tracking;
       has_gpos = m.has_gpos;
+      has_stat = m.has_stat;
       faults = m.faults.items;
       left_out = m.left_out.items;
       left_out_of_kern = m.left_out_of_kern.items;
@@ -93,6 +95,7 @@ fn tables_in<'a>(alloc: Global, file: &FontFile<'a>) -> Result<Tables<'a>, Alloc
         ankr,
         trak,
         has_gpos: has_gpos_in(file),
+        has_stat: has_stat_in(file),
     })
 }
 
@@ -106,7 +109,7 @@ fn faults_of(alloc: Global, tables: &Tables<'_>) -> Result<Vec<Fault>, AllocErro
         fault_in(&tables.hhea),
         fault_in(&tables.hmtx),
         fault_in(&tables.cmap),
-        fault_in(&tables.gdef),
+        classes_fault(&tables.gdef),
         fault_in(&tables.name),
         fault_in(&tables.feat),
         fault_in(&tables.morx),
@@ -175,6 +178,7 @@ impl<'a> Face<'a> {
             ),
             tracking: found_in(tables.trak),
             has_gpos: tables.has_gpos,
+            has_stat: tables.has_stat,
             faults,
             left_out,
             left_out_of_kern,
@@ -183,12 +187,14 @@ impl<'a> Face<'a> {
 
     /// The font at an index of a file. A file that is no collection has one font, at index 0.
     ///
-    /// A table that has a fault is not read, and the face lists its first fault; the other tables stand. A table that
-    /// is missing is no fault: without `maxp` the font has no glyphs, without `head` 1,000 units of the em, without
-    /// `hmtx` no advances, without `hhea` advances of 0, without `cmap` no characters, without `GDEF` no properties,
-    /// without `feat` or `name` no names of features, without `morx` no chains, without `kerx`, `kern` or `ankr` no such
-    /// tables, and without `trak` no tracking. `morx`, `kerx` and `ankr` are read as those of a font of so many glyphs
-    /// as `maxp` has, and the subtables of `morx` reach as far as `read_morx` says.
+    /// A table that reaches past the end of the file is cut there, as in HarfBuzz. A table that has a fault is not
+    /// read, and the face lists its first fault; the other tables stand. But `GDEF` is read where its classes are of
+    /// another format, or those of marks are cut short: no glyph has a class by these, and the face lists the fault. A
+    /// table that is missing is no fault: without `maxp` the font has no glyphs, without `head` 1,000 units of the em,
+    /// without `hmtx` no advances, without `hhea` advances of 0, without `cmap` no characters, without `GDEF` no
+    /// properties, without `feat` or `name` no names of features, without `morx` no chains, without `kerx`, `kern` or
+    /// `ankr` no such tables, and without `trak` no tracking. `morx`, `kerx` and `ankr` are read as those of a font of
+    /// so many glyphs as `maxp` has, and the subtables of `morx` reach as far as `read_morx` says.
     ///
     /// Refused as the fault of the directory that `FontFile::read` tells, and as `OutOfMemory` only where the
     /// directory has no fault; `OutOfMemory` says nothing of the faults of tables.
@@ -291,6 +297,13 @@ impl<'a> Face<'a> {
         ensures { result ≡ self.now.has_gpos }
     {
         self.has_gpos
+    }
+
+    /// Whether the file has the whole table `STAT`. HarfBuzz's tracking is for a font that has `STAT`.
+    pub fn has_stat(&self) -> bool
+        ensures { result ≡ self.now.has_stat }
+    {
+        self.has_stat
     }
 
     /// The faults of tables, at most one of each, in the order `maxp`, `head`, `hhea`, `hmtx`, `cmap`, `GDEF`, `name`,

@@ -1,11 +1,11 @@
 //! The tables of kerning: `kerx`, `kern` and `ankr`.
 ghost use Rattle.std.specs.Prelude.{◌≡◌, Some, IfOk, option_map};
 ghost use Rattle.aat_read_kern.specs.Kern.{kern_of};
-ghost use Rattle.aat_face.specs.Kerning.{ankr_in, ankr_values_of, has_gpos_in, kern_in, kerx_in, kerx_values_of, left_out_of, left_out_of_kern};
+ghost use Rattle.aat_face.specs.Kerning.{ankr_in, ankr_values_of, has_gpos_in, has_stat_in, kern_in, kerx_in, kerx_values_of, left_out_of, left_out_of_kern};
 ghost use Rattle.aat_face.specs.Tables.{found_in, read_if_found};
 
 use crate::tables::{found_in, optional_table};
-use aat_bytes::tags::GPOS;
+use aat_bytes::tags::{GPOS, STAT};
 use aat_bytes::{Fault, ReadError};
 use aat_font::FaceTables;
 use aat_kerning_tables::{Ankr, Kern, Kerx};
@@ -98,6 +98,13 @@ pub fn ankr_in(
         Ok(None) => Ok(Ok(None)),
         Err(fault) => Ok(Err(fault)),
     }
+}
+
+/// Whether the file has the table `STAT`.
+pub fn has_stat_in(file: &FontFile<'_>) -> bool
+    ensures { result ≡ has_stat_in file.now }
+{
+    file.table(STAT).is_ok()
 }
 
 /// Whether the file has the table `GPOS`.

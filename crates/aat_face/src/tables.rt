@@ -1,7 +1,7 @@
 //! What is read of each table of a font file. A table that the directory does not name is missing, which is no fault.
 ghost use Rattle.std.specs.Prelude.{◌≡◌, MatchResult, option_copied};
-ghost use Rattle.aat_read_sfnt.specs.Directory.{table_of};
-ghost use Rattle.aat_face.specs.Tables.{characters_in, classes_in, fault_in, found_in, glyph_count_in, long_metric_count_in, metrics_in, names_in, number_in, unless_missing, units_per_em_in};
+ghost use Rattle.aat_read_sfnt.specs.Directory.{cut_table_of};
+ghost use Rattle.aat_face.specs.Tables.{characters_in, classes_fault, classes_in, fault_in, found_in, glyph_count_in, long_metric_count_in, metrics_in, names_in, number_in, unless_missing, units_per_em_in};
 
 use crate::chains::Chains;
 use crate::features::Features;
@@ -13,12 +13,12 @@ use aat_read_kerx::KerxRead;
 use aat_read_sfnt::tags::{CMAP, GDEF, HEAD, HHEA, HMTX, MAXP, NAME};
 use aat_read_sfnt::{CharacterMap, FontFile, GlyphClasses, Metrics, Names};
 
-/// The bytes of a table, or nothing where the table is missing.
+/// The bytes of a table as far as the file has them, or nothing where the table is missing.
 pub fn optional_table<'a>(file: &FontFile<'a>, tag: Tag) -> Result<Option<&'a [u8]>, Fault>
-    ensures { let table = unless_missing (table_of file.now tag) in
+    ensures { let table = unless_missing (cut_table_of file.now tag) in
         MatchResult result (λ t. table ≡ Ok (option_copied t)) (λ fault. table ≡ Err fault) }
 {
-    match file.table(tag) {
+    match file.cut_table(tag) {
         Ok(bytes) => Ok(Some(bytes)),
         Err(fault) => match fault.kind {
             FaultKind::Missing => Ok(None),
@@ -91,6 +91,17 @@ pub fn classes_in<'a>(file: &FontFile<'a>) -> Result<Option<GlyphClasses<'a>>, F
     }
 }
 
+/// The fault of classes, also of some by which no glyph has a class.
+pub fn classes_fault(classes: &Result<Option<GlyphClasses<'_>>, Fault>) -> Option<Fault>
+    ensures { result ≡ classes_fault classes.now }
+{
+    match classes {
+        Ok(Some(classes)) => classes.fault(),
+        Ok(None) => None,
+        Err(fault) => Some(*fault),
+    }
+}
+
 /// The names of the table `name`.
 pub fn names_in<'a>(file: &FontFile<'a>) -> Result<Option<Names<'a>>, Fault>
     ensures { result ≡ names_in file.now }
@@ -148,4 +159,6 @@ pub struct Tables<'a> {
     pub ankr: Result<Option<Ankr>, Fault>,
     pub trak: Result<Option<Tracking>, Fault>,
     pub has_gpos: bool,
+    /// Whether the file has the table `STAT`.
+    pub has_stat: bool,
 }

@@ -13,14 +13,13 @@ use Rattle.aat_bytes.specs.declared.error.FaultKind.TheVariants.{UnknownFormat}
 use Rattle.aat_bytes.specs.declared.tag.Tag.{Tag}
 use Rattle.aat_bytes.specs.facts.Parts.{ok_parts, parts, passes}
 use Rattle.aat_bytes.specs.facts.Ranges.{sum_more}
-use Rattle.aat_read_lookup.specs.Layouts.{are_crowded, array_of, checked_units, glyphs_of, is_terminator, layout_at, record_size, searched_at, segment_of, sized_array_at, trimmed_array_at, unit_place, units_at, units_fault, unless_fault, without_terminator}
-use Rattle.aat_read_lookup.specs.Segments.{numbers_size, values_end, values_size}
+use Rattle.aat_read_lookup.specs.Layouts.{are_crowded, array_of, checked_units, named_glyphs, is_terminator, layout_at, record_size, searched_at, unit_at, sized_array_at, trimmed_array_at, unit_place, units_at, units_fault, unless_fault, without_terminator}
+use Rattle.aat_read_lookup.specs.Segments.{values_end, values_size}
 use Rattle.aat_read_lookup.specs.Sizes.{bytes_of, lookup_bytes_at, lookup_size_at}
 use Rattle.aat_read_lookup.specs.declared.layout.Layout.{Layout}
 use Rattle.aat_read_lookup.specs.declared.layout.Layout.TheVariants.{Array, Searched}
 use Rattle.aat_read_lookup.specs.declared.segment.Segment.{Segment}
 use Rattle.aat_read_lookup.specs.declared.segment.Values.{Values}
-use Rattle.aat_read_lookup.specs.declared.segment.ValueKind.{ValueKind}
 use Rattle.aat_read_lookup.specs.declared.segment.ValueKind.TheVariants.{Word, Long}
 use Rattle.aat_read_lookup.specs.declared.segment.Values.TheVariants.{Shared, Each, Bytes}
 use Rattle.aat_read_lookup.specs.declared.units.UnitKind.{UnitKind}
@@ -170,28 +169,28 @@ module _ (table : Tag) (bytes : List ℕ) where
     units c = record { kind = SegmentArray; values = Word; start = place; size = size; count = c }
 
     unit_bytes : (i : ℕ) → i < count
-        → 6 + 2 * (segment_of bytes (units count) i).count ≡ unit_extent bytes (place + 12 + size * i)
+        → 6 + 2 * (unit_at bytes (units count) i).count ≡ unit_extent bytes (place + 12 + size * i)
     unit_bytes i below =
         let at = place + 12 + size * i in
         let more : size * (i + 1) ≤ size * count = mul-le-mul_left size (omega arith) in
         let step : size * (i + 1) ≡ size * i + size = omega arith in
         let last = number_is bytes at (omega (arith, more, step)) in
         let first = number_is bytes (at + 2) (omega (arith, more, step)) in
-        let glyphs : (segment_of bytes (units count) i).count ≡ be16 bytes at + 1 - be16 bytes (at + 2) = refl in
+        let glyphs : (unit_at bytes (units count) i).count ≡ be16 bytes at + 1 - be16 bytes (at + 2) = refl in
         omega (arith, glyphs, last, first)
 
     units_bytes : (c : ℕ) → c ≤ count
-        → 6 * c + 2 * glyphs_of bytes (units c)
+        → 6 * c + 2 * named_glyphs bytes (units c)
         ≡ sum_by (λ i. unit_extent bytes (place + 12 + size * i)) (range_with_len 0 c)
     units_bytes zero few = omega arith
     units_bytes (suc c) few =
         let same : c + 1 ≡ suc c = omega arith in
         let before = units_bytes c (omega arith) in
         let here = unit_bytes c (omega arith) in
-        let glyphs : glyphs_of bytes (units (c + 1)) ≡ glyphs_of bytes (units c) + (segment_of bytes (units count) c).count =
-        sum_by-map-range_with_len_more (λ (s : Segment). s.count) (segment_of bytes (units count)) 0 c c (omega arith) in
+        let glyphs : named_glyphs bytes (units (c + 1)) ≡ named_glyphs bytes (units c) + (unit_at bytes (units count) c).count =
+        sum_by-map-range_with_len_more (λ (s : Segment). s.count) (unit_at bytes (units count)) 0 c c (omega arith) in
         let extents = sum_more (λ i. unit_extent bytes (place + 12 + size * i)) c in
-        subst (λ (n : ℕ). 6 * n + 2 * glyphs_of bytes (units n)
+        subst (λ (n : ℕ). 6 * n + 2 * named_glyphs bytes (units n)
         ≡ sum_by (λ i. unit_extent bytes (place + 12 + size * i)) (range_with_len 0 n)) same
         (omega (arith, before, here, glyphs, extents))
 
@@ -210,7 +209,7 @@ module _ (table : Tag) (bytes : List ℕ) where
         (omega (arith, before, extents))
 
     array_units : (c : ℕ) → c ≤ count
-        → 6 * c + 2 * glyphs_of bytes (units c)
+        → 6 * c + 2 * named_glyphs bytes (units c)
         ≤ sum_by (λ i. unit_extent bytes (place + 12 + size * i)) (range_with_len 0 count)
     array_units c few =
         let all : c + (count - c) ≡ count = omega arith in

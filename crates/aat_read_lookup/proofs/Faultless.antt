@@ -5,9 +5,10 @@ use Rattle.std.proofs.lemmas.Bool.{cases_eq}
 use Rattle.std.proofs.lemmas.Grind.{common_steps}
 use Rattle.aat_bytes.specs.declared.error.Fault.{Fault}
 use Rattle.aat_bytes.specs.declared.tag.Tag.{Tag}
-use Rattle.aat_read_lookup.specs.Layouts.{first_fault, segment_fault}
+use Rattle.aat_read_lookup.specs.Layouts.{first_fault, unit_fault_at}
 use Rattle.aat_read_lookup.specs.Segments.{values_end}
 use Rattle.aat_read_lookup.specs.declared.segment.Segment.{Segment}
+use Rattle.aat_read_lookup.specs.declared.units.UnitKind.{UnitKind}
 
 module _ (f : ℕ → Option Fault) (i n : ℕ) (result : Option Fault) where
   -- the faults from a unit on begin with that of the unit
@@ -63,23 +64,9 @@ none_each f a (suc n) none k low high =
       | inr other ↦ none_each f (a + 1) n (tail_none (f a) rest none) k (omega arith) (omega arith)
     ]
 
--- the values of a segment without a fault stand inside
+-- the values of a unit without a fault stand inside
 pub values_inside :
-    (table : Tag) (bytes : List ℕ) (place lowest : ℕ) (segment : Segment)
-    → segment_fault table bytes place lowest segment ≡ None
-    → values_end segment ≤ length bytes
-values_inside table bytes place lowest segment none = grind (arith, common_steps)
-
--- a segment without a fault has a glyph
-pub glyphs_some :
-    (table : Tag) (bytes : List ℕ) (place lowest : ℕ) (segment : Segment)
-    → segment_fault table bytes place lowest segment ≡ None
-    → 0 < segment.count
-glyphs_some table bytes place lowest segment none = grind (arith, common_steps)
-
--- a segment without a fault begins behind the one before
-pub begins_behind :
-    (table : Tag) (bytes : List ℕ) (place lowest : ℕ) (segment : Segment)
-    → segment_fault table bytes place lowest segment ≡ None
-    → lowest ≤ segment.first
-begins_behind table bytes place lowest segment none = grind (arith, common_steps)
+    (table : Tag) (bytes : List ℕ) (kind : UnitKind) (place : ℕ) (unit : Segment)
+    → unit_fault_at table bytes kind place unit ≡ None
+    → values_end unit ≤ length bytes
+values_inside table bytes kind place unit none = grind (arith, common_steps)

@@ -1,6 +1,7 @@
 pub mod Appended
 pub mod Extents
 pub mod Faultless
+pub mod FoundUnits
 pub mod KeptCounts
 pub mod KeptPairs
 pub mod LayoutsRise

@@ -1,5 +1,5 @@
 -- What is known of a layout that is read, whatever the bytes say.
-use Rattle.std.proofs.Common.{sym, ◌≡◌, ℕ, ◌+◌, ◌-◌, ◌*◌, ◌≤◌, inl, inr, List, length, Option, Some, None, Result, Ok, Err, Bool, true, false, cond, refl, ap, subst, arith}
+use Rattle.std.proofs.Common.{◌≡◌, ℕ, ◌+◌, ◌-◌, ◌*◌, ◌≤◌, inl, inr, List, length, Option, Some, None, Result, Ok, Err, Bool, true, false, cond, refl, ap, subst, arith}
 use Rattle.std.specs.Prelude.{nat_lt, nat_eq, min, ◌&&◌}
 use Rattle.std.proofs.Math.Nat.{min-le_left, mul-le-mul_left, mul-le-mul_right}
 use Rattle.std.proofs.lemmas.Bool.{cases_lt, lt-ltb}

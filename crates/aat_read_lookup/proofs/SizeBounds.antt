@@ -9,8 +9,8 @@ use Rattle.aat_bytes.specs.declared.error.Fault.{Fault}
 use Rattle.aat_bytes.specs.declared.tag.Tag.{Tag}
 use Rattle.aat_lookup.specs.Keys.{first, first_fall}
 use Rattle.aat_lookup.specs.GlyphSpans.{glyph_span}
-use Rattle.aat_read_lookup.specs.Kept.{kept_count, layout_segments}
-use Rattle.aat_read_lookup.specs.Layouts.{glyphs_of, has_offset, layout_at, record_size, segments_of, unit_bytes}
+use Rattle.aat_read_lookup.specs.Kept.{layout_segments}
+use Rattle.aat_read_lookup.specs.Layouts.{has_offset, layout_at, named_glyphs, record_size, segments_of, unit_bytes}
 use Rattle.aat_read_lookup.specs.LongLaws as long
 use Rattle.aat_read_lookup.specs.LongLookups.{long_pairs_of}
 use Rattle.aat_read_lookup.specs.LongSizes.{long_size_at}
@@ -22,14 +22,12 @@ use Rattle.aat_read_lookup.specs.declared.kept.Keep.{Keep}
 use Rattle.aat_read_lookup.specs.declared.kept.Keep.TheVariants.{Value, LongRow}
 use Rattle.aat_read_lookup.specs.declared.layout.Layout.{Layout}
 use Rattle.aat_read_lookup.specs.declared.layout.Layout.TheVariants.{Array, Searched}
-use Rattle.aat_read_lookup.specs.declared.segment.Segment.{Segment}
 use Rattle.aat_read_lookup.specs.declared.segment.ValueKind.{ValueKind}
 use Rattle.aat_read_lookup.specs.declared.segment.ValueKind.TheVariants.{Word, Long}
 use Rattle.aat_read_lookup.specs.declared.segment.Values.{Values}
 use Rattle.aat_read_lookup.specs.declared.units.UnitKind.{UnitKind}
 use Rattle.aat_read_lookup.specs.declared.units.UnitKind.TheVariants.{SegmentSingle, SegmentArray, Single}
 use Rattle.aat_read_lookup.specs.declared.units.Units.{Units}
-use Rattle.aat_read_lookup.specs.inside.Sound.{AreSound}
 use Rattle.aat_read_lookup.proofs.KeptCounts.{array_counted, glyphs_count, units_count}
 use Rattle.aat_read_lookup.proofs.LayoutsRise.{unit_pairs_rise}
 use Rattle.aat_read_lookup.proofs.ReadLayouts.{Holds, IsRead, at_most, layout_read, not_below, sized_by, taken}
@@ -40,7 +38,7 @@ layout_rises :
     (table : Tag) (bytes : List ℕ) (place : ℕ) (kind : ValueKind) (value : Values → ℕ → ℕ) (layout : Layout)
     → IsRead table bytes place kind layout → first_fall first (flat_map (pairs_by value) (segments_of bytes layout)) ≡ None
 layout_rises table bytes place kind value (Array segment) read = pairs_rise value 0 (segment ∷ []) (omega arith, tt)
-layout_rises table bytes place kind value (Searched units) read = unit_pairs_rise bytes units read.0 value
+layout_rises table bytes place kind value (Searched units) read = unit_pairs_rise bytes units value
 
 pub read_pairs_rise : PairsRise
 read_pairs_rise table bytes place glyph_count pairs is =
@@ -67,16 +65,16 @@ array_few count false = omega arith
 module _ (bytes : List ℕ) (keep : Keep) where
   -- the segments of units, by whether they have offsets
   unit_segments_few :
-      (units : Units) (b : Bool) → has_offset units.kind ≡ b → AreSound bytes units
+      (units : Units) (b : Bool) → has_offset units.kind ≡ b
       → length (layout_segments bytes keep (Searched units)) ≤ unit_bytes bytes units
-  unit_segments_few units true many sound =
-      let count = glyphs_count bytes keep units many in
+  unit_segments_few units true many =
+      let count = glyphs_count bytes keep units in
       let of_bytes : unit_bytes bytes units
-      ≡ record_size units.kind units.values * units.count + numbers_size units.values (glyphs_of bytes units) = rw many refl in
-      let wide = sized_by units.values (glyphs_of bytes units) in
+      ≡ record_size units.kind units.values * units.count + numbers_size units.values (named_glyphs bytes units) = rw many refl in
+      let wide = sized_by units.values (named_glyphs bytes units) in
       omega (arith, count, of_bytes, wide)
-  unit_segments_few units false one sound =
-      let count = units_count bytes keep units one sound in
+  unit_segments_few units false one =
+      let count = units_count bytes keep units one in
       let of_bytes : unit_bytes bytes units ≡ record_size units.kind units.values * units.count + 0 = rw one refl in
       let wide : 4 * units.count ≤ record_size units.kind units.values * units.count =
       mul-le-mul_right units.count (wide_record units.kind units.values) in
@@ -90,7 +88,7 @@ module _ (bytes : List ℕ) (keep : Keep) where
       let count = array_counted bytes keep segment in
       let few = array_few segment.count (is_shared segment.values) in
       omega (arith, count, few, read.0)
-  segments_few table place kind (Searched units) read = unit_segments_few units (has_offset units.kind) refl read.0
+  segments_few table place kind (Searched units) read = unit_segments_few units (has_offset units.kind) refl
 
 -- the size of a layout that is read
 layout_bounded :

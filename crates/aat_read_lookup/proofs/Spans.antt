@@ -1,21 +1,23 @@
 -- The glyphs from the first to the last of the pairs of segments, and their number.
-use Rattle.std.proofs.Common.{◌≡◌, ℕ, zero, suc, ◌+◌, ◌-◌, ◌*◌, ◌<◌, ◌≤◌, List, [], ◌∷◌, ◌++◌, length, get_or, map, refl, sym, ap, ◌∙◌, subst, arith, add-zero, zero-add}
+use Rattle.std.proofs.Common.{◌≡◌, ℕ, zero, suc, ◌+◌, ◌-◌, ◌*◌, ◌<◌, ◌≤◌, ◌⊎◌, inl, inr, Bool, true, false, List, [], ◌∷◌, ◌++◌, length, get_or, map, refl, sym, ap, ◌∙◌, subst, arith, add-zero, zero-add}
+use Rattle.std.specs.Prelude.{◌==◌, if◌then◌else◌}
 use Rattle.std.specs.List.{flat_map, range_with_len, sum_by}
+use Rattle.std.proofs.lemmas.Bool.{eq-eqb, eqb-true, ne_eqb}
 use Rattle.std.proofs.lemmas.List.{append-nil, get_or-append-add, length-append}
 use Rattle.std.proofs.lemmas.List.Sums.{sum_by-cons}
 use Rattle.std.proofs.lemmas.List.FromFn.{get_or-map-range_with_len, length-map-range_with_len}
 use Rattle.aat_lookup.specs.Keys.{first}
 use Rattle.aat_lookup.specs.GlyphSpans.{glyph_span}
-use Rattle.aat_read_lookup.specs.Layouts.{end_before, glyphs_of, segment_of, unit_segments}
+use Rattle.aat_read_lookup.specs.Layouts.{glyphs_of, segment_of, unit_segments}
 use Rattle.aat_read_lookup.specs.Lookups.{pairs_of}
 use Rattle.aat_read_lookup.specs.Segments.{end_of, segment_pairs, value_at}
 use Rattle.aat_read_lookup.specs.Sizes.{cells_beside, pairs_size}
 use Rattle.aat_read_lookup.specs.declared.layout.Layout.TheVariants.{Searched}
 use Rattle.aat_read_lookup.specs.declared.segment.Segment.{Segment}
 use Rattle.aat_read_lookup.specs.declared.units.Units.{Units}
-use Rattle.aat_read_lookup.specs.inside.Sound.{AreSound}
+use Rattle.aat_read_lookup.specs.inside.Ends.{ends_with}
 use Rattle.aat_read_lookup.proofs.Appended.{list_more}
-use Rattle.aat_read_lookup.proofs.LayoutsRise.{before_next}
+use Rattle.aat_read_lookup.proofs.Rises.{not_zero}
 
 -- so many pairs from a glyph on
 numbered : ℕ → (ℕ → ℕ) → ℕ → List (ℕ × ℕ)
@@ -38,6 +40,10 @@ last_of start value n before =
     ap (λ i. (get_or (before ++ xs) i (0, 0)).0) at
     ∙ ap (λ (p : ℕ × ℕ). p.0) (get_or-append-add before xs n (0, 0))
     ∙ ap (λ (p : ℕ × ℕ). p.0) (get_or-map-range_with_len pair 0 (suc n) n n (0, 0) (omega arith) (zero-add n))
+
+-- the number of pairs of a segment
+pairs_long : (bytes : List ℕ) (s : Segment) → length (segment_pairs bytes s) ≡ s.count
+pairs_long bytes s = length-map-range_with_len (λ k. (s.first + k, value_at bytes s.values k)) 0 s.count
 
 -- the same of a segment that has a glyph
 first_in : (bytes : List ℕ) (s : Segment) (rest : List (ℕ × ℕ)) → 0 < s.count → (get_or (segment_pairs bytes s ++ rest) 0 (0, 0)).0 ≡ s.first
@@ -91,57 +97,87 @@ pairs_are_glyphs bytes (s ∷ segments) =
     ∙ ap (λ n. s.count + n) (pairs_are_glyphs bytes segments)
     ∙ sym (sum_by-cons (λ segment. segment.count) s segments)
 
-module _ (bytes : List ℕ) (units : Units) (sound : AreSound bytes units) where
-  segment : ℕ → Segment
-  segment = segment_of bytes units
+-- the ends of the glyphs of pairs
+abbrev pub HasEnds : List (ℕ × ℕ) → ℕ × ℕ → Type 0
+HasEnds ps ends =
+    ((length ps ≡ 0) × (ends.1 ≡ 0))
+    ⊎ ((0 < length ps) × ((get_or ps 0 (0, 0)).0 ≡ ends.0) × ((get_or ps (length ps - 1) (0, 0)).0 + 1 ≡ ends.1))
 
-  -- no unit begins below the first
-  first_below : (i : ℕ) → i < units.count → (segment 0).first ≤ (segment i).first
-  unfolding segment
-  first_below zero below = omega arith
-  first_below (suc i) below =
-      let so_far : (segment 0).first ≤ (segment i).first = first_below i (omega arith) in
-      let next : end_before bytes units (suc i) ≤ (segment (suc i)).first = sound.rising (suc i) below in
-      let is : end_before bytes units (suc i) ≡ end_of (segment i) = before_next bytes units sound i in
-      omega (arith, so_far, next, is)
+some_behind :
+    (bytes : List ℕ) (ps : List (ℕ × ℕ)) (low high : ℕ) (s : Segment) → HasEnds ps (low, high) → 0 < s.count
+    → HasEnds (ps ++ segment_pairs bytes s) (if high == 0 then s.first else low, end_of s)
+some_behind bytes [] low high s (inl none) some =
+    let first = first_in bytes s [] some in
+    let last = last_in bytes s [] some in
+    let all = pairs_long bytes s in
+    let empty : (high == 0) ≡ true = eq-eqb high 0 none.1 in
+    let same : segment_pairs bytes s ++ [] ≡ segment_pairs bytes s = append-nil (segment_pairs bytes s) in
+    let first_is : (get_or (segment_pairs bytes s) 0 (0, 0)).0 ≡ s.first = ap (λ (ps : List (ℕ × ℕ)). (get_or ps 0 (0, 0)).0) (sym same) ∙ first in
+    rw empty (inr (omega (arith, all, some), first_is, omega (arith, last, some)))
+some_behind bytes [] low high s (inr there) some = absurd (omega (arith, there.0))
+some_behind bytes (p ∷ ps) low high s (inl none) some = absurd (omega (arith, none.0))
+some_behind bytes (p ∷ ps) low high s (inr there) some =
+    let last = last_in bytes s (p ∷ ps) some in
+    let full : (high == 0) ≡ false = ne_eqb high 0 (λ e. omega (arith, e, there.2)) in
+    rw full (inr (omega arith, there.1, omega (arith, last, some)))
 
-  pairs_to : ℕ → List (ℕ × ℕ)
+by_count :
+    (bytes : List ℕ) (ps : List (ℕ × ℕ)) (low high : ℕ) (s : Segment) (none : Bool) → (s.count == 0) ≡ none
+    → HasEnds ps (low, high)
+    → HasEnds (ps ++ segment_pairs bytes s) (if none then (low, high) else (if high == 0 then s.first else low, end_of s))
+by_count bytes ps low high s true is has =
+    let count : s.count ≡ 0 = eqb-true s.count 0 is in
+    let pairs : ℕ → List (ℕ × ℕ) = λ n. map (λ k. (s.first + k, value_at bytes s.values k)) (range_with_len 0 n) in
+    let empty : segment_pairs bytes s ≡ [] = ap pairs count in
+    let same : ps ++ segment_pairs bytes s ≡ ps = ap (λ xs. ps ++ xs) empty ∙ append-nil ps in
+    subst (λ (xs : List (ℕ × ℕ)). HasEnds xs (low, high)) (sym same) has
+by_count bytes ps low high s false is has = some_behind bytes ps low high s has (not_zero s.count is)
+
+few_by : (b : Bool) (x y : ℕ × ℕ) → x.1 ≤ 65536 → y.1 ≤ 65536 → (if b then x else y).1 ≤ 65536
+few_by true x y one other = one
+few_by false x y one other = other
+
+-- with those of a segment behind them
+pub ends_behind :
+    (bytes : List ℕ) (ps : List (ℕ × ℕ)) (ends : ℕ × ℕ) (s : Segment) → HasEnds ps ends
+    → HasEnds (ps ++ segment_pairs bytes s) (ends_with ends s)
+ends_behind bytes ps ends s has = by_count bytes ps ends.0 ends.1 s (s.count == 0) refl has
+
+-- they are no more than those of 16 bits
+pub ends_few : (ends : ℕ × ℕ) (s : Segment) → ends.1 ≤ 65536 → end_of s ≤ 65536 → (ends_with ends s).1 ≤ 65536
+ends_few ends s few fits = few_by (s.count == 0) ends (if ends.1 == 0 then s.first else ends.0, end_of s) few fits
+
+-- the glyphs from the first to the last
+pub span_of_ends :
+    (ps : List (ℕ × ℕ)) (ends : ℕ × ℕ) → 0 < length ps → HasEnds ps ends
+    → (0 < ends.1) × (glyph_span first (0, 0) ps ≡ ends.1 - 1 - ends.0 + 1)
+span_of_ends ps ends some (inl none) = absurd (omega (arith, some, none.0))
+span_of_ends ps ends some (inr there) =
+    let highest : (get_or ps (length ps - 1) (0, 0)).0 ≡ ends.1 - 1 = omega (arith, there.2) in
+    (omega (arith, there.2), span_of ps ends.0 (ends.1 - 1) there.1 highest)
+
+module _ (bytes : List ℕ) (units : Units) where
+  abbrev pub pairs_to : ℕ → List (ℕ × ℕ)
   pairs_to n = flat_map (segment_pairs bytes) (map (segment_of bytes units) (range_with_len 0 n))
 
   last_apart : (n : ℕ) → pairs_to n ++ segment_pairs bytes (segment_of bytes units n) ≡ pairs_to (n + 1)
-  unfolding pairs_to
   last_apart n = list_more (segment_pairs bytes) (segment_of bytes units) [] (pairs_to n) (pairs_to n ++ segment_pairs bytes (segment_of bytes units n)) n (segment_of bytes units n) refl refl refl
 
-  span_to : (n : ℕ) → suc n ≤ units.count → glyph_span first (0, 0) (pairs_to (suc n)) ≡ end_of (segment_of bytes units n) - (segment_of bytes units 0).first
-  unfolding segment pairs_to
-  span_to n within =
-      let lowest : (get_or (pairs_to (suc n)) 0 (0, 0)).0 ≡ (segment_of bytes units 0).first =
-      first_in bytes (segment_of bytes units 0) _ (sound.some 0 (omega arith)) in
-      let next : n + 1 ≡ suc n = omega arith in
-      let highest : (get_or (pairs_to (n + 1)) (length (pairs_to (n + 1)) - 1) (0, 0)).0 ≡ (segment_of bytes units n).first + ((segment_of bytes units n).count - 1) =
-      subst (λ (ps : List (ℕ × ℕ)). (get_or ps (length ps - 1) (0, 0)).0 ≡ (segment_of bytes units n).first + ((segment_of bytes units n).count - 1)) (last_apart n) (last_in bytes (segment_of bytes units n) (pairs_to n) (sound.some n (omega arith))) in
-      let below : (segment_of bytes units 0).first ≤ (segment_of bytes units n).first = first_below n (omega arith) in
-      let some : 0 < (segment_of bytes units n).count = sound.some n (omega arith) in
-      let highest_here : (get_or (pairs_to (suc n)) (length (pairs_to (suc n)) - 1) (0, 0)).0 ≡ (segment_of bytes units n).first + ((segment_of bytes units n).count - 1) = subst (λ (m : ℕ). (get_or (pairs_to m) (length (pairs_to m) - 1) (0, 0)).0 ≡ (segment_of bytes units n).first + ((segment_of bytes units n).count - 1)) next highest in
-      let whole : (segment_of bytes units n).first + ((segment_of bytes units n).count - 1) - (segment_of bytes units 0).first + 1 ≡ end_of (segment_of bytes units n) - (segment_of bytes units 0).first = omega (arith, below, some) in
-      span_of (pairs_to (suc n)) (segment_of bytes units 0).first ((segment_of bytes units n).first + ((segment_of bytes units n).count - 1)) lowest highest_here ∙ whole
+  -- one unit more
+  pub ends_more :
+      (n : ℕ) (ends : ℕ × ℕ) → HasEnds (pairs_to n) ends
+      → HasEnds (pairs_to (n + 1)) (ends_with ends (segment_of bytes units n))
+  ends_more n ends has =
+      subst (λ (ps : List (ℕ × ℕ)). HasEnds ps (ends_with ends (segment_of bytes units n))) (last_apart n)
+      (ends_behind bytes (pairs_to n) ends (segment_of bytes units n) has)
 
-  -- the glyphs from the first to the last
+  -- the glyphs from the first to the last of units that are found by some
   pub span_is :
-      0 < units.count
-      → glyph_span first (0, 0) (pairs_of bytes (Searched units)) ≡ end_of (segment_of bytes units (units.count - 1)) - (segment_of bytes units 0).first
-  unfolding pairs_to
-  span_is some =
-      let more : suc (units.count - 1) ≡ units.count = omega (arith, some) in
-      let last : ℕ = units.count - 1 in
-      subst (λ (n : ℕ). glyph_span first (0, 0) (pairs_to n) ≡ end_of (segment_of bytes units last) - (segment_of bytes units 0).first) more (span_to last (omega (arith, some)))
-
-  -- no unit ends below the first glyph
-  pub first_first : 0 < units.count → (segment_of bytes units 0).first ≤ end_of (segment_of bytes units (units.count - 1))
-  unfolding segment
-  first_first some =
-      let below : (segment_of bytes units 0).first ≤ (segment_of bytes units (units.count - 1)).first = first_below (units.count - 1) (omega (arith, some)) in
-      omega (arith, below)
+      (ends : ℕ × ℕ) → 0 < glyphs_of bytes units → HasEnds (pairs_to units.count) ends
+      → (0 < ends.1) × (glyph_span first (0, 0) (pairs_of bytes (Searched units)) ≡ ends.1 - 1 - ends.0 + 1)
+  span_is ends some has =
+      let count = pairs_are_glyphs bytes (unit_segments bytes units) in
+      span_of_ends (pairs_to units.count) ends (omega (arith, some, count)) has
 
   -- the size of the pairs of units
   pub units_size :
@@ -151,3 +187,10 @@ module _ (bytes : List ℕ) (units : Units) (sound : AreSound bytes units) where
       let span : ℕ = glyph_span first (0, 0) (pairs_of bytes (Searched units)) in
       let size : ℕ → ℕ = λ count. 4 * count + 4 * cells_beside count span in
       ap size (pairs_are_glyphs bytes (unit_segments bytes units))
+
+  -- which is 0 where no glyph finds one
+  pub no_size : glyphs_of bytes units ≡ 0 → pairs_size (pairs_of bytes (Searched units)) ≡ 0
+  no_size none =
+      let span : ℕ = glyph_span first (0, 0) (pairs_of bytes (Searched units)) in
+      let size : ℕ → ℕ = λ count. 4 * count + 4 * cells_beside count span in
+      units_size ∙ ap size none

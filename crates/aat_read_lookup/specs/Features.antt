@@ -1,14 +1,13 @@
 -- What the bytes of the feature name table say. Apple's TrueType Reference Manual, "The 'feat' table".
-use Rattle.std.specs.Prelude.{ℕ, ◌+◌, ◌*◌, ◌-◌, ◌/◌, List, length, map, find, Bool, false, Option, Some, None, Result, Ok, Err, if◌then◌else◌, nat_lt, nat_le, ◌==◌, option_and_then, option_map}
+use Rattle.std.specs.Prelude.{ℕ, ◌+◌, ◌*◌, ◌-◌, ◌/◌, List, length, map, find, Bool, false, Option, Result, Ok, Err, if◌then◌else◌, nat_lt, nat_le, ◌==◌, option_and_then, option_map}
 use Rattle.std.specs.List.{range_with_len}
 use Rattle.std.specs.Option.{option_map_or}
+use Rattle.aat_bytes.specs.Bisection.{found_rows, row_found}
 use Rattle.aat_bytes.specs.Faults.{after, fault_at}
 use Rattle.aat_bytes.specs.Numbers.{be16, be32, u16_at}
 use Rattle.aat_bytes.specs.declared.error.Fault.{Fault}
-use Rattle.aat_bytes.specs.declared.error.FaultKind.TheVariants.{PastEnd, UnknownFormat, NotRising}
+use Rattle.aat_bytes.specs.declared.error.FaultKind.TheVariants.{PastEnd, UnknownFormat}
 use Rattle.aat_bytes.specs.declared.tags.TheConstants.{FEAT}
-use Rattle.aat_lookup.specs.FeatureNames.{kind_of}
-use Rattle.aat_lookup.specs.Keys.{first_fall}
 use Rattle.aat_lookup.specs.declared.feat.FeatureName.{FeatureName}
 
 -- the number of features, whose records of 12 bytes stand behind a header of 12 bytes, of version 1
@@ -34,30 +33,25 @@ feature_name bytes i = record {
   exclusive = nat_le 32768 (be16 bytes (feature_place i + 8));
 }
 
--- what so many records say
-abbrev pub feature_names : List ℕ → ℕ → List FeatureName
-feature_names bytes count = map (feature_name bytes) (range_with_len 0 count)
+-- the type by which a record is searched
+abbrev pub kind_at : List ℕ → ℕ → ℕ
+kind_at bytes i = be16 bytes (feature_place i)
 
--- names that rise strictly by type, or the place of the first that does not. HarfBuzz bisects names that do not rise
--- and finds some of them; here they are a fault
-abbrev pub rising_names : List FeatureName → Result (List FeatureName) Fault
-rising_names names = elim (first_fall kind_of names) [
-  | None ↦ Ok names
-  | Some i ↦ Err (fault_at FEAT NotRising (feature_place i))
-]
+-- what those of so many records say that a bisection for their own types finds, as HarfBuzz does: all, where types rise
+abbrev pub feature_names : List ℕ → ℕ → List FeatureName
+feature_names bytes count = map (feature_name bytes) (found_rows (kind_at bytes) count)
 
 -- the table, or its first fault
 abbrev pub feat_of : List ℕ → Result (List FeatureName) Fault
-feat_of bytes = after (feature_count bytes) (λ count. rising_names (feature_names bytes count))
+feat_of bytes = after (feature_count bytes) (λ count. Ok (feature_names bytes count))
 
 -- the number of records that are searched for a name: none in a table whose header or records have a fault
 abbrev pub searched_count : List ℕ → ℕ
 searched_count bytes = elim (feature_count bytes) [ Ok count ↦ count | Err fault ↦ 0 ]
 
--- the first record of a feature type, in the order of the file
+-- the record of a feature type that a bisection finds
 abbrev pub feature_record : List ℕ → ℕ → Option ℕ
-feature_record bytes kind =
-    find (λ i. be16 bytes (feature_place i) == kind) (range_with_len 0 (searched_count bytes))
+feature_record bytes kind = row_found (kind_at bytes) (searched_count bytes) kind
 
 -- the name of a feature type, as a number in the table of names
 abbrev pub feature_name_id : List ℕ → ℕ → Option ℕ

@@ -1,13 +1,14 @@
--- How the values of a lookup stand in the table, and its first fault. Values have 16 bits or 32. Apple's TrueType Reference Manual, "Font Tables",
--- section on lookup tables.
-use Rattle.std.specs.Prelude.{ℕ, ◌+◌, ◌*◌, ◌-◌, ◌/◌, List, [], ◌∷◌, length, map, Bool, true, false, Option, Some, None, Result, Ok, Err, if◌then◌else◌, nat_lt, ◌==◌, ◌||◌, ◌&&◌, min}
+-- How the values of a lookup stand in the table, and its first fault. Values have 16 bits or 32. Apple's TrueType
+-- Reference Manual, "Font Tables", section on lookup tables.
+use Rattle.std.specs.Prelude.{ℕ, ◌+◌, ◌*◌, ◌-◌, ◌/◌, List, [], ◌∷◌, length, map, Bool, true, false, Option, Some, None, Result, Ok, Err, if◌then◌else◌, nat_lt, ◌==◌, ◌&&◌, min}
 use Rattle.std.specs.List.{range_with_len, sum_by}
+use Rattle.aat_bytes.specs.Bisection.{keys_found}
 use Rattle.aat_bytes.specs.Faults.{after, fault_at}
 use Rattle.aat_bytes.specs.Numbers.{be16}
 use Rattle.aat_bytes.specs.declared.error.Fault.{Fault}
 use Rattle.aat_bytes.specs.declared.error.FaultKind.TheVariants.{PastEnd, UnknownFormat, ShortLength, NotRising}
 use Rattle.aat_bytes.specs.declared.tag.Tag.{Tag}
-use Rattle.aat_read_lookup.specs.Segments.{end_of, is_long, numbers_size, values_end, values_place}
+use Rattle.aat_read_lookup.specs.Segments.{end_of, is_long, numbers_size, part_of, values_end, values_place}
 use Rattle.aat_read_lookup.specs.declared.layout.Layout.{Layout}
 use Rattle.aat_read_lookup.specs.declared.layout.Layout.TheVariants.{Array, Searched}
 use Rattle.aat_read_lookup.specs.declared.segment.Segment.{Segment}
@@ -43,17 +44,31 @@ segment_at bytes Single kind start at = record { first = be16 bytes at; count = 
 abbrev pub unit_place : Units → ℕ → ℕ
 unit_place units i = units.start + 12 + units.size * i
 
--- the segment of a unit
+-- all glyphs of a unit, with their values
+abbrev pub unit_at : List ℕ → Units → ℕ → Segment
+unit_at bytes units i = segment_at bytes units.kind units.values units.start (unit_place units i)
+
+-- the glyphs by which a bisection finds a unit, from the first one up to the one behind the last: in a table whose units
+-- rise all glyphs of the unit. HarfBuzz bisects units whether they rise or not
+abbrev pub glyphs_found : List ℕ → Units → ℕ → ℕ × ℕ
+glyphs_found bytes units i =
+    keys_found (λ j. (unit_at bytes units j).first) (λ j. end_of (unit_at bytes units j)) units.count 0 units.count 0 65536 i
+
+-- the segment of a unit: those of its glyphs by which it is found
 abbrev pub segment_of : List ℕ → Units → ℕ → Segment
-segment_of bytes units i = segment_at bytes units.kind units.values units.start (unit_place units i)
+segment_of bytes units i = part_of (unit_at bytes units i) (glyphs_found bytes units i)
 
 -- the segments of units, in the order of the file
 abbrev pub unit_segments : List ℕ → Units → List Segment
 unit_segments bytes units = map (segment_of bytes units) (range_with_len 0 units.count)
 
--- the number of glyphs of units
+-- the number of glyphs of units by which they are found
 abbrev pub glyphs_of : List ℕ → Units → ℕ
 glyphs_of bytes units = sum_by (λ segment. segment.count) (unit_segments bytes units)
+
+-- the number of all glyphs of units
+abbrev pub named_glyphs : List ℕ → Units → ℕ
+named_glyphs bytes units = sum_by (λ unit. unit.count) (map (unit_at bytes units) (range_with_len 0 units.count))
 
 -- whether the terminator stands at a place: 0xFFFF twice in formats 2 and 4, once in format 6, as HarfBuzz takes it
 abbrev pub is_terminator : List ℕ → UnitKind → ℕ → Bool
@@ -80,22 +95,23 @@ units_at table bytes place unit kind =
     Err (fault_at table PastEnd (place + 12 + size * ((length bytes - (place + 12)) / size))) else
     Ok (without_terminator bytes (record { kind = unit; values = kind; start = place; size = size; count = count }))
 
--- the glyph behind the last one of the unit before, or 0 where there is none
-abbrev pub end_before : List ℕ → Units → ℕ → ℕ
-end_before bytes units i = if i == 0 then 0 else end_of (segment_of bytes units (i - 1))
+-- whether a unit has the offset of its values, which other units may have too: in format 4
+abbrev pub has_offset : UnitKind → Bool
+has_offset SegmentSingle = false
+has_offset SegmentArray = true
+has_offset Single = false
 
--- the fault of a segment behind a glyph, whose unit stands at a place: it has no glyph, or one that is not above those
--- before, or values past the end
-abbrev pub segment_fault : Tag → List ℕ → ℕ → ℕ → Segment → Option Fault
-segment_fault table bytes place lowest segment =
-    if (segment.count == 0) || nat_lt segment.first lowest then Some (fault_at table NotRising place) else
-    if nat_lt (length bytes) (values_end segment) then Some (fault_at table PastEnd (values_place segment.values)) else
-    None
+-- the fault of a unit at a place, whether a bisection finds it or not: of format 4 one that has no glyph, and values past
+-- the end. For these HarfBuzz drops the table
+abbrev pub unit_fault_at : Tag → List ℕ → UnitKind → ℕ → Segment → Option Fault
+unit_fault_at table bytes kind place unit =
+    if has_offset kind && (unit.count == 0) then Some (fault_at table NotRising place) else
+    if nat_lt (length bytes) (values_end unit) then Some (fault_at table PastEnd (values_place unit.values)) else None
 
--- the fault of a unit. HarfBuzz bisects units that do not rise and finds some of them; here they are a fault
+-- the fault of a unit
 abbrev pub unit_fault : Tag → List ℕ → Units → ℕ → Option Fault
 unit_fault table bytes units i =
-    segment_fault table bytes (unit_place units i) (end_before bytes units i) (segment_of bytes units i)
+    unit_fault_at table bytes units.kind (unit_place units i) (unit_at bytes units i)
 
 -- the first of some faults
 abbrev pub first_fault : List (Option Fault) → Option Fault
@@ -117,18 +133,12 @@ unfoldable pub checked_units : Tag → List ℕ → ℕ → UnitKind → ValueKi
 checked_units table bytes place unit kind =
     after (units_at table bytes place unit kind) (λ units. unless_fault (units_fault table bytes units) units)
 
--- whether a unit has the offset of its values, which other units may have too: in format 4
-abbrev pub has_offset : UnitKind → Bool
-has_offset SegmentSingle = false
-has_offset SegmentArray = true
-has_offset Single = false
-
--- how many bytes units are read from: their records, without what fills them up, and the values of format 4; those that
--- units share count for each unit
+-- how many bytes units are read from: their records, without what fills them up, and the values of format 4, of all
+-- glyphs; those that units share count for each unit
 abbrev pub unit_bytes : List ℕ → Units → ℕ
 unit_bytes bytes units =
     record_size units.kind units.values * units.count
-    + (if has_offset units.kind then numbers_size units.values (glyphs_of bytes units) else 0)
+    + (if has_offset units.kind then numbers_size units.values (named_glyphs bytes units) else 0)
 
 -- whether units of format 4 share so many values that their bytes are more than those from the start of the lookup to
 -- the end of the table

@@ -48,6 +48,31 @@ UnitsHaveTheirGlyphs =
     × (lookup_at example_table example_segment_arrays 2 9 ≡ Ok ((3, 8) ∷ (4, 7) ∷ []))
     × (value_of_glyph example_table example_segment_arrays 2 9 4 ≡ Some 7)
 
+-- glyphs 5, 3 and 4 in format 6: a bisection begins at 3, and goes below for lower glyphs, and above for higher ones
+abbrev pub example_falling : List ℕ
+example_falling = example_header 6 4 3 ++ 0 ∷ 5 ∷ 0 ∷ 7 ∷ 0 ∷ 3 ∷ 0 ∷ 8 ∷ 0 ∷ 4 ∷ 0 ∷ 9 ∷ []
+
+-- segments from 2 to 6 and from 4 to 8 in format 4, whose values stand at 24 and at 34: the first one is found first,
+-- and leaves the glyphs above its own to the other
+abbrev pub example_crossing : List ℕ
+example_crossing =
+    example_header 4 6 2
+    ++ 0 ∷ 6 ∷ 0 ∷ 2 ∷ 0 ∷ 24 ∷ 0 ∷ 8 ∷ 0 ∷ 4 ∷ 0 ∷ 34
+    ∷ 0 ∷ 1 ∷ 0 ∷ 2 ∷ 0 ∷ 3 ∷ 0 ∷ 4 ∷ 0 ∷ 5
+    ∷ 0 ∷ 11 ∷ 0 ∷ 12 ∷ 0 ∷ 13 ∷ 0 ∷ 14 ∷ 0 ∷ 15 ∷ []
+
+-- units that do not rise have the glyphs by which a bisection finds them, with their own values; one without glyphs has
+-- none
+abbrev pub UnitsAreThoseFound : Type 0
+UnitsAreThoseFound =
+    (lookup_at example_table example_falling 0 9 ≡ Ok ((3, 8) ∷ (4, 9) ∷ []))
+    × (value_of_glyph example_table example_falling 0 9 5 ≡ None)
+    × (lookup_at example_table (example_header 6 4 2 ++ 0 ∷ 3 ∷ 0 ∷ 8 ∷ 0 ∷ 3 ∷ 0 ∷ 7 ∷ []) 0 9 ≡ Ok ((3, 8) ∷ []))
+    × (lookup_at example_table (example_header 2 6 1 ++ 0 ∷ 2 ∷ 0 ∷ 3 ∷ 0 ∷ 8 ∷ []) 0 9 ≡ Ok [])
+    × (lookup_at example_table example_crossing 0 9
+    ≡ Ok ((2, 1) ∷ (3, 2) ∷ (4, 3) ∷ (5, 4) ∷ (6, 5) ∷ (7, 14) ∷ (8, 15) ∷ []))
+    × (value_of_glyph example_table example_crossing 0 9 7 ≡ Some 14)
+
 -- each fault of a lookup, at its place
 abbrev pub FaultsHaveTheirPlaces : Type 0
 FaultsHaveTheirPlaces =
@@ -57,9 +82,7 @@ FaultsHaveTheirPlaces =
     × (lookup_at example_table (example_header 6 3 0) 0 9 ≡ Err (fault_at example_table ShortLength 2))
     × (lookup_at example_table (example_header 6 4 2 ++ 0 ∷ 3 ∷ 0 ∷ 8 ∷ 0 ∷ 5 ∷ []) 0 9
     ≡ Err (fault_at example_table PastEnd 16))
-    × (lookup_at example_table (example_header 6 4 2 ++ 0 ∷ 3 ∷ 0 ∷ 8 ∷ 0 ∷ 3 ∷ 0 ∷ 7 ∷ []) 0 9
-    ≡ Err (fault_at example_table NotRising 16))
-    × (lookup_at example_table (example_header 2 6 1 ++ 0 ∷ 2 ∷ 0 ∷ 3 ∷ 0 ∷ 8 ∷ []) 0 9
+    × (lookup_at example_table (example_header 4 6 1 ++ 0 ∷ 2 ∷ 0 ∷ 3 ∷ 0 ∷ 18 ∷ []) 0 9
     ≡ Err (fault_at example_table NotRising 12))
     × (lookup_at example_table (example_header 4 6 1 ++ 0 ∷ 4 ∷ 0 ∷ 3 ∷ 0 ∷ 18 ∷ 0 ∷ 8 ∷ []) 0 9
     ≡ Err (fault_at example_table PastEnd 18))

@@ -1,6 +1,6 @@
 -- Segments: glyphs that follow one another, with their values. Apple's TrueType Reference Manual, "Font Tables",
 -- section on lookup tables.
-use Rattle.std.specs.Prelude.{ℕ, ◌+◌, ◌*◌, ◌-◌, List, Bool, true, false, Option, map, find, option_map, nat_le, nat_lt, ◌&&◌, slice_index}
+use Rattle.std.specs.Prelude.{ℕ, ◌+◌, ◌*◌, ◌-◌, List, Bool, true, false, Option, map, find, option_map, min, nat_le, nat_lt, ◌&&◌, slice_index}
 use Rattle.std.specs.List.{range_with_len}
 use Rattle.aat_bytes.specs.Numbers.{be16, be32}
 use Rattle.aat_read_lookup.specs.declared.segment.Segment.{Segment}
@@ -56,6 +56,20 @@ long_value_at bytes (Bytes at) k = slice_index bytes (at + k)
 -- the glyph behind the last one
 abbrev pub end_of : Segment → ℕ
 end_of segment = segment.first + segment.count
+
+-- the values of a segment without those of so many glyphs in front
+abbrev pub values_behind : Values → ℕ → Values
+values_behind (Shared kind at) count = Shared kind at
+values_behind (Each kind at) count = Each kind (at + numbers_size kind count)
+values_behind (Bytes at) count = Bytes (at + count)
+
+-- a segment without the glyphs below one, and without those from another one on, which are no less than that one
+abbrev pub part_of : Segment → ℕ × ℕ → Segment
+part_of segment glyphs = record {
+  first = glyphs.0;
+  count = glyphs.1 - glyphs.0;
+  values = values_behind segment.values (min (glyphs.0 - segment.first) segment.count);
+}
 
 -- each glyph of a segment with its value, by what the value is of the glyph that stands k glyphs behind the first
 abbrev pub pairs_by : (Values → ℕ → ℕ) → Segment → List (ℕ × ℕ)

@@ -1,2 +1,4 @@
+pub mod FoundRows
 pub mod ListFalls
+pub mod PassedRows
 pub mod Singles

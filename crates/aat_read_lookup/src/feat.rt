@@ -1,10 +1,8 @@
 //! The feature name table from bytes.
-ghost use Rattle.std.specs.Prelude.{◌≡◌, ◌+◌, ◌*◌, ◌<◌, ◌≤◌, ◌==◌, find, length, IfOk, IfSome};
+ghost use Rattle.std.specs.Prelude.{◌≡◌, ◌+◌, ◌*◌, ◌<◌, ◌≤◌, find, length, IfOk, IfSome};
 ghost use Rattle.std.specs.List.{range_with_len};
-ghost use Rattle.aat_bytes.specs.Numbers.{be16};
-ghost use Rattle.aat_lookup.specs.FeatureNames.{kind_of};
-ghost use Rattle.aat_lookup.specs.Keys.{first_fall};
-ghost use Rattle.aat_read_lookup.specs.Features.{feat_of, feature_count, feature_name, feature_name_id, feature_names, feature_place, feature_record, has_number, setting_name_id, setting_name_in};
+ghost use Rattle.aat_bytes.specs.Bisection.{is_found, row_found};
+ghost use Rattle.aat_read_lookup.specs.Features.{feat_of, feature_count, feature_name, feature_name_id, feature_names, feature_place, feature_record, has_number, kind_at, setting_name_id, setting_name_in};
 ghost use Rattle.aat_read_lookup.specs.Lookups.{Gives};
 
 use aat_bytes::tags::FEAT;
@@ -42,7 +40,7 @@ fn feature_place(i: u16) -> usize
 /// The type of a feature.
 fn kind_at(bytes: &[u8], i: u16) -> u16
     requires { 24 + 12 * i ≤ length bytes.now }
-    ensures { result ≡ be16 bytes.now (feature_place i) }
+    ensures { result ≡ kind_at bytes.now i }
 {
     be16(bytes, feature_place(i))
 }
@@ -60,20 +58,42 @@ fn feature_name(bytes: &[u8], i: u16) -> FeatureName
     )
 }
 
-/// The first feature whose type is not above that of the one before it.
-fn first_fall(bytes: &[u8], count: u16) -> Option<u16>
+/// Which of so many records a bisection for a type finds. Of two records in the middle it looks at the lower one, as
+/// HarfBuzz does.
+fn row_found(bytes: &[u8], count: u16, kind: u16) -> Option<u16>
     requires { 12 + 12 * count ≤ length bytes.now }
-    ensures { result ≡ first_fall kind_of (feature_names bytes.now count) }
+    ensures is { result ≡ row_found (kind_at bytes.now) count kind }
+    ensures below { IfSome result (λ i. i < count) }
 {
-    for i in 1..count {
-        if kind_at(bytes, i) <= kind_at(bytes, i - 1) {
-            return Some(i);
+    let mut from = 0;
+    let mut to = count as usize;
+    while from < to {
+        let middle = (from + (to - 1)) / 2;
+        let found = kind_at(bytes, middle as u16);
+        if kind < found {
+            to = middle;
+        } else if found < kind {
+            from = middle + 1;
+        } else {
+            return Some(middle as u16);
         }
     }
     None
 }
 
-/// What so many records say.
+/// Whether a bisection for the type of a record finds that very record.
+fn is_found(bytes: &[u8], count: u16, i: u16) -> bool
+    requires inside { 12 + 12 * count ≤ length bytes.now }
+    requires below { i < count }
+    ensures { result ≡ is_found (kind_at bytes.now) count i }
+{
+    match row_found(bytes, count, kind_at(bytes, i)) {
+        Some(found) => found == i,
+        None => false,
+    }
+}
+
+/// What those of so many records say that a bisection for their own types finds.
 fn feature_names<A: Allocator>(
     alloc: A,
     bytes: &[u8],
@@ -84,26 +104,26 @@ fn feature_names<A: Allocator>(
 {
     let mut names = Vec::new(alloc);
     for i in 0..count {
-        names.push(feature_name(bytes, i))?;
+        if is_found(bytes, count, i) {
+            names.push(feature_name(bytes, i))?;
+        }
     }
     Ok(names)
 }
 
-/// Reads the feature name table. Its version is 1.0, of which the 1 is believed.
+/// Reads the feature name table. Its version is 1.0, of which the 1 is believed. What is known of a type is what the
+/// record says that a bisection over all records finds for it, as HarfBuzz does: where types rise, these are all records.
+/// Settings are not looked at: HarfBuzz drops a table whose settings are not all there.
 ///
 /// The first fault in this order, of the table `feat`, with its place from the start of the table: 1, `PastEnd`, a
 /// header of 12 bytes that is not there, at 0; 2, `UnknownFormat`, another version, at 0; 1, records of 12 bytes that
-/// are not there, at the first of them; 5, `NotRising`, at the first record whose type is not above that of the one
-/// before it. `OutOfMemory` comes only if the bytes have no fault.
+/// are not there, at the first of them. `OutOfMemory` comes only if the bytes have no fault.
 ///
 /// Apple's TrueType Reference Manual, "The 'feat' table".
 pub fn read_feat<A: Allocator + Copy>(alloc: A, bytes: &[u8]) -> Result<Feat<A>, ReadError>
     ensures { Gives result (feat_of bytes.now) }
 {
     let count = feature_count(bytes)?;
-    if let Some(i) = first_fall(bytes, count) {
-        return Err(ReadError::Fault(Fault::new(FEAT, FaultKind::NotRising, feature_place(i))));
-    }
     let names = feature_names(alloc, bytes, count)?;
     match Feat::new(alloc, &names) {
         Ok(feat) => Ok(feat),
@@ -111,28 +131,20 @@ pub fn read_feat<A: Allocator + Copy>(alloc: A, bytes: &[u8]) -> Result<Feat<A>,
     }
 }
 
-/// The first of so many records that has a type.
-fn record_among(bytes: &[u8], kind: u16, count: u16) -> Option<u16>
-    requires { 12 + 12 * count ≤ length bytes.now }
-    ensures first { result ≡ find (λ i. be16 bytes.now (feature_place i) == kind) (range_with_len 0 count) }
-    ensures below { IfSome result (λ i. i < count) }
-{
-    (0..count).find(|i| kind_at(bytes, *i) == kind)
-}
-
-/// The first record of a feature type.
+/// The record of a feature type that a bisection finds.
 fn feature_record(bytes: &[u8], kind: u16) -> Option<u16>
-    ensures first { result ≡ feature_record bytes.now kind }
+    ensures is { result ≡ feature_record bytes.now kind }
     ensures inside { IfSome result (λ i. 24 + 12 * i ≤ length bytes.now) }
 {
     match feature_count(bytes) {
-        Ok(count) => record_among(bytes, kind, count),
+        Ok(count) => row_found(bytes, count, kind),
         Err(_) => None,
     }
 }
 
 /// The name of a feature type, as a number in the table `name`, or `None` if the type is not listed, or if the header
-/// or the records have a fault of `read_feat`. If records share the type, the first counts. It takes no memory.
+/// or the records have a fault of `read_feat`. Of records that do not rise that counts which a bisection finds. It takes
+/// no memory.
 ///
 /// Apple's TrueType Reference Manual, "The 'feat' table".
 pub fn feature_name_id(bytes: &[u8], kind: u16) -> Option<u16>
@@ -176,7 +188,8 @@ fn setting_name_in(bytes: &[u8], setting: u16, i: u16) -> Option<u16>
 
 /// The name of a setting of a feature type, as a number in the table `name`, or `None` if the type or the setting is
 /// not listed, if the setting reaches past the end of the table, or if the header or the records have a fault of
-/// `read_feat`. If records share the type or the setting, the first counts. It takes no memory.
+/// `read_feat`. Of records that do not rise that counts which a bisection finds, and of settings that share their number
+/// the first. It takes no memory.
 ///
 /// Apple's TrueType Reference Manual, "The 'feat' table".
 pub fn setting_name_id(bytes: &[u8], kind: u16, setting: u16) -> Option<u16>

@@ -1,8 +1,8 @@
 //! The number of glyphs of lookups, and of the bytes of units.
 ghost use Rattle.std.specs.Prelude.{◌≡◌, ◌<◌, ◌^◌};
 ghost use Rattle.std.specs.List.{sum_by};
-ghost use Rattle.aat_read_lookup.specs.Layouts.{are_crowded, glyphs_of, has_offset, segments_of, unit_bytes};
-ghost use Rattle.aat_read_lookup.specs.inside.Sound.{AreInside, IsSound};
+ghost use Rattle.aat_read_lookup.specs.Layouts.{are_crowded, glyphs_of, has_offset, named_glyphs, segments_of, unit_bytes};
+ghost use Rattle.aat_read_lookup.specs.inside.Sound.{AreInside, AreSound, IsSound};
 
 use crate::layout::Layout;
 use crate::units::{UnitKind, Units};
@@ -21,9 +21,9 @@ impl UnitKind {
 }
 
 impl Units {
-    /// The number of glyphs of the units.
+    /// The number of glyphs by which the units are found.
     pub(crate) fn glyphs(self, bytes: &[u8]) -> usize
-        requires { AreInside bytes.now self }
+        requires { AreSound bytes.now self }
         ensures is { result ≡ glyphs_of bytes.now self }
         ensures few { result < 2 ^ 32 }
     {
@@ -34,7 +34,20 @@ impl Units {
         glyphs
     }
 
-    /// How many bytes the units are read from: their records, and their values, if they have an offset.
+    /// The number of all glyphs of the units.
+    fn named_glyphs(self, bytes: &[u8]) -> usize
+        requires { AreInside bytes.now self }
+        ensures is { result ≡ named_glyphs bytes.now self }
+        ensures few { result < 2 ^ 32 }
+    {
+        let mut glyphs = 0;
+        for i in 0..self.count {
+            glyphs += self.unit(i, bytes).count;
+        }
+        glyphs
+    }
+
+    /// How many bytes the units are read from: their records, and the values of all their glyphs, if they have an offset.
     pub(crate) fn bytes(self, bytes: &[u8]) -> usize
         requires { AreInside bytes.now self }
         ensures is { result ≡ unit_bytes bytes.now self }
@@ -42,7 +55,7 @@ impl Units {
     {
         let records = self.kind.record_size(self.values) as usize * self.count as usize;
         if self.kind.has_offset() {
-            return records + self.values.size(self.glyphs(bytes));
+            return records + self.values.size(self.named_glyphs(bytes));
         }
         records
     }

@@ -6,6 +6,7 @@ ghost use Rattle.aat_read_lookup.specs.Layouts.{unit_segments};
 ghost use Rattle.aat_read_lookup.specs.Segments.{pairs_by};
 ghost use Rattle.aat_read_lookup.specs.inside.Sound.{AreSound, CanKeep, Fits, IsSound};
 ghost use Rattle.aat_read_lookup.specs.declared.kept.Keep.TheVariants.{Value};
+ghost use Rattle.aat_read_lookup.specs.declared.layout.Layout.TheVariants.{Searched};
 
 use crate::layout::Layout;
 use crate::segment::Segment;
@@ -59,7 +60,7 @@ impl Segment {
         ensures { OnOk result (pairs.new.items ≡ pairs.old.items ++ pairs_by (kept_value bytes.now keep) self) }
     {
         for k in 0..self.count {
-            pairs.push((self.first + k as u16, self.kept(bytes, k, keep)))?;
+            pairs.push(((self.first + k) as u16, self.kept(bytes, k, keep)))?;
         }
         Ok(())
     }
@@ -71,8 +72,8 @@ impl Segment {
         requires some { 0 < self.count }
         ensures { result ≡ whole_segment bytes.now keep self }
     {
-        let last = self.first as usize + self.count - 1;
-        LookupSegment::new(self.first, last as u16, self.kept(bytes, 0, keep))
+        let last = self.first + self.count - 1;
+        LookupSegment::new(self.first as u16, last as u16, self.kept(bytes, 0, keep))
     }
 
     /// Appends a segment for each glyph.
@@ -88,7 +89,7 @@ impl Segment {
             ≡ segments.old.items ++ map (single_segment bytes.now keep self) (range_with_len 0 self.count)) }
     {
         for k in 0..self.count {
-            let glyph = self.first + k as u16;
+            let glyph = (self.first + k) as u16;
             segments.push(LookupSegment::new(glyph, glyph, self.kept(bytes, k, keep)))?;
         }
         Ok(())
@@ -127,6 +128,19 @@ impl Segment {
 }
 
 impl Units {
+    /// How many segments the units are kept as.
+    fn segment_count(self, bytes: &[u8]) -> usize
+        requires { AreSound bytes.now self }
+        ensures is { result ≡ length (layout_segments bytes.now Value (Searched self)) }
+        ensures few { result < 2 ^ 32 }
+    {
+        let mut count = 0;
+        for i in 0..self.count {
+            count += self.segment(i, bytes).kept_count();
+        }
+        count
+    }
+
     /// Appends what the segments of the units are kept as.
     fn append_kept<A: Allocator>(
         self,
@@ -155,12 +169,7 @@ impl Layout {
     {
         match self {
             Layout::Array(segment) => segment.kept_count(),
-            Layout::Searched(units) => {
-                if units.kind.has_offset() {
-                    return units.glyphs(bytes);
-                }
-                units.count as usize
-            }
+            Layout::Searched(units) => units.segment_count(bytes),
         }
     }
 

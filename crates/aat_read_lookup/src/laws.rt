@@ -1,11 +1,13 @@
 //! Laws of reading as theorems. These calls do nothing: what is proved is their contracts.
-ghost use Rattle.aat_read_lookup.specs.LookupLaws.{ValuesAreThoseOfSegments};
+ghost use Rattle.aat_read_lookup.specs.LookupLaws.{ValuesAreThoseFound, ValuesAreThoseOfSegments};
 ghost use Rattle.aat_read_lookup.specs.LongLaws as long;
 ghost use Rattle.aat_read_lookup.specs.SizeLaws.{ArraysAreCounted, BytesAreInside, LookupsAreBounded, PairsRise};
 
-/// A lookup that is read gives each glyph the value that the bytes have for it: that of the one segment that has it.
+/// A lookup that is read gives each glyph the value that the bytes have for it: that of the one segment that has it. Where
+/// it has units, whether they rise or not, this is the value of the unit that a bisection over all of them finds.
 pub fn values_are_those_of_segments()
-    ensures { ValuesAreThoseOfSegments }
+    ensures segments { ValuesAreThoseOfSegments }
+    ensures units { ValuesAreThoseFound }
 {}
 
 /// The pairs of a lookup that is read rise strictly by glyph.

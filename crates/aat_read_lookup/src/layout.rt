@@ -22,6 +22,7 @@ pub(crate) enum Layout {
 fn array_of(table: Tag, bytes: &[u8], segment: Segment) -> Result<Layout, Fault>
     requires near { values_place segment.values ≤ length bytes.now + 65536 }
     requires few { segment.count ≤ 65535 }
+    requires first { segment.first ≤ 65535 }
     ensures is { result ≡ array_of table bytes.now segment }
     ensures sound { IfOk result (λ layout. IsSound bytes.now layout) }
 {
@@ -30,7 +31,7 @@ fn array_of(table: Tag, bytes: &[u8], segment: Segment) -> Result<Layout, Fault>
     }
     Ok(Layout::Array(Segment {
         first: segment.first,
-        count: segment.count.min(65536 - segment.first as usize),
+        count: segment.count.min(65536 - segment.first),
         values: segment.values,
     }))
 }
@@ -51,7 +52,7 @@ fn trimmed_array_at(
         return Err(Fault::new(table, FaultKind::PastEnd, place));
     }
     let segment = Segment {
-        first: be16(bytes, place + 2),
+        first: be16(bytes, place + 2) as usize,
         count: be16(bytes, place + 4) as usize,
         values: Values::Each(kind, place + 6),
     };
@@ -68,7 +69,7 @@ fn sized_array_at(table: Tag, bytes: &[u8], place: usize, kind: ValueKind) -> Re
     if bytes.len() < place + 8 {
         return Err(Fault::new(table, FaultKind::PastEnd, place));
     }
-    let first = be16(bytes, place + 4);
+    let first = be16(bytes, place + 4) as usize;
     let count = be16(bytes, place + 6) as usize;
     let values = match be16(bytes, place + 2) {
         1 => Values::Bytes(place + 8),

@@ -154,11 +154,14 @@ pub fn read_pairs<A: Allocator>(
 /// header that is not there, at `place`; 2, values of another size than 1 or 2, at the size; 1, values that are not
 /// there, at the first value. Of formats 2, 4 and 6: 1, a header of 12 bytes that is not there, at `place`; 3,
 /// `ShortLength`, units that are smaller than their records, at their size; 1, units that are not there, at the first
-/// of them; then for each unit in the order of the file 5, `NotRising`, at the unit, if its last glyph is below its
-/// first one or its first glyph is not above the last one of the unit before, and 1, values of format 4 that are not
-/// there, at the first value; and last 1, units of format 4 that share so many values that these, counted for each
-/// unit, and the records of the units are more bytes than stand from `place` to the end of the table, at `place`. A
-/// unit may be wider than its record. A terminator that is counted as the last unit is none.
+/// of them; then for each unit of format 4 in the order of the file, found or not, 5, `NotRising`, at the unit, if its
+/// last glyph is below its first one, and 1, values that are not there, at the first value; and last 1, units of format 4
+/// that share so many values that these, counted for each unit, and the records of the units are more bytes than stand
+/// from `place` to the end of the table, at `place`. A unit may be wider than its record. A terminator that is counted as
+/// the last unit is none.
+///
+/// A glyph has the value of the unit that a bisection over all units finds for it, as in HarfBuzz. Where units rise, each
+/// is found for all its glyphs; else some are found for a part of them, or for none.
 ///
 /// `OutOfMemory` comes only if the bytes have no fault. There are at most 65,536 glyphs. They are kept as pairs, and as
 /// segments where the pairs and the cells beside them would take more than 7 bytes for each byte that the lookup is

@@ -73,11 +73,12 @@ pub fn read_rows<A: Allocator + Copy>(
 /// header that is not there, at `place`; 2, values of another size than 1, 2 or 4, at the size; 1, values that are not
 /// there, at the first value. Of formats 2, 4 and 6: 1, a header of 12 bytes that is not there, at `place`; 3,
 /// `ShortLength`, units that are smaller than their records of 8, 6 and 6 bytes, at their size; 1, units that are not
-/// there, at the first of them; then for each unit in the order of the file 5, `NotRising`, at the unit, if its last
-/// glyph is below its first one or its first glyph is not above the last one of the unit before, and 1, values of format
-/// 4 that are not there, at the first value; and last 1, units of format 4 that share so many values that these, counted
-/// for each unit, and the records of the units are more bytes than stand from `place` to the end of the table, at
-/// `place`. A unit may be wider than its record. A terminator that is counted as the last unit is none.
+/// there, at the first of them; then for each unit of format 4 in the order of the file, found or not, 5, `NotRising`, at
+/// the unit, if its last glyph is below its first one, and 1, values that are not there, at the first value; and last 1,
+/// units of format 4 that share so many values that these, counted for each unit, and the records of the units are more
+/// bytes than stand from `place` to the end of the table, at `place`. A unit may be wider than its record. A terminator
+/// that is counted as the last unit is none. A glyph has the value of the unit that a bisection finds, as `read_lookup`
+/// says.
 ///
 /// `OutOfMemory` comes only if the bytes have no fault. There are at most 65,536 glyphs. They are kept as segments, one
 /// for each unit of the formats 2 and 6, and one for each glyph of the others, of 6 bytes: at most 6 for each byte that

@@ -1,12 +1,12 @@
 //! Segments: glyphs that follow one another, with their values.
 ghost use Rattle.std.specs.Prelude.{◌≡◌, ◌+◌, ◌*◌, ◌<◌, ◌≤◌, ◌^◌, length, nat_lt};
-ghost use Rattle.aat_read_lookup.specs.Segments.{is_long, is_shared, long_value_at, number_at, numbers_size, value_at, values_end, values_place, values_size};
+ghost use Rattle.aat_read_lookup.specs.Segments.{is_long, is_shared, long_value_at, number_at, numbers_size, part_of, value_at, values_behind, values_end, values_place, values_size};
 ghost use Rattle.aat_read_lookup.specs.inside.Sound.{Fits};
 
 use aat_bytes::{be16, be32};
 
 /// How many bits a value has.
-#[derive(Clone, Copy, PartialEq, Eq)]
+#[derive(Clone, Copy)]
 pub(crate) enum ValueKind {
     /// 16.
     Word,
@@ -85,6 +85,19 @@ impl Values {
         }
     }
 
+    /// The values without those of so many glyphs in front.
+    fn behind(self, count: usize) -> Values
+        requires near { values_place self < 2 ^ 63 + 2 ^ 32 }
+        requires few { count ≤ 65536 }
+        ensures { result ≡ values_behind self count }
+    {
+        match self {
+            Values::Shared(kind, at) => Values::Shared(kind, at),
+            Values::Each(kind, at) => Values::Each(kind, at + kind.size(count)),
+            Values::Bytes(at) => Values::Bytes(at + count),
+        }
+    }
+
     /// Whether all glyphs have one value.
     pub(crate) fn is_shared(self) -> bool
         ensures { result ≡ is_shared self }
@@ -101,7 +114,7 @@ impl Values {
 #[derive(Clone, Copy)]
 pub(crate) struct Segment {
     /// The first glyph.
-    pub(crate) first: u16,
+    pub(crate) first: usize,
     /// The number of glyphs.
     pub(crate) count: usize,
     /// Where their values stand.
@@ -109,6 +122,21 @@ pub(crate) struct Segment {
 }
 
 impl Segment {
+    /// The segment without the glyphs below one, and without those from another one on.
+    pub(crate) fn part(self, first: usize, end: usize) -> Segment
+        requires near { values_place self.values < 2 ^ 63 + 2 ^ 32 }
+        requires few { self.count ≤ 65536 }
+        requires rise { first ≤ end }
+        ensures { result ≡ part_of self (first, end) }
+    {
+        let skipped = first.saturating_sub(self.first).min(self.count);
+        Segment {
+            first,
+            count: end - first,
+            values: self.values.behind(skipped),
+        }
+    }
+
     /// Whether a value stands past the end of the table.
     pub(crate) fn is_past_end(self, bytes: &[u8]) -> bool
         requires near { values_place self.values ≤ length bytes.now + 65536 }

@@ -5,11 +5,13 @@ ghost use Rattle.aat_lookup.specs.GlyphSpans.{glyph_span};
 ghost use Rattle.aat_read_lookup.specs.LongSizes.{long_bytes_at};
 ghost use Rattle.aat_read_lookup.specs.Lookups.{pairs_of};
 ghost use Rattle.aat_read_lookup.specs.Sizes.{bytes_of, cells_beside, is_spread, layout_size, lookup_bytes_at, lookup_size_at, pairs_size};
+ghost use Rattle.aat_read_lookup.specs.Layouts.{glyphs_of};
+ghost use Rattle.aat_read_lookup.specs.inside.Ends.{ends_with};
 ghost use Rattle.aat_read_lookup.specs.inside.Sound.{AreSound, IsSound};
 ghost use Rattle.aat_read_lookup.specs.declared.layout.Layout.TheVariants.{Searched};
 
 use crate::layout::Layout;
-use crate::segment::ValueKind;
+use crate::segment::{Segment, ValueKind};
 use crate::units::Units;
 use aat_bytes::{Fault, Tag};
 use aat_lookup::LookupSegment;
@@ -44,16 +46,32 @@ fn size_of_pairs(count: usize, span: usize) -> usize
     count * size_of::<(u16, u16)>() + cells_beside(count, span) * size_of::<Option<u16>>()
 }
 
+/// The first of some glyphs and the one behind the last of them, with those of a segment behind them. Where there are
+/// none, 0 stands for the one behind the last.
+fn ends_with(ends: (usize, usize), segment: Segment) -> (usize, usize)
+    requires { segment.first + segment.count ≤ 65536 }
+    ensures { result ≡ ends_with ends segment }
+{
+    if segment.count == 0 {
+        return ends;
+    }
+    let first = if ends.1 == 0 { segment.first } else { ends.0 };
+    (first, segment.first + segment.count)
+}
+
 impl Units {
-    /// The number of glyphs from the first to the last of the units.
+    /// The number of glyphs from the first to the last by which the units are found.
     fn span(self, bytes: &[u8]) -> usize
         requires sound { AreSound bytes.now self }
-        requires some { 0 < self.count }
+        requires some { 0 < glyphs_of bytes.now self }
         ensures is { result ≡ glyph_span first (0, 0) (pairs_of bytes.now (Searched self)) }
         ensures short { result ≤ 65536 }
     {
-        let last = self.segment(self.count - 1, bytes);
-        last.first as usize + last.count - self.segment(0, bytes).first as usize
+        let mut ends = (0, 0);
+        for i in 0..self.count {
+            ends = ends_with(ends, self.segment(i, bytes));
+        }
+        (ends.1 - 1).saturating_sub(ends.0) + 1
     }
 
     /// The bytes of the pairs of the units, and of the cells beside them.
@@ -61,10 +79,11 @@ impl Units {
         requires { AreSound bytes.now self }
         ensures { result ≡ pairs_size (pairs_of bytes.now (Searched self)) }
     {
-        if self.count == 0 {
+        let glyphs = self.glyphs(bytes);
+        if glyphs == 0 {
             return 0;
         }
-        size_of_pairs(self.glyphs(bytes), self.span(bytes))
+        size_of_pairs(glyphs, self.span(bytes))
     }
 }
 
@@ -113,7 +132,7 @@ impl Layout {
 }
 
 /// How many bytes of memory the lookup takes at most that `read_lookup` makes of the same arguments, besides those of
-/// `Lookup` itself, with the same faults. It takes no memory, and time linear in the units.
+/// `Lookup` itself, with the same faults. It takes no memory, and the time of some bisections for each unit.
 ///
 /// As pairs it takes 4 bytes for each glyph that has a value, and 2 or 4 for each cell beside them, counted as 4: for
 /// each glyph from the first to the last, where these are at most about 32 for each pair. As segments it takes 6 bytes
@@ -127,9 +146,9 @@ pub fn lookup_size(table: Tag, bytes: &[u8], place: usize, glyph_count: u16) -> 
 }
 
 /// How many bytes of the table the lookup of the same arguments is read from, behind its header, with the faults of
-/// `read_lookup`: the records of its units, without what fills them up, and its values. Values that units of format 4
-/// share count for each unit. They are no more than the bytes from `place` to the end of the table. It takes no memory,
-/// and time linear in the units.
+/// `read_lookup`: the records of its units, without what fills them up, and its values, of units that are not found too.
+/// Values that units of format 4 share count for each unit. They are no more than the bytes from `place` to the end of
+/// the table. It takes no memory, and time linear in the units.
 pub fn lookup_bytes(
     table: Tag,
     bytes: &[u8],
@@ -143,9 +162,9 @@ pub fn lookup_bytes(
 }
 
 /// How many bytes of the table the lookup of the same arguments is read from, behind its header, with the faults of
-/// `read_long_rows`: the records of its units, without what fills them up, and its values. Values that units of format 4
-/// share count for each unit. They are no more than the bytes from `place` to the end of the table. It takes no memory,
-/// and time linear in the units.
+/// `read_long_rows`: the records of its units, without what fills them up, and its values, of units that are not found
+/// too. Values that units of format 4 share count for each unit. They are no more than the bytes from `place` to the end
+/// of the table. It takes no memory, and time linear in the units.
 ///
 /// Apple's TrueType Reference Manual, "Font Tables", section on lookup tables.
 pub fn long_lookup_bytes(

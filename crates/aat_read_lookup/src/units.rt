@@ -1,14 +1,15 @@
-//! Units: the records of the formats 2, 4 and 6, which HarfBuzz finds by bisection.
+//! Units: the records of the formats 2, 4 and 6, which are found by bisection, as in HarfBuzz.
 ghost use Rattle.std.specs.Prelude.{◌≡◌, ◌+◌, ◌-◌, ◌*◌, ◌<◌, ◌≤◌, length, IfOk};
-ghost use Rattle.aat_read_lookup.specs.Layouts.{checked_units, end_before, is_terminator, record_size, segment_at, segment_of, unit_fault, unit_place, units_at, units_fault, without_terminator};
+ghost use Rattle.aat_bytes.specs.Bisection.{nearest};
+ghost use Rattle.aat_read_lookup.specs.Layouts.{checked_units, glyphs_found, is_terminator, record_size, segment_at, segment_of, unit_at, unit_fault, unit_place, units_at, units_fault, without_terminator};
 ghost use Rattle.aat_read_lookup.specs.Segments.{values_place};
-ghost use Rattle.aat_read_lookup.specs.inside.Sound.{AreInside, AreSound};
+ghost use Rattle.aat_read_lookup.specs.inside.Sound.{AreInside, AreSound, Fits};
 
 use crate::segment::{Segment, ValueKind, Values};
 use aat_bytes::{Fault, FaultKind, Tag, be16};
 
 /// What a unit says.
-#[derive(Clone, Copy, PartialEq, Eq)]
+#[derive(Clone, Copy)]
 pub(crate) enum UnitKind {
     /// Format 2: a segment and one value.
     SegmentSingle,
@@ -43,11 +44,11 @@ fn is_terminator(bytes: &[u8], kind: UnitKind, values: ValueKind, at: usize) -> 
     }
 }
 
-/// The number of glyphs from a first to a last one.
-fn glyphs_between(first: u16, last: u16) -> usize
-    ensures { result ≡ last + 1 - first }
+/// A number, or the nearest one of those from one to another.
+fn nearest(from: usize, to: usize, number: usize) -> usize
+    ensures { result ≡ nearest from to number }
 {
-    (last as usize + 1).saturating_sub(first as usize)
+    number.max(from).min(to)
 }
 
 /// The segment of the unit at a place.
@@ -58,19 +59,21 @@ fn segment_at(bytes: &[u8], kind: UnitKind, values: ValueKind, start: usize, at:
     ensures glyphs { result.first + result.count ≤ 65536 }
     ensures near { values_place result.values ≤ length bytes.now + 65536 }
 {
+    let first = be16(bytes, at + 2) as usize;
+    let end = be16(bytes, at) as usize + 1;
     match kind {
         UnitKind::SegmentSingle => Segment {
-            first: be16(bytes, at + 2),
-            count: glyphs_between(be16(bytes, at + 2), be16(bytes, at)),
+            first,
+            count: end.saturating_sub(first),
             values: Values::Shared(values, at + 4),
         },
         UnitKind::SegmentArray => Segment {
-            first: be16(bytes, at + 2),
-            count: glyphs_between(be16(bytes, at + 2), be16(bytes, at)),
+            first,
+            count: end.saturating_sub(first),
             values: Values::Each(values, start + be16(bytes, at + 4) as usize),
         },
         UnitKind::Single => Segment {
-            first: be16(bytes, at),
+            first: be16(bytes, at) as usize,
             count: 1,
             values: Values::Shared(values, at + 2),
         },
@@ -103,11 +106,11 @@ impl Units {
         self.start + 12 + self.size as usize * i as usize
     }
 
-    /// The segment of a unit.
-    pub(crate) fn segment(self, i: u16, bytes: &[u8]) -> Segment
+    /// All glyphs of a unit, with their values.
+    pub(crate) fn unit(self, i: u16, bytes: &[u8]) -> Segment
         requires inside { AreInside bytes.now self }
         requires below { i < self.count }
-        ensures is { result ≡ segment_of bytes.now self i }
+        ensures is { result ≡ unit_at bytes.now self i }
         ensures glyphs { result.first + result.count ≤ 65536 }
         ensures near { values_place result.values ≤ length bytes.now + 65536 }
     {
@@ -118,6 +121,48 @@ impl Units {
             self.start,
             self.place(i, bytes),
         )
+    }
+
+    /// The glyphs by which a bisection finds a unit, from the first one up to the one behind the last. On its way each
+    /// unit that it passes leaves the glyphs below its own, or those above them.
+    fn glyphs_found(self, i: u16, bytes: &[u8]) -> (usize, usize)
+        requires inside { AreInside bytes.now self }
+        requires below { i < self.count }
+        ensures is { result ≡ glyphs_found bytes.now self i }
+        ensures rise { result.0 ≤ result.1 }
+        ensures few { result.1 ≤ 65536 }
+    {
+        let wanted = i as usize;
+        let mut from = 0;
+        let mut to = self.count as usize;
+        let mut first = 0;
+        let mut end = 65536;
+        'way: loop {
+            let middle = (from + (to - 1)) / 2;
+            let unit = self.unit(middle as u16, bytes);
+            let start = nearest(first, end, unit.first);
+            let stop = nearest(first, end, unit.first + unit.count);
+            if wanted < middle {
+                to = middle;
+                end = start;
+            } else if middle < wanted {
+                from = middle + 1;
+                first = stop;
+            } else {
+                return (start, stop);
+            }
+        }
+    }
+
+    /// The segment of a unit: those of its glyphs by which a bisection finds it.
+    pub(crate) fn segment(self, i: u16, bytes: &[u8]) -> Segment
+        requires sound { AreSound bytes.now self }
+        requires below { i < self.count }
+        ensures is { result ≡ segment_of bytes.now self i }
+        ensures fits { Fits bytes.now result }
+    {
+        let (first, end) = self.glyphs_found(i, bytes);
+        self.unit(i, bytes).part(first, end)
     }
 
     /// The units without the terminator.
@@ -178,31 +223,18 @@ impl Units {
         Ok(units.without_terminator(bytes))
     }
 
-    /// The glyph behind the last one of the unit before.
-    fn end_before(self, i: u16, bytes: &[u8]) -> usize
-        requires inside { AreInside bytes.now self }
-        requires below { i < self.count }
-        ensures { result ≡ end_before bytes.now self i }
-    {
-        if i == 0 {
-            return 0;
-        }
-        let before = self.segment(i - 1, bytes);
-        before.first as usize + before.count
-    }
-
     /// The fault of a unit.
     fn unit_fault(self, table: Tag, bytes: &[u8], i: u16) -> Option<Fault>
         requires inside { AreInside bytes.now self }
         requires below { i < self.count }
         ensures { result ≡ unit_fault table bytes.now self i }
     {
-        let segment = self.segment(i, bytes);
-        if segment.count == 0 || (segment.first as usize) < self.end_before(i, bytes) {
+        let unit = self.unit(i, bytes);
+        if self.kind.has_offset() && unit.count == 0 {
             return Some(Fault::new(table, FaultKind::NotRising, self.place(i, bytes)));
         }
-        if segment.is_past_end(bytes) {
-            return Some(Fault::new(table, FaultKind::PastEnd, segment.values.place()));
+        if unit.is_past_end(bytes) {
+            return Some(Fault::new(table, FaultKind::PastEnd, unit.values.place()));
         }
         None
     }

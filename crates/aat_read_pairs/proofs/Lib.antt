@@ -2,5 +2,4 @@ pub mod AddedUp
 pub mod Counts
 pub mod OffsetClasses
 pub mod OffsetSums
-pub mod PassedRows
 pub mod RisingPairs

@@ -13,8 +13,8 @@ use Rattle.aat_bytes.specs.facts.Parts.{ok_parts, passes}
 use Rattle.aat_bytes.specs.declared.tags.TheConstants.{KERN, KERX}
 use Rattle.aat_lookup.specs.Keys.{first_fall}
 use Rattle.aat_kerning_tables.specs.Pairs.{kerning_of, key_of_pair, pair_key}
-use Rattle.aat_read_pairs.specs.Bisection.{found_rows, is_found, row_found}
-use Rattle.aat_read_pairs.specs.facts.Bisections.{found_rows_have, found_rows_rise, keeps_few, rising_are_found}
+use Rattle.aat_bytes.specs.Bisection.{found_rows, is_found, row_found}
+use Rattle.aat_read_lookup.specs.facts.FoundRows.{found_rows_have, found_rows_rise, keeps_few, rising_are_found}
 use Rattle.aat_read_pairs.specs.KerningValues.{no_tuples}
 use Rattle.aat_read_pairs.specs.ListedPairs.{found_pairs, kern_pairs_at, kerx_pairs_at, key_at, listed_pairs, pair_at, pair_place}
 use Rattle.aat_read_pairs.specs.PairLaws.{ExtendedPairsAreBounded, ExtendedPairsAreThoseFound, ExtendedPairsRise, PairsAreBounded, PairsAreThoseFound, PairsRise, RisingPairsAreAll}

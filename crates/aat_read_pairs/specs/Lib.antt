@@ -1,4 +1,3 @@
-pub mod Bisection
 pub mod ClassTables
 pub mod KernClasses
 pub mod KernIndexes

@@ -9,7 +9,7 @@ use Rattle.aat_bytes.specs.declared.error.FaultKind.TheVariants.{PastEnd}
 use Rattle.aat_bytes.specs.declared.tag.Tag.{Tag}
 use Rattle.aat_bytes.specs.declared.tags.TheConstants.{KERN, KERX}
 use Rattle.aat_kerning_tables.specs.Pairs.{pair_key}
-use Rattle.aat_read_pairs.specs.Bisection.{found_rows}
+use Rattle.aat_bytes.specs.Bisection.{found_rows}
 use Rattle.aat_read_pairs.specs.KerningValues.{kerning_value, no_tuples}
 use Rattle.aat_read_pairs.specs.declared.values.Tuples.{Tuples}
 

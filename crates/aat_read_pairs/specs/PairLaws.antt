@@ -4,7 +4,7 @@ use Rattle.aat_bytes.specs.Numbers.{be16, be32, signed16}
 use Rattle.aat_kerning_tables.specs.Classes.{ClassValues, kerning_by_classes}
 use Rattle.aat_lookup.specs.Keys.{first_fall}
 use Rattle.aat_kerning_tables.specs.Pairs.{kerning_of, key_of_pair, pair_key}
-use Rattle.aat_read_pairs.specs.Bisection.{row_found}
+use Rattle.aat_bytes.specs.Bisection.{row_found}
 use Rattle.aat_read_pairs.specs.KernClasses.{kern_classes_at}
 use Rattle.aat_read_pairs.specs.KerningValues.{no_tuples}
 use Rattle.aat_read_pairs.specs.ListedPairs.{found_pairs, kern_pairs_at, kerx_pairs_at, key_at, pair_at, pairs_at}

@@ -1,2 +1,1 @@
-pub mod Bisections
 pub mod Starts

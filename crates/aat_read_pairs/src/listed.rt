@@ -2,7 +2,7 @@
 ghost use Rattle.std.specs.Prelude.{◌≡◌, ◌+◌, ◌*◌, ◌^◌, ◌<◌, ◌≤◌, length, IfOk, None};
 ghost use Rattle.aat_lookup.specs.Keys.{first_fall};
 ghost use Rattle.aat_kerning_tables.specs.Pairs.{key_of_pair};
-ghost use Rattle.aat_read_pairs.specs.Bisection.{is_found, row_found};
+ghost use Rattle.aat_bytes.specs.Bisection.{is_found, row_found};
 ghost use Rattle.aat_read_lookup.specs.Lookups.{Gives};
 ghost use Rattle.aat_read_pairs.specs.ListedPairs.{found_pairs, kern_pairs_at, kerx_pairs_at, key_at, listed_pairs, pair_at, pairs_at};
 
@@ -13,7 +13,7 @@ use aat_kerning_tables::Pairs;
 use aat_lookup::TableError;
 use std::alloc::{AllocError, Allocator};
 
-/// The number by which pairs rise.
+/// The number by which a bisection searches a pair: its left glyph, then its right one.
 fn key_at(bytes: &[u8], place: usize, i: usize) -> u32
     requires { place + 6 * i + 6 ≤ length bytes.now }
     ensures { result ≡ key_at bytes.now place i }

@@ -1,8 +1,8 @@
 -- The directory of a font, and collections of fonts. Apple's TrueType Reference Manual, "The font directory".
-use Rattle.std.specs.Prelude.{ℕ, ◌+◌, ◌*◌, List, length, Bool, Option, Some, None, Result, Ok, Err, if◌then◌else◌, nat_lt, nat_le, ◌==◌, ◌||◌, find}
+use Rattle.std.specs.Prelude.{ℕ, ◌+◌, ◌*◌, List, [], length, take, Bool, Option, Some, None, Result, Ok, Err, if◌then◌else◌, nat_lt, nat_le, ◌==◌, ◌||◌, find}
 use Rattle.std.specs.List.{range_with_len}
 use Rattle.aat_bytes.specs.Faults.{after, fault_at}
-use Rattle.aat_bytes.specs.Numbers.{be16, be32, slice}
+use Rattle.aat_bytes.specs.Numbers.{be16, be32, slice, slice_from}
 use Rattle.aat_bytes.specs.declared.error.Fault.{Fault}
 use Rattle.aat_bytes.specs.declared.error.FaultKind.TheVariants.{PastEnd, UnknownFormat, Missing}
 use Rattle.aat_bytes.specs.declared.tag.Tag.{Tag}
@@ -67,7 +67,21 @@ bytes_of_record directory i =
     slice directory.file (be32 directory.file (record_place directory i + 8))
     (be32 directory.file (record_place directory i + 12))
 
--- the bytes of a table. HarfBuzz cuts a table that reaches past the end of the file, and here that is a fault
+-- those of them that the file has
+abbrev pub part_of_record : Directory → ℕ → List ℕ
+part_of_record directory i = elim (slice_from directory.file (be32 directory.file (record_place directory i + 8))) [
+  | None ↦ []
+  | Some rest ↦ take (be32 directory.file (record_place directory i + 12)) rest
+]
+
+-- what the file has of a table: HarfBuzz cuts a table that reaches past the end of the file
+abbrev pub cut_table_of : Directory → Tag → Result (List ℕ) Fault
+cut_table_of directory tag = elim (record_of directory tag.0) [
+  | None ↦ Err (fault_at tag Missing 0)
+  | Some i ↦ Ok (part_of_record directory i)
+]
+
+-- the bytes of a table that is there as a whole
 abbrev pub table_of : Directory → Tag → Result (List ℕ) Fault
 table_of directory tag = elim (record_of directory tag.0) [
   | None ↦ Err (fault_at tag Missing 0)

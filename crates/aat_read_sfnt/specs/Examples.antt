@@ -1,12 +1,12 @@
 -- Worked examples of a font's bytes.
 use Rattle.std.specs.Prelude.{◌≡◌, ℕ, List, [], ◌∷◌, take, drop, Some, None, Ok, Err, replicate}
 use Rattle.aat_bytes.specs.Faults.{fault_at}
-use Rattle.aat_bytes.specs.declared.error.FaultKind.TheVariants.{PastEnd, UnknownFormat, ShortLength, Missing, NotRising}
+use Rattle.aat_bytes.specs.declared.error.FaultKind.TheVariants.{PastEnd, UnknownFormat, ShortLength, Missing}
 use Rattle.aat_bytes.specs.declared.tags.TheConstants.{CMAP, GDEF, HEAD, MAXP, SFNT, TTCF}
 use Rattle.aat_read_sfnt.specs.Characters.{cmap_of, mapped_glyph}
 use Rattle.aat_read_sfnt.specs.CharacterSets.{mac_roman_code}
 use Rattle.aat_read_sfnt.specs.ClassDefinition.{class_in_ranges, class_ranges_at}
-use Rattle.aat_read_sfnt.specs.Directory.{Directory, directory_of, table_of}
+use Rattle.aat_read_sfnt.specs.Directory.{Directory, cut_table_of, directory_of, table_of}
 use Rattle.aat_read_sfnt.specs.Header.{glyph_count}
 use Rattle.aat_read_sfnt.specs.Metrics.{advance_of, metrics_of}
 use Rattle.aat_read_sfnt.specs.SegmentMapping.{segment_glyph, segments_at}
@@ -32,8 +32,8 @@ example_file =
 abbrev pub example_directory : Directory
 example_directory = record { file = example_file; place = 0 }
 
--- a table is a slice of the file, one that reaches past the end is a fault, and a file that is no collection has one
--- font
+-- a table is a slice of the file, one that reaches past the end is a fault or is cut there, and a file that is no
+-- collection has one font
 abbrev pub TablesAreSlices : Type 0
 TablesAreSlices =
     (directory_of example_file 0 ≡ Ok example_directory)
@@ -41,6 +41,8 @@ TablesAreSlices =
     × (table_of example_directory MAXP ≡ Ok example_profile)
     × (glyph_count example_profile ≡ Ok 7)
     × (table_of example_directory HEAD ≡ Err (fault_at HEAD PastEnd 0))
+    × (cut_table_of example_directory MAXP ≡ Ok example_profile)
+    × (cut_table_of example_directory HEAD ≡ Ok (0 ∷ 7 ∷ []))
     × (table_of example_directory CMAP ≡ Err (fault_at CMAP Missing 0))
 
 -- a collection of one font, whose directory stands at 16 and has no tables
@@ -87,6 +89,23 @@ SegmentsMapCharacters =
     × (segment_glyph example_segments 65535 ≡ None)
     × (segment_glyph example_segments 65601 ≡ None)
 
+-- segments from 97 to 98 by a delta of 1, from 65 to 67 by one of -55, from 70 to 66 by one of 0, and from 80 to 81 by
+-- one of 0. A bisection begins at the second one, and never comes to the first
+abbrev pub falling_segments : List ℕ
+falling_segments =
+    0 ∷ 4 ∷ 0 ∷ 48 ∷ 0 ∷ 0 ∷ 0 ∷ 8 ∷ 0 ∷ 0 ∷ 0 ∷ 0 ∷ 0 ∷ 0
+    ∷ 0 ∷ 98 ∷ 0 ∷ 67 ∷ 0 ∷ 66 ∷ 0 ∷ 81 ∷ 0 ∷ 0 ∷ 0 ∷ 97 ∷ 0 ∷ 65 ∷ 0 ∷ 70 ∷ 0 ∷ 80
+    ∷ 0 ∷ 1 ∷ 255 ∷ 201 ∷ 0 ∷ 0 ∷ 0 ∷ 0 ∷ 0 ∷ 0 ∷ 0 ∷ 0 ∷ 0 ∷ 0 ∷ 0 ∷ 0 ∷ []
+
+-- segments that do not rise are those that a bisection finds
+abbrev pub FallingSegmentsAreFound : Type 0
+FallingSegmentsAreFound =
+    (segments_at falling_segments 0 ≡ Ok falling_segments)
+    × (segment_glyph falling_segments 67 ≡ Some 12)
+    × (segment_glyph falling_segments 80 ≡ Some 80)
+    × (segment_glyph falling_segments 68 ≡ None)
+    × (segment_glyph falling_segments 97 ≡ None)
+
 -- a length that does not hold the lists
 abbrev pub ShortSegmentsAreAFault : Type 0
 ShortSegmentsAreAFault =
@@ -106,18 +125,19 @@ GroupsMapCharacters =
     × (group_glyph example_groups 65537 ≡ Some 6)
     × (group_glyph example_groups 65538 ≡ None)
 
--- two groups that both end at 65537
+-- two groups from 65536 to 65537
 abbrev pub falling_groups : List ℕ
 falling_groups =
     0 ∷ 12 ∷ 0 ∷ 0 ∷ 0 ∷ 0 ∷ 0 ∷ 40 ∷ 0 ∷ 0 ∷ 0 ∷ 0 ∷ 0 ∷ 0 ∷ 0 ∷ 2
     ∷ 0 ∷ 1 ∷ 0 ∷ 0 ∷ 0 ∷ 1 ∷ 0 ∷ 1 ∷ 0 ∷ 0 ∷ 0 ∷ 5
     ∷ 0 ∷ 1 ∷ 0 ∷ 0 ∷ 0 ∷ 1 ∷ 0 ∷ 1 ∷ 0 ∷ 0 ∷ 0 ∷ 7 ∷ []
 
--- the last character of the second one is a fault
-abbrev pub FallingGroupsAreAFault : Type 0
-FallingGroupsAreAFault =
+-- a bisection finds the first one
+abbrev pub FallingGroupsAreFound : Type 0
+FallingGroupsAreFound =
     (groups_at example_groups 100 ≡ Ok example_groups)
-    × (groups_at falling_groups 100 ≡ Err (fault_at CMAP NotRising 132))
+    × (groups_at falling_groups 100 ≡ Ok falling_groups)
+    × (group_glyph falling_groups 65537 ≡ Some 6)
 
 -- two subtables: platform 0 and encoding 3 at 22, where a is the glyph 7, and 3 with 10 at 20, of a format that is none
 abbrev pub example_cmap : List ℕ
@@ -187,10 +207,15 @@ RangesHaveTheirEnds =
     × (class_in_ranges example_ranges 7 ≡ 3)
     × (class_in_ranges example_ranges 8 ≡ 0)
 
--- two ranges, of which the second begins at the last glyph of the first, and a range from 7 to 5
-abbrev pub FallingRangesAreAFault : Type 0
-FallingRangesAreAFault =
+-- ranges from 9 to 10 of class 2, from 5 to 7 of class 3, and from 7 to 8 of class 1
+abbrev pub falling_ranges : List ℕ
+falling_ranges = 0 ∷ 2 ∷ 0 ∷ 3 ∷ 0 ∷ 9 ∷ 0 ∷ 10 ∷ 0 ∷ 2 ∷ 0 ∷ 5 ∷ 0 ∷ 7 ∷ 0 ∷ 3 ∷ 0 ∷ 7 ∷ 0 ∷ 8 ∷ 0 ∷ 1 ∷ []
+
+-- of ranges that do not rise a glyph is in the one that a bisection finds, which begins at the second
+abbrev pub FallingRangesAreFound : Type 0
+FallingRangesAreFound =
     (class_ranges_at example_ranges 12 ≡ Ok example_ranges)
-    × (class_ranges_at (0 ∷ 2 ∷ 0 ∷ 2 ∷ 0 ∷ 5 ∷ 0 ∷ 7 ∷ 0 ∷ 3 ∷ 0 ∷ 7 ∷ 0 ∷ 9 ∷ 0 ∷ 1 ∷ []) 12
-    ≡ Err (fault_at GDEF NotRising 22))
-    × (class_ranges_at (0 ∷ 2 ∷ 0 ∷ 1 ∷ 0 ∷ 7 ∷ 0 ∷ 5 ∷ 0 ∷ 3 ∷ []) 12 ≡ Err (fault_at GDEF NotRising 16))
+    × (class_ranges_at falling_ranges 12 ≡ Ok falling_ranges)
+    × (class_in_ranges falling_ranges 7 ≡ 3)
+    × (class_in_ranges falling_ranges 8 ≡ 1)
+    × (class_in_ranges falling_ranges 9 ≡ 0)

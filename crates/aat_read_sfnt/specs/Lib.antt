@@ -8,7 +8,6 @@ pub mod Header
 pub mod Metrics
 pub mod Names
 pub mod RisingEnds
-pub mod RisingRanges
 pub mod SegmentMapping
 pub mod SegmentedCoverage
 pub mod ShortTables

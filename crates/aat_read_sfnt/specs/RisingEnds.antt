@@ -1,4 +1,4 @@
--- Last characters of segments and of groups, which have to rise.
+-- Ends that have to rise: the last points of contours.
 use Rattle.std.specs.Prelude.{ℕ, Bool, ◌-◌, Option, nat_lt, nat_le, ◌&&◌, find}
 use Rattle.std.specs.List.{range_with_len}
 

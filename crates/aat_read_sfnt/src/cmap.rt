@@ -169,9 +169,7 @@ impl<'a> CharacterMap<'a> {
     /// The first fault in this order: 1, `PastEnd`, a header of 4 bytes that is not there; 2, `UnknownFormat`, a
     /// version that is not 0; 1, records that are not there; 4, `Missing`, no record of a platform and encoding that
     /// is read; and where each of their subtables has a fault, of the first one 1, a field that is not there, 2,
-    /// another format than 0, 4, 6 and 12, 3, `ShortLength`, a length of format 4 that does not hold its lists, and 5,
-    /// `NotRising`, at the first of the last characters of formats 4 and 12 that is not above the one before it.
-    /// HarfBuzz bisects them and believes that they rise.
+    /// another format than 0, 4, 6 and 12, and 3, `ShortLength`, a length of format 4 that does not hold its lists.
     #[tactic(auto, unfolding(crate::specs::Characters::cmap_of))]
     pub fn read(cmap: &'a [u8]) -> Result<CharacterMap<'a>, Fault>
         ensures { result ≡ cmap_of cmap.now }

@@ -1,10 +1,10 @@
 //! The directory of a font, and collections of fonts.
-ghost use Rattle.std.specs.Prelude.{◌≡◌, ◌+◌, ◌*◌, ◌≤◌, ◌==◌, ◌<◌, Ok, Err, IfSome, MatchResult, length, option_copied};
+ghost use Rattle.std.specs.Prelude.{◌≡◌, ◌+◌, ◌*◌, ◌≤◌, ◌==◌, ◌<◌, Ok, Err, IfSome, MatchResult, length, option_copied, take};
 ghost use Rattle.aat_bytes.specs.Numbers.{be16, be32};
 ghost use Rattle.aat_read_sfnt.specs.Directory.{directory_at, directory_place, is_font_version, place_in_collection};
 
 use crate::tags::{SFNT, TTCF};
-use aat_bytes::{Fault, FaultKind, Tag, be16, be32, slice};
+use aat_bytes::{Fault, FaultKind, Tag, be16, be32, slice, slice_from};
 use std::marker::Model;
 
 /// A font of a file. A contract sees it as the record `Directory`.
@@ -26,6 +26,17 @@ impl<'a> Model for FontFile<'a> {
     ghost view = { λ m. record { file = m.file.now; place = m.place } };
 
     ghost invariant = { λ m. m.place + 12 + 16 * be16 m.file.now (m.place + 4) ≤ length m.file.now };
+}
+
+/// The first so many bytes, or all where there are fewer.
+pub(crate) fn front(bytes: &[u8], size: usize) -> &[u8]
+    ensures { result.now ≡ take size bytes.now }
+{
+    if bytes.len() <= size {
+        bytes
+    } else {
+        &bytes[..size]
+    }
 }
 
 /// Whether a font may have a version.
@@ -93,7 +104,7 @@ fn directory_at(file: &[u8], place: u32) -> Result<FontFile<'_>, Fault>
 }
 
 impl<'a> FontFile<'a> {
-    ghost use Rattle.aat_read_sfnt.specs.Directory.{directory_of, record_of, record_place, bytes_of_record, table_of};
+    ghost use Rattle.aat_read_sfnt.specs.Directory.{directory_of, record_of, record_place, bytes_of_record, cut_table_of, part_of_record, table_of};
 
     /// The font at an index of a file. A file that is no collection has one font, at index 0.
     ///
@@ -135,7 +146,35 @@ impl<'a> FontFile<'a> {
         slice(self.file, offset, length)
     }
 
-    /// The bytes of a table. If records share the tag, the first counts.
+    /// The bytes at the offset and of the length of a record that the file has.
+    fn part_of_record(&self, index: u16) -> &'a [u8]
+        requires { index < be16 self.now.file (self.now.place + 4) }
+        ensures { result.now ≡ part_of_record self.now index }
+    {
+        let record = self.place as usize + 12 + 16 * index as usize;
+        let offset = be32(self.file, record + 8) as usize;
+        let length = be32(self.file, record + 12) as usize;
+        match slice_from(self.file, offset) {
+            Some(rest) => front(rest, length),
+            None => &self.file[..0],
+        }
+    }
+
+    /// What the file has of a table: as in HarfBuzz, one that reaches past the end of the file is cut there. If records
+    /// share the tag, the first counts.
+    ///
+    /// The fault is 4, `Missing`, if no record has the tag, of the table, at 0.
+    pub fn cut_table(&self, tag: Tag) -> Result<&'a [u8], Fault>
+        ensures { let table = cut_table_of self.now tag in
+            MatchResult result (λ t. table ≡ Ok t.now) (λ e. table ≡ Err e) }
+    {
+        match self.record_of(tag.0) {
+            Some(index) => Ok(self.part_of_record(index)),
+            None => Err(Fault::new(tag, FaultKind::Missing, 0)),
+        }
+    }
+
+    /// The bytes of a table that is there as a whole. If records share the tag, the first counts.
     ///
     /// The fault is 4, `Missing`, if no record has the tag, and 1, `PastEnd`, if the table reaches past the end of the
     /// file; both are the table's, at 0.

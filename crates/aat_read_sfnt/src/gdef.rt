@@ -1,6 +1,6 @@
 //! The glyph definition table: classes of glyphs.
 ghost use Rattle.std.specs.Prelude.{◌≡◌};
-ghost use Rattle.aat_read_sfnt.specs.GlyphClasses.{glyph_classes_of, properties_of, properties_of_class};
+ghost use Rattle.aat_read_sfnt.specs.GlyphClasses.{class_fault, glyph_classes_of, properties_of, properties_of_class};
 
 use crate::class_definition::ClassDefinition;
 use crate::tags::GDEF;
@@ -31,10 +31,8 @@ impl<'a> GlyphClasses<'a> {
     /// The classes of the table `GDEF`.
     ///
     /// The first fault in this order: 1, `PastEnd`, a header of 12 bytes that is not there; 2, `UnknownFormat`, a
-    /// version that is not 1; then of the classes, and then of the classes of marks, 1, a field that is not there, 2,
-    /// another format than 1 and 2, and 5, `NotRising`, at the first range of format 2 whose last glyph is below its
-    /// first one, or whose first glyph is not above the last one of the range before. HarfBuzz bisects ranges and
-    /// believes that they rise.
+    /// version that is not 1; then of the classes 1, a field that is not there. Classes of another format than 1 and 2
+    /// are read, but by them no glyph has a class, and so are classes of marks that are cut short: `fault` tells them.
     #[tactic(auto, unfolding(crate::specs::GlyphClasses::glyph_classes_of))]
     pub fn read(gdef: &'a [u8]) -> Result<GlyphClasses<'a>, Fault>
         ensures { result ≡ glyph_classes_of gdef.now }
@@ -46,11 +44,24 @@ impl<'a> GlyphClasses<'a> {
             return Err(Fault::new(GDEF, FaultKind::UnknownFormat, 0));
         }
         let classes = ClassDefinition::read(gdef, be16(gdef, 4))?;
-        let mark_classes = ClassDefinition::read(gdef, be16(gdef, 10))?;
+        let mark_classes = match ClassDefinition::read(gdef, be16(gdef, 10)) {
+            Ok(mark_classes) => mark_classes,
+            Err(fault) => ClassDefinition::Faulty(fault),
+        };
         Ok(GlyphClasses {
             classes,
             mark_classes,
         })
+    }
+
+    /// The first fault of classes by which no glyph has a class, though the table is read.
+    pub fn fault(&self) -> Option<Fault>
+        ensures { result ≡ class_fault self.now }
+    {
+        match self.classes.fault() {
+            Some(fault) => Some(fault),
+            None => self.mark_classes.fault(),
+        }
     }
 
     /// The properties of a glyph, as `hb_font_t` has them: 0x02 a base, 0x04 a ligature, 0x08 a mark, which has its

@@ -1,8 +1,8 @@
 //! Worked examples of a font's bytes as theorems. These calls do nothing: what is proved is their contracts.
-ghost use Rattle.aat_read_sfnt.specs.Examples.{AdvancesAreListed, CollectionsListTheirFonts, FallingGroupsAreAFault, FallingRangesAreAFault, FaultySubtablesArePassedOver, GroupsMapCharacters, MacRomanIsRead, RangesHaveTheirEnds, SegmentsMapCharacters, ShortSegmentsAreAFault, SymbolsAreDoubled, TablesAreSlices};
+ghost use Rattle.aat_read_sfnt.specs.Examples.{AdvancesAreListed, CollectionsListTheirFonts, FallingGroupsAreFound, FallingRangesAreFound, FallingSegmentsAreFound, FaultySubtablesArePassedOver, GroupsMapCharacters, MacRomanIsRead, RangesHaveTheirEnds, SegmentsMapCharacters, ShortSegmentsAreAFault, SymbolsAreDoubled, TablesAreSlices};
 
 /// The definitions of directories and of the profile compute to the examples.
-#[tactic(auto, unfolding(aat_bytes::specs::Numbers::slice, crate::specs::Directory::place_in_collection, crate::specs::Directory::directory_place, crate::specs::Directory::directory_at, crate::specs::Header::glyph_count))]
+#[tactic(auto, unfolding(aat_bytes::specs::Numbers::slice, aat_bytes::specs::Numbers::slice_from, crate::specs::Directory::place_in_collection, crate::specs::Directory::directory_place, crate::specs::Directory::directory_at, crate::specs::Header::glyph_count))]
 pub fn directories()
     ensures tables { TablesAreSlices }
     ensures collections { CollectionsListTheirFonts }
@@ -12,6 +12,7 @@ pub fn directories()
 #[tactic(auto, unfolding(aat_bytes::specs::Numbers::u16_at, crate::specs::SegmentMapping::segments_at, crate::specs::SegmentMapping::glyph_in_segment))]
 pub fn segments()
     ensures segments { SegmentsMapCharacters }
+    ensures falling { FallingSegmentsAreFound }
     ensures short { ShortSegmentsAreAFault }
 {}
 
@@ -28,7 +29,7 @@ pub fn maps()
 pub fn lists()
     ensures advances { AdvancesAreListed }
     ensures groups { GroupsMapCharacters }
-    ensures falling_groups { FallingGroupsAreAFault }
+    ensures falling_groups { FallingGroupsAreFound }
     ensures ranges { RangesHaveTheirEnds }
-    ensures falling { FallingRangesAreAFault }
+    ensures falling { FallingRangesAreFound }
 {}

@@ -1,7 +1,7 @@
 -- A feature name table that is written is read again.
-use Rattle.std.proofs.Common.{◌≡◌, ℕ, suc, ◌+◌, ◌*◌, ◌/◌, ◌<◌, ◌≤◌, List, [], ◌∷◌, ◌++◌, length, get_or, take, Bool, true, false, None, Result, Ok, All, refl, sym, ap, ◌∙◌, subst, arith}
+use Rattle.std.proofs.Common.{◌≡◌, ℕ, suc, ◌+◌, ◌*◌, ◌/◌, ◌<◌, ◌≤◌, List, [], ◌∷◌, ◌++◌, length, get_or, map, take, Bool, true, false, None, Result, Ok, All, refl, sym, ap, ◌∙◌, subst, arith}
 use Rattle.std.specs.Prelude.{nat_le, nat_lt}
-use Rattle.std.specs.List.{flat_map}
+use Rattle.std.specs.List.{flat_map, range_with_len}
 use Rattle.std.proofs.lemmas.Bool.{le-ltb, ltb-false}
 use Rattle.std.proofs.lemmas.List.{append-nil, get_or-append-add, length-take-le}
 use Rattle.std.proofs.lemmas.List.Concat.{get_or-flat_map}
@@ -12,7 +12,8 @@ use Rattle.aat_bytes.specs.declared.error.Fault.{Fault}
 use Rattle.aat_lookup.specs.FeatureNames.{kind_of}
 use Rattle.aat_lookup.specs.Keys.{first_fall}
 use Rattle.aat_lookup.specs.declared.feat.FeatureName.{FeatureName}
-use Rattle.aat_read_lookup.specs.Features.{feat_of, feature_count, feature_name, feature_names, rising_names}
+use Rattle.aat_read_lookup.specs.Features.{feat_of, feature_count, feature_name, feature_names}
+use Rattle.aat_read_lookup.specs.facts.FoundRows.{rising_are_found}
 use Rattle.aat_write_lookup.specs.FeatLaws.{IsName, WrittenFeatsAreRead}
 use Rattle.aat_write_lookup.specs.Features.{feat_words, feature_flags, feature_words}
 use Rattle.aat_write_lookup.specs.Words.{word_bytes}
@@ -54,10 +55,6 @@ counted bytes n long version count =
     let header : nat_lt (length bytes) 12 ≡ false = le-ltb (length bytes) 12 (omega arith) in
     let inside : nat_lt (length bytes) (12 + 12 * n) ≡ false = le-ltb (length bytes) (12 + 12 * n) (omega arith) in
     rw (header, version, count, inside) refl
-
--- names that rise are the table
-pub rising_are : (names : List FeatureName) → first_fall kind_of names ≡ None → rising_names names ≡ Ok names
-rising_are names rises = rw (rises, rising_names) refl
 
 module _ (names : List FeatureName) (small : All IsName names) (few : length names ≤ 65535) (rises : first_fall kind_of names ≡ None) where
   abbrev end : ℕ
@@ -117,16 +114,19 @@ module _ (names : List FeatureName) (small : All IsName names) (few : length nam
   count_read : feature_count bytes ≡ Ok (length names)
   count_read = counted bytes (length names) (omega (arith, bytes_long)) (at 0 0 (omega arith) refl) (at 2 4 (omega arith) refl)
 
-  names_read : feature_names bytes (length names) ≡ names
-  names_read =
+  records_read : map (feature_name bytes) (range_with_len 0 (length names)) ≡ names
+  records_read =
       let name_at : ℕ → FeatureName = feature_name bytes in
       sym (fill_by_all name_at names (length names) no_name refl (λ k lt. sym (name_read k lt)))
 
+  names_read : feature_names bytes (length names) ≡ names
+  names_read =
+      rising_are_found kind_of (feature_name bytes) (length names) (ap (first_fall kind_of) records_read ∙ rises)
+      ∙ records_read
+
   pub names_are_read : feat_of bytes ≡ Ok names
   names_are_read =
-      ap (λ (r : Result ℕ Fault). after r (λ count. rising_names (feature_names bytes count))) count_read
-      ∙ ap rising_names names_read
-      ∙ rising_are names rises
+      ap (λ (r : Result ℕ Fault). after r (λ count. Ok (feature_names bytes count))) count_read ∙ ap Ok names_read
 
 -- the law
 pub written_feats_are_read : WrittenFeatsAreRead

@@ -88,6 +88,7 @@ module _ (pairs : List (ℕ × ℕ)) (before after : List ℕ) (small : All IsPa
         glyph = λ i below. at (6 + 2 * i) (length before + 12 + 4 * i) (omega arith) (omega arith) ∙ unit (2 * i) ∙ glyph_word pairs terminator i (0, 0) below;
         value = λ i below. at (6 + suc (2 * i)) (length before + 12 + 4 * i + 2) (omega arith) (omega arith) ∙ unit (suc (2 * i)) ∙ value_word pairs terminator i (0, 0) below;
         terminator = at (6 + 2 * length pairs) (length before + 12 + 4 * length pairs) (omega arith) (omega arith) ∙ unit (2 * length pairs) ∙ last_word pairs terminator;
+        glyphs = λ i below. (small i (0, 0) below).0;
         rising = λ i below. rising first pairs rises i (suc i) (0, 0) (omega arith) below;
       }
 

@@ -7,6 +7,7 @@ use Rattle.std.proofs.lemmas.Bool.{cases_eq, cases_lt, le-ltb, ltb-false}
 use Rattle.std.proofs.lemmas.Bool.Decides.{nat_tests}
 use Rattle.std.proofs.lemmas.List.{get_or-append-add, length-take-le}
 use Rattle.std.proofs.lemmas.List.Concat.{get_or-flat_map}
+use Rattle.aat_bytes.specs.Bisection.{bisect}
 use Rattle.aat_bytes.specs.Numbers.{be16, be32, slice_from}
 use Rattle.aat_bytes.specs.Faults.{after, fault_at}
 use Rattle.aat_bytes.specs.declared.error.Fault.{Fault}
@@ -14,15 +15,14 @@ use Rattle.aat_bytes.specs.declared.error.FaultKind.TheVariants.{Missing, PastEn
 use Rattle.aat_lookup.specs.Keys.{IsRising, at_key, first_fall}
 use Rattle.aat_lookup.specs.facts.Falls.{rising}
 use Rattle.aat_read_sfnt.specs.Characters.{best_encoding, cmap_of, encodings, first_encoding, map_of, record_with, sound_encoding, subtable_at, subtable_of, subtable_with}
-use Rattle.aat_read_sfnt.specs.RisingEnds.{end_falls}
 use Rattle.aat_read_sfnt.specs.SegmentedCoverage.{end_char, glyph_in_group, group_glyph, groups_at, known_glyph, start_char, start_glyph}
 use Rattle.aat_read_sfnt.specs.declared.cmap.Cmap.{Cmap}
 use Rattle.aat_read_sfnt.specs.declared.cmap.Cmap.TheVariants.{SegmentedCoverage}
 use Rattle.aat_read_sfnt.specs.declared.cmap.character_set.CharacterSet.TheVariants.{Unicode}
-use Rattle.aat_bytes.specs.facts.Ranges.{none_found}
 use Rattle.aat_write_sfnt.specs.CharacterLaws.{IsMapping, WrittenCharactersAreRead}
 use Rattle.aat_write_sfnt.specs.CharacterMaps.{character_of, cmap_words, group_words, subtable_words}
 use Rattle.aat_write_sfnt.specs.declared.cmap.Mapping.{Mapping}
+use Rattle.aat_write_sfnt.proofs.RisingRows.{rising_rows}
 use Rattle.aat_write_sfnt.proofs.TablesAgain.{word_of}
 use Rattle.aat_write_lookup.specs.Words.{word_bytes}
 use Rattle.aat_bytes.specs.facts.Longs.{long_is}
@@ -53,18 +53,17 @@ sound_is :
 unfolding sound_encoding
 sound_is bytes map none first = rw (none, none_is bytes, first) refl
 
--- a subtable of format 12 whose groups rise
+-- a subtable of format 12
 groups_are :
     (bytes : List ℕ) (n place : ℕ)
     → 16 + 12 * n ≤ length bytes
     → be32 bytes 12 ≡ n
-    → find (end_falls (end_char bytes)) (range_with_len 0 n) ≡ None
     → groups_at bytes place ≡ Ok bytes
 unfolding groups_at
-groups_are bytes n place long count rises =
+groups_are bytes n place long count =
     let header : nat_lt (length bytes) 16 ≡ false = le-ltb (length bytes) 16 (omega arith) in
     let whole : nat_lt (length bytes) (16 + 12 * n) ≡ false = le-ltb (length bytes) (16 + 12 * n) (omega arith) in
-    rw (header, count, whole, rises) refl
+    rw (header, count, whole) refl
 
 -- a subtable of such groups
 subtable_is :
@@ -122,77 +121,72 @@ map_is bytes map long version count none subtable =
     ∙ ap (λ (sound : Option ℕ). map_of bytes (option_or sound (first_encoding bytes encodings))) (sound_is bytes map none subtable)
     ∙ ap (λ (read : Result Cmap Fault). after read (λ subtable. Ok (record { subtable = subtable; character_set = Unicode }))) subtable)
 
--- no mapping has a character below all of theirs
-none_behind :
-    (mappings : List Mapping) (character : ℕ)
-    → ((i : ℕ) (d : Mapping) → i < length mappings → character < character_of (get_or mappings i d))
-    → at_key character_of mappings character ≡ None
-none_behind [] character above = refl
-none_behind (m ∷ mappings) character above =
-    let first = above 0 m (omega arith) in
-    let other : (character_of m == character) ≡ false = grind (arith, nat_tests) in
-    ap (λ (b : Bool). cond b (Some m) (at_key character_of mappings character)) other
-    ∙ none_behind mappings character (λ i d lt. above (suc i) d (omega arith))
+-- a search over the places of a list leads to the same as one over its elements, where what is found does
+module _ {X Y : Type 0} (p : X → Bool) (q : ℕ → Bool) (F : ℕ → Option Y) (G : X → Option Y) where
+  one_same :
+      (b c : Bool) (k : ℕ) (x : X) (ks : Option ℕ) (xs : Option X)
+      → b ≡ c
+      → (c ≡ true → F k ≡ G x)
+      → option_and_then F ks ≡ option_and_then G xs
+      → option_and_then F (cond b (Some k) ks) ≡ option_and_then G (cond c (Some x) xs)
+  one_same true true k x ks xs same here rest = here refl
+  one_same false false k x ks xs same here rest = rest
+  one_same true false k x ks xs same here rest = absurd (let wrong : ⊥ = cc in wrong)
+  one_same false true k x ks xs same here rest = absurd (let wrong : ⊥ = cc in wrong)
+
+  found_same :
+      (xs : List X) (a : ℕ) (d : X)
+      → ((i k : ℕ) → i < length xs → a + i ≡ k → (q k ≡ p (get_or xs i d)) × (p (get_or xs i d) ≡ true → F k ≡ G (get_or xs i d)))
+      → option_and_then F (find q (range_with_len a (length xs))) ≡ option_and_then G (find p xs)
+  found_same [] a d each = refl
+  found_same (x ∷ xs) a d each =
+      let here = each 0 a (omega arith) (omega arith) in
+      let rest = found_same xs (a + 1) d (λ i k below is. each (suc i) k (omega arith) (omega arith)) in
+      one_same (q a) (p x) a x (find q (range_with_len (a + 1) (length xs))) (find p xs) here.0 here.1 rest
+
+-- the test of a group of a single character
+single : (first last character k : ℕ) → first ≡ k → last ≡ k → (nat_le first character && nat_le character last) ≡ (k == character)
+single first last character k start end = grind (arith, nat_tests)
+
+same_character : (k character : ℕ) → (k == character) ≡ true → k ≡ character
+same_character k character same = grind (arith, nat_tests)
 
 module _ (bytes : List ℕ) (character : ℕ) where
-  abbrev ends : ℕ → Bool
-  ends i = nat_le character (end_char bytes i)
-
-  -- groups of single characters from one on give what the mappings do
+  -- groups of single characters that rise give what the mappings do
   groups_give :
-      (a : ℕ) (mappings : List Mapping)
-      → IsRising character_of mappings
-      → ((i : ℕ) (d : Mapping) → i < length mappings → start_char bytes (a + i) ≡ (get_or mappings i d).character)
-      → ((i : ℕ) (d : Mapping) → i < length mappings → end_char bytes (a + i) ≡ (get_or mappings i d).character)
-      → ((i : ℕ) (d : Mapping) → i < length mappings → start_glyph bytes (a + i) ≡ (get_or mappings i d).glyph)
-      → option_and_then (glyph_in_group bytes character) (find ends (range_with_len a (length mappings)))
-      ≡ option_and_then (λ mapping. known_glyph mapping.glyph) (at_key character_of mappings character)
-  groups_give a [] rises starts finishes glyphs = refl
-  groups_give a (m ∷ mappings) rises starts finishes glyphs = elim (cases_lt m.character character) [
-    | inl past ↦
-        let passed : ends a ≡ false = grind (arith, nat_tests, finish) in
-        let other : (m.character == character) ≡ false = grind (arith, nat_tests) in
-        let shift : (i : ℕ) → a + 1 + i ≡ a + suc i = λ i. omega arith in
-        let next = groups_give (a + 1) mappings (λ i j d lt below. rises (suc i) (suc j) d (omega arith) (omega arith))
-        (λ i d lt. ap (start_char bytes) (shift i) ∙ starts (suc i) d (omega arith))
-        (λ i d lt. ap (end_char bytes) (shift i) ∙ finishes (suc i) d (omega arith))
-        (λ i d lt. ap (start_glyph bytes) (shift i) ∙ glyphs (suc i) d (omega arith)) in
-        ap (λ (b : Bool). option_and_then (glyph_in_group bytes character) (cond b (Some a) rest)) passed
-        ∙ next
-        ∙ sym (ap (λ (b : Bool). option_and_then (λ mapping. known_glyph mapping.glyph) (cond b (Some m) (at_key character_of mappings character))) other)
-    | inr least ↦
-        let here : ends a ≡ true = grind (arith, nat_tests, finish) in
-        ap (λ (b : Bool). option_and_then (glyph_in_group bytes character) (cond b (Some a) rest)) here
-        ∙ elim (cases_eq m.character character) [
-          | inl same ↦
-              let low : nat_lt character (start_char bytes a) ≡ false = grind (arith, nat_tests, start) in
-              let number : start_glyph bytes a + (character - start_char bytes a) ≡ m.glyph = omega (arith, start, glyph, same) in
-              let is : (m.character == character) ≡ true = grind (arith, nat_tests) in
-              ap (λ (b : Bool). cond b None (known_glyph (start_glyph bytes a + (character - start_char bytes a)))) low
-              ∙ ap known_glyph number
-              ∙ sym (ap (λ (b : Bool). option_and_then (λ mapping. known_glyph mapping.glyph) (cond b (Some m) (at_key character_of mappings character))) is)
-          | inr differs ↦
-              let under : nat_lt character (start_char bytes a) ≡ true = grind (arith, nat_tests, start) in
-              let above : (i : ℕ) (d : Mapping) → i < length (m ∷ mappings) → character < character_of (get_or (m ∷ mappings) i d) = all_above (omega arith) in
-              ap (λ (b : Bool). cond b None (known_glyph (start_glyph bytes a + (character - start_char bytes a)))) under
-              ∙ sym (ap (option_and_then (λ mapping. known_glyph mapping.glyph)) (none_behind (m ∷ mappings) character above))
-        ]
-  ] where
-    rest : Option ℕ
-    rest = find ends (range_with_len (a + 1) (length mappings))
-
-    start : start_char bytes a ≡ m.character
-    start = ap (start_char bytes) (omega arith) ∙ starts 0 m (omega arith)
-
-    finish : end_char bytes a ≡ m.character
-    finish = ap (end_char bytes) (omega arith) ∙ finishes 0 m (omega arith)
-
-    glyph : start_glyph bytes a ≡ m.glyph
-    glyph = ap (start_glyph bytes) (omega arith) ∙ glyphs 0 m (omega arith)
-
-    all_above : character < m.character → (i : ℕ) (d : Mapping) → i < length (m ∷ mappings) → character < character_of (get_or (m ∷ mappings) i d)
-    all_above first zero d lt = first
-    all_above first (suc i) d lt = omega (arith, first, rises 0 (suc i) d (omega arith) lt)
+      (mappings : List Mapping) (d : Mapping)
+      → first_fall character_of mappings ≡ None
+      → ((i : ℕ) → i < length mappings → start_char bytes i ≡ (get_or mappings i d).character)
+      → ((i : ℕ) → i < length mappings → end_char bytes i ≡ (get_or mappings i d).character)
+      → ((i : ℕ) → i < length mappings → start_glyph bytes i ≡ (get_or mappings i d).glyph)
+      → be32 bytes 12 ≡ length mappings
+      → group_glyph bytes character ≡ option_and_then (λ mapping. known_glyph mapping.glyph) (at_key character_of mappings character)
+  groups_give mappings d rises starts finishes glyphs count =
+      let whole : (i : ℕ) → i < length mappings → start_char bytes i ≤ end_char bytes i =
+      λ i below. omega (arith, starts i below, finishes i below) in
+      let above : (i j : ℕ) → i < j → j < length mappings → end_char bytes i < start_char bytes j =
+      λ i j lt below.
+      let up : character_of (get_or mappings i d) < character_of (get_or mappings j d) = rising character_of mappings rises i j d lt below in
+      omega (arith, finishes i (omega arith), starts j below, up) in
+      let has : ℕ → Bool = λ i. nat_le (start_char bytes i) character && nat_le character (end_char bytes i) in
+      let is_it : Mapping → Bool = λ m. m.character == character in
+      let each : (i k : ℕ) → i < length mappings → 0 + i ≡ k
+      → (has k ≡ is_it (get_or mappings i d))
+      × (is_it (get_or mappings i d) ≡ true → glyph_in_group bytes character k ≡ known_glyph (get_or mappings i d).glyph) =
+      λ i k below is.
+      let same : k ≡ i = omega (arith, is) in
+      let start : start_char bytes k ≡ (get_or mappings i d).character = ap (start_char bytes) same ∙ starts i below in
+      let finish : end_char bytes k ≡ (get_or mappings i d).character = ap (end_char bytes) same ∙ finishes i below in
+      let glyph : start_glyph bytes k ≡ (get_or mappings i d).glyph = ap (start_glyph bytes) same ∙ glyphs i below in (
+        single (start_char bytes k) (end_char bytes k) character (get_or mappings i d).character start finish,
+        λ here.
+            let it = same_character (get_or mappings i d).character character here in
+            let number : start_glyph bytes k + (character - start_char bytes k) ≡ (get_or mappings i d).glyph = omega (arith, start, glyph, it) in
+            ap known_glyph number,
+      ) in
+      ap (λ n. option_and_then (glyph_in_group bytes character) (bisect (start_char bytes) (end_char bytes) n 0 n character)) count
+      ∙ ap (option_and_then (glyph_in_group bytes character)) (rising_rows (start_char bytes) (end_char bytes) (length mappings) character whole above)
+      ∙ found_same is_it has (glyph_in_group bytes character) (λ mapping. known_glyph mapping.glyph) mappings 0 d each
 
 -- groups as words
 groups_long : (mappings : List Mapping) → length (flat_map group_words mappings) ≡ 6 * length mappings
@@ -270,27 +264,13 @@ module _ (mappings : List Mapping) (small : All IsMapping mappings) (few : lengt
   some_mapping : Mapping
   some_mapping = record { character = 0; glyph = 0 }
 
-  keeps : (i : ℕ) → i < n → end_falls (end_char sub) i ≡ false
-  keeps zero below = refl
-  keeps (suc i) below =
-      let above = rising character_of mappings rises i (suc i) some_mapping (omega arith) below in
-      let first = end_here i some_mapping (omega arith) in
-      let second = end_here (suc i) some_mapping below in
-      let place : suc i - 1 ≡ i = omega arith in
-      let before : end_char sub (suc i - 1) ≡ end_char sub i = ap (end_char sub) place in
-      let keeps_order : nat_le (end_char sub (suc i)) (end_char sub (suc i - 1)) ≡ false = grind (arith, nat_tests, above, first, second, before) in
-      let later : nat_lt 0 (suc i) ≡ true = grind (arith, nat_tests) in
-      ap (λ (b : Bool). b && nat_le (end_char sub (suc i)) (end_char sub (suc i - 1))) later ∙ keeps_order
-
   pub characters_are_read :
       (cmap_of (word_bytes (cmap_words mappings)) ≡ Ok (record { subtable = SegmentedCoverage sub; character_set = Unicode }))
       × ((character : ℕ)
       → group_glyph sub character
       ≡ option_and_then (λ mapping. known_glyph mapping.glyph) (at_key character_of mappings character))
   characters_are_read =
-      let from_zero : (i : ℕ) → 0 + i ≡ i = λ i. omega arith in
-      let none = none_found (end_falls (end_char sub)) 0 n (λ k low high. keeps k (omega arith)) in
-      let groups = groups_are sub n 12 (omega (arith, sub_long)) count_read none in
+      let groups = groups_are sub n 12 (omega (arith, sub_long)) count_read in
       let whole : List ℕ = word_bytes (cmap_words mappings) in
       let long : 12 ≤ length whole = omega (arith, sub_long) in
       let subtable = subtable_is sub (omega (arith, sub_long)) refl groups in
@@ -299,11 +279,9 @@ module _ (mappings : List Mapping) (small : All IsMapping mappings) (few : lengt
       let map = map_is whole (SegmentedCoverage sub) long refl refl (no_symbols whole refl refl) (recorded ∙ found) in (
         map,
         λ character.
-            ap (λ (m : ℕ). option_and_then (glyph_in_group sub character) (find (λ i. nat_le character (end_char sub i)) (range_with_len 0 m))) count_read
-            ∙ groups_give sub character 0 mappings (rising character_of mappings rises)
-            (λ i d lt. ap (start_char sub) (from_zero i) ∙ start_here i d lt)
-            (λ i d lt. ap (end_char sub) (from_zero i) ∙ end_here i d lt)
-            (λ i d lt. ap (start_glyph sub) (from_zero i) ∙ glyph_here i d lt),
+            groups_give sub character mappings some_mapping rises
+            (λ i below. start_here i some_mapping below) (λ i below. end_here i some_mapping below)
+            (λ i below. glyph_here i some_mapping below) count_read,
       )
 
 pub written_characters_are_read : WrittenCharactersAreRead

@@ -9,6 +9,7 @@ use Rattle.std.proofs.lemmas.Bool.Decides.{nat_tests}
 use Rattle.std.proofs.lemmas.List.{drop-drop, get_or-append-add, get_or-map, length-append, length-map}
 use Rattle.std.proofs.lemmas.List.FromFn.{fill_by_all}
 use Rattle.std.proofs.lemmas.List.Sums.{sum_by-cons}
+use Rattle.aat_bytes.specs.Bisection.{row_found}
 use Rattle.aat_bytes.specs.Faults.{after}
 use Rattle.aat_bytes.specs.Numbers.{be16, be32, u16_at}
 use Rattle.aat_bytes.specs.declared.error.Fault.{Fault}
@@ -16,7 +17,8 @@ use Rattle.aat_bytes.specs.facts.Longs.{long_is}
 use Rattle.aat_lookup.specs.FeatureNames.{kind_of}
 use Rattle.aat_lookup.specs.Keys.{at_key, fall_after, first_fall}
 use Rattle.aat_lookup.specs.declared.feat.FeatureName.{FeatureName}
-use Rattle.aat_read_lookup.specs.Features.{feat_of, feature_count, feature_name, feature_name_id, feature_names, has_number, rising_names, searched_count, setting_name_id, setting_name_in}
+use Rattle.aat_read_lookup.specs.Features.{feat_of, feature_count, feature_name, feature_name_id, feature_names, has_number, kind_at, searched_count, setting_name_id, setting_name_in}
+use Rattle.aat_read_lookup.specs.facts.FoundRows.{rising_are_found, rising_found}
 use Rattle.aat_write_sfnt.specs.NamedFeatureLaws.{IsFeature, IsSetting, WrittenFeaturesAreRead, feature_of, name_of_setting}
 use Rattle.aat_write_sfnt.specs.NamedFeatures.{FeatFeature, all_setting_bytes, feature_record_words, named_feat_words, setting_bytes, setting_count, setting_words, type_of}
 use Rattle.aat_write_sfnt.specs.Records.{records}
@@ -28,7 +30,7 @@ use Rattle.aat_write_lookup.specs.Features.{feature_flags}
 use Rattle.aat_write_lookup.specs.Words.{word_bytes}
 use Rattle.aat_write_lookup.specs.facts.WordPlaces.{AreWords, length_words, long_again, word_at, words_joined}
 use Rattle.aat_write_lookup.specs.facts.Written.{written_is}
-use Rattle.aat_write_lookup.proofs.FeatAgain.{counted, flags_read, flags_small, rising_are}
+use Rattle.aat_write_lookup.proofs.FeatAgain.{counted, flags_read, flags_small}
 
 -- a search over the places of a list leads to the same as one over its elements
 module _ {X Y : Type 0} (p : X → Bool) (q : ℕ → Bool) (F : ℕ → Option Y) (G : X → Option Y) where
@@ -196,16 +198,20 @@ module _ (features : List FeatFeature) (small : All IsFeature features) (many : 
       let of_exclusive : Bool → FeatureName = λ e. record { kind = feature.kind; settings = length feature.settings; exclusive = e } in
       ap of_kind kind ∙ ap of_settings settings ∙ ap of_exclusive exclusive
 
-  features_read : feature_names bytes n ≡ map feature_of features
-  features_read =
+  records_read : map (feature_name bytes) (range_with_len 0 n) ≡ map feature_of features
+  records_read =
       let d : FeatFeature = some_feature in
       sym (fill_by_all (feature_name bytes) (map feature_of features) n (feature_of d) (length-map features feature_of) (λ k lt. get_or-map feature_of features k d (feature_of d) lt ∙ sym (feature_read k d lt)))
 
+  records_rise : first_fall kind_of (map (feature_name bytes) (range_with_len 0 n)) ≡ None
+  records_rise = ap (first_fall kind_of) records_read ∙ first_falls_alike features ∙ rises
+
+  features_read : feature_names bytes n ≡ map feature_of features
+  features_read = rising_are_found kind_of (feature_name bytes) n records_rise ∙ records_read
+
   table_read : feat_of bytes ≡ Ok (map feature_of features)
   table_read =
-      ap (λ (r : Result ℕ Fault). after r (λ count. rising_names (feature_names bytes count))) count_read
-      ∙ ap rising_names features_read
-      ∙ rising_are (map feature_of features) (first_falls_alike features ∙ rises)
+      ap (λ (r : Result ℕ Fault). after r (λ count. Ok (feature_names bytes count))) count_read ∙ ap Ok features_read
 
   searched : searched_count bytes ≡ n
   searched = ap (λ (r : Result ℕ Fault). elim r [ Ok count ↦ count | Err fault ↦ 0 ]) count_read
@@ -276,7 +282,7 @@ module _ (features : List FeatFeature) (small : All IsFeature features) (many : 
   of_type :
       (kind : ℕ) (F : ℕ → Option ℕ) (G : FeatFeature → Option ℕ)
       → ((i : ℕ) → i < n → F i ≡ G (get_or features i some_feature))
-      → option_and_then F (find (λ i. be16 bytes (12 + 12 * i) == kind) (range_with_len 0 (searched_count bytes)))
+      → option_and_then F (row_found (kind_at bytes) (searched_count bytes) kind)
       ≡ option_and_then G (at_key type_of features kind)
   of_type kind F G each =
       let p : FeatFeature → Bool = λ f. type_of f == kind in
@@ -287,13 +293,14 @@ module _ (features : List FeatFeature) (small : All IsFeature features) (many : 
       λ i k below is.
       let same : k ≡ i = omega (arith, is) in
       (ap q same ∙ type_here i kind some_feature below, ap F same ∙ each i below) in
-      ap (λ (m : ℕ). option_and_then F (find q (range_with_len 0 m))) searched
+      ap (λ (m : ℕ). option_and_then F (row_found (kind_at bytes) m kind)) searched
+      ∙ ap (option_and_then F) (rising_found kind_of (feature_name bytes) n kind records_rise)
       ∙ found_alike p q F G features 0 some_feature all
 
   feature_named : (kind : ℕ) → feature_name_id bytes kind ≡ option_map (λ f. f.name) (at_key type_of features kind)
   feature_named kind =
       let name : ℕ → ℕ = λ i. be16 bytes (12 + 12 * i + 10) in
-      let record_here = find (λ i. be16 bytes (12 + 12 * i) == kind) (range_with_len 0 (searched_count bytes)) in
+      let record_here = row_found (kind_at bytes) (searched_count bytes) kind in
       mapped name record_here
       ∙ of_type kind (λ i. Some (name i)) (λ f. Some f.name) (λ i below. ap Some (word_here i 5 (12 + 12 * i + 10) some_feature below (omega arith) (omega arith)))
       ∙ sym (mapped (λ (f : FeatFeature). f.name) (at_key type_of features kind))

@@ -4,6 +4,7 @@ mod FeaturesAgain
 mod FontAgain
 mod NamesAgain
 mod RecordPlaces
+mod RisingRows
 mod SettingCounts
 mod TablesAgain
 pub mod TrackDataAgain

@@ -1,5 +1,5 @@
 -- What is read where the numbers of a lookup of format 6 stand in the bytes.
-use Rattle.std.proofs.Common.{◌≡◌, ℕ, zero, suc, ◌+◌, ◌-◌, ◌*◌, ◌<◌, ◌≤◌, List, [], ◌∷◌, ◌++◌, length, get_or, map, Option, None, Result, Ok, Err, false, refl, sym, ap, ◌∙◌, arith, add-zero}
+use Rattle.std.proofs.Common.{◌≡◌, ℕ, zero, suc, ◌+◌, ◌-◌, ◌*◌, ◌<◌, ◌≤◌, List, [], ◌∷◌, ◌++◌, length, get_or, map, Option, None, Result, Ok, Err, false, refl, sym, ap, ◌∙◌, subst, arith, add-zero}
 use Rattle.std.specs.Prelude.{nat_lt, nat_eq, if◌then◌else◌}
 use Rattle.std.specs.List.{flat_map, range_with_len}
 use Rattle.std.proofs.lemmas.Bool.{le-ltb, ne_eqb}
@@ -9,9 +9,10 @@ use Rattle.aat_bytes.specs.Numbers.{be16}
 use Rattle.aat_bytes.specs.declared.error.Fault.{Fault}
 use Rattle.aat_bytes.specs.declared.error.FaultKind.TheVariants.{PastEnd}
 use Rattle.aat_bytes.specs.declared.tag.Tag.{Tag}
-use Rattle.aat_read_lookup.specs.Layouts.{are_crowded, checked_units, end_before, first_fault, layout_at, searched_at, segment_of, unit_fault, units_at, units_fault, unless_fault}
+use Rattle.aat_bytes.specs.facts.FoundKeys.{own_keys}
+use Rattle.aat_read_lookup.specs.Layouts.{are_crowded, checked_units, first_fault, glyphs_found, layout_at, searched_at, segment_of, unit_at, unit_fault, units_at, units_fault, unless_fault}
 use Rattle.aat_read_lookup.specs.Lookups.{lookup_at, pairs_of}
-use Rattle.aat_read_lookup.specs.Segments.{segment_pairs}
+use Rattle.aat_read_lookup.specs.Segments.{part_of, segment_pairs}
 use Rattle.aat_read_lookup.specs.declared.layout.Layout.{Layout}
 use Rattle.aat_read_lookup.specs.declared.layout.Layout.TheVariants.{Searched}
 use Rattle.aat_read_lookup.specs.declared.segment.ValueKind.TheVariants.{Word}
@@ -47,6 +48,7 @@ pub record HasSingles (bytes : List ℕ) (start : ℕ) (pairs : List (ℕ × ℕ
   pub glyph : (i : ℕ) → i < length pairs → be16 bytes (start + 12 + 4 * i) ≡ (get_or pairs i (0, 0)).0
   pub value : (i : ℕ) → i < length pairs → be16 bytes (start + 12 + 4 * i + 2) ≡ (get_or pairs i (0, 0)).1
   pub terminator : be16 bytes (start + 12 + 4 * length pairs) ≡ 65535
+  pub glyphs : (i : ℕ) → i < length pairs → (get_or pairs i (0, 0)).0 < 65536
   pub rising : (i : ℕ) → suc i < length pairs → (get_or pairs i (0, 0)).0 < (get_or pairs (suc i) (0, 0)).0
 
 module _ (table : Tag) (bytes : List ℕ) (start : ℕ) (pairs : List (ℕ × ℕ)) (has : HasSingles bytes start pairs) where
@@ -63,23 +65,41 @@ module _ (table : Tag) (bytes : List ℕ) (start : ℕ) (pairs : List (ℕ × �
       let some : nat_eq (suc (length pairs)) 0 ≡ false = ne_eqb (suc (length pairs)) 0 (λ e. omega arith) in
       rw (header, has.size, has.count, inside, some, one_less, has.terminator) refl
 
-  rises : (i : ℕ) → i < length pairs → end_before bytes units i ≤ be16 bytes (start + 12 + 4 * i)
-  rises zero below = omega arith
-  rises (suc i) below =
-      let before : suc i - 1 ≡ i = omega arith in
-      let low : be16 bytes (start + 12 + 4 * i) + 1 ≤ be16 bytes (start + 12 + 4 * suc i) =
-      rw (has.glyph i (omega arith), has.glyph (suc i) below) (omega (arith, has.rising i below)) in
-      let some : nat_eq (suc i) 0 ≡ false = ne_eqb (suc i) 0 (λ e. omega arith) in
-      rw (some, before) low
-
   no_fault : (i : ℕ) → i < length pairs → unit_fault table bytes units i ≡ None
   no_fault i below =
-      let place : ℕ = start + 12 + 4 * i in
-      let above : nat_lt (be16 bytes (start + 12 + 4 * i)) (end_before bytes units i) ≡ false =
-      le-ltb (be16 bytes (start + 12 + 4 * i)) (end_before bytes units i) (rises i below) in
       let inside : nat_lt (length bytes) (start + 12 + 4 * i + 2 + 2) ≡ false =
       le-ltb (length bytes) (start + 12 + 4 * i + 2 + 2) (omega (arith, has.long)) in
-      rw (above, inside) refl
+      rw inside refl
+
+  abbrev low : ℕ → ℕ
+  low i = be16 bytes (start + 12 + 4 * i)
+
+  abbrev behind : ℕ → ℕ
+  behind i = be16 bytes (start + 12 + 4 * i) + 1
+
+  next_rises : (j k : ℕ) → j + suc k < length pairs → behind j ≤ low (j + suc k)
+  next_rises j zero below =
+      let next : j + 1 ≡ suc j = omega arith in
+      let up : (get_or pairs j (0, 0)).0 < (get_or pairs (suc j) (0, 0)).0 = has.rising j (omega arith) in
+      rw next (omega (arith, has.glyph j (omega arith), has.glyph (suc j) (omega arith), up))
+  next_rises j (suc k) below =
+      let so_far : behind j ≤ low (j + suc k) = next_rises j k (omega arith) in
+      let next : j + suc (suc k) ≡ suc (j + suc k) = omega arith in
+      let up : (get_or pairs (j + suc k) (0, 0)).0 < (get_or pairs (suc (j + suc k)) (0, 0)).0 = has.rising (j + suc k) (omega arith) in
+      rw next
+      (omega (arith, so_far, has.glyph (j + suc k) (omega arith), has.glyph (suc (j + suc k)) (omega arith), up))
+
+  rises : (j k : ℕ) → j < k → k < length pairs → behind j ≤ low k
+  rises j k lt below =
+      let there : j + suc (k - suc j) ≡ k = omega arith in
+      subst (λ (n : ℕ). behind j ≤ low n) there (next_rises j (k - suc j) (omega arith))
+
+  -- a bisection finds each by its glyph
+  is_found : (i : ℕ) → i < length pairs → glyphs_found bytes units i ≡ (low i, behind i)
+  is_found i below =
+      own_keys low behind (λ m. omega arith) i (length pairs) rises (length pairs) 0 (length pairs) 0 65536
+      (omega arith) below (omega arith) (omega arith)
+      (λ k from to. (omega arith, omega (arith, has.glyph k to, has.glyphs k to)))
 
   checked : checked_units table bytes start Single Word ≡ Ok units
   unfolding checked_units
@@ -104,10 +124,13 @@ module _ (table : Tag) (bytes : List ℕ) (start : ℕ) (pairs : List (ℕ × �
       → segment_pairs bytes (segment_of bytes units i) ≡ get_or pairs i (0, 0) ∷ []
   one_pair i below =
       let pair : ℕ × ℕ = get_or pairs i (0, 0) in
+      let of_found : ℕ × ℕ → List (ℕ × ℕ) = λ g. segment_pairs bytes (part_of (unit_at bytes units i) g) in
+      let one : be16 bytes (start + 12 + 4 * i) + 1 - be16 bytes (start + 12 + 4 * i) ≡ 1 = omega arith in
+      let of_count : ℕ → List (ℕ × ℕ) = λ n. map (λ k. (be16 bytes (start + 12 + 4 * i) + k, be16 bytes (start + 12 + 4 * i + 2))) (range_with_len 0 n) in
       let glyph : be16 bytes (start + 12 + 4 * i) + 0 ≡ pair.0 = add-zero (be16 bytes (start + 12 + 4 * i)) ∙ has.glyph i below in
       let with_value : ℕ → List (ℕ × ℕ) = λ g. (g, be16 bytes (start + 12 + 4 * i + 2)) ∷ [] in
       let with_glyph : ℕ → List (ℕ × ℕ) = λ v. (pair.0, v) ∷ [] in
-      ap with_value glyph ∙ ap with_glyph (has.value i below)
+      ap of_found (is_found i below) ∙ ap of_count one ∙ ap with_value glyph ∙ ap with_glyph (has.value i below)
 
   -- the pairs are read
   pub singles_are_read : (glyph_count : ℕ) → lookup_at table bytes start glyph_count ≡ Ok pairs

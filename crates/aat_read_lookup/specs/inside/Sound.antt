@@ -1,7 +1,7 @@
 -- Segments and units that stand inside of the table: what the check of a lookup leaves known for its reading.
 use Rattle.std.specs.Prelude.{ℕ, ◌+◌, ◌*◌, ◌<◌, ◌≤◌, List, length}
 use Rattle.aat_read_lookup.specs.Segments.{values_end}
-use Rattle.aat_read_lookup.specs.Layouts.{end_before, record_size, segment_of}
+use Rattle.aat_read_lookup.specs.Layouts.{record_size, unit_at}
 use Rattle.aat_read_lookup.specs.declared.kept.Keep.{Keep}
 use Rattle.aat_read_lookup.specs.declared.kept.Keep.TheVariants.{Value, Row, LongRow}
 use Rattle.aat_read_lookup.specs.declared.layout.Layout.{Layout}
@@ -19,12 +19,10 @@ pub record AreInside (bytes : List ℕ) (units : Units) : Type 0 where
   pub wide : record_size units.kind units.values ≤ units.size
   pub inside : units.start + 12 + units.size * units.count ≤ length bytes
 
--- the values of each unit stand inside, and it has a glyph and begins behind the unit before
+-- the values of each unit stand inside
 pub record AreSound (bytes : List ℕ) (units : Units) : Type 0 where
   pub inside : AreInside bytes units
-  pub some : (i : ℕ) → i < units.count → 0 < (segment_of bytes units i).count
-  pub rising : (i : ℕ) → i < units.count → end_before bytes units i ≤ (segment_of bytes units i).first
-  pub values : (i : ℕ) → i < units.count → values_end (segment_of bytes units i) ≤ length bytes
+  pub values : (i : ℕ) → i < units.count → values_end (unit_at bytes units i) ≤ length bytes
 
 -- the values of each segment stand inside, and the glyphs of an array have 16 bits
 abbrev pub IsSound : List ℕ → Layout → Type 0

@@ -10,6 +10,7 @@ returns c =
       c.in_ok-ankr.ensures,
       c.in_ok-trak.ensures,
       c.has_gpos_in.ensures,
+      c.has_stat_in.ensures,
       c.in_ok-feat.ensures,
       c.metrics_in.ensures,
       c.number_in.ensures,

@@ -1,7 +1,7 @@
 use Rattle.std.proofs.Common.{sym, ◌∙◌}
-use Rattle.aat_read_pairs.specs.Bisection.{is_found}
+use Rattle.aat_bytes.specs.Bisection.{is_found}
 use Rattle.aat_read_pairs.specs.ListedPairs.{key_at, pair_at}
-use Rattle.aat_read_pairs.proofs.PassedRows.{passes_none, passes_one}
+use Rattle.aat_read_lookup.specs.facts.PassedRows.{passes_none, passes_one}
 use Rattle.aat_read_pairs.proofs.listed.bisected_pairs.Goals as goal
 use Rattle.aat_read_pairs.proofs.listed.bisected_pairs.Goals.{then-is_found+in_ok-push, else-is_found}
 

@@ -1,6 +1,6 @@
 use Rattle.std.proofs.Common.{◌≡◌, map}
 use Rattle.std.specs.List.{filter, range_with_len}
-use Rattle.aat_read_pairs.specs.Bisection.{is_found}
+use Rattle.aat_bytes.specs.Bisection.{is_found}
 use Rattle.aat_read_pairs.specs.ListedPairs.{key_at, pair_at}
 use Rattle.aat_read_pairs.proofs.listed.bisected_pairs.Given as goal
 

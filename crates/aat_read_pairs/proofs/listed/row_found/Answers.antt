@@ -1,5 +1,5 @@
 use Rattle.std.proofs.Common.{arith}
-use Rattle.aat_read_pairs.specs.facts.Bisections.{begins, ended, on_above, on_below}
+use Rattle.aat_bytes.specs.facts.Bisections.{begins, ended, on_above, on_below}
 use Rattle.aat_read_pairs.specs.ListedPairs.{key_at}
 use Rattle.aat_read_pairs.proofs.listed.row_found.Goals as goal
 

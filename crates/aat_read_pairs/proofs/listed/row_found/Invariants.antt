@@ -1,5 +1,5 @@
 use Rattle.std.proofs.Common.{◌-◌}
-use Rattle.aat_read_pairs.specs.facts.Bisections.{GoesOn}
+use Rattle.aat_bytes.specs.facts.Bisections.{GoesOn}
 use Rattle.aat_read_pairs.specs.ListedPairs.{key_at}
 use Rattle.aat_read_pairs.proofs.listed.row_found.Given as goal
 

@@ -12,5 +12,5 @@ loop-i-preserved c =
     let same : c.loop-i.glyphs + c.segment-glyphs.result.count ≡ sum_by count (map segment (range_with_len 0 c.loop-i.i)) + count (segment c.loop-i.i) =
     rw (c.segment-glyphs.ensures.is, c.loop-i.invariant.0) refl in (
       same ∙ sym (sum_by-map-range_with_len_more count segment 0 c.loop-i.i c.loop-i.i (zero-add c.loop-i.i)),
-      omega (arith, c.loop-i.invariant.1, c.segment-glyphs.ensures.glyphs),
+      omega (arith, c.loop-i.invariant.1, c.segment-glyphs.ensures.fits.glyphs),
     )

@@ -1,5 +1,5 @@
 -- What a bisection finds among rows, of which each has the keys from its lowest one to its highest one.
-use Rattle.std.specs.Prelude.{ℕ, zero, suc, ◌+◌, ◌-◌, ◌/◌, List, Bool, false, Option, Some, None, if◌then◌else◌, nat_lt, ◌==◌}
+use Rattle.std.specs.Prelude.{ℕ, zero, suc, ◌+◌, ◌-◌, ◌/◌, List, Bool, false, Option, Some, None, if◌then◌else◌, max, min, nat_lt, ◌==◌}
 use Rattle.std.specs.List.{filter, range_with_len}
 use Rattle.std.specs.Option.{option_map_or}
 
@@ -32,3 +32,20 @@ module _ (key : ℕ → ℕ) where
   -- the rows, of so many, that are found, in their order
   abbrev pub found_rows : ℕ → List ℕ
   found_rows count = filter (is_found count) (range_with_len 0 count)
+
+-- a number, or the nearest one of those from one to another
+abbrev pub nearest : ℕ → ℕ → ℕ → ℕ
+nearest from to n = min (max n from) to
+
+-- rows of which each has the keys from its lowest one up to the one behind its highest one
+module _ (low behind : ℕ → ℕ) where
+  -- the first of the keys by which a bisection finds a row, and the one behind the last: on its way among the rows from
+  -- one on up to another, in so many steps at most, each row that it passes leaves the keys below its own, or above them
+  abbrev pub keys_found : ℕ → ℕ → ℕ → ℕ → ℕ → ℕ → ℕ × ℕ
+  keys_found zero from to first end i = (first, first)
+  keys_found (suc steps) from to first end i =
+      if nat_lt i (middle from to) then
+      keys_found steps from (middle from to) first (nearest first end (low (middle from to))) i else
+      if nat_lt (middle from to) i then
+      keys_found steps (middle from to + 1) to (nearest first end (behind (middle from to))) end i else
+      (nearest first end (low (middle from to)), nearest first end (behind (middle from to)))

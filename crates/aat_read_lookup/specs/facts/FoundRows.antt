@@ -1,146 +1,24 @@
--- What a bisection finds, whatever the keys of the rows are, and that it finds each row of keys that rise.
+-- Rows of one key each: which a bisection finds, whatever their keys are, and that it finds each of keys that rise.
 use Rattle.std.proofs.Common.{◌≡◌, ℕ, zero, suc, ◌+◌, ◌-◌, ◌<◌, ◌≤◌, ◌⊎◌, inl, inr, List, [], ◌∷◌, length, get_or, map, Bool, true, false, cond, Option, Some, None, refl, sym, ap, ◌∙◌, subst, arith}
-use Rattle.std.specs.Prelude.{nat_lt, ◌==◌, find, option_map, ◌&&◌}
+use Rattle.std.specs.Prelude.{◌==◌, find, option_map, ◌&&◌}
 use Rattle.std.specs.List.{filter, range_with_len}
 use Rattle.std.specs.Option.{option_map_or}
-use Rattle.std.proofs.lemmas.Bool.{cases_eq, cases_lt, cond-false, cond-true, eq-eqb, eqb-true, le-ltb, lt-ltb, ltb-false, ltb-true, ne_eqb}
+use Rattle.std.proofs.lemmas.Bool.{cases_eq, cases_lt, cond-false, cond-true, eq-eqb, eqb-true, lt-ltb, ne_eqb}
 use Rattle.std.proofs.lemmas.List.FromFn.{get_or-map-range_with_len, length-map-range_with_len}
+use Rattle.aat_bytes.specs.Bisection.{bisect, found_rows, is_found, middle, row_found}
+use Rattle.aat_bytes.specs.facts.Bisections.{ends_there, found_has, goes_above, goes_below, middle_within, ordered}
 use Rattle.aat_lookup.specs.Keys.{at_key, fall_after, first_fall}
 use Rattle.aat_lookup.specs.facts.Falls.{rising}
-use Rattle.aat_read_pairs.specs.Bisection.{bisect, found_rows, is_found, middle, row_found}
-
--- the middle row is one of the rows
-pub middle_within : (a b : ℕ) → a < b → (a ≤ middle a b) × (middle a b < b)
-middle_within a b some = (omega arith, omega arith)
-
--- which way a step that finds a row has gone
-turned :
-    (t l g : Bool) (x y : Option ℕ) (m i : ℕ) → cond t (cond l x (cond g y (Some m))) None ≡ Some i
-    → (t ≡ true) × (((l ≡ true) × (x ≡ Some i)) ⊎ (((l ≡ false) × (g ≡ true) × (y ≡ Some i)) ⊎ ((l ≡ false) × (g ≡ false) × (m ≡ i))))
-turned true true g x y m i is = (refl, inl (refl, is))
-turned true false true x y m i is = (refl, inr (inl (refl, refl, is)))
-turned true false false x y m i is = let same : m ≡ i = cc in (refl, inr (inr (refl, refl, same)))
-turned false l g x y m i is = absurd (let wrong : ⊥ = cc in wrong)
-
-module _ (low high : ℕ → ℕ) where
-  -- below the middle row, above it, or there
-  abbrev GoesBelow : ℕ → ℕ → ℕ → ℕ → ℕ → Type 0
-  GoesBelow s a b k i = (k < low (middle a b)) × (bisect low high s a (middle a b) k ≡ Some i)
-
-  abbrev GoesAbove : ℕ → ℕ → ℕ → ℕ → ℕ → Type 0
-  GoesAbove s a b k i =
-      (low (middle a b) ≤ k) × (high (middle a b) < k) × (bisect low high s (middle a b + 1) b k ≡ Some i)
-
-  abbrev Ends : ℕ → ℕ → ℕ → ℕ → Type 0
-  Ends a b k i = (low (middle a b) ≤ k) × (k ≤ high (middle a b)) × (middle a b ≡ i)
-
-  abbrev Goes : ℕ → ℕ → ℕ → ℕ → ℕ → Type 0
-  Goes s a b k i = GoesBelow s a b k i ⊎ (GoesAbove s a b k i ⊎ Ends a b k i)
-
-  told :
-      (s a b k i : ℕ)
-      → (((nat_lt k (low (middle a b)) ≡ true) × (bisect low high s a (middle a b) k ≡ Some i))
-      ⊎ (((nat_lt k (low (middle a b)) ≡ false) × (nat_lt (high (middle a b)) k ≡ true) × (bisect low high s (middle a b + 1) b k ≡ Some i))
-      ⊎ ((nat_lt k (low (middle a b)) ≡ false) × (nat_lt (high (middle a b)) k ≡ false) × (middle a b ≡ i))))
-      → Goes s a b k i
-  told s a b k i (inl below) = inl (ltb-true k (low (middle a b)) below.0, below.1)
-  told s a b k i (inr (inl above)) =
-      inr (inl (ltb-false k (low (middle a b)) above.0, ltb-true (high (middle a b)) k above.1, above.2))
-  told s a b k i (inr (inr here)) =
-      inr (inr (ltb-false k (low (middle a b)) here.0, ltb-false (high (middle a b)) k here.1, here.2))
-
-  step : (s a b k i : ℕ) → bisect low high (suc s) a b k ≡ Some i → (a < b) × Goes s a b k i
-  step s a b k i is =
-      let way = turned (nat_lt a b) (nat_lt k (low (middle a b))) (nat_lt (high (middle a b)) k) _ _ (middle a b) i is in
-      (ltb-true a b way.0, told s a b k i way.1)
-
-  -- a row that is found is one of the rows, and has the key
-  abbrev Has : ℕ → ℕ → ℕ → ℕ → Type 0
-  Has a b k i = (a ≤ i) × (i < b) × (low i ≤ k) × (k ≤ high i)
-
-  has_by :
-      (s a b k i : ℕ) → ((c d : ℕ) → bisect low high s c d k ≡ Some i → Has c d k i) → a < b → Goes s a b k i
-      → Has a b k i
-  has_by s a b k i deeper some (inl below) =
-      let mid = middle_within a b some in
-      let rest = deeper a (middle a b) below.1 in
-      (rest.0, omega (arith, rest.1, mid.1), rest.2, rest.3)
-  has_by s a b k i deeper some (inr (inl above)) =
-      let mid = middle_within a b some in
-      let rest = deeper (middle a b + 1) b above.2 in
-      (omega (arith, rest.0, mid.0), rest.1, rest.2, rest.3)
-  has_by s a b k i deeper some (inr (inr here)) =
-      let mid = middle_within a b some in (
-        omega (arith, mid.0, here.2),
-        omega (arith, mid.1, here.2),
-        omega (arith, here.0, ap low here.2),
-        omega (arith, here.1, ap high here.2),
-      )
-
-  pub found_has : (s a b k i : ℕ) → bisect low high s a b k ≡ Some i → Has a b k i
-  found_has zero a b k i is = absurd (let wrong : ⊥ = cc in wrong)
-  found_has (suc s) a b k i is =
-      let way = step s a b k i is in has_by s a b k i (λ c d. found_has s c d k i) way.0 way.1
-
-  -- of two rows that are found, the higher one was found by the higher key
-  ordered_by :
-      (s a b k l i j : ℕ)
-      → ((c d : ℕ) → bisect low high s c d k ≡ Some i → bisect low high s c d l ≡ Some j → k < l)
-      → a < b → i < j → Goes s a b k i → Goes s a b l j → k < l
-  ordered_by s a b k l i j deeper some lt (inl one) (inl two) = deeper a (middle a b) one.1 two.1
-  ordered_by s a b k l i j deeper some lt (inl one) (inr (inl two)) = omega (arith, one.0, two.0)
-  ordered_by s a b k l i j deeper some lt (inl one) (inr (inr two)) = omega (arith, one.0, two.0)
-  ordered_by s a b k l i j deeper some lt (inr (inl one)) (inl two) =
-      let high_one = found_has s (middle a b + 1) b k i one.2 in
-      let low_two = found_has s a (middle a b) l j two.1 in
-      absurd (omega (arith, high_one.0, low_two.1))
-  ordered_by s a b k l i j deeper some lt (inr (inl one)) (inr (inl two)) = deeper (middle a b + 1) b one.2 two.2
-  ordered_by s a b k l i j deeper some lt (inr (inl one)) (inr (inr two)) =
-      let high_one = found_has s (middle a b + 1) b k i one.2 in absurd (omega (arith, high_one.0, two.2))
-  ordered_by s a b k l i j deeper some lt (inr (inr one)) (inl two) =
-      let low_two = found_has s a (middle a b) l j two.1 in absurd (omega (arith, low_two.1, one.2))
-  ordered_by s a b k l i j deeper some lt (inr (inr one)) (inr (inl two)) = omega (arith, one.1, two.1)
-  ordered_by s a b k l i j deeper some lt (inr (inr one)) (inr (inr two)) = absurd (omega (arith, one.2, two.2))
-
-  pub ordered :
-      (s a b k l i j : ℕ) → bisect low high s a b k ≡ Some i → bisect low high s a b l ≡ Some j → i < j → k < l
-  ordered zero a b k l i j one two lt = absurd (let wrong : ⊥ = cc in wrong)
-  ordered (suc s) a b k l i j one two lt =
-      let way = step s a b k i one in
-      let other = step s a b l j two in
-      ordered_by s a b k l i j (λ c d here there. ordered s c d k l i j here there lt) way.0 lt way.1 other.1
-
-  -- the steps of a bisection
-  pub goes_below :
-      (s a b k : ℕ) → a < b → k < low (middle a b)
-      → bisect low high (suc s) a b k ≡ bisect low high s a (middle a b) k
-  goes_below s a b k some less = rw (lt-ltb a b some, lt-ltb k (low (middle a b)) less) refl
-
-  pub goes_above :
-      (s a b k : ℕ) → a < b → low (middle a b) ≤ k → high (middle a b) < k
-      → bisect low high (suc s) a b k ≡ bisect low high s (middle a b + 1) b k
-  goes_above s a b k some from more =
-      rw (lt-ltb a b some, le-ltb k (low (middle a b)) from, lt-ltb (high (middle a b)) k more) refl
-
-  pub ends_there :
-      (s a b k : ℕ) → a < b → low (middle a b) ≤ k → k ≤ high (middle a b)
-      → bisect low high (suc s) a b k ≡ Some (middle a b)
-  ends_there s a b k some from up =
-      rw (lt-ltb a b some, le-ltb k (low (middle a b)) from, le-ltb (high (middle a b)) k up) refl
-
-  pub finds_none : (s a b k : ℕ) → b ≤ a → bisect low high s a b k ≡ None
-  finds_none zero a b k none = refl
-  finds_none (suc s) a b k none = rw (le-ltb a b none) refl
 
 -- whether a place is the one that was found
-abbrev is_at : Option ℕ → ℕ → Bool
+abbrev pub is_at : Option ℕ → ℕ → Bool
 is_at o i = option_map_or (λ found. found == i) o false
 
-at_some : (o : Option ℕ) (i : ℕ) → is_at o i ≡ true → o ≡ Some i
+pub at_some : (o : Option ℕ) (i : ℕ) → is_at o i ≡ true → o ≡ Some i
 at_some None i is = absurd (let wrong : ⊥ = cc in wrong)
 at_some (Some j) i is = ap Some (eqb-true j i is)
 
-some_at : (o : Option ℕ) (i : ℕ) → o ≡ Some i → is_at o i ≡ true
+pub some_at : (o : Option ℕ) (i : ℕ) → o ≡ Some i → is_at o i ≡ true
 some_at o i is = ap (λ (p : Option ℕ). is_at p i) is ∙ eq-eqb i i refl
 
 -- the first place of a range that is the one
@@ -159,9 +37,24 @@ one_place j a (suc n) low high = elim (cases_eq j a) [
       ∙ one_place j (a + 1) n behind (omega arith)
 ]
 
-found_place : (o : Option ℕ) (n : ℕ) → ((j : ℕ) → o ≡ Some j → j < n) → find (is_at o) (range_with_len 0 n) ≡ o
+pub found_place : (o : Option ℕ) (n : ℕ) → ((j : ℕ) → o ≡ Some j → j < n) → find (is_at o) (range_with_len 0 n) ≡ o
 found_place None n inside = no_place 0 n
 found_place (Some j) n inside = one_place j 0 n (omega arith) (omega (arith, inside j refl))
+
+-- two tests that are passed alike
+pub find_alike :
+    (p q : ℕ → Bool) (a n : ℕ) → ((i : ℕ) → a ≤ i → i < a + n → p i ≡ q i)
+    → find p (range_with_len a n) ≡ find q (range_with_len a n)
+find_alike p q a zero each = refl
+find_alike p q a (suc n) each =
+    ap (λ (b : Bool). cond b (Some a) (find p (range_with_len (a + 1) n))) (each a (omega arith) (omega arith))
+    ∙ ap (λ (o : Option ℕ). cond (q a) (Some a) o)
+    (find_alike p q (a + 1) n (λ i from to. each i (omega arith) (omega arith)))
+
+pub same_tests : (b d : Bool) → (b ≡ true → d ≡ true) → (d ≡ true → b ≡ true) → b ≡ d
+same_tests true d to from = sym (to refl)
+same_tests false true to from = from refl
+same_tests false false to from = refl
 
 -- a filter that keeps all
 keeps_all : (p : ℕ → Bool) (a n : ℕ) → ((i : ℕ) → a ≤ i → i < a + n → p i ≡ true) → filter p (range_with_len a n) ≡ range_with_len a n
@@ -319,7 +212,7 @@ module _ {X : Type 0} (key_of : X → ℕ) (row : ℕ → X) where
               ∙ deeper (middle a b + 1) b (omega (arith, above)) high inside (omega (arith, mid.0))
         ]
 
-    finds : (s a b i : ℕ) → a ≤ i → i < b → b ≤ count → b - a ≤ s → bisect key key s a b (key i) ≡ Some i
+    pub finds : (s a b i : ℕ) → a ≤ i → i < b → b ≤ count → b - a ≤ s → bisect key key s a b (key i) ≡ Some i
     finds zero a b i low high inside long = absurd (omega arith)
     finds (suc s) a b i low high inside long =
         finds_by s a b i low high inside long (λ c d. finds s c d i) (cases_lt i (middle a b))
@@ -329,75 +222,39 @@ module _ {X : Type 0} (key_of : X → ℕ) (row : ℕ → X) where
         keeps_all (is_found key count) 0 count (λ i low high.
         some_at (row_found key count (key i)) i (finds count 0 count i (omega arith) (omega arith) (omega arith) (omega arith)))
 
-  -- so rows that rise are the rows that are found
-  pub rising_are_found :
+  -- rows whose keys rise one by one rise
+  rows_rise :
       (count : ℕ) → first_fall key_of (map row (range_with_len 0 count)) ≡ None
-      → map row (found_rows key count) ≡ map row (range_with_len 0 count)
-  rising_are_found count none =
+      → (i j : ℕ) → i < j → j < count → key i < key j
+  rows_rise count none i j lt inside =
       let all : List X = map row (range_with_len 0 count) in
       let long : length all ≡ count = length-map-range_with_len row 0 count in
       let at : (i : ℕ) → i < count → (d : X) → get_or all i d ≡ row i =
       λ i lt d. get_or-map-range_with_len row 0 count i i d lt (omega arith) in
-      ap (map row) (all_are_found count (λ i j lt inside.
       let d : X = row 0 in
       let rises : key_of (get_or all i d) < key_of (get_or all j d) = rising key_of all none i j d lt (omega (arith, long)) in
-      omega (arith, rises, ap key_of (at i (omega arith) d), ap key_of (at j inside d))))
+      omega (arith, rises, ap key_of (at i (omega arith) d), ap key_of (at j inside d))
 
--- a bisection over so many rows that goes on among those from one on up to another, with enough steps left
-pub record GoesOn (low high : ℕ → ℕ) (count k from to : ℕ) : Type 0 where
-  pub steps : ℕ
-  pub enough : to - from ≤ steps
-  pub within : to ≤ count
-  pub rest : bisect low high steps from to k ≡ bisect low high count 0 count k
+  -- so the row that is found is the one that has the key
+  pub rising_found :
+      (count k : ℕ) → first_fall key_of (map row (range_with_len 0 count)) ≡ None
+      → row_found key count k ≡ find (λ i. key i == k) (range_with_len 0 count)
+  rising_found count k none =
+      let o : Option ℕ = row_found key count k in
+      let alike : (i : ℕ) → 0 ≤ i → i < 0 + count → is_at (row_found key count k) i ≡ (key i == k) =
+      λ i from to.
+      same_tests (is_at (row_found key count k) i) (key i == k)
+      (λ is. eq-eqb (key i) k (found_key count k i (at_some (row_found key count k) i is)).1)
+      (λ is.
+      let same : key i ≡ k = eqb-true (key i) k is in
+      some_at (row_found key count k) i
+      (ap (row_found key count) (sym same)
+      ∙ finds count (rows_rise count none) count 0 count i (omega arith) (omega arith) (omega arith) (omega arith))) in
+      sym (found_place (row_found key count k) count (λ j is. (found_key count k j is).0))
+      ∙ find_alike (is_at (row_found key count k)) (λ i. key i == k) 0 count alike
 
-module _ (low high : ℕ → ℕ) (count k : ℕ) where
-  pub begins : GoesOn low high count k 0 count
-  begins = record { steps = count; enough = omega arith; within = omega arith; rest = refl }
-
-  below_by :
-      (s a b : ℕ) → b - a ≤ s → b ≤ count → bisect low high s a b k ≡ bisect low high count 0 count k
-      → a < b → k < low (middle a b) → GoesOn low high count k a (middle a b)
-  below_by zero a b enough within rest some less = absurd (omega arith)
-  below_by (suc s) a b enough within rest some less =
-      let mid = middle_within a b some in record {
-        steps = s;
-        enough = omega (arith, mid.1);
-        within = omega (arith, mid.1);
-        rest = sym (goes_below low high s a b k some less) ∙ rest;
-      }
-
-  pub on_below :
-      (a b : ℕ) → GoesOn low high count k a b → a < b → k < low (middle a b) → GoesOn low high count k a (middle a b)
-  on_below a b left some less = below_by left.steps a b left.enough left.within left.rest some less
-
-  above_by :
-      (s a b : ℕ) → b - a ≤ s → b ≤ count → bisect low high s a b k ≡ bisect low high count 0 count k
-      → a < b → low (middle a b) ≤ k → high (middle a b) < k → GoesOn low high count k (middle a b + 1) b
-  above_by zero a b enough within rest some from more = absurd (omega arith)
-  above_by (suc s) a b enough within rest some from more =
-      let mid = middle_within a b some in record {
-        steps = s;
-        enough = omega (arith, mid.0);
-        within = within;
-        rest = sym (goes_above low high s a b k some from more) ∙ rest;
-      }
-
-  pub on_above :
-      (a b : ℕ) → GoesOn low high count k a b → a < b → low (middle a b) ≤ k → high (middle a b) < k
-      → GoesOn low high count k (middle a b + 1) b
-  on_above a b left some from more = above_by left.steps a b left.enough left.within left.rest some from more
-
-  there_by :
-      (s a b : ℕ) → b - a ≤ s → bisect low high s a b k ≡ bisect low high count 0 count k
-      → a < b → low (middle a b) ≤ k → k ≤ high (middle a b) → Some (middle a b) ≡ bisect low high count 0 count k
-  there_by zero a b enough rest some from up = absurd (omega arith)
-  there_by (suc s) a b enough rest some from up = sym (ends_there low high s a b k some from up) ∙ rest
-
-  pub ended :
-      (a b : ℕ) → GoesOn low high count k a b → a < b → low (middle a b) ≤ k → k ≤ high (middle a b)
-      → Some (middle a b) ≡ bisect low high count 0 count k
-  ended a b left some from up = there_by left.steps a b left.enough left.rest some from up
-
-  pub none_left :
-      (a b : ℕ) → GoesOn low high count k a b → b ≤ a → None ≡ bisect low high count 0 count k
-  none_left a b left none = sym (finds_none low high left.steps a b k none) ∙ left.rest
+  -- and rows that rise are the rows that are found
+  pub rising_are_found :
+      (count : ℕ) → first_fall key_of (map row (range_with_len 0 count)) ≡ None
+      → map row (found_rows key count) ≡ map row (range_with_len 0 count)
+  rising_are_found count none = ap (map row) (all_are_found count (rows_rise count none))

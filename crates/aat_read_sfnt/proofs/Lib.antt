@@ -1,2 +1,0 @@
-mod RisingEnds
-mod RisingRanges

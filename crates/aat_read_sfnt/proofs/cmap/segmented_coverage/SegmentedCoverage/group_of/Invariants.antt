@@ -1,0 +1,11 @@
+use Rattle.std.proofs.Common.{◌-◌}
+use Rattle.aat_bytes.specs.Numbers.{be32}
+use Rattle.aat_bytes.specs.facts.Bisections.{GoesOn}
+use Rattle.aat_read_sfnt.specs.SegmentedCoverage.{end_char, start_char}
+use Rattle.aat_read_sfnt.proofs.cmap.segmented_coverage.SegmentedCoverage.group_of.Given as goal
+
+abbrev pub invariant-loop-from : goal.invariant-loop-from
+invariant-loop-from l = GoesOn (start_char l.self) (end_char l.self) (be32 l.self 12) l.character l.from l.to
+
+abbrev pub decreases-loop-from : goal.decreases-loop-from
+decreases-loop-from l = l.to - l.from
