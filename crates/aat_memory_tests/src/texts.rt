@@ -33,6 +33,7 @@ fn is_hidden(heap: &LocalHeap, face: &Face) -> Result<bool, TextError> {
         glyph_id,
         cluster,
         is_ignorable: cluster == 1,
+        is_mark: false,
         x_advance: 500,
         y_advance: 0,
         x_offset: 0,

@@ -32,17 +32,17 @@ FirstGlyphsAreWider =
     (tracked LeftToRight (pos 21) (Some 0 ∷ Some 0 ∷ Some 1 ∷ None ∷ Some 1 ∷ None ∷ Some 0 ∷ [])
     (in_row (pos 500) (pos 1) ∷ in_row (pos 0) (pos 2) ∷ in_row (pos 400) (pos 0) ∷ in_row (pos 0) (pos 0)
     ∷ in_row (pos 300) (pos 0) ∷ in_row (pos 0) (pos 0) ∷ in_row (pos 200) (pos 0) ∷ [])
-    ≡ in_row (pos 521) (pos 11) ∷ in_row (pos 0) (pos 2) ∷ in_row (pos 421) (pos 10) ∷ in_row (pos 0) (pos 0)
-    ∷ in_row (pos 300) (pos 0) ∷ in_row (pos 0) (pos 0) ∷ in_row (pos 221) (pos 10) ∷ [])
+    ≡ in_row (pos 521) (pos 1) ∷ in_row (pos 0) (pos 2) ∷ in_row (pos 421) (pos 0) ∷ in_row (pos 0) (pos 0)
+    ∷ in_row (pos 300) (pos 0) ∷ in_row (pos 0) (pos 0) ∷ in_row (pos 221) (pos 0) ∷ [])
     × (tracked RightToLeft (pos 4) (None ∷ Some 3 ∷ []) (in_row (pos 0) (pos 0) ∷ in_row (pos 200) (pos 0) ∷ [])
-    ≡ in_row (pos 0) (pos 0) ∷ in_row (pos 204) (pos 2) ∷ [])
+    ≡ in_row (pos 0) (pos 0) ∷ in_row (pos 204) (pos 0) ∷ [])
 
--- half of an odd number is rounded towards 0, columns change in y, and sums wrap
-abbrev pub HalvesAreCut : Type 0
-HalvesAreCut =
-    (tracked LeftToRight (negsuc 20) (Some 0 ∷ []) (in_row (pos 500) (pos 0) ∷ [])
-    ≡ in_row (pos 479) (negsuc 9) ∷ [])
-    × (tracked TopToBottom (pos 3) (Some 0 ∷ []) (in_column (negsuc 499) (pos 0) ∷ [])
-    ≡ in_column (negsuc 496) (pos 1) ∷ [])
+-- offsets stay, columns change in y, and sums wrap
+abbrev pub OffsetsStay : Type 0
+OffsetsStay =
+    (tracked LeftToRight (negsuc 20) (Some 0 ∷ []) (in_row (pos 500) (pos 3) ∷ [])
+    ≡ in_row (pos 479) (pos 3) ∷ [])
+    × (tracked TopToBottom (pos 3) (Some 0 ∷ []) (in_column (negsuc 499) (pos 4) ∷ [])
+    ≡ in_column (negsuc 496) (pos 4) ∷ [])
     × (tracked LeftToRight (pos 2) (Some 0 ∷ []) (in_row (pos 2147483647) (pos 0) ∷ [])
-    ≡ in_row (negsuc 2147483646) (pos 1) ∷ [])
+    ≡ in_row (negsuc 2147483646) (pos 0) ∷ [])

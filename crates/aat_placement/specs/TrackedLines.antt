@@ -1,6 +1,6 @@
 -- A line that is tracked. It stands here as its text is read, each glyph by the cluster that it is drawn for, or none
 -- where it is not drawn. (No chapter of the manual: how a line is tracked is HarfBuzz's.)
-use Rattle.std.specs.Prelude.{ℕ, ℤ, pos, ◌==◌, not, Bool, true, false, List, [], ◌∷◌, fold, Option, Some, None, int_div, if◌then◌else◌}
+use Rattle.std.specs.Prelude.{ℕ, ℤ, ◌==◌, not, Bool, true, false, List, [], ◌∷◌, fold, Option, Some, None, if◌then◌else◌}
 use Rattle.std.specs.Int.{int_wrapping_add, w32}
 use Rattle.std.specs.Option.{option_or}
 use Rattle.aat_glyph.specs.Directions.{is_horizontal}
@@ -11,16 +11,12 @@ use Rattle.aat_glyph.specs.declared.glyph.GlyphPosition.{GlyphPosition}
 abbrev pub plus : ℤ → ℤ → ℤ
 plus x y = int_wrapping_add w32 x y
 
--- half of a number, rounded towards 0
-abbrev pub half : ℤ → ℤ
-half x = int_div x (pos 2)
-
--- a position that is wider by a value along the line, with half of it before the glyph
+-- a position that is wider by a value along the line: its advance takes the value, and the glyph stays where it is
 abbrev pub widened : Direction → ℤ → GlyphPosition → GlyphPosition
 widened d v q =
     if is_horizontal d
-    then record q { x_advance = plus q.x_advance v; x_offset = plus q.x_offset (half v) }
-    else record q { y_advance = plus q.y_advance v; y_offset = plus q.y_offset (half v) }
+    then record q { x_advance = plus q.x_advance v }
+    else record q { y_advance = plus q.y_advance v }
 
 -- a glyph begins a cluster behind the last one that is drawn before it: it is drawn, and that one has another cluster
 abbrev pub begins : Option ℕ → Option ℕ → Bool

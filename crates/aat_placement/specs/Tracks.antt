@@ -1,5 +1,5 @@
 -- Tracks as a total function. Apple's TrueType Reference Manual, "The 'trak' table".
-use Rattle.std.specs.Prelude.{ℕ, ℤ, pos, ◌+◌, ◌-◌, ◌*◌, ◌==◌, List, find, length, not, max, nat_lt, int_lt, slice_index_or, Option, Some, None, unwrap_or, if◌then◌else◌}
+use Rattle.std.specs.Prelude.{ℕ, ℤ, pos, ◌+◌, ◌-◌, ◌*◌, ◌==◌, List, find, length, not, nat_lt, int_lt, slice_index_or, Option, Some, None, if◌then◌else◌}
 use Rattle.std.specs.Int.{saturate_to_bits}
 use Rattle.std.specs.List.{range_with_len}
 use Rattle.std.specs.Option.{option_map_or}
@@ -49,25 +49,25 @@ value_of t k s = slice_index_or t.values (k * length t.sizes + s) (pos 0)
 abbrev pub place_of_track : List Track → ℤ → Option ℕ
 place_of_track tracks asked = find (λ k. int_eq (track_at tracks k).value asked) (range_with_len 0 (length tracks))
 
--- the place of the first of so many sizes that is not below a size
-abbrev pub first_from : List ℤ → ℤ → ℕ → Option ℕ
-first_from sizes size count = find (λ s. not (int_lt (size_at sizes s) size)) (range_with_len 0 count)
+-- the place of the first size that is not below a size
+abbrev pub first_from : List ℤ → ℤ → Option ℕ
+first_from sizes size = find (λ s. not (int_lt (size_at sizes s) size)) (range_with_len 0 (length sizes))
 
--- the place of the size at which the interval of a size ends: the first one that is not below it, but not the first of
--- all, and else the last one
-abbrev pub interval_end : List ℤ → ℤ → ℕ
-interval_end sizes size = max 1 (unwrap_or (first_from sizes size (length sizes - 1)) (length sizes - 1))
-
--- the value of the track at place k at a size, on the line through the values at the ends of its interval
+-- the value of the track at place k at a size, on the line through the values at the size at a place and at the one
+-- before it
 abbrev pub value_between : TrackTable → ℕ → ℤ → ℕ → ℤ
 value_between t k size end =
     interpolated (size_at t.sizes (end - 1)) (size_at t.sizes end) (value_of t k (end - 1)) (value_of t k end) size
 
--- the value of the track at place k at a size
+-- the same, where the first size that is not below a size is at a place: before the first one its value counts
+abbrev pub value_up_to : TrackTable → ℕ → ℤ → ℕ → ℤ
+value_up_to t k size end = if end == 0 then value_of t k 0 else value_between t k size end
+
+-- the value of the track at place k at a size: behind all sizes that of the last one counts
 abbrev pub value_at_size : TrackTable → ℕ → ℤ → ℤ
 value_at_size t k size =
-    if length t.sizes == 0 then pos 0 else
-    (if length t.sizes == 1 then value_of t k 0 else value_between t k size (interval_end t.sizes size))
+    if length t.sizes == 0 then pos 0
+    else option_map_or (value_up_to t k size) (first_from t.sizes size) (value_of t k (length t.sizes - 1))
 
 -- how much wider a text of a point size is set on a track, in units of the font, as far as a signed number of 32 bits
 -- holds it: 0 where the size is 0 or there is no such track

@@ -1,7 +1,7 @@
 //! The tracks of one direction.
 ghost use Rattle.std.specs.Prelude.{◌≡◌, ◌<◌, ◌≤◌, None, Some, IfErr, IfOk, IfSome, OnOk, length, pos};
 ghost use Rattle.std.specs.Int.{saturate_to_bits};
-ghost use Rattle.aat_placement.specs.Tracks.{fault_of, first_from, interval_end, place_of_track, size_at, tracking_at, value_at_size, value_between, value_of};
+ghost use Rattle.aat_placement.specs.Tracks.{fault_of, first_from, place_of_track, size_at, tracking_at, value_at_size, value_between, value_of, value_up_to};
 
 use crate::error::TrackingError;
 use crate::interpolation::interpolated;
@@ -102,10 +102,10 @@ impl<A: Allocator> TrackData<A> {
     ///
     /// The first track of that value counts. Its value at the size is the one on the straight line through its values
     /// at two sizes, rounded to the nearest number, halves up. They are the first size that is not below the size asked
-    /// for and the one before it, in the order of the table: the first two where the first is not below it, and the last
-    /// two where all are. Where these two are equal the value of the former counts; a single size has its value for all.
-    /// So does HarfBuzz, in floats; this is exact. A number of more than 32 bits counts as the greatest or the least that
-    /// they hold.
+    /// for and the one before it, in the order of the table. Where there is none before it, its own value counts, and
+    /// where all sizes are below, that of the last one. So does HarfBuzz 12.3.2, in floats; this is exact. Version 6.0.0
+    /// went on along the line beyond the first size and the last. A number of more than 32 bits counts as the greatest
+    /// or the least that they hold.
     ///
     /// It is 0 where there is no such track, no size, or where the size asked for is 0.
     pub fn tracking_at(&self, track: i32, size: u32) -> i32
@@ -136,15 +136,29 @@ impl<A: Allocator> TrackData<A> {
     {
         let count = self.sizes.len();
         if count == 0 {
-            0
-        } else if count == 1 {
-            self.value_of(track, 0) as i64
-        } else {
-            self.value_between(track, size, interval_end(&self.sizes, size))
+            return 0;
+        }
+        match first_from(&self.sizes, size) {
+            Some(end) => self.value_up_to(track, size, end),
+            None => self.value_of(track, count - 1) as i64,
         }
     }
 
-    /// The value of a track at a size, on the line through the values at the ends of an interval.
+    /// The value of a track at a size, where the first size that is not below it is at a place.
+    fn value_up_to(&self, track: usize, size: u32, end: usize) -> i64
+        requires track { track < length self.now.tracks }
+        requires end { end < length self.now.sizes }
+        ensures { result ≡ value_up_to self.now track (pos size) end }
+    {
+        if end == 0 {
+            self.value_of(track, 0) as i64
+        } else {
+            self.value_between(track, size, end)
+        }
+    }
+
+    /// The value of a track at a size, on the line through the values at the size at a place and at the one before
+    /// it.
     fn value_between(&self, track: usize, size: u32, end: usize) -> i64
         requires track { track < length self.now.tracks }
         requires some { 0 < end }
@@ -175,27 +189,12 @@ fn place_of_track(tracks: &[Track], asked: i32) -> Option<usize>
     (0..tracks.len()).find(|k| tracks[*k].value == asked)
 }
 
-/// The place of the first of so many sizes that is not below a size.
-fn first_from(sizes: &[i32], size: u32, count: usize) -> Option<usize>
-    requires { count ≤ length sizes.now }
-    ensures first { result ≡ first_from sizes.now (pos size) count }
-    ensures within { IfSome result (λ s. s < count) }
+/// The place of the first size that is not below a size.
+fn first_from(sizes: &[i32], size: u32) -> Option<usize>
+    ensures first { result ≡ first_from sizes.now (pos size) }
+    ensures within { IfSome result (λ s. s < length sizes.now) }
 {
-    (0..count).find(|s| sizes[*s] as i64 >= size as i64)
-}
-
-/// The place of the size at which the interval of a size ends.
-fn interval_end(sizes: &[i32], size: u32) -> usize
-    requires { 2 ≤ length sizes.now }
-    ensures place { result ≡ interval_end sizes.now (pos size) }
-    ensures some { 0 < result }
-    ensures within { result < length sizes.now }
-{
-    let last = sizes.len() - 1;
-    match first_from(sizes, size, last) {
-        Some(end) => end.max(1),
-        None => last.max(1),
-    }
+    (0..sizes.len()).find(|s| sizes[*s] as i64 >= size as i64)
 }
 
 /// The number of 32 bits that is nearest to a number.

@@ -5,9 +5,9 @@ ghost use Rattle.aat_placement.specs.TrackedLines.{begins, tracked, widened};
 use aat_glyph::{Direction, GlyphPosition};
 
 /// Adds a value, in font units, along a line: rows get wider, columns, of negative advances, tighter. Each drawn glyph
-/// that begins a cluster gets the value added to its advance along the line, and half of it, rounded towards 0, to its
-/// offset along the line. All else of the positions stays, and sums wrap. So does HarfBuzz, for each grapheme in place of
-/// each cluster.
+/// that begins a cluster gets the value added to its advance along the line. All else of the positions stays, and sums
+/// wrap. So does HarfBuzz 12.3.2, for each grapheme in place of each cluster. Version 6.0.0 also moved such a glyph by half
+/// of the value.
 ///
 /// The line stands as its text is read, whatever its direction. `clusters` has the cluster of each glyph, or `None`
 /// where the glyph is not drawn. A drawn glyph begins a cluster if the last one that is drawn before it has another, or
@@ -65,10 +65,8 @@ fn widened(direction: Direction, value: i32, mut position: GlyphPosition) -> Gly
 {
     if direction.is_horizontal() {
         position.x_advance = position.x_advance.wrapping_add(value);
-        position.x_offset = position.x_offset.wrapping_add(value / 2);
     } else {
         position.y_advance = position.y_advance.wrapping_add(value);
-        position.y_offset = position.y_offset.wrapping_add(value / 2);
     }
     position
 }

@@ -1,8 +1,8 @@
 //! Worked examples of attachments, of tracks, and of lines that are tracked as theorems. These calls do nothing: what
 //! is proved is their contracts.
 ghost use Rattle.aat_placement.specs.AttachmentExamples.{AttachmentExamples};
-ghost use Rattle.aat_placement.specs.LineExamples.{FirstGlyphsAreWider, HalvesAreCut};
-ghost use Rattle.aat_placement.specs.TrackExamples.{HalvesGoUp, IntervalsAreFound, TracksAreInterpolated, ValuesAreCounted};
+ghost use Rattle.aat_placement.specs.LineExamples.{FirstGlyphsAreWider, OffsetsStay};
+ghost use Rattle.aat_placement.specs.TrackExamples.{EndsAreKept, HalvesGoUp, IntervalsAreFound, TracksAreInterpolated, ValuesAreCounted};
 
 /// An example of each rule of attachments follows from the definitions.
 #[tactic(auto, using(crate::proofs::AttachmentExamplesHold::attachment_examples))]
@@ -15,11 +15,12 @@ pub fn tracks()
     ensures halves { HalvesGoUp }
     ensures interpolated { TracksAreInterpolated }
     ensures intervals { IntervalsAreFound }
+    ensures ends { EndsAreKept }
     ensures counted { ValuesAreCounted }
 {}
 
 /// The definition of a line that is tracked computes to the examples.
 pub fn lines()
     ensures wider { FirstGlyphsAreWider }
-    ensures halves { HalvesAreCut }
+    ensures offsets { OffsetsStay }
 {}

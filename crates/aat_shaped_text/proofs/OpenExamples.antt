@@ -26,7 +26,7 @@ attached_glyphs_stay = record { anchors = refl; cross_stream = refl; along = ref
 
 pub skipped_glyphs_stay : examples.SkippedGlyphsStay
 unfolding int_wrap kern_positioning kerx_positioning positioned positioning is_open first_at passes_each told_in_order kerned pair_kerning pairs_of
-skipped_glyphs_stay = record { ignorable = refl; mark = refl; base = refl; extended = refl }
+skipped_glyphs_stay = record { ignorable = refl; character = refl; classed = refl; mark = refl; base = refl; extended = refl }
 
 pub unkerned_glyphs_open : examples.UnkernedGlyphsOpen
 unfolding int_wrap kern_positioning kerx_positioning positioned positioning is_open first_at passes_each told_in_order kerned pair_kerning pairs_of

@@ -50,7 +50,7 @@ pairs_up (g ∷ text) up (suc i) (suc j) d below low =
     pairs_up text (rest_up g text up) i j d (omega (arith, below)) (omega (arith, low))
 
 pub no_text_glyph : TextGlyph
-no_text_glyph = record { glyph_id = 0; cluster = 0; is_ignorable = false }
+no_text_glyph = record { glyph_id = 0; cluster = 0; is_ignorable = false; is_mark = false }
 
 -- so the line of the text rises
 pub rising_line :

@@ -9,7 +9,7 @@ use Rattle.aat_glyph.specs.Directions.{is_horizontal}
 use Rattle.aat_glyph.specs.declared.glyph.Direction.{Direction}
 use Rattle.aat_glyph.specs.declared.glyph.GlyphPosition.{GlyphPosition}
 use Rattle.aat_buffer.specs.Removal.{is_deleted}
-use Rattle.aat_placement.specs.TrackedLines.{begins, first_drawn, half, plus, tracked, tracked_behind, widened}
+use Rattle.aat_placement.specs.TrackedLines.{begins, first_drawn, plus, tracked, tracked_behind, widened}
 use Rattle.aat_placement.specs.TrackingLaws.{MeetApart, PartsAreTrackedApart}
 use Rattle.aat_shaped_text.specs.ShapedText.{UntrackedLinesStay, drawn_cluster, drawn_clusters, tracked_by}
 use Rattle.aat_shaped_text.proofs.ChainsSplit.{link}
@@ -59,8 +59,8 @@ module _ (v : ℤ) (d : Direction) where
   widened_link q = by (is_horizontal d)
     where
       by : (t : Bool)
-          → link (cond t (record q { x_advance = plus q.x_advance v; x_offset = plus q.x_offset (half v) })
-          (record q { y_advance = plus q.y_advance v; y_offset = plus q.y_offset (half v) }))
+          → link (cond t (record q { x_advance = plus q.x_advance v })
+          (record q { y_advance = plus q.y_advance v }))
           ≡ link q
       by true = refl
       by false = refl

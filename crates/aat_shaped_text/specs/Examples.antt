@@ -1,5 +1,5 @@
 -- Worked examples of where a text may be broken, of what is drawn of it, and of what its features ask.
-use Rattle.std.specs.Prelude.{◌≡◌, ◌==◌, ℕ, Bool, true, false, List, [], ◌∷◌, ℤ, pos, negsuc, Some, None, filter, map}
+use Rattle.std.specs.Prelude.{◌≡◌, ◌==◌, ℕ, Bool, true, false, List, [], ◌∷◌, ℤ, pos, negsuc, Option, Some, None, filter, map}
 use Rattle.aat_placement.specs.AttachmentExamples.{in_column, in_row, mark}
 use Rattle.aat_buffer.specs.Buffer.{Buffer, no_glyph, with_direction}
 use Rattle.aat_buffer.specs.Examples.{buffer_at, glyphs_in, gone, in_cluster, in_cluster_with, left_masks, standing}
@@ -7,15 +7,17 @@ use Rattle.aat_glyph.specs.declared.glyph.Direction.{Direction}
 use Rattle.aat_glyph.specs.declared.glyph.Direction.TheVariants.{LeftToRight, RightToLeft, TopToBottom}
 use Rattle.aat_glyph.specs.declared.glyph.GlyphPosition.{GlyphPosition}
 use Rattle.aat_glyph.specs.declared.glyph.hb_glyph_info_t.{hb_glyph_info_t}
+use Rattle.aat_font.specs.declared.face.hb_font_t.{hb_font_t}
 use Rattle.aat_font.specs.declared.plan.Feature.{Feature}
 use Rattle.aat_run.specs.Ranges.{last_cluster}
 use Rattle.aat_map.specs.Examples.{liga}
 use Rattle.aat_kerning.specs.Positioning.{in_processing_order}
 use Rattle.aat_shaped_text.specs.Breaks.{front_of, may_break_at}
 use Rattle.aat_shaped_text.specs.Parts.{no_shaped_glyph}
-use Rattle.aat_shaped_text.specs.ShapedText.{drawn_glyphs, kept_place, kept_places, tracked_line}
+use Rattle.aat_shaped_text.specs.ShapedText.{drawn_glyphs, kept_place, kept_places, text_props, tracked_line}
 use Rattle.aat_shaped_text.specs.TextFeatures.{ask_alike, ask_alike_through, is_kerned_at, requests_kerning}
 use Rattle.aat_shaped_text.specs.declared.text.ShapedGlyph.{ShapedGlyph}
+use Rattle.aat_shaped_text.specs.declared.text.TextGlyph.{TextGlyph}
 
 -- the places of kept glyphs before which a line may be broken
 abbrev pub breaks_of : List Feature → List hb_glyph_info_t → List ℕ
@@ -113,6 +115,40 @@ IgnorableGlyphsSaySo =
     (in_row (pos 500) (pos 0) (pos 0) ∷ in_row (pos 300) (pos 0) (pos 0) ∷ [])))
     ≡ false ∷ true ∷ []
 
+-- so does a glyph that has the property of marks, beside others too
+abbrev pub MarksSaySo : Type 0
+MarksSaySo =
+    map (λ g. g.is_mark)
+    (drawn_glyphs (λ i. false)
+    (drawing LeftToRight
+    (record (glyph_in 7 0) { glyph_props = 2 } ∷ record (glyph_in 9 0) { glyph_props = 0x18 } ∷ [])
+    (in_row (pos 500) (pos 0) (pos 0) ∷ in_row (pos 300) (pos 0) (pos 0) ∷ [])))
+    ≡ false ∷ true ∷ []
+
+-- a font without tables, with these classes of glyphs
+abbrev pub classed : Option (List (ℕ × ℕ)) → hb_font_t
+classed classes = record {
+  tables = record { morx = None; kerx = None; kern = None; feat = None; ankr = None };
+  glyph_classes = classes;
+  advances = None;
+}
+
+-- glyph 5 of a character that is a mark or not
+abbrev pub five : Bool → TextGlyph
+five mark = record { glyph_id = 5; cluster = 0; is_ignorable = false; is_mark = mark }
+
+-- its properties where it is no mark, and where it is one
+abbrev pub props_in : Option (List (ℕ × ℕ)) → List ℕ
+props_in classes = map (λ mark. text_props (classed classes) (five mark)) (false ∷ true ∷ [])
+
+-- a mark has the property of marks, and a base none, where the font has no classes; where it has, it alone decides
+abbrev pub FontsDecide : Type 0
+FontsDecide =
+    (props_in None ≡ 0 ∷ 8 ∷ [])
+    × (props_in (Some []) ≡ 0 ∷ 0 ∷ [])
+    × (props_in (Some ((5, 2) ∷ [])) ≡ 2 ∷ 2 ∷ [])
+    × (props_in (Some ((5, 8) ∷ [])) ≡ 8 ∷ 8 ∷ [])
+
 -- what is drawn of a base, a deleted glyph and a mark with a chain
 abbrev pub marked : ℤ → List ShapedGlyph
 marked chain =
@@ -150,11 +186,11 @@ TrackedLinesAreDrawn =
     ∷ in_row (pos 200) (pos 0) (pos 0)
     ∷ [])
     ≡ shaped 8 1 (pos 200)
-    ∷ record (shaped 7 1 (pos 509)) { x_offset = pos 4 }
-    ∷ record (shaped 5 0 (pos 309)) { x_offset = pos 4 }
+    ∷ shaped 7 1 (pos 509)
+    ∷ shaped 5 0 (pos 309)
     ∷ [])
     × (drawn_tracked (negsuc 2) TopToBottom (glyph_in 5 0 ∷ []) (in_column (negsuc 499) (pos 0) (pos 0) ∷ [])
-    ≡ record (shaped 5 0 (pos 0)) { y_advance = negsuc 502; y_offset = negsuc 0 } ∷ [])
+    ≡ record (shaped 5 0 (pos 0)) { y_advance = negsuc 502 } ∷ [])
 
 -- the feature `kern` over clusters
 abbrev pub kern : ℕ → ℕ → ℕ → Feature

@@ -44,7 +44,7 @@ pair left right = kern_subtable (pairs_of_kern ((left, right, pos 7) ∷ []))
 
 -- the text of these glyphs, each a cluster of its own
 abbrev pub text_of : List ℕ → List TextGlyph
-text_of ids = map (λ g. record { glyph_id = g; cluster = g; is_ignorable = false }) ids
+text_of ids = map (λ g. record { glyph_id = g; cluster = g; is_ignorable = false; is_mark = false }) ids
 
 -- the places of a text of four glyphs that pass a test
 abbrev pub places_of : (ℕ → Bool) → List ℕ
@@ -95,19 +95,30 @@ ChainsAreAsked = places_of (is_unchained LeftToRight attached_by_twos) ≡ 0 ∷
 
 -- glyphs 1, 2, 3 and 4, of which 2 is ignorable
 abbrev pub second_ignorable : List TextGlyph
-second_ignorable = map (λ g. record { glyph_id = g; cluster = g; is_ignorable = g == 2 }) (1 ∷ 2 ∷ 3 ∷ 4 ∷ [])
+second_ignorable = map (λ (g : TextGlyph). record g { is_ignorable = g.glyph_id == 2 }) one_to_four
+
+-- the same, of which 2 is a mark
+abbrev pub second_mark : List TextGlyph
+second_mark = map (λ (g : TextGlyph). record g { is_mark = g.glyph_id == 2 }) one_to_four
 
 -- where their text may be broken in a font, from left to right
 abbrev pub breaks_around : hb_font_t → List ℕ
 breaks_around face = places_of (may_break_text face LeftToRight [] second_ignorable)
 
+-- where that of `second_mark` may be
+abbrev pub marked_breaks : hb_font_t → List ℕ
+marked_breaks face = places_of (may_break_text face LeftToRight [] second_mark)
+
 -- a font whose glyph 2 has this property: 2 of bases, or 8 of marks
 abbrev pub with_second : ℕ → hb_font_t → hb_font_t
 with_second property face = record face { glyph_classes = Some ((2, property) ∷ []) }
 
--- where pairs kern, a text is not broken before a glyph that they skip: `kern` skips marks, and `kerx` bases too
+-- Where pairs kern, a text is not broken before a glyph that they skip: `kern` skips marks, and `kerx` bases too. A mark
+-- of the text is one where the font has no classes of glyphs; where it has, the font decides.
 pub record SkippedGlyphsStay : Type 0 where
   pub ignorable : breaks_around (kern_font (pair 9 9 ∷ [])) ≡ 2 ∷ 3 ∷ []
+  pub character : marked_breaks (kern_font (pair 9 9 ∷ [])) ≡ 2 ∷ 3 ∷ []
+  pub classed : marked_breaks (with_second 2 (kern_font (pair 9 9 ∷ []))) ≡ 1 ∷ 2 ∷ 3 ∷ []
   pub mark : breaks_with (with_second 8 (kern_font (pair 9 9 ∷ []))) ≡ 2 ∷ 3 ∷ []
   pub base : breaks_with (with_second 2 (kern_font (pair 9 9 ∷ []))) ≡ 1 ∷ 2 ∷ 3 ∷ []
   pub extended :

@@ -15,6 +15,7 @@ no_shaped_glyph = record {
   glyph_id = 0;
   cluster = 0;
   is_ignorable = false;
+  is_mark = false;
   x_advance = pos 0;
   y_advance = pos 0;
   x_offset = pos 0;
@@ -27,7 +28,7 @@ no_shaped_glyph = record {
 abbrev pub shaped_at : List ShapedGlyph → ℕ → ShapedGlyph
 shaped_at glyphs k = slice_index_or glyphs k no_shaped_glyph
 
--- how a glyph looks: its id, its cluster, whether it is ignorable, its advances and its offsets
+-- how a glyph looks: its id, its cluster, whether it is ignorable and whether a mark, its advances and its offsets
 abbrev pub looks : ShapedGlyph → ShapedGlyph
 looks g = record g { attached_to = None; may_break_before = false }
 

@@ -13,7 +13,7 @@ use Rattle.aat_glyph.specs.Directions.{is_backward}
 use Rattle.aat_glyph.specs.declared.glyph.Direction.{Direction}
 use Rattle.aat_glyph.specs.declared.glyph.GlyphPosition.{GlyphPosition}
 use Rattle.aat_glyph.specs.declared.glyph.hb_glyph_info_t.{hb_glyph_info_t}
-use Rattle.aat_font.specs.Face.{advance_of, chains_in, kern_in, kerx_in, props_of, tables_of}
+use Rattle.aat_font.specs.Face.{advance_of, chains_in, has_classes, kern_in, kerx_in, props_of, tables_of}
 use Rattle.aat_font.specs.declared.face.hb_font_t.{hb_font_t}
 use Rattle.aat_font.specs.declared.plan.Feature.{Feature}
 use Rattle.aat_run.specs.Budget.{has_operations, operations_left}
@@ -51,14 +51,18 @@ most_glyphs n = min (max (n * 64) 16384) 0x3FFFFFFF
 abbrev pub most_operations : ℕ → ℕ
 most_operations n = min (max (n * 1024) 16384) 0x7FFFFFFF
 
--- a glyph of a text as one of a line: its properties are those of the font, where it is kerned it has the bit 8, and an
--- ignorable character has the layer's property, 0x20, and 0x40, which the layer leaves as it is
+-- the properties of a glyph of a text: those of the font where it has classes of glyphs, and else 8 of a mark
+abbrev pub text_props : hb_font_t → TextGlyph → ℕ
+text_props face g = if has_classes face then props_of face g.glyph_id else (if g.is_mark then 8 else 0)
+
+-- a glyph of a text as one of a line: where it is kerned its mask has the bit 8, and an ignorable character has the
+-- layer's property, 0x20, and 0x40, which the layer leaves as it is
 abbrev pub line_glyph : hb_font_t → List Feature → TextGlyph → hb_glyph_info_t
 line_glyph face features g = record {
   glyph_id = g.glyph_id;
   mask = if is_kerned_at features g.cluster then 8 else 0;
   cluster = g.cluster;
-  glyph_props = props_of face g.glyph_id;
+  glyph_props = text_props face g;
   unicode_props = if g.is_ignorable then 0x60 else 0;
 }
 
@@ -136,12 +140,17 @@ kept_place line (Some j) = if is_deleted (glyph_at line j) then None else Some (
 abbrev pub is_ignorable : hb_glyph_info_t → Bool
 is_ignorable g = not (bit_and g.unicode_props 0x40 == 0)
 
+-- a glyph of a line has the property of marks
+abbrev pub is_mark : hb_glyph_info_t → Bool
+is_mark g = not (bit_and g.glyph_props 8 == 0)
+
 -- the glyph at a place of a line that is drawn, where the line may be broken before some places
 abbrev pub drawn_glyph : (ℕ → Bool) → Buffer → ℕ → ShapedGlyph
 drawn_glyph may_break b i = record {
   glyph_id = (glyph_at b.line i).glyph_id;
   cluster = cluster_at b.line i;
   is_ignorable = is_ignorable (glyph_at b.line i);
+  is_mark = is_mark (glyph_at b.line i);
   x_advance = (drawn_position b i).x_advance;
   y_advance = (drawn_position b i).y_advance;
   x_offset = (drawn_position b i).x_offset;

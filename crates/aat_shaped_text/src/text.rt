@@ -12,28 +12,34 @@ pub struct TextGlyph {
     /// pairs then skips its glyph, unless the class of the glyph has the property 0x10: it is the right one of no pair,
     /// and the left one only at the start of the line, or behind a glyph for which kerning is turned off.
     pub is_ignorable: bool,
+    /// Whether the character is a nonspacing mark (`General_Category` Mn) that is not ignorable. Where the font has no
+    /// classes of glyphs, its glyph then has the property of marks (8), so that kerning by pairs skips it, as HarfBuzz
+    /// 12.3.2 has it. Where it has classes, they alone say which glyphs are marks.
+    pub is_mark: bool,
 }
 
 impl TextGlyph {
-    /// A glyph that stands for the character `cluster`, which is not ignorable.
+    /// A glyph that stands for the character `cluster`, which is neither ignorable nor a mark.
     pub fn new(glyph_id: u16, cluster: u32) -> TextGlyph
-        ensures { result ≡ record { glyph_id = glyph_id; cluster = cluster; is_ignorable = false } }
+        ensures { result ≡ record { glyph_id = glyph_id; cluster = cluster; is_ignorable = false; is_mark = false } }
     {
         TextGlyph {
             glyph_id,
             cluster,
             is_ignorable: false,
+            is_mark: false,
         }
     }
 
-    /// A glyph that stands for the ignorable character `cluster`.
+    /// A glyph that stands for the ignorable character `cluster`, which is no mark.
     pub fn ignorable(glyph_id: u16, cluster: u32) -> TextGlyph
-        ensures { result ≡ record { glyph_id = glyph_id; cluster = cluster; is_ignorable = true } }
+        ensures { result ≡ record { glyph_id = glyph_id; cluster = cluster; is_ignorable = true; is_mark = false } }
     {
         TextGlyph {
             glyph_id,
             cluster,
             is_ignorable: true,
+            is_mark: false,
         }
     }
 }
@@ -50,6 +56,10 @@ pub struct ShapedGlyph {
     pub cluster: u32,
     /// Whether the glyph of the text that it came from is ignorable.
     pub is_ignorable: bool,
+    /// Whether it is a mark: whether it has the property of marks (8) when the line is kerned. A glyph of the text has
+    /// it as the font says, or where the font has no classes of glyphs as the text says. A glyph that it is changed
+    /// into keeps that, unless a lookup of a font with classes changed it: then the font says it of the new glyph.
+    pub is_mark: bool,
     /// How far the pen moves to the right.
     pub x_advance: i32,
     /// How far the pen moves up: in vertical text it is usually below 0.

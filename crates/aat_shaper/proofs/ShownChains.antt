@@ -14,7 +14,7 @@ use Rattle.aat_glyph.specs.declared.glyph.hb_glyph_info_t.{hb_glyph_info_t}
 use Rattle.aat_kerning.specs.Cut.{ordered_positions}
 use Rattle.aat_kerning.specs.Positioning.{in_processing_order}
 use Rattle.aat_kerning.specs.Zeroing.{without_room, zeroed, zeroed_positions}
-use Rattle.aat_placement.specs.TrackedLines.{begins, half, plus, tracked, tracked_behind, widened}
+use Rattle.aat_placement.specs.TrackedLines.{begins, plus, tracked, tracked_behind, widened}
 use Rattle.aat_shaped_text.specs.Breaks.{is_unchained}
 use Rattle.aat_shaped_text.specs.ShapedText.{drawn_clusters, tracked_by, tracked_line}
 use Rattle.aat_shaped_text.proofs.ChainsSplit.{link, same_links}
@@ -34,8 +34,8 @@ module _ (v : ℤ) (d : Direction) where
   link_widened q = by (is_horizontal d)
     where
       by : (t : Bool)
-          → link (cond t (record q { x_advance = plus q.x_advance v; x_offset = plus q.x_offset (half v) })
-          (record q { y_advance = plus q.y_advance v; y_offset = plus q.y_offset (half v) }))
+          → link (cond t (record q { x_advance = plus q.x_advance v })
+          (record q { y_advance = plus q.y_advance v }))
           ≡ link q
       by true = refl
       by false = refl

@@ -8,8 +8,9 @@ ghost use Rattle.aat_kerning_machines.specs.Positions.{IsPlaced};
 ghost use Rattle.aat_shaped_text.specs.Breaks.{kept_before};
 ghost use Rattle.aat_shaped_text.specs.KernedPlaces.{ClosesChained};
 ghost use Rattle.aat_shaper.specs.inside.Drawing.{IsDrawn, clusters_of, may_break};
-ghost use Rattle.aat_shaped_text.specs.ShapedText.{drawn_glyph, drawn_glyphs, drawn_position, is_ignorable, kept_place, kept_places, with_clusters_of};
+ghost use Rattle.aat_shaped_text.specs.ShapedText.{drawn_glyph, drawn_glyphs, drawn_position, is_ignorable, is_mark, kept_place, kept_places, with_clusters_of};
 
+use crate::line::MARK;
 use aat_layout::buffer::{GlyphPosition, hb_buffer_t, hb_glyph_info_t};
 use aat_layout::{AatError, hb_aat_layout_remove_deleted_glyphs, is_solid};
 use aat_placement::{add_up_attachments, parent_of};
@@ -193,6 +194,13 @@ fn is_ignorable(glyph: &hb_glyph_info_t) -> bool
     glyph.unicode_props & IGNORABLE_CHARACTER != 0
 }
 
+/// Whether a glyph has the property of marks.
+fn is_mark(glyph: &hb_glyph_info_t) -> bool
+    ensures { result ≡ is_mark glyph.now }
+{
+    glyph.glyph_props & MARK != 0
+}
+
 /// The glyph at a place of a line that is drawn, before which so many glyphs are kept.
 fn drawn_glyph<H: Allocator + Copy>(
     breaks: Breaks,
@@ -217,6 +225,7 @@ fn drawn_glyph<H: Allocator + Copy>(
         glyph_id: glyph.glyph_id as u16,
         cluster: glyph.cluster,
         is_ignorable: is_ignorable(&glyph),
+        is_mark: is_mark(&glyph),
         x_advance: position.x_advance,
         y_advance: position.y_advance,
         x_offset: position.x_offset,

@@ -1,9 +1,9 @@
 //! The line of a text.
 ghost use Rattle.std.specs.Prelude.{◌≡◌, ◌≤◌, IfErr, IfOk, length, pos};
 ghost use Rattle.aat_buffer.specs.Clusters.{IsSmall};
-ghost use Rattle.aat_font.specs.Face.{has_classes, props_of};
+ghost use Rattle.aat_font.specs.Face.{has_classes};
 ghost use Rattle.aat_shaped_text.specs.Breaks.{is_rising};
-ghost use Rattle.aat_shaped_text.specs.ShapedText.{line_glyph, most_glyphs, most_operations, most_text, text_buffer};
+ghost use Rattle.aat_shaped_text.specs.ShapedText.{line_glyph, most_glyphs, most_operations, most_text, text_buffer, text_props};
 
 use aat_layout::AatError;
 use aat_layout::buffer::{Direction, hb_buffer_t, hb_glyph_info_t, hb_mask_t};
@@ -31,6 +31,9 @@ const OPS_MOST: usize = 0x7FFF_FFFF;
 /// The bit of a glyph's mask by which it is kerned, above those of `glyph_flag`.
 pub(crate) const KERNED: hb_mask_t = 8;
 
+/// The property of marks, as HarfBuzz's `HB_OT_LAYOUT_GLYPH_PROPS_MARK`.
+pub(crate) const MARK: u16 = 8;
+
 /// What an ignorable character has: the layer's property `IGNORABLE`, 0x20, and 0x40, which the layer leaves as it is.
 /// A component that a ligature deletes gets 0x20 alone, and may be given a glyph again.
 const IGNORABLE_CHARACTER: u16 = 0x60;
@@ -53,13 +56,15 @@ fn most_operations(len: usize) -> i32
     (len * OPS_FACTOR).max(OPS_MIN).min(OPS_MOST) as i32
 }
 
-/// The properties of a glyph, given whether the font has any.
-fn props_of(face: &hb_font_t, is_classed: bool, glyph: GlyphId) -> u16
+/// The properties of a glyph of a text, given whether the font has classes of glyphs.
+fn text_props(face: &hb_font_t, is_classed: bool, glyph: &TextGlyph) -> u16
     requires { is_classed ≡ has_classes face.now }
-    ensures { result ≡ props_of face.now glyph.0 }
+    ensures { result ≡ text_props face.now glyph.now }
 {
     if is_classed {
-        face.glyph_props(glyph)
+        face.glyph_props(GlyphId(glyph.glyph_id))
+    } else if glyph.is_mark {
+        MARK
     } else {
         0
     }
@@ -81,7 +86,7 @@ fn line_glyph(
         glyph_id: u32::from(glyph.glyph_id),
         mask: if is_kerned { KERNED } else { 0 },
         cluster: glyph.cluster,
-        glyph_props: props_of(face, is_classed, GlyphId(glyph.glyph_id)),
+        glyph_props: text_props(face, is_classed, glyph),
         unicode_props: if glyph.is_ignorable {
             IGNORABLE_CHARACTER
         } else {

@@ -214,15 +214,17 @@ impl<'f, A: Allocator + Copy> Shaper<'f, A> {
     /// along the line, off over its range: no glyph there is one of a pair. Features that the font does not have change
     /// nothing but where the text may be broken.
     ///
-    /// The glyphs have the properties that the font has for them. By these pairs of `kerx` skip bases, ligatures and
-    /// marks, and those of `kern` marks. The glyphs are shaped at the cluster level 0, in a line of at most 64
-    /// glyphs for each one of the text, or 16384 if that is more, but never more than 0x3FFFFFFF, and with a budget of
-    /// 1024 operations for each, or 16384 if that is more, but never more than 0x7FFFFFFF;
-    /// [`Shaper::is_budget_used_up`] tells whether none of it is left.
+    /// The glyphs have the properties that the font has for them. Where it has no classes of glyphs, each mark of the text
+    /// has the property of marks, and other glyphs have none; HarfBuzz 12.3.2 has that of bases there. By these pairs of
+    /// `kerx` skip bases, ligatures and marks, and those of `kern` marks.
+    ///
+    /// The glyphs are shaped at the cluster level 0, in a line of at most 64 glyphs for each one of the text, or 16384
+    /// if that is more, but never more than 0x3FFFFFFF, and with a budget of 1024 operations for each, or 16384 if that
+    /// is more, but never more than 0x7FFFFFFF; [`Shaper::is_budget_used_up`] tells whether none of it is left.
     ///
     /// The line is tracked by the value of [`Shaper::tracking_along`], before attachments are added up: as the text is
-    /// read, each drawn glyph that begins a cluster gets it added to its advance along the line, and half of it,
-    /// rounded towards 0, to its offset.
+    /// read, each drawn glyph that begins a cluster gets it added to its advance along the line, and stays where it is,
+    /// as in HarfBuzz 12.3.2; version 6.0.0 moved it by half of the value.
     ///
     /// What comes out is in drawing order, from left to right or from top to bottom, so a backward text begins with its
     /// end. No glyph is 0xFFFF: deleted glyphs take no room, and go when the line has been turned. Offsets are added up
@@ -232,7 +234,7 @@ impl<'f, A: Allocator + Copy> Shaper<'f, A> {
     /// The text may be broken before each glyph that says so: cut at the later one of the two clusters that meet there,
     /// and its two parts shaped by themselves with the same features, what is drawn before the glyph looks as the one
     /// part does, and what is drawn from it on as the other one: ids, clusters, advances and offsets, and which glyphs are
-    /// ignorable. In a backward text the later part is drawn first.
+    /// ignorable, and which marks. In a backward text the later part is drawn first.
     ///
     /// No glyph says so unless all of this holds. Clusters never fall along the text. No missing entry ends the run of a
     /// machine of `morx`, and none of rearrangement runs on the line in the opposite order. Substitution and kerning take

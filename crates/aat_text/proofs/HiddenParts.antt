@@ -1,4 +1,4 @@
--- Where what is drawn of a text may be broken, its ignorable glyphs hidden.
+-- Where what is drawn of a text may be broken, its marks without width and its ignorable glyphs hidden.
 use Rattle.std.proofs.Common.{◌≡◌, ◌∙◌, sym, ap, ap₂, refl, subst, ℕ, zero, suc, ◌+◌, ◌-◌, ◌<◌, ◌≤◌, ◌&&◌, Bool, true, false, not, cond, List, [], ◌∷◌, ◌++◌, Option, Some, None, drop, filter, get_or, length, map, max, take, arith, true≢false}
 use Rattle.std.specs.Bool.{MatchBool}
 use Rattle.std.specs.List.{range_with_len}
@@ -13,8 +13,9 @@ use Rattle.aat_shaped_text.specs.Parts.{IsDrawnInParts, LooksAsParts, TextsAreDr
 use Rattle.aat_shaped_text.specs.ShapedText.{most_text, shaped_text}
 use Rattle.aat_shaped_text.specs.declared.text.ShapedGlyph.{ShapedGlyph}
 use Rattle.aat_shaped_text.specs.declared.text.TextGlyph.{TextGlyph}
-use Rattle.aat_text.specs.HiddenParts.{BreaksHoldWithoutIgnorables, IsShownInParts, ShowsAsParts, shown_text}
+use Rattle.aat_text.specs.HiddenParts.{BreaksHoldAsShown, IsShownInParts, ShowsAsParts, Showing, shown, shown_text, with_ignorables, with_marks}
 use Rattle.aat_text.specs.Ignorables.{as_space, drawn_without_ignorables, kept_glyph, kept_glyphs, places_kept, space_for, stays}
+use Rattle.aat_text.specs.Marks.{without_width, zeroed_mark}
 use Rattle.aat_shaped_text.proofs.Looks.{looks_of_places}
 use Rattle.aat_text.proofs.HiddenGlyphs.{passed_more}
 
@@ -120,19 +121,6 @@ passed_before p is (suc k) (suc i) h j low front at first before passes =
     ∙ (ap (λ (m : ℕ). get_or (passed p 0 i ++ i ∷ []) m 0) last
     ∙ (get_or-append-add (passed p 0 i) (i ∷ []) 0 0 ∙ sym stands)))
 
--- How hiding changes looks.
-abbrev hidden_looks : Option GlyphId → Drawn → Drawn
-hidden_looks (Some space) glyphs = map (space_for space) glyphs
-hidden_looks None glyphs = filter stays glyphs
-
-space_looks : (space : GlyphId) (glyphs : Drawn) → map looks (map (space_for space) glyphs) ≡ map (space_for space) (map looks glyphs)
-space_looks space [] = refl
-space_looks space (g ∷ glyphs) = ap₂ (λ (h : ShapedGlyph) (hs : Drawn). h ∷ hs) (by g.is_ignorable) (space_looks space glyphs)
-  where
-    by : (t : Bool) → looks (cond t (as_space space g) g) ≡ cond t (as_space space (looks g)) (looks g)
-    by true = refl
-    by false = refl
-
 -- how those of some places look
 looks_from :
     (glyphs : Drawn) (a : ℕ) (xs : Drawn) → ((j : ℕ) → j < length xs → shaped_at glyphs (a + j) ≡ shaped_at xs j)
@@ -164,56 +152,121 @@ looks_from glyphs a (x ∷ xs) same =
     by true is look below = whole is ∙ below
     by false is look below = whole is ∙ ap₂ (λ (h : ShapedGlyph) (hs : Drawn). h ∷ hs) look below
 
-looks_hidden : (space : Option GlyphId) (glyphs : Drawn) → map looks (drawn_without_ignorables space glyphs) ≡ hidden_looks space (map looks glyphs)
-looks_hidden (Some space) glyphs = space_looks space glyphs
-looks_hidden None glyphs =
-    looks_of_places (kept_glyph glyphs) (places_kept glyphs)
-    ∙ looks_from glyphs 0 glyphs (λ j low. let same : 0 + j ≡ j = omega arith in ap (shaped_at glyphs) same)
-
 -- The place of a glyph that is shown: it says the same of a break, which cuts the text at the same cluster, and the glyphs
--- before it and from it on look as those before and from it on do, hidden.
-record ShownAt (space : Option GlyphId) (glyphs shown : Drawn) (k : ℕ) : Type 0 where
+-- before it and from it on look as those before and from it on do, changed.
+record ShownAt (change : Drawn → Drawn) (glyphs seen : Drawn) (k : ℕ) : Type 0 where
   at : ℕ
   low : at < length glyphs
   breaks : (shaped_at glyphs at).may_break_before ≡ true
-  cut : cut_before shown k ≡ cut_before glyphs at
-  front : map looks (take k shown) ≡ hidden_looks space (map looks (take at glyphs))
-  back : map looks (drop k shown) ≡ hidden_looks space (map looks (drop at glyphs))
+  cut : cut_before seen k ≡ cut_before glyphs at
+  front : map looks (take k seen) ≡ change (map looks (take at glyphs))
+  back : map looks (drop k seen) ≡ change (map looks (drop at glyphs))
 
--- where ignorable glyphs are spaces
-module _ (space : GlyphId) (glyphs : Drawn) where
-  cluster_as_space : (g : ShapedGlyph) → (space_for space g).cluster ≡ g.cluster
-  cluster_as_space g = by g.is_ignorable
-    where
-      by : (t : Bool) → (cond t (as_space space g) g).cluster ≡ g.cluster
-      by true = refl
-      by false = refl
+-- a way to show glyphs changes how they look so, and keeps what is told of breaks
+record KeepsBreaks (show change : Drawn → Drawn) : Type 0 where
+  looked : (glyphs : Drawn) → map looks (show glyphs) ≡ change (map looks glyphs)
+  shown_at :
+      (glyphs : Drawn) (k : ℕ) → k < length (show glyphs) → (shaped_at (show glyphs) k).may_break_before ≡ true
+      → ShownAt change glyphs (show glyphs) k
 
-  break_as_space : (g : ShapedGlyph) → (space_for space g).may_break_before ≡ g.may_break_before
-  break_as_space g = by g.is_ignorable
-    where
-      by : (t : Bool) → (cond t (as_space space g) g).may_break_before ≡ g.may_break_before
-      by true = refl
-      by false = refl
+-- so does showing them as they are
+as_they_are : KeepsBreaks (λ glyphs. glyphs) (λ glyphs. glyphs)
+as_they_are = record {
+  looked = λ glyphs. refl;
+  shown_at = λ glyphs k low may. record { at = k; low = low; breaks = may; cut = refl; front = refl; back = refl };
+}
 
-  space_at : (k : ℕ) → k < length glyphs → shaped_at (map (space_for space) glyphs) k ≡ space_for space (shaped_at glyphs k)
-  space_at k low = get_or-map (space_for space) glyphs k no_shaped_glyph no_shaped_glyph low
+-- and so do two ways, one after the other
+one_by_one :
+    (show change later after : Drawn → Drawn) → KeepsBreaks show change → KeepsBreaks later after
+    → KeepsBreaks (λ glyphs. later (show glyphs)) (λ glyphs. after (change glyphs))
+one_by_one show change later after first second = record {
+  looked = λ glyphs. second.looked (show glyphs) ∙ ap after (first.looked glyphs);
+  shown_at = λ glyphs k low may.
+      let y = second.shown_at (show glyphs) k low may in
+      let x = first.shown_at glyphs y.at y.low y.breaks in
+      record {
+        at = x.at;
+        low = x.low;
+        breaks = x.breaks;
+        cut = y.cut ∙ x.cut;
+        front = y.front ∙ ap after x.front;
+        back = y.back ∙ ap after x.back;
+      };
+}
 
-  shown_as_space :
-      (k : ℕ) → k < length (map (space_for space) glyphs) → (shaped_at (map (space_for space) glyphs) k).may_break_before ≡ true
-      → ShownAt (Some space) glyphs (map (space_for space) glyphs) k
-  shown_as_space k low may =
-      let within : k < length glyphs = omega (arith, low, length-map glyphs (space_for space)) in
-      let cluster : (j : ℕ) → j < length glyphs → (shaped_at (map (space_for space) glyphs) j).cluster ≡ (shaped_at glyphs j).cluster =
-      λ j inside. ap (λ (g : ShapedGlyph). g.cluster) (space_at j inside) ∙ cluster_as_space (shaped_at glyphs j) in
+-- a change of each glyph by itself that keeps its cluster and what it says of a break, and looks at how it looks alone
+record IsByGlyph (f : ShapedGlyph → ShapedGlyph) : Type 0 where
+  look : (g : ShapedGlyph) → looks (f g) ≡ f (looks g)
+  cluster : (g : ShapedGlyph) → (f g).cluster ≡ g.cluster
+  break : (g : ShapedGlyph) → (f g).may_break_before ≡ g.may_break_before
+
+module _ (f : ShapedGlyph → ShapedGlyph) (is : IsByGlyph f) where
+  looks_each : (glyphs : Drawn) → map looks (map f glyphs) ≡ map f (map looks glyphs)
+  looks_each [] = refl
+  looks_each (g ∷ glyphs) = ap₂ (λ (h : ShapedGlyph) (hs : Drawn). h ∷ hs) (is.look g) (looks_each glyphs)
+
+  each_at : (glyphs : Drawn) (k : ℕ) → k < length glyphs → shaped_at (map f glyphs) k ≡ f (shaped_at glyphs k)
+  each_at glyphs k low = get_or-map f glyphs k no_shaped_glyph no_shaped_glyph low
+
+  shown_each :
+      (glyphs : Drawn) (k : ℕ) → k < length (map f glyphs) → (shaped_at (map f glyphs) k).may_break_before ≡ true
+      → ShownAt (map f) glyphs (map f glyphs) k
+  shown_each glyphs k low may =
+      let within : k < length glyphs = omega (arith, low, length-map glyphs f) in
+      let cluster : (j : ℕ) → j < length glyphs → (shaped_at (map f glyphs) j).cluster ≡ (shaped_at glyphs j).cluster =
+      λ j inside. ap (λ (g : ShapedGlyph). g.cluster) (each_at glyphs j inside) ∙ is.cluster (shaped_at glyphs j) in
       record {
         at = k;
         low = within;
-        breaks = sym (ap (λ (g : ShapedGlyph). g.may_break_before) (space_at k within) ∙ break_as_space (shaped_at glyphs k)) ∙ may;
+        breaks = sym (ap (λ (g : ShapedGlyph). g.may_break_before) (each_at glyphs k within) ∙ is.break (shaped_at glyphs k)) ∙ may;
         cut = ap₂ max (cluster (k - 1) (omega (arith, within))) (cluster k within);
-        front = ap (map looks) (take-map (space_for space) k glyphs) ∙ space_looks space (take k glyphs);
-        back = ap (map looks) (drop-map (space_for space) k glyphs) ∙ space_looks space (drop k glyphs);
+        front = ap (map looks) (take-map f k glyphs) ∙ looks_each (take k glyphs);
+        back = ap (map looks) (drop-map f k glyphs) ∙ looks_each (drop k glyphs);
       }
+
+  glyph_by_glyph : KeepsBreaks (map f) (map f)
+  glyph_by_glyph = record { looked = looks_each; shown_at = shown_each }
+
+-- a space in place of an ignorable glyph
+by_space : (space : GlyphId) → IsByGlyph (space_for space)
+by_space space = record {
+  look = λ g. look g g.is_ignorable;
+  cluster = λ g. cluster g g.is_ignorable;
+  break = λ g. break g g.is_ignorable;
+}
+  where
+    look : (g : ShapedGlyph) (t : Bool) → looks (cond t (as_space space g) g) ≡ cond t (as_space space (looks g)) (looks g)
+    look g true = refl
+    look g false = refl
+
+    cluster : (g : ShapedGlyph) (t : Bool) → (cond t (as_space space g) g).cluster ≡ g.cluster
+    cluster g true = refl
+    cluster g false = refl
+
+    break : (g : ShapedGlyph) (t : Bool) → (cond t (as_space space g) g).may_break_before ≡ g.may_break_before
+    break g true = refl
+    break g false = refl
+
+-- a mark without width
+by_mark : (moves : Bool) → IsByGlyph (zeroed_mark moves)
+by_mark moves = record {
+  look = λ g. look g g.is_mark;
+  cluster = λ g. cluster g g.is_mark;
+  break = λ g. break g g.is_mark;
+}
+  where
+    look : (g : ShapedGlyph) (t : Bool) → looks (cond t (without_width moves g) g) ≡ cond t (without_width moves (looks g)) (looks g)
+    look g true = refl
+    look g false = refl
+
+    cluster : (g : ShapedGlyph) (t : Bool) → (cond t (without_width moves g) g).cluster ≡ g.cluster
+    cluster g true = refl
+    cluster g false = refl
+
+    break : (g : ShapedGlyph) (t : Bool) → (cond t (without_width moves g) g).may_break_before ≡ g.may_break_before
+    break g true = refl
+    break g false = refl
 
 both : (t u : Bool) → (t && u) ≡ true → (t ≡ true) × (u ≡ true)
 both true u e = (refl, e)
@@ -232,7 +285,7 @@ module _ (glyphs : Drawn) where
 
   shown_kept :
       (k : ℕ) → k < length (kept_glyphs glyphs) → (shaped_at (kept_glyphs glyphs) k).may_break_before ≡ true
-      → ShownAt None glyphs (kept_glyphs glyphs) k
+      → ShownAt (filter stays) glyphs (kept_glyphs glyphs) k
   shown_kept k low may =
       let is = places_kept glyphs in
       let inside : k < length is = omega (arith, low, length-map is (kept_glyph glyphs)) in
@@ -266,33 +319,59 @@ module _ (glyphs : Drawn) where
             ∙ looks_from glyphs x.at (drop x.at glyphs) (λ j less. sym (get_or-drop x.at glyphs j no_shaped_glyph))));
       }
 
-shown_at :
-    (space : Option GlyphId) (glyphs : Drawn) (k : ℕ) → k < length (drawn_without_ignorables space glyphs)
-    → (shaped_at (drawn_without_ignorables space glyphs) k).may_break_before ≡ true
-    → ShownAt space glyphs (drawn_without_ignorables space glyphs) k
-shown_at (Some space) glyphs k low may = shown_as_space space glyphs k low may
-shown_at None glyphs k low may = shown_kept glyphs k low may
+looks_kept : (glyphs : Drawn) → map looks (kept_glyphs glyphs) ≡ filter stays (map looks glyphs)
+looks_kept glyphs =
+    looks_of_places (kept_glyph glyphs) (places_kept glyphs)
+    ∙ looks_from glyphs 0 glyphs (λ j low. let same : 0 + j ≡ j = omega arith in ap (shaped_at glyphs) same)
+
+-- How showing changes looks.
+abbrev marks_change : Option Bool → Drawn → Drawn
+marks_change None glyphs = glyphs
+marks_change (Some moves) glyphs = map (zeroed_mark moves) glyphs
+
+abbrev hidden_change : Option (Option GlyphId) → Drawn → Drawn
+hidden_change None glyphs = glyphs
+hidden_change (Some (Some space)) glyphs = map (space_for space) glyphs
+hidden_change (Some None) glyphs = filter stays glyphs
+
+marks_keep : (o : Option Bool) → KeepsBreaks (with_marks o) (marks_change o)
+marks_keep None = as_they_are
+marks_keep (Some moves) = glyph_by_glyph (zeroed_mark moves) (by_mark moves)
+
+ignorables_keep : (o : Option (Option GlyphId)) → KeepsBreaks (with_ignorables o) (hidden_change o)
+ignorables_keep None = as_they_are
+ignorables_keep (Some (Some space)) = glyph_by_glyph (space_for space) (by_space space)
+ignorables_keep (Some None) = record { looked = looks_kept; shown_at = shown_kept }
+
+abbrev change : Showing → Drawn → Drawn
+change s glyphs = hidden_change s.ignorables (marks_change s.marks glyphs)
+
+showing_keeps : (s : Showing) → KeepsBreaks (shown s) (change s)
+showing_keeps s =
+    one_by_one (with_marks s.marks) (marks_change s.marks) (with_ignorables s.ignorables) (hidden_change s.ignorables)
+    (marks_keep s.marks) (ignorables_keep s.ignorables)
 
 match_map : {A B C D : Type 0} (t : Bool) → (A → C) → (B → D) → MatchBool t A B → MatchBool t C D
 match_map true f g m = f m
 match_map false f g m = g m
 
 -- what is shown of a text may be broken before each glyph that says so
-pub breaks_hold : TextsAreDrawnInParts → BreaksHoldWithoutIgnorables
-breaks_hold holds space v face d features text short k low may =
+pub breaks_hold : TextsAreDrawnInParts → BreaksHoldAsShown
+breaks_hold holds s v face d features text short k low may =
     let glyphs = shaped_text v face d features text in
-    let shown = shown_text space v face d features text in
-    let x = shown_at space glyphs k low may in
+    let seen = shown_text s v face d features text in
+    let keeps = showing_keeps s in
+    let x = keeps.shown_at glyphs k low may in
     let parts : IsDrawnInParts v face d features text glyphs x.at = holds v face d features text short x.at x.low x.breaks in
     let part : (first second : List TextGlyph) → LooksAsParts v face d features first second glyphs x.at
-    → ShowsAsParts space v face d features first second shown k =
+    → ShowsAsParts s v face d features first second seen k =
     λ first second as_parts. record {
-      before = x.front ∙ (ap (hidden_looks space) as_parts.before ∙ sym (looks_hidden space (shaped_text v face d features first)));
-      behind = x.back ∙ (ap (hidden_looks space) as_parts.behind ∙ sym (looks_hidden space (shaped_text v face d features second)));
+      before = x.front ∙ (ap (change s) as_parts.before ∙ sym (keeps.looked (shaped_text v face d features first)));
+      behind = x.back ∙ (ap (change s) as_parts.behind ∙ sym (keeps.looked (shaped_text v face d features second)));
     } in
     subst
-    (λ (c : ℕ). MatchBool (is_backward d) (ShowsAsParts space v face d features (text_from c text) (text_before c text) shown k)
-    (ShowsAsParts space v face d features (text_before c text) (text_from c text) shown k))
+    (λ (c : ℕ). MatchBool (is_backward d) (ShowsAsParts s v face d features (text_from c text) (text_before c text) seen k)
+    (ShowsAsParts s v face d features (text_before c text) (text_from c text) seen k))
     (sym x.cut)
     (match_map (is_backward d)
     (part (text_from (cut_before glyphs x.at) text) (text_before (cut_before glyphs x.at) text))

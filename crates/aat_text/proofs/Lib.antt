@@ -5,3 +5,4 @@ pub mod HiddenParts
 pub mod Pieces
 pub mod Placed
 pub mod Rising
+pub mod ZeroedMarks

@@ -1,11 +1,12 @@
 -- Worked examples of texts, written out as their characters.
-use Rattle.std.specs.Prelude.{◌≡◌, ℕ, pos, true, false, List, [], ◌∷◌, map, encode_utf8_all, Option, Some, None}
+use Rattle.std.specs.Prelude.{◌≡◌, ℕ, ℤ, pos, negsuc, true, false, List, [], ◌∷◌, map, encode_utf8_all, Option, Some, None}
 use Rattle.aat_face.specs.Faces.{FaceValue}
 use Rattle.aat_glyph.specs.declared.glyph.Direction.TheVariants.{LeftToRight, RightToLeft}
 use Rattle.aat_shaped_text.specs.Parts.{no_shaped_glyph}
 use Rattle.aat_shaped_text.specs.declared.text.ShapedGlyph.{ShapedGlyph}
 use Rattle.aat_text.specs.Ignorables.{drawn_without_ignorables}
 use Rattle.aat_text.specs.LineEnds.{line_ends}
+use Rattle.aat_text.specs.Marks.{zero_marks}
 use Rattle.aat_text.specs.Missing.{missing_characters}
 use Rattle.aat_text.specs.Strong.{first_strong_direction}
 use Rattle.aat_text.specs.TextGlyphs.{text_of}
@@ -36,6 +37,17 @@ abbrev pub JoinersAreIgnorable : Type 0
 JoinersAreIgnorable =
     (face : FaceValue) → (clusters_of face Characters family ≡ 0 ∷ 0 ∷ 0 ∷ 0 ∷ 0 ∷ [])
     × (map (λ g. g.is_ignorable) (text_of face Characters family) ≡ false ∷ true ∷ false ∷ true ∷ false ∷ [])
+
+-- a letter, an accent, a grapheme joiner and a variation selector, which are nonspacing but ignorable, and a mark of
+-- Devanagari that takes room
+abbrev pub marked : List ℕ
+marked = encode_utf8_all (0x65 ∷ 0x301 ∷ 0x34F ∷ 0xFE0F ∷ 0x93E ∷ [])
+
+-- the accent alone is a mark
+abbrev pub AccentsAreMarks : Type 0
+AccentsAreMarks =
+    (face : FaceValue)
+    → map (λ g. g.is_mark) (text_of face Characters marked) ≡ false ∷ true ∷ false ∷ false ∷ false ∷ []
 
 -- a font without characters lacks the accent at its own place, and not the zero width joiner
 abbrev pub IgnorablesAreNotMissing : Type 0
@@ -101,6 +113,20 @@ abbrev pub ignorable_glyphs : List ShapedGlyph
 ignorable_glyphs =
     drawn 5 ∷ broken_before (ignorable 9) ∷ broken_before (drawn 9) ∷ broken_before (attached 2 (drawn 6))
     ∷ attached 1 (drawn 7) ∷ []
+
+-- a glyph that is drawn as a mark, with an offset
+abbrev pub mark : ℤ → ShapedGlyph
+mark offset = record (drawn 8) { is_mark = true; x_offset = offset }
+
+-- a mark has no width, and moves by it where marks move; other glyphs stay
+abbrev pub MarksHaveNoWidth : Type 0
+MarksHaveNoWidth =
+    (zero_marks false (drawn 5 ∷ broken_before (attached 0 (mark (pos 20))) ∷ ignorable 9 ∷ [])
+    ≡ drawn 5 ∷ broken_before (attached 0 (record (mark (pos 20)) { x_advance = pos 0 })) ∷ ignorable 9 ∷ [])
+    × (zero_marks true (drawn 5 ∷ mark (pos 20) ∷ [])
+    ≡ drawn 5 ∷ record (mark (negsuc 479)) { x_advance = pos 0 } ∷ [])
+    × (zero_marks true (record (mark (negsuc 2147483647)) { y_advance = negsuc 9 } ∷ [])
+    ≡ record (mark (pos 2147483148)) { x_advance = pos 0; y_offset = pos 10 } ∷ [])
 
 -- it is hidden as the space 3 without width
 abbrev pub HiddenGlyphsAreSpaces : Type 0

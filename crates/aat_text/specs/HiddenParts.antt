@@ -1,6 +1,6 @@
--- Where what is drawn of a text may be broken, its ignorable glyphs hidden. (No chapter of the manual: where a line may be
--- broken is the shaper's own.)
-use Rattle.std.specs.Prelude.{◌≡◌, ℕ, ℤ, ◌<◌, ◌≤◌, true, drop, List, length, map, Option, take}
+-- Where what is drawn of a text may be broken, its marks without width and its ignorable glyphs hidden. (No chapter of
+-- the manual: where a line may be broken is the shaper's own.)
+use Rattle.std.specs.Prelude.{◌≡◌, ℕ, ℤ, ◌<◌, ◌≤◌, Bool, true, drop, List, length, map, Option, Some, None, take}
 use Rattle.std.specs.Bool.{MatchBool}
 use Rattle.aat_font.specs.declared.face.hb_font_t.{hb_font_t}
 use Rattle.aat_font.specs.declared.plan.Feature.{Feature}
@@ -12,33 +12,54 @@ use Rattle.aat_shaped_text.specs.ShapedText.{most_text, shaped_text}
 use Rattle.aat_shaped_text.specs.declared.text.ShapedGlyph.{ShapedGlyph}
 use Rattle.aat_shaped_text.specs.declared.text.TextGlyph.{TextGlyph}
 use Rattle.aat_text.specs.Ignorables.{drawn_without_ignorables}
+use Rattle.aat_text.specs.Marks.{zero_marks}
 
--- what is drawn of a text that is tracked by a value, its ignorable glyphs hidden
-abbrev pub shown_text : Option GlyphId → ℤ → hb_font_t → Direction → List Feature → List TextGlyph → List ShapedGlyph
-shown_text space v face d features text = drawn_without_ignorables space (shaped_text v face d features text)
+-- How what is drawn of a text is shown: where marks have no width, whether they move; and where ignorable glyphs are
+-- hidden, as which space, if the font has one.
+pub record Showing : Type 0 where
+  pub marks : Option Bool
+  pub ignorables : Option (Option GlyphId)
+
+-- glyphs, with marks without width where that is asked
+abbrev pub with_marks : Option Bool → List ShapedGlyph → List ShapedGlyph
+with_marks None glyphs = glyphs
+with_marks (Some moves) glyphs = zero_marks moves glyphs
+
+-- glyphs, with ignorable ones hidden where that is asked
+abbrev pub with_ignorables : Option (Option GlyphId) → List ShapedGlyph → List ShapedGlyph
+with_ignorables None glyphs = glyphs
+with_ignorables (Some space) glyphs = drawn_without_ignorables space glyphs
+
+-- glyphs as they are shown: first marks lose their width, and then ignorable glyphs are hidden
+abbrev pub shown : Showing → List ShapedGlyph → List ShapedGlyph
+shown s glyphs = with_ignorables s.ignorables (with_marks s.marks glyphs)
+
+-- what is shown of a text that is tracked by a value
+abbrev pub shown_text : Showing → ℤ → hb_font_t → Direction → List Feature → List TextGlyph → List ShapedGlyph
+shown_text s v face d features text = shown s (shaped_text v face d features text)
 
 -- what is shown looks before place k as what is shown of one text by itself, and from place k on as that of another
 pub record ShowsAsParts
-    (space : Option GlyphId) (v : ℤ) (face : hb_font_t) (d : Direction) (features : List Feature)
+    (s : Showing) (v : ℤ) (face : hb_font_t) (d : Direction) (features : List Feature)
     (first second : List TextGlyph) (glyphs : List ShapedGlyph) (k : ℕ) : Type 0
   where
-    pub before : map looks (take k glyphs) ≡ map looks (shown_text space v face d features first)
-    pub behind : map looks (drop k glyphs) ≡ map looks (shown_text space v face d features second)
+    pub before : map looks (take k glyphs) ≡ map looks (shown_text s v face d features first)
+    pub behind : map looks (drop k glyphs) ≡ map looks (shown_text s v face d features second)
 
 -- What is shown of a text looks before place k as the text before the cut does by itself, and from place k on as the text
 -- from the cut on does. In a backward text the parts change places.
 abbrev pub IsShownInParts :
-    Option GlyphId → ℤ → hb_font_t → Direction → List Feature → List TextGlyph → List ShapedGlyph → ℕ → Type 0
-IsShownInParts space v face d features text glyphs k =
+    Showing → ℤ → hb_font_t → Direction → List Feature → List TextGlyph → List ShapedGlyph → ℕ → Type 0
+IsShownInParts s v face d features text glyphs k =
     let early = text_before (cut_before glyphs k) text in
     let late = text_from (cut_before glyphs k) text in
-    MatchBool (is_backward d) (ShowsAsParts space v face d features late early glyphs k)
-    (ShowsAsParts space v face d features early late glyphs k)
+    MatchBool (is_backward d) (ShowsAsParts s v face d features late early glyphs k)
+    (ShowsAsParts s v face d features early late glyphs k)
 
--- so it is with each text of at most 2^24 glyphs, before each glyph that says so
-abbrev pub BreaksHoldWithoutIgnorables : Type 0
-BreaksHoldWithoutIgnorables =
-    (space : Option GlyphId) (v : ℤ) (face : hb_font_t) (d : Direction) (features : List Feature) (text : List TextGlyph)
-    → length text ≤ most_text → (k : ℕ) → k < length (shown_text space v face d features text)
-    → (shaped_at (shown_text space v face d features text) k).may_break_before ≡ true
-    → IsShownInParts space v face d features text (shown_text space v face d features text) k
+-- so it is with each text of at most 2^24 glyphs, however it is shown, before each glyph that says so
+abbrev pub BreaksHoldAsShown : Type 0
+BreaksHoldAsShown =
+    (s : Showing) (v : ℤ) (face : hb_font_t) (d : Direction) (features : List Feature) (text : List TextGlyph)
+    → length text ≤ most_text → (k : ℕ) → k < length (shown_text s v face d features text)
+    → (shaped_at (shown_text s v face d features text) k).may_break_before ≡ true
+    → IsShownInParts s v face d features text (shown_text s v face d features text) k

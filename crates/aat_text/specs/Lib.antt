@@ -2,6 +2,7 @@ pub mod Examples
 pub mod HiddenParts
 pub mod Ignorables
 pub mod LineEnds
+pub mod Marks
 pub mod Missing
 pub mod Places
 pub mod Strong

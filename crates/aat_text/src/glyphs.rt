@@ -1,7 +1,7 @@
 //! The glyphs of a text.
 ghost use Rattle.std.specs.Prelude.{◌≡◌, ◌<◌, ◌≤◌, ◌^◌, ◌++◌, ◌↔◌, length, map, IfErr, IfOk, IsErrOf, OnOk};
 ghost use Rattle.std.specs.Str.{chars};
-ghost use Rattle.aat_text.specs.TextGlyphs.{text_glyph, text_of};
+ghost use Rattle.aat_text.specs.TextGlyphs.{is_mark_character, text_glyph, text_of};
 ghost use Rattle.aat_text.specs.declared.error.TextError.TheVariants as errors;
 
 use crate::error::TextError;
@@ -9,11 +9,22 @@ use crate::unit::ClusterUnit;
 use aat_face::Face;
 use aat_shaped_text::TextGlyph;
 use std::alloc::{AllocError, Allocator};
+use ucd_category::GeneralCategory;
 use ucd_derived::is_default_ignorable_code_point;
 use unicode_segmentation::UnicodeSegmentation;
 
 /// The longest text, in bytes: its places have 32 bits.
 pub(crate) const LONGEST_TEXT: usize = 0xFFFF_FFFF;
+
+/// Whether a character is a nonspacing mark that is not ignorable.
+fn is_mark_character(character: char) -> bool
+    ensures { result ≡ is_mark_character character }
+{
+    match GeneralCategory::for_char(character) {
+        GeneralCategory::NonspacingMark => !is_default_ignorable_code_point(character),
+        _ => false,
+    }
+}
 
 /// A character of a cluster as a glyph.
 fn text_glyph(face: &Face, cluster: u32, character: char) -> TextGlyph
@@ -27,6 +38,7 @@ fn text_glyph(face: &Face, cluster: u32, character: char) -> TextGlyph
         glyph_id,
         cluster,
         is_ignorable: is_default_ignorable_code_point(character),
+        is_mark: is_mark_character(character),
     }
 }
 
@@ -49,8 +61,8 @@ fn put_cluster<A: Allocator>(
 ///
 /// The glyph is that of the character in the font, and 0 where the font has none. Its cluster is the place at which the
 /// extended grapheme cluster of the character begins, as Unicode has it: the number of bytes or of characters of the
-/// text before it, as `unit` says. It is ignorable where Unicode has the character as a Default_Ignorable_Code_Point.
-/// So clusters never fall along the text.
+/// text before it, as `unit` says. It is ignorable where Unicode has the character as a Default_Ignorable_Code_Point,
+/// and else a mark where its General_Category is Mn. So clusters never fall along the text.
 ///
 /// Refused as 1 `TooLong` exactly where the text has more than 4,294,967,295 bytes, and else as 2 `OutOfMemory` where
 /// memory is wanting.

@@ -1,5 +1,5 @@
 //! The laws of texts as theorems. These calls do nothing: what is proved is their contracts.
-ghost use Rattle.aat_text.specs.HiddenParts.{BreaksHoldWithoutIgnorables};
+ghost use Rattle.aat_text.specs.HiddenParts.{BreaksHoldAsShown};
 ghost use Rattle.aat_text.specs.TextLaws.{CharactersHaveGlyphs, LineEndsRise, TextsRise};
 
 use aat_shaped_text::laws::texts_are_drawn_in_parts;
@@ -21,13 +21,14 @@ pub fn line_ends_rise()
     ensures { LineEndsRise }
 {}
 
-/// What is drawn of a text of at most 2^24 glyphs, its ignorable glyphs hidden, may be broken before each glyph that says
-/// so, in whatever font: what is drawn before it looks as one part of the text does, shaped by itself with the same
-/// features and tracked by the same value, with its ignorable glyphs hidden, and what is drawn from it on as the other
-/// part. The text is cut at the later of the two clusters that meet there. In a forward text the part before the cut is
-/// drawn first, and in a backward text the part from the cut on.
-pub fn breaks_hold_without_ignorables()
-    ensures { BreaksHoldWithoutIgnorables }
+/// What is drawn of a text of at most 2^24 glyphs may be broken before each glyph that says so, in whatever font, also
+/// where its marks lose their width (`zero_marks`), where its ignorable glyphs are hidden (`hide_ignorables`), and
+/// where the one is done and then the other: what is shown before the glyph looks as what is shown, in the same way, of
+/// one part of the text, shaped by itself with the same features and tracked by the same value, and what is shown from
+/// it on as that of the other part. The text is cut at the later of the two clusters that meet there. In a forward text
+/// the part before the cut is drawn first, and in a backward text the part from the cut on.
+pub fn breaks_hold_as_shown()
+    ensures { BreaksHoldAsShown }
 {
     texts_are_drawn_in_parts();
 }

@@ -1,10 +1,11 @@
 //! Worked examples as theorems. These calls do nothing: what is proved is their contracts.
-ghost use Rattle.aat_text.specs.Examples.{AccentsShareClusters, BreaksAreForced, ClosingBracketsStay, HiddenGlyphsAreSpaces, HiddenGlyphsGo, IdeographsEndLines, IgnorablesAreNotMissing, JoinersAreIgnorable, LettersAreStrong, LinesEndBehindSpaces};
+ghost use Rattle.aat_text.specs.Examples.{AccentsAreMarks, AccentsShareClusters, BreaksAreForced, ClosingBracketsStay, HiddenGlyphsAreSpaces, HiddenGlyphsGo, IdeographsEndLines, IgnorablesAreNotMissing, JoinersAreIgnorable, LettersAreStrong, LinesEndBehindSpaces, MarksHaveNoWidth};
 
 /// The definitions of glyphs and of missing characters compute to the examples.
 pub fn glyphs()
     ensures clusters { AccentsShareClusters }
     ensures ignorable { JoinersAreIgnorable }
+    ensures marks { AccentsAreMarks }
     ensures missing { IgnorablesAreNotMissing }
 {}
 
@@ -25,4 +26,9 @@ pub fn line_ends()
 pub fn ignorables()
     ensures spaces { HiddenGlyphsAreSpaces }
     ensures gone { HiddenGlyphsGo }
+{}
+
+/// The definition of what is drawn with marks without width computes to the examples.
+pub fn marks()
+    ensures { MarksHaveNoWidth }
 {}

@@ -10,7 +10,7 @@ loop-glyph-preserved g c =
     let x = c.line_glyph.result in
     record {
       made =
-          line_more c.args.face.now c.args.direction c.args.features.now c.args.text.now l.glyph-index (record { glyph_id = 0; cluster = 0; is_ignorable = false }) x l.buffer c.add.new.self
+          line_more c.args.face.now c.args.direction c.args.features.now c.args.text.now l.glyph-index (record { glyph_id = 0; cluster = 0; is_ignorable = false; is_mark = false }) x l.buffer c.add.new.self
           c.loop-glyph-test.true c.line_glyph.ensures.value c.in_ok-add.ensures.ok l.invariant.made;
       ids =
           rw c.in_ok-add.ensures.ok

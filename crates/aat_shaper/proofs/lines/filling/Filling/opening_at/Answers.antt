@@ -6,7 +6,7 @@ use Rattle.aat_shaper.proofs.Told.{rising_where_told}
 use Rattle.aat_shaper.proofs.lines.filling.Filling.opening_at.Goals as goal
 
 abbrev zero_glyph : TextGlyph
-zero_glyph = record { glyph_id = 0; cluster = 0; is_ignorable = false }
+zero_glyph = record { glyph_id = 0; cluster = 0; is_ignorable = false; is_mark = false }
 
 pub returns-then-max-cluster : goal.returns-then-max-cluster
 returns-then-max-cluster c =
