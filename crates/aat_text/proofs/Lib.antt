@@ -1,7 +1,13 @@
 pub mod Chars
 pub mod EndsRise
+pub mod Firsts
 pub mod HiddenGlyphs
 pub mod HiddenParts
+pub mod MarksPlaced
+pub mod PartsLemmas
 pub mod Pieces
 pub mod Placed
+pub mod PlacedPieces
 pub mod Rising
+pub mod RowsRise
+pub mod WaysLemmas

@@ -1,1 +1,3 @@
+pub mod Composing
 pub mod Listed
+pub mod Ways

@@ -16,7 +16,7 @@ use unicode_segmentation::UnicodeSegmentation;
 pub(crate) const LONGEST_TEXT: usize = 0xFFFF_FFFF;
 
 /// A character of a cluster as a glyph.
-fn text_glyph(face: &Face, cluster: u32, character: char) -> TextGlyph
+pub(crate) fn text_glyph(face: &Face, cluster: u32, character: char) -> TextGlyph
     ensures { result ≡ text_glyph face.now cluster character }
 {
     let glyph_id = match face.glyph_of(character) {
