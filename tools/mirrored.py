@@ -3,13 +3,13 @@
 
     python3 tools/mirrored.py BidiMirroring.txt
 
-The file is that of Unicode 17.0.0, in Debian's package `unicode-data`. Then run `rt fmt` in crates/aat_text."""
+The file is that of Unicode 17.0.0, in Debian's package `unicode-data`. Then run `rt fmt` in crates/aat_characters."""
 import os
 import re
 import sys
 
 TOP = os.path.dirname(os.path.dirname(os.path.abspath(__file__)))
-CRATE = f"{TOP}/crates/aat_text"
+CRATE = f"{TOP}/crates/aat_characters"
 ROW = re.compile(r"([0-9A-F]{4,6}); ([0-9A-F]{4,6}) #")
 
 

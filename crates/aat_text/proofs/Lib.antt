@@ -1,13 +1,8 @@
 pub mod Chars
 pub mod EndsRise
-pub mod Firsts
 pub mod HiddenGlyphs
 pub mod HiddenParts
-pub mod MarksPlaced
-pub mod PartsLemmas
 pub mod Pieces
 pub mod Placed
 pub mod PlacedPieces
 pub mod Rising
-pub mod RowsRise
-pub mod WaysLemmas

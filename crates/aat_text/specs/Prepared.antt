@@ -6,15 +6,15 @@ use Rattle.aat_face.specs.Faces.{FaceValue}
 use Rattle.aat_glyph.specs.Directions.{is_backward, is_forward, is_vertical}
 use Rattle.aat_glyph.specs.declared.glyph.Direction.{Direction}
 use Rattle.aat_shaped_text.specs.declared.text.TextGlyph.{TextGlyph}
-use Rattle.aat_text.specs.Composed.{normalized}
-use Rattle.aat_text.specs.Decomposed.{has_glyph}
-use Rattle.aat_text.specs.Exchanges.{mirrored, vertical_form}
-use Rattle.aat_text.specs.Native.{native_direction, natural_direction}
+use Rattle.aat_characters.specs.Composed.{normalized}
+use Rattle.aat_characters.specs.Decomposed.{has_glyph}
+use Rattle.aat_characters.specs.Exchanges.{mirrored, vertical_form}
+use Rattle.aat_characters.specs.Native.{native_direction, natural_direction}
 use Rattle.aat_text.specs.Places.{clusters, width_in, with_places}
 use Rattle.aat_text.specs.TextGlyphs.{text_glyph}
 use Rattle.aat_text.specs.declared.clusters.ClusterLevel.{ClusterLevel}
 use Rattle.aat_text.specs.declared.clusters.ClusterLevel.TheVariants.{Graphemes, Characters}
-use Rattle.aat_text.specs.declared.placed_character.PlacedCharacter.{PlacedCharacter}
+use Rattle.aat_characters.specs.declared.placed_character.PlacedCharacter.{PlacedCharacter}
 use Rattle.aat_text.specs.declared.unit.ClusterUnit.{ClusterUnit}
 
 -- another character, if the font has it

@@ -1,3 +1,1 @@
-pub mod Composing
 pub mod Listed
-pub mod Ways

@@ -1,13 +1,11 @@
 //! The characters of a text with their places, in the order in which they are shaped.
 ghost use Rattle.std.specs.Prelude.{◌≡◌, ◌<◌, ◌+◌, ◌^◌, ◌++◌, length, reverse, IfOk, OnOk};
-ghost use Rattle.aat_text.specs.Decomposed.{has_glyph};
+ghost use Rattle.aat_characters.specs.Decomposed.{has_glyph};
 ghost use Rattle.aat_text.specs.Prepared.{cluster_characters, exchanged, mirrored_in, placed_text, preferred, step_of, turned_text};
 ghost use Rattle.aat_text.specs.declared.clusters.ClusterLevel.TheVariants.{Graphemes};
 
-use crate::decomposed::has_glyph;
-use crate::exchanges::{mirrored, vertical_form};
-use crate::placed_character::PlacedCharacter;
 use crate::unit::ClusterUnit;
+use aat_characters::{PlacedCharacter, has_glyph, mirrored, vertical_form};
 use aat_face::Face;
 use aat_glyph::Direction;
 use std::alloc::{AllocError, Allocator};

@@ -1,17 +1,15 @@
 //! A text as HarfBuzz hands it to the layer.
 ghost use Rattle.std.specs.Prelude.{◌≡◌, ◌<◌, ◌≤◌, ◌^◌, ◌↔◌, length, map, IfOk, IsErrOf};
-ghost use Rattle.aat_text.specs.Native.{native_direction};
-ghost use Rattle.aat_text.specs.Decomposed.{has_glyph};
+ghost use Rattle.aat_characters.specs.Native.{native_direction};
+ghost use Rattle.aat_characters.specs.Decomposed.{has_glyph};
 ghost use Rattle.aat_text.specs.Prepared.{is_turned, prepared_glyphs, shaped_characters, told_direction};
 ghost use Rattle.aat_text.specs.TextGlyphs.{text_glyph};
 
 use crate::clusters::{ClusterLevel, placed_text, turned_text};
-use crate::composed::normalized;
 use crate::error::TextError;
 use crate::glyphs::{LONGEST_TEXT, text_glyph};
-use crate::native::{native_direction, natural_direction};
-use crate::placed_character::PlacedCharacter;
 use crate::unit::ClusterUnit;
+use aat_characters::{PlacedCharacter, native_direction, natural_direction, normalized};
 use aat_face::Face;
 use aat_glyph::Direction;
 use aat_shaped_text::TextGlyph;
@@ -100,7 +98,9 @@ fn glyphs_of<A: Allocator>(
 ///
 /// A glyph's cluster is the place of its cluster or of its character, as `level` says: the number of bytes or of
 /// characters of the text before it, as `unit` says. In a text that is turned it is that of its cluster. What is made of
-/// several characters has the lesser of their places. Glyphs and ignorability are as in `text_of`.
+/// several characters has the lesser of their places, and so has what stands between them. HarfBuzz moves a mark right
+/// behind them too, where that one had been moved to the place of the mark that is composed. Glyphs and ignorability are
+/// as in `text_of`.
 ///
 /// Refused as 1 `TooLong` exactly where the text has more than 4,294,967,295 bytes, and else as 2 `OutOfMemory` where
 /// memory is wanting.

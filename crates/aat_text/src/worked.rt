@@ -1,6 +1,5 @@
 //! Worked examples as theorems. These calls do nothing: what is proved is their contracts.
-ghost use Rattle.aat_text.specs.PreparedExamples.{AccentsCompose, HebrewIsTurned, MarksAreOrdered, OthersStandIn, ParenthesesAreMirrored};
-ghost use Rattle.aat_text.specs.ScriptExamples.{DigitsRunToTheRight, RowsAreUnicodes, ScriptsRun};
+ghost use Rattle.aat_text.specs.PreparedExamples.{HebrewIsTurned, ParenthesesAreMirrored};
 ghost use Rattle.aat_text.specs.Examples.{AccentsShareClusters, BreaksAreForced, ClosingBracketsStay, HiddenGlyphsAreSpaces, HiddenGlyphsGo, IdeographsEndLines, IgnorablesAreNotMissing, JoinersAreIgnorable, LettersAreStrong, LinesEndBehindSpaces};
 
 /// The definitions of glyphs and of missing characters compute to the examples.
@@ -15,24 +14,10 @@ pub fn directions()
     ensures { LettersAreStrong }
 {}
 
-/// The definitions of scripts and of native directions compute to the examples.
-pub fn scripts()
-    ensures scripts { ScriptsRun }
-    ensures digits { DigitsRunToTheRight }
-{}
-
 /// The definition of prepared texts computes to the examples.
 pub fn prepared()
-    ensures composed { AccentsCompose }
-    ensures ordered { MarksAreOrdered }
-    ensures others { OthersStandIn }
     ensures turned { HebrewIsTurned }
     ensures mirrored { ParenthesesAreMirrored }
-{}
-
-/// The rows of the code are those of the definitions.
-pub fn rows()
-    ensures { RowsAreUnicodes }
 {}
 
 /// The definition of where a line may end computes to the examples.

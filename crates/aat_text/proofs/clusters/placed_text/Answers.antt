@@ -1,6 +1,6 @@
 use Rattle.std.proofs.Common.{◌+◌, ap, ◌∙◌}
 use Rattle.unicode_segmentation.specs.Iter.{graphemes_left}
-use Rattle.aat_text.specs.Decomposed.{has_glyph}
+use Rattle.aat_characters.specs.Decomposed.{has_glyph}
 use Rattle.aat_text.specs.Prepared.{cluster_characters}
 use Rattle.aat_text.proofs.Placed.{room_at_start, room_more}
 use Rattle.aat_text.proofs.PlacedPieces.{pieces_all, pieces_more}

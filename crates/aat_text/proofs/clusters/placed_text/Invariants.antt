@@ -1,7 +1,7 @@
 use Rattle.std.proofs.Common.{◌≡◌, ◌++◌, ◌+◌, ◌≤◌, length}
 use Rattle.std.specs.List.{concat}
 use Rattle.unicode_segmentation.specs.Iter.{graphemes_left}
-use Rattle.aat_text.specs.Decomposed.{has_glyph}
+use Rattle.aat_characters.specs.Decomposed.{has_glyph}
 use Rattle.aat_text.specs.Prepared.{cluster_characters, placed_text}
 use Rattle.aat_text.proofs.PlacedPieces.{pieces_from}
 use Rattle.aat_text.proofs.clusters.placed_text.Given as goal

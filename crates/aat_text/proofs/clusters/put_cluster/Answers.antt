@@ -1,8 +1,8 @@
 use Rattle.std.proofs.Common.{◌≡◌, ℕ, ◌+◌, ◌++◌, ◌∷◌, [], ap}
 use Rattle.std.proofs.lemmas.Str.{IsUtf8-past_char}
-use Rattle.aat_text.specs.Decomposed.{has_glyph}
+use Rattle.aat_characters.specs.Decomposed.{has_glyph}
 use Rattle.aat_text.specs.Prepared.{exchanged, step_of}
-use Rattle.aat_text.specs.declared.placed_character.PlacedCharacter.{PlacedCharacter}
+use Rattle.aat_characters.specs.declared.placed_character.PlacedCharacter.{PlacedCharacter}
 use Rattle.aat_text.proofs.PlacedPieces.{placed_all, placed_more, room_past_step}
 use Rattle.aat_text.proofs.clusters.put_cluster.Goals as goal
 

@@ -1,7 +1,7 @@
 use Rattle.std.proofs.Common.{◌≡◌, ◌++◌, ◌+◌, ◌≤◌, length, map}
 use Rattle.std.specs.Str.{chars, IsUtf8}
 use Rattle.std.specs.Str.Iter.{chars_rest}
-use Rattle.aat_text.specs.Decomposed.{has_glyph}
+use Rattle.aat_characters.specs.Decomposed.{has_glyph}
 use Rattle.aat_text.specs.Places.{with_places}
 use Rattle.aat_text.specs.Prepared.{cluster_characters, exchanged, step_of}
 use Rattle.aat_text.proofs.clusters.put_cluster.Given as goal

@@ -1,7 +1,7 @@
 use Rattle.std.proofs.Common.{◌≡◌, ◌++◌, ◌+◌, ◌≤◌, length, reverse}
 use Rattle.std.specs.List.{concat, flat_map}
 use Rattle.unicode_segmentation.specs.Iter.{graphemes_left}
-use Rattle.aat_text.specs.Decomposed.{has_glyph}
+use Rattle.aat_characters.specs.Decomposed.{has_glyph}
 use Rattle.aat_text.specs.Places.{clusters}
 use Rattle.aat_text.specs.Prepared.{cluster_characters}
 use Rattle.aat_text.specs.declared.clusters.ClusterLevel.TheVariants.{Graphemes}

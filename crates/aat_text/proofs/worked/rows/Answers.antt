@@ -1,7 +1,0 @@
-use Rattle.std.proofs.Common.{refl}
-use Rattle.aat_text.specs.Exchanges.{mirrored, vertical_form}
-use Rattle.aat_text.proofs.worked.rows.Goals as goal
-
-pub returns : goal.returns
-unfolding mirrored vertical_form
-returns c = (refl, refl, refl, refl, refl, refl, refl)
