@@ -4,5 +4,6 @@ pub mod HiddenGlyphs
 pub mod HiddenParts
 pub mod Pieces
 pub mod Placed
+pub mod PlacedPieces
 pub mod Rising
 pub mod ZeroedMarks

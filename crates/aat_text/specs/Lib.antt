@@ -5,6 +5,8 @@ pub mod LineEnds
 pub mod Marks
 pub mod Missing
 pub mod Places
+pub mod Prepared
+pub mod PreparedExamples
 pub mod Strong
 pub mod TextErrors
 pub mod TextGlyphs

@@ -27,7 +27,7 @@ fn is_mark_character(character: char) -> bool
 }
 
 /// A character of a cluster as a glyph.
-fn text_glyph(face: &Face, cluster: u32, character: char) -> TextGlyph
+pub(crate) fn text_glyph(face: &Face, cluster: u32, character: char) -> TextGlyph
     ensures { result ≡ text_glyph face.now cluster character }
 {
     let glyph_id = match face.glyph_of(character) {

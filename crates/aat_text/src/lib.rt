@@ -1,12 +1,13 @@
 //! From a `&str` and a face to the text that a `Shaper` takes: its glyphs with clusters, its direction, the characters
-//! that the font lacks, the places where a line may end, and what is drawn of ignorable characters and of marks. No
-//! character is normalized: each has the glyph that the font gives it.
+//! that the font lacks, the places where a line may end, and what is drawn of ignorable characters and of marks.
+//! `text_of` gives each character the glyph that the font has for it; `prepare_text` does before what HarfBuzz does.
 //!
 //! ```
 //! let text = text_of(alloc, &face, ClusterUnit::Characters, "fila")?;
 //! ```
 #![tactic(auto)]
 
+mod clusters;
 mod direction;
 mod error;
 mod glyphs;
@@ -17,12 +18,18 @@ pub mod laws;
 mod lines;
 mod marks;
 mod missing;
+mod prepared;
 mod role;
 mod unit;
 /// Worked examples, as theorems.
 #[doc(hidden)]
 pub mod worked;
 
+pub use aat_characters::{
+    MarkWidths, Script, ScriptRules, native_direction, natural_direction, script_direction,
+    text_script,
+};
+pub use clusters::ClusterLevel;
 pub use direction::first_strong_direction;
 pub use error::TextError;
 pub use glyphs::text_of;
@@ -30,4 +37,5 @@ pub use ignorables::hide_ignorables;
 pub use lines::{LineEnd, line_ends};
 pub use marks::zero_marks;
 pub use missing::{MissingCharacter, missing_characters};
+pub use prepared::{PreparedText, prepare_text};
 pub use unit::ClusterUnit;

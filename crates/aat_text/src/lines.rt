@@ -63,7 +63,8 @@ fn end_before(before: Option<LineRole>, place: u32, piece: &str) -> Option<LineE
 ///
 /// Other rules of Unicode's UAX 14 are not done: those that look past spaces to an opening bracket, a quotation mark or
 /// a dash, the others of quotation marks, of hyphens before a word and of numbers, and those of regional indicators,
-/// of parts of Hangul syllables and of aksaras. Words of Southeast Asia are not found.
+/// of parts of Hangul syllables and of aksaras. Nor are LB8a and LB21a: a line may end behind U+200D as behind the
+/// character before it, and behind a hyphen that follows a Hebrew letter. Words of Southeast Asia are not found.
 ///
 /// Refused as 1 `TooLong` exactly where the text has more than 4,294,967,295 bytes, and else as 2 `OutOfMemory` where
 /// memory is wanting.

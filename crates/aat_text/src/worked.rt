@@ -1,4 +1,5 @@
 //! Worked examples as theorems. These calls do nothing: what is proved is their contracts.
+ghost use Rattle.aat_text.specs.PreparedExamples.{HebrewIsTurned, ParenthesesAreMirrored};
 ghost use Rattle.aat_text.specs.Examples.{AccentsAreMarks, AccentsShareClusters, BreaksAreForced, ClosingBracketsStay, HiddenGlyphsAreSpaces, HiddenGlyphsGo, IdeographsEndLines, IgnorablesAreNotMissing, JoinersAreIgnorable, LettersAreStrong, LinesEndBehindSpaces, MarksHaveNoWidth};
 
 /// The definitions of glyphs and of missing characters compute to the examples.
@@ -12,6 +13,12 @@ pub fn glyphs()
 /// The definition of the direction computes to the examples.
 pub fn directions()
     ensures { LettersAreStrong }
+{}
+
+/// The definition of prepared texts computes to the examples.
+pub fn prepared()
+    ensures turned { HebrewIsTurned }
+    ensures mirrored { ParenthesesAreMirrored }
 {}
 
 /// The definition of where a line may end computes to the examples.

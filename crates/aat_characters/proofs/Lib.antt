@@ -1,0 +1,5 @@
+pub mod Firsts
+pub mod MarksPlaced
+pub mod PartsLemmas
+pub mod RowsRise
+pub mod WaysLemmas

@@ -1,0 +1,15 @@
+pub mod Composed
+pub mod Decomposed
+pub mod Exchanges
+pub mod Marks
+pub mod MirroredRows
+pub mod Native
+pub mod NormalizedExamples
+pub mod Ordered
+pub mod Parts
+pub mod PlacedCharacters
+pub mod ScriptExamples
+pub mod ScriptRules
+pub mod Scripts
+pub mod VerticalRows
+pub mod inside

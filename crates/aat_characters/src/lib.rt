@@ -1,0 +1,26 @@
+//! The characters of a text as HarfBuzz hands them to the layer: the direction in which a script is written, mirrored and
+//! vertical characters, and letters and marks composed and decomposed by what a font has.
+#![tactic(auto)]
+
+mod composed;
+mod decomposed;
+mod exchanges;
+mod mark;
+mod mirrored_rows;
+mod native;
+mod ordered;
+mod placed_character;
+mod script;
+mod script_rules;
+mod vertical_rows;
+/// Worked examples, as theorems.
+#[doc(hidden)]
+pub mod worked;
+
+pub use composed::normalized;
+pub use decomposed::has_glyph;
+pub use exchanges::{mirrored, vertical_form};
+pub use native::{native_direction, natural_direction};
+pub use placed_character::PlacedCharacter;
+pub use script::{Script, script_direction, text_script};
+pub use script_rules::{MarkWidths, ScriptRules};

@@ -1,0 +1,72 @@
+-- The glyphs of a text as HarfBuzz hands it to the layer.
+use Rattle.std.specs.Prelude.{ℕ, ◌+◌, Bool, List, map, reverse, Option, unwrap_or, if◌then◌else◌}
+use Rattle.std.specs.List.{flat_map}
+use Rattle.std.specs.Str.{chars}
+use Rattle.aat_face.specs.Faces.{FaceValue}
+use Rattle.aat_glyph.specs.Directions.{is_backward, is_forward, is_vertical}
+use Rattle.aat_glyph.specs.declared.glyph.Direction.{Direction}
+use Rattle.aat_shaped_text.specs.declared.text.TextGlyph.{TextGlyph}
+use Rattle.aat_characters.specs.Composed.{normalized}
+use Rattle.aat_characters.specs.Decomposed.{has_glyph}
+use Rattle.aat_characters.specs.Exchanges.{mirrored, vertical_form}
+use Rattle.aat_characters.specs.Native.{native_direction, natural_direction}
+use Rattle.aat_text.specs.Places.{clusters, width_in, with_places}
+use Rattle.aat_text.specs.TextGlyphs.{text_glyph}
+use Rattle.aat_text.specs.declared.clusters.ClusterLevel.{ClusterLevel}
+use Rattle.aat_text.specs.declared.clusters.ClusterLevel.TheVariants.{Graphemes, Characters}
+use Rattle.aat_characters.specs.declared.placed_character.PlacedCharacter.{PlacedCharacter}
+use Rattle.aat_text.specs.declared.unit.ClusterUnit.{ClusterUnit}
+
+-- another character, if the font has it
+abbrev pub preferred : (ℕ → Bool) → ℕ → ℕ → ℕ
+preferred has other character = if has other then other else character
+
+-- a character of a text that runs in a direction, mirrored in backward text
+abbrev pub mirrored_in : (ℕ → Bool) → Direction → ℕ → ℕ
+mirrored_in has direction character =
+    if is_backward direction then preferred has (mirrored character) character else character
+
+-- and then vertical in columns
+abbrev pub exchanged : (ℕ → Bool) → Direction → ℕ → ℕ
+exchanged has direction character =
+    let seen = mirrored_in has direction character in
+    if is_vertical direction then preferred has (vertical_form seen) seen else seen
+
+-- how far the place moves behind a character of a cluster
+abbrev pub step_of : ClusterLevel → ClusterUnit → ℕ → ℕ
+step_of Graphemes unit character = 0
+step_of Characters unit character = width_in unit character
+
+-- the characters of a cluster, exchanged, with their places
+abbrev pub cluster_characters : (ℕ → Bool) → Direction → ClusterLevel → ClusterUnit → ℕ × List ℕ → List PlacedCharacter
+cluster_characters has direction level unit (place, piece) =
+    map (λ (at, character). record { place = at; character = exchanged has direction character })
+    (with_places (step_of level unit) place (chars piece))
+
+-- those of a text in its order, and those of one whose clusters are taken from last to first, each with one place
+abbrev pub placed_text : (ℕ → Bool) → Direction → ClusterLevel → ClusterUnit → List ℕ → List PlacedCharacter
+placed_text has direction level unit text = flat_map (cluster_characters has direction level unit) (clusters unit text)
+
+abbrev pub turned_text : (ℕ → Bool) → Direction → ClusterUnit → List ℕ → List PlacedCharacter
+turned_text has direction unit text =
+    flat_map (cluster_characters has direction Graphemes unit) (reverse (clusters unit text))
+
+-- the direction that a text is told, or else its natural one
+abbrev pub told_direction : Option Direction → List ℕ → Direction
+told_direction direction text = unwrap_or direction (natural_direction text)
+
+-- whether a text that runs in a direction is shaped in the other one
+abbrev pub is_turned : Direction → List ℕ → Bool
+is_turned direction text =
+    if is_forward direction then is_backward (native_direction text direction) else is_forward (native_direction text direction)
+
+-- its characters as they are shaped
+abbrev pub shaped_characters : (ℕ → Bool) → Direction → ClusterLevel → ClusterUnit → List ℕ → List PlacedCharacter
+shaped_characters has direction level unit text =
+    normalized has
+    (if is_turned direction text then turned_text has direction unit text else placed_text has direction level unit text)
+
+-- their glyphs
+abbrev pub prepared_glyphs : FaceValue → ClusterUnit → ClusterLevel → Direction → List ℕ → List TextGlyph
+prepared_glyphs face unit level direction text =
+    map (λ c. text_glyph face c.place c.character) (shaped_characters (has_glyph face) direction level unit text)

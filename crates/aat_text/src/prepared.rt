@@ -1,0 +1,133 @@
+//! A text as HarfBuzz hands it to the layer.
+ghost use Rattle.std.specs.Prelude.{◌≡◌, ◌<◌, ◌≤◌, ◌^◌, ◌↔◌, length, map, IfOk, IsErrOf};
+ghost use Rattle.aat_characters.specs.Native.{native_direction};
+ghost use Rattle.aat_characters.specs.Decomposed.{has_glyph};
+ghost use Rattle.aat_text.specs.Prepared.{is_turned, prepared_glyphs, shaped_characters, told_direction};
+ghost use Rattle.aat_text.specs.TextGlyphs.{text_glyph};
+
+use crate::clusters::{ClusterLevel, placed_text, turned_text};
+use crate::error::TextError;
+use crate::glyphs::{LONGEST_TEXT, text_glyph};
+use crate::unit::ClusterUnit;
+use aat_characters::{PlacedCharacter, native_direction, natural_direction, normalized};
+use aat_face::Face;
+use aat_glyph::Direction;
+use aat_shaped_text::TextGlyph;
+use std::alloc::{AllocError, Allocator};
+
+/// The text that a `Shaper` takes for a text, and the direction in which it takes it.
+#[derive(Drop)]
+pub struct PreparedText<A: Allocator> {
+    /// The glyphs, in the order in which they are shaped.
+    pub glyphs: Vec<TextGlyph, A>,
+    /// The direction in which they are shaped.
+    pub direction: Direction,
+    /// Whether the clusters of the text are taken from last to first: `direction` is not that of the text.
+    pub is_turned: bool,
+}
+
+/// Whether a text that runs in a direction is shaped in the other one.
+fn is_turned(direction: Direction, text: &str) -> bool
+    ensures { result ≡ is_turned direction text.now }
+{
+    let native = native_direction(text, direction);
+    if direction.is_forward() {
+        native.is_backward()
+    } else {
+        native.is_forward()
+    }
+}
+
+/// The characters of a text that runs in a direction, as they are shaped.
+fn shaped_characters<A: Allocator + Copy>(
+    alloc: A,
+    face: &Face,
+    unit: ClusterUnit,
+    level: ClusterLevel,
+    direction: Direction,
+    text: &str,
+) -> Result<Vec<PlacedCharacter, A>, AllocError>
+    requires { length text.now < 2 ^ 32 }
+    ensures { IfOk result (λ out. out.items
+        ≡ shaped_characters (has_glyph face.now) direction level unit text.now) }
+{
+    if is_turned(direction, text) {
+        let characters = turned_text(alloc, face, direction, unit, text)?;
+        normalized(alloc, face, &characters)
+    } else {
+        let characters = placed_text(alloc, face, direction, level, unit, text)?;
+        normalized(alloc, face, &characters)
+    }
+}
+
+/// The glyphs of characters.
+fn glyphs_of<A: Allocator>(
+    alloc: A,
+    face: &Face,
+    characters: &[PlacedCharacter],
+) -> Result<Vec<TextGlyph, A>, AllocError>
+    ensures { IfOk result (λ glyphs. glyphs.items
+        ≡ map (λ c. text_glyph face.now c.place c.character) characters.now) }
+{
+    let mut glyphs = Vec::with_capacity(alloc, characters.len())?;
+    for character in characters {
+        glyphs.push(text_glyph(face, character.place, character.character))?;
+    }
+    Ok(glyphs)
+}
+
+/// The text that a `Shaper` takes for a text in a face, as HarfBuzz has it for a font whose `morx`, `kerx` or `kern` acts.
+///
+/// `direction` is that of the text, and where there is none its natural one (`natural_direction`). The text is shaped in
+/// its native direction (`native_direction`), which `direction` of the result tells. Where that is another one, the text
+/// is turned: its extended grapheme clusters are taken from last to first.
+///
+/// - In backward text, so that `direction` is `RightToLeft` or `BottomToTop`, a character with a mirrored one for which
+///   the font has a glyph becomes that one. In columns a character with a vertical form for which the font has a glyph
+///   becomes that.
+/// - A character behind which no mark stands stays where the font has it, and else is decomposed into as few characters
+///   as the font has. A letter with marks is decomposed into as many as the font has. Where the text has a mark behind
+///   another character, its marks are then put in order by the classes of HarfBuzz, at most 32 behind one character, and
+///   a mark is composed with its starter where the font has the composite. A character with marks of which one is a
+///   variation selector is not decomposed.
+/// - Another space than that of ASCII for which the font has no glyph becomes the space, and U+2011 becomes U+2010.
+///
+/// A decomposition may be left at each step that Unicode has, but at those whose character is itself excluded from
+/// composition, as in U+FB2C: the next step is taken there. Clusters are Unicode's extended grapheme clusters, which
+/// differ from those of HarfBuzz in Hangul that is written in parts, at U+200C, and behind control characters.
+///
+/// A glyph's cluster is the place of its cluster or of its character, as `level` says: the number of bytes or of
+/// characters of the text before it, as `unit` says. In a text that is turned it is that of its cluster. What is made of
+/// several characters has the lesser of their places, and so has what stands between them. HarfBuzz moves a mark right
+/// behind them too, where that one had been moved to the place of the mark that is composed. Glyphs and ignorability are
+/// as in `text_of`.
+///
+/// Refused as 1 `TooLong` exactly where the text has more than 4,294,967,295 bytes, and else as 2 `OutOfMemory` where
+/// memory is wanting.
+pub fn prepare_text<A: Allocator + Copy>(
+    alloc: A,
+    face: &Face,
+    unit: ClusterUnit,
+    level: ClusterLevel,
+    direction: Option<Direction>,
+    text: &str,
+) -> Result<PreparedText<A>, TextError>
+    ensures glyphs { IfOk result (λ prepared. prepared.glyphs.items
+        ≡ prepared_glyphs face.now unit level (told_direction direction text.now) text.now) }
+    ensures direction { IfOk result (λ prepared. prepared.direction
+        ≡ native_direction text.now (told_direction direction text.now)) }
+    ensures turned { IfOk result (λ prepared. prepared.is_turned
+        ≡ is_turned (told_direction direction text.now) text.now) }
+    ensures too_long { IsErrOf result TextError.TooLong ↔ (2 ^ 32 ≤ length text.now) }
+{
+    if text.len() > LONGEST_TEXT {
+        return Err(TextError::TooLong);
+    }
+    let direction = direction.unwrap_or(natural_direction(text));
+    let characters = shaped_characters(alloc, face, unit, level, direction, text)?;
+    Ok(PreparedText {
+        glyphs: glyphs_of(alloc, face, &characters)?,
+        direction: native_direction(text, direction),
+        is_turned: is_turned(direction, text),
+    })
+}
