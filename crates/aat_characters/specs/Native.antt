@@ -1,5 +1,5 @@
 -- The direction in which a text is shaped.
-use Rattle.std.specs.Prelude.{ℕ, Bool, not, ◌&&◌, ◌||◌, true, false, List, Option, Some, nat_le, unwrap_or, if◌then◌else◌}
+use Rattle.std.specs.Prelude.{ℕ, Bool, not, ◌&&◌, ◌||◌, true, false, List, Option, Some, None, nat_le, unwrap_or, if◌then◌else◌}
 use Rattle.std.specs.List.{list_any}
 use Rattle.std.specs.Option.{option_map_or}
 use Rattle.std.specs.Str.{chars}
@@ -10,15 +10,21 @@ use Rattle.ucd_category.specs.declared.GeneralCategory.TheVariants.{DecimalNumbe
 use Rattle.ucd_category.specs.declared.GeneralCategoryGroup.TheVariants.{Letter}
 use Rattle.aat_glyph.specs.declared.glyph.Direction.{Direction}
 use Rattle.aat_glyph.specs.declared.glyph.Direction.TheVariants.{LeftToRight, RightToLeft, TopToBottom, BottomToTop}
+use Rattle.ucd_script.specs.declared.Script.{Script}
 use Rattle.aat_characters.specs.Scripts.{script_direction, text_script}
 
--- the direction in which a text is written along rows, none where it is written both ways
-abbrev pub written_direction : List ℕ → Option Direction
-written_direction text = option_map_or script_direction (text_script text) (Some LeftToRight)
+-- the script of a text, which may be told
+abbrev pub told_script : Option Script → List ℕ → Option Script
+told_script None text = text_script text
+told_script (Some script) text = Some script
 
--- the direction of a text that is told none
-abbrev pub natural_direction : List ℕ → Direction
-natural_direction text = unwrap_or (written_direction text) LeftToRight
+-- the direction in which a text of a script, if it has one, is written along rows, none where it is written both ways
+abbrev pub written_direction : Option Script → Option Direction
+written_direction script = option_map_or script_direction script (Some LeftToRight)
+
+-- the direction of such a text that is told none
+abbrev pub natural_direction : Option Script → Direction
+natural_direction script = unwrap_or (written_direction script) LeftToRight
 
 abbrev pub is_letter : ℕ → Bool
 is_letter character = in_group Letter (general_category character)
@@ -44,10 +50,10 @@ has_letter text = list_any is_letter (chars text)
 abbrev pub is_numeric : List ℕ → Bool
 is_numeric text = has_number text && not (has_letter text)
 
--- the direction in which a text that runs in a direction is shaped
-abbrev pub native_direction : List ℕ → Direction → Direction
-native_direction text LeftToRight =
-    if is_numeric text then LeftToRight else unwrap_or (written_direction text) LeftToRight
-native_direction text RightToLeft = unwrap_or (written_direction text) RightToLeft
-native_direction text TopToBottom = TopToBottom
-native_direction text BottomToTop = TopToBottom
+-- the direction in which a text of a script that runs in a direction is shaped
+abbrev pub native_direction : Option Script → List ℕ → Direction → Direction
+native_direction script text LeftToRight =
+    if is_numeric text then LeftToRight else unwrap_or (written_direction script) LeftToRight
+native_direction script text RightToLeft = unwrap_or (written_direction script) RightToLeft
+native_direction script text TopToBottom = TopToBottom
+native_direction script text BottomToTop = TopToBottom

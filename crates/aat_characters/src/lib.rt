@@ -20,7 +20,7 @@ pub mod worked;
 pub use composed::normalized;
 pub use decomposed::has_glyph;
 pub use exchanges::{mirrored, vertical_form};
-pub use native::{native_direction, natural_direction};
+pub use native::{native_direction, natural_direction, told_script};
 pub use placed_character::PlacedCharacter;
 pub use script::{Script, script_direction, text_script};
 pub use script_rules::{MarkWidths, ScriptRules};

@@ -1,28 +1,38 @@
 //! The direction in which a text is shaped.
 ghost use Rattle.std.specs.Prelude.{◌≡◌};
-ghost use Rattle.aat_characters.specs.Native.{has_letter, has_number, is_digit, is_letter, is_numeric, is_regional_indicator, native_direction, natural_direction, written_direction};
+ghost use Rattle.aat_characters.specs.Native.{has_letter, has_number, is_digit, is_letter, is_numeric, is_regional_indicator, native_direction, natural_direction, told_script, written_direction};
 
-use crate::script::{script_direction, text_script};
+use crate::script::{Script, script_direction, text_script};
 use aat_glyph::Direction;
 use ucd_category::{GeneralCategory, GeneralCategoryGroup};
 
-/// The direction in which a text is written along rows, if it is not written both ways: that of its script, and to the
-/// right where it has none.
-fn written_direction(text: &str) -> Option<Direction>
-    ensures { result ≡ written_direction text.now }
+/// The script of a text, which may be told.
+pub fn told_script(told: Option<Script>, text: &str) -> Option<Script>
+    ensures { result ≡ told_script told text.now }
 {
-    match text_script(text) {
+    match told {
+        Some(script) => Some(script),
+        None => text_script(text),
+    }
+}
+
+/// The direction in which a text of a script is written along rows, if it is not written both ways: to the right where
+/// it has none.
+fn written_direction(script: Option<Script>) -> Option<Direction>
+    ensures { result ≡ written_direction script }
+{
+    match script {
         Some(script) => script_direction(script),
         None => Some(Direction::LeftToRight),
     }
 }
 
-/// The direction of a text that is told none, as HarfBuzz has it: that of its script, and `LeftToRight` where it has no
-/// script or one that is written both ways.
-pub fn natural_direction(text: &str) -> Direction
-    ensures { result ≡ natural_direction text.now }
+/// The direction of a text of a script that is told no direction, as HarfBuzz has it: that of its script, and
+/// `LeftToRight` where it has no script or one that is written both ways.
+pub fn natural_direction(script: Option<Script>) -> Direction
+    ensures { result ≡ natural_direction script }
 {
-    written_direction(text).unwrap_or(Direction::LeftToRight)
+    written_direction(script).unwrap_or(Direction::LeftToRight)
 }
 
 /// Whether a character is a letter: its `General_Category` is one of the letters.
@@ -71,23 +81,23 @@ fn is_numeric(text: &str) -> bool
     has_number(text) && !has_letter(text)
 }
 
-/// The direction in which HarfBuzz shapes a text that runs in `direction`. In rows it is that in which the script is
+/// The direction in which HarfBuzz shapes a text of a script that runs in `direction`. In rows it is that in which the script is
 /// written, `LeftToRight` where the text has no script, and `direction` where the script is written both ways. A text
 /// that is told to run to the right does so too where it has a decimal digit or a regional indicator, and no letter. In
 /// columns it is `TopToBottom`.
 ///
 /// Where it differs from `direction`, the text is turned: its clusters are taken from last to first.
-pub fn native_direction(text: &str, direction: Direction) -> Direction
-    ensures { result ≡ native_direction text.now direction }
+pub fn native_direction(script: Option<Script>, text: &str, direction: Direction) -> Direction
+    ensures { result ≡ native_direction script text.now direction }
 {
     match direction {
         Direction::TopToBottom | Direction::BottomToTop => Direction::TopToBottom,
-        Direction::RightToLeft => written_direction(text).unwrap_or(direction),
+        Direction::RightToLeft => written_direction(script).unwrap_or(direction),
         Direction::LeftToRight => {
             if is_numeric(text) {
                 Direction::LeftToRight
             } else {
-                written_direction(text).unwrap_or(direction)
+                written_direction(script).unwrap_or(direction)
             }
         }
     }

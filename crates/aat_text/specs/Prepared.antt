@@ -2,6 +2,7 @@
 use Rattle.std.specs.Prelude.{ℕ, ◌+◌, Bool, List, map, reverse, Option, unwrap_or, if◌then◌else◌}
 use Rattle.std.specs.List.{flat_map}
 use Rattle.std.specs.Str.{chars}
+use Rattle.ucd_script.specs.declared.Script.{Script}
 use Rattle.aat_face.specs.Faces.{FaceValue}
 use Rattle.aat_glyph.specs.Directions.{is_backward, is_forward, is_vertical}
 use Rattle.aat_glyph.specs.declared.glyph.Direction.{Direction}
@@ -51,22 +52,25 @@ abbrev pub turned_text : (ℕ → Bool) → Direction → ClusterUnit → List �
 turned_text has direction unit text =
     flat_map (cluster_characters has direction Graphemes unit) (reverse (clusters unit text))
 
--- the direction that a text is told, or else its natural one
-abbrev pub told_direction : Option Direction → List ℕ → Direction
-told_direction direction text = unwrap_or direction (natural_direction text)
+-- the direction that a text is told, or else that of its script
+abbrev pub told_direction : Option Direction → Option Script → Direction
+told_direction direction script = unwrap_or direction (natural_direction script)
 
--- whether a text that runs in a direction is shaped in the other one
-abbrev pub is_turned : Direction → List ℕ → Bool
-is_turned direction text =
-    if is_forward direction then is_backward (native_direction text direction) else is_forward (native_direction text direction)
+-- whether a text of a script that runs in a direction is shaped in the other one
+abbrev pub is_turned : Option Script → Direction → List ℕ → Bool
+is_turned script direction text =
+    let native = native_direction script text direction in
+    if is_forward direction then is_backward native else is_forward native
 
 -- its characters as they are shaped
-abbrev pub shaped_characters : (ℕ → Bool) → Direction → ClusterLevel → ClusterUnit → List ℕ → List PlacedCharacter
-shaped_characters has direction level unit text =
+abbrev pub shaped_characters :
+    (ℕ → Bool) → Option Script → Direction → ClusterLevel → ClusterUnit → List ℕ → List PlacedCharacter
+shaped_characters has script direction level unit text =
     normalized has
-    (if is_turned direction text then turned_text has direction unit text else placed_text has direction level unit text)
+    (if is_turned script direction text then turned_text has direction unit text else placed_text has direction level unit text)
 
 -- their glyphs
-abbrev pub prepared_glyphs : FaceValue → ClusterUnit → ClusterLevel → Direction → List ℕ → List TextGlyph
-prepared_glyphs face unit level direction text =
-    map (λ c. text_glyph face c.place c.character) (shaped_characters (has_glyph face) direction level unit text)
+abbrev pub prepared_glyphs :
+    FaceValue → ClusterUnit → ClusterLevel → Option Script → Direction → List ℕ → List TextGlyph
+prepared_glyphs face unit level script direction text =
+    map (λ c. text_glyph face c.place c.character) (shaped_characters (has_glyph face) script direction level unit text)

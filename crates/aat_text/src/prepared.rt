@@ -1,6 +1,6 @@
 //! A text as HarfBuzz hands it to the layer.
 ghost use Rattle.std.specs.Prelude.{◌≡◌, ◌<◌, ◌≤◌, ◌^◌, ◌↔◌, length, map, IfOk, IsErrOf};
-ghost use Rattle.aat_characters.specs.Native.{native_direction};
+ghost use Rattle.aat_characters.specs.Native.{native_direction, told_script};
 ghost use Rattle.aat_characters.specs.Decomposed.{has_glyph};
 ghost use Rattle.aat_text.specs.Prepared.{is_turned, prepared_glyphs, shaped_characters, told_direction};
 ghost use Rattle.aat_text.specs.TextGlyphs.{text_glyph};
@@ -9,7 +9,9 @@ use crate::clusters::{ClusterLevel, placed_text, turned_text};
 use crate::error::TextError;
 use crate::glyphs::{LONGEST_TEXT, text_glyph};
 use crate::unit::ClusterUnit;
-use aat_characters::{PlacedCharacter, native_direction, natural_direction, normalized};
+use aat_characters::{
+    PlacedCharacter, Script, native_direction, natural_direction, normalized, told_script,
+};
 use aat_face::Face;
 use aat_glyph::Direction;
 use aat_shaped_text::TextGlyph;
@@ -20,17 +22,19 @@ use std::alloc::{AllocError, Allocator};
 pub struct PreparedText<A: Allocator> {
     /// The glyphs, in the order in which they are shaped.
     pub glyphs: Vec<TextGlyph, A>,
+    /// The script of the text, if it has one.
+    pub script: Option<Script>,
     /// The direction in which they are shaped.
     pub direction: Direction,
     /// Whether the clusters of the text are taken from last to first: `direction` is not that of the text.
     pub is_turned: bool,
 }
 
-/// Whether a text that runs in a direction is shaped in the other one.
-fn is_turned(direction: Direction, text: &str) -> bool
-    ensures { result ≡ is_turned direction text.now }
+/// Whether a text of a script that runs in a direction is shaped in the other one.
+fn is_turned(script: Option<Script>, direction: Direction, text: &str) -> bool
+    ensures { result ≡ is_turned script direction text.now }
 {
-    let native = native_direction(text, direction);
+    let native = native_direction(script, text, direction);
     if direction.is_forward() {
         native.is_backward()
     } else {
@@ -44,14 +48,15 @@ fn shaped_characters<A: Allocator + Copy>(
     face: &Face,
     unit: ClusterUnit,
     level: ClusterLevel,
+    script: Option<Script>,
     direction: Direction,
     text: &str,
 ) -> Result<Vec<PlacedCharacter, A>, AllocError>
     requires { length text.now < 2 ^ 32 }
     ensures { IfOk result (λ out. out.items
-        ≡ shaped_characters (has_glyph face.now) direction level unit text.now) }
+        ≡ shaped_characters (has_glyph face.now) script direction level unit text.now) }
 {
-    if is_turned(direction, text) {
+    if is_turned(script, direction, text) {
         let characters = turned_text(alloc, face, direction, unit, text)?;
         normalized(alloc, face, &characters)
     } else {
@@ -78,8 +83,9 @@ fn glyphs_of<A: Allocator>(
 
 /// The text that a `Shaper` takes for a text in a face, as HarfBuzz has it for a font whose `morx`, `kerx` or `kern` acts.
 ///
-/// `direction` is that of the text, and where there is none its natural one (`natural_direction`). The text is shaped in
-/// its native direction (`native_direction`), which `direction` of the result tells. Where that is another one, the text
+/// `script` is that of the text, and where there is none the first that its characters have (`text_script`). `direction`
+/// is that of the text, and where there is none that of its script (`natural_direction`). The text is shaped in its
+/// native direction (`native_direction`), which `direction` of the result tells. Where that is another one, the text
 /// is turned: its extended grapheme clusters are taken from last to first.
 ///
 /// - In backward text, so that `direction` is `RightToLeft` or `BottomToTop`, a character with a mirrored one for which
@@ -109,25 +115,29 @@ pub fn prepare_text<A: Allocator + Copy>(
     face: &Face,
     unit: ClusterUnit,
     level: ClusterLevel,
+    script: Option<Script>,
     direction: Option<Direction>,
     text: &str,
 ) -> Result<PreparedText<A>, TextError>
-    ensures glyphs { IfOk result (λ prepared. prepared.glyphs.items
-        ≡ prepared_glyphs face.now unit level (told_direction direction text.now) text.now) }
-    ensures direction { IfOk result (λ prepared. prepared.direction
-        ≡ native_direction text.now (told_direction direction text.now)) }
-    ensures turned { IfOk result (λ prepared. prepared.is_turned
-        ≡ is_turned (told_direction direction text.now) text.now) }
+    ensures glyphs { IfOk result (λ prepared. let own = told_script script text.now in prepared.glyphs.items
+        ≡ prepared_glyphs face.now unit level own (told_direction direction own) text.now) }
+    ensures script { IfOk result (λ prepared. prepared.script ≡ told_script script text.now) }
+    ensures direction { IfOk result (λ prepared. let own = told_script script text.now in prepared.direction
+        ≡ native_direction own text.now (told_direction direction own)) }
+    ensures turned { IfOk result (λ prepared. let own = told_script script text.now in prepared.is_turned
+        ≡ is_turned own (told_direction direction own) text.now) }
     ensures too_long { IsErrOf result TextError.TooLong ↔ (2 ^ 32 ≤ length text.now) }
 {
     if text.len() > LONGEST_TEXT {
         return Err(TextError::TooLong);
     }
-    let direction = direction.unwrap_or(natural_direction(text));
-    let characters = shaped_characters(alloc, face, unit, level, direction, text)?;
+    let script = told_script(script, text);
+    let direction = direction.unwrap_or(natural_direction(script));
+    let characters = shaped_characters(alloc, face, unit, level, script, direction, text)?;
     Ok(PreparedText {
         glyphs: glyphs_of(alloc, face, &characters)?,
-        direction: native_direction(text, direction),
-        is_turned: is_turned(direction, text),
+        script,
+        direction: native_direction(script, text, direction),
+        is_turned: is_turned(script, direction, text),
     })
 }
