@@ -7,14 +7,12 @@
 #![tactic(auto)]
 
 mod bench;
-mod example;
 mod face;
 mod line;
 mod names;
 mod trace;
 
 pub use bench::{BenchFont, BenchText, measure};
-pub use example::write_example;
 pub use face::read_face;
 pub use names::subtable_names;
 pub use trace::{trace_of, write_trace};

@@ -3,6 +3,7 @@
 use crate::batch::batch;
 use crate::bench::bench;
 use crate::dump::dump;
+use crate::example::write_glyphs_of;
 use crate::faults::faults;
 use crate::inspect::inspect;
 use crate::make::make;
@@ -11,7 +12,6 @@ use crate::session::Session;
 use crate::settled::settled;
 use crate::shape::shape;
 use crate::words::command;
-use aat_calls::write_example;
 use anyhow::{Context, Result, bail};
 use bumpalo::Bump;
 use clap::{ArgMatches, Error};
@@ -25,6 +25,13 @@ pub enum Answer {
     Done,
     /// The words are none of a command, or ask for help. The error has the text, its stream and the status.
     Words(Error),
+}
+
+/// Runs the example of the README over the font and the text that the command line names.
+fn example<W: Write>(rt: &HostRuntime, out: &mut W, matches: &ArgMatches<'_>) -> Result<()> {
+    let path = matches.get_str("font").context("a font is missing")?;
+    let text = matches.get_str("text").context("a text is missing")?;
+    write_glyphs_of(rt, out, path, text)
 }
 
 /// Runs a command of a name that a request of a batch may ask for too.
@@ -43,7 +50,7 @@ pub(crate) fn run_command<W: Write>(
         "settled" => settled(rt, out, session, matches),
         "bench" => bench(rt, out, session, matches),
         "make" => make(rt, out, session, matches),
-        "example" => write_example(rt.alloc(), out),
+        "example" => example(rt, out, matches),
         _ => bail!("no request asks for {name}"),
     }
 }

@@ -1,10 +1,9 @@
 //! What a command line asks of `aat shape`.
 
-use aat_features::parse_feature;
-use aat_layout::buffer::Direction;
-use aat_layout::font::Feature;
-use aat_text::ClusterUnit;
-use anyhow::{Context, Result, anyhow, ensure};
+use aat_typesetter::{
+    ClusterUnit, Direction, Feature, FeatureListError, TextOptions, parse_features,
+};
+use anyhow::{Result, bail, ensure};
 use clap::ArgMatches;
 use std::alloc::Global;
 
@@ -77,15 +76,26 @@ fn output_of(word: &str) -> Output {
 
 /// The features of a list, parted by commas.
 fn features_of(alloc: Global, list: &str) -> Result<Vec<Feature>> {
-    let mut features = Vec::new(alloc);
-    for text in list.split(',') {
-        let feature = parse_feature(text).with_context(|| anyhow!("feature \"{text}\""))?;
-        features.push(feature)?;
+    match parse_features(alloc, list) {
+        Err(FeatureListError::NoFeature(number, error)) => {
+            let text = list.split(',').nth(number).unwrap_or(list);
+            bail!("feature \"{text}\": {error}")
+        }
+        features => Ok(features?),
     }
-    Ok(features)
 }
 
 impl Request {
+    /// How a text is typeset.
+    pub(crate) fn options(&self) -> TextOptions<'_> {
+        TextOptions {
+            direction: self.direction,
+            features: &self.features,
+            size: self.size.map(|size| u32::from(size) << 16),
+            unit: self.unit,
+        }
+    }
+
     /// What the command line asks.
     pub(crate) fn of_matches(alloc: Global, matches: &ArgMatches<'_>) -> Result<Request> {
         let features = match matches.get_str("features") {

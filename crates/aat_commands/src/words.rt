@@ -273,11 +273,31 @@ fn batch_command<'a>(alloc: Global) -> Command<'a> {
         )
 }
 
+/// The font of the example.
+fn example_font_argument<'a>(alloc: Global) -> Arg<'a> {
+    Arg::new(alloc, "font")
+        .value_name("FONT")
+        .default_value("sample.ttf")
+        .action(ArgAction::Set)
+        .help("The file of a font")
+}
+
+/// The text of the example.
+fn example_text_argument<'a>(alloc: Global) -> Arg<'a> {
+    Arg::new(alloc, "text")
+        .value_name("TEXT")
+        .default_value("fila fa-la")
+        .action(ArgAction::Set)
+        .help("The text")
+}
+
 /// The command that runs the example of the README.
-fn example_command<'a>(alloc: Global) -> Command<'a> {
-    Command::new(alloc, "example").hide(true).about(
-        "Shapes four glyphs in a font of typed tables, as the README does",
-    )
+fn example_command<'a>(alloc: Global) -> Result<Command<'a>, AllocError> {
+    Command::new(alloc, "example")
+        .hide(true)
+        .about("Typesets a text in small capitals, as the README does")
+        .arg(example_font_argument(alloc))?
+        .arg(example_text_argument(alloc))
 }
 
 /// How often each step is timed.
@@ -371,8 +391,7 @@ pub(crate) fn command<'a>(alloc: Global) -> Result<Command<'a>, AllocError> {
     let command = add_command(command, faults_command(alloc))?;
     let command = add_command(command, settled_command(alloc))?;
     let command = add_command(command, bench_command(alloc))?;
-    let command = command
-        .subcommand(batch_command(alloc))?
-        .subcommand(example_command(alloc))?;
+    let command = command.subcommand(batch_command(alloc))?;
+    let command = add_command(command, example_command(alloc))?;
     add_command(command, make_command(alloc))
 }

@@ -1,0 +1,38 @@
+//! The README's program.
+
+use aat_typesetter::{Face, TextOptions, Typesetter, parse_features};
+use anyhow::Result;
+use std::fs;
+use std::io::Write;
+
+/// Typesets a text in small capitals in the font of a file, and writes a line for each glyph in drawing order, with a
+/// bar where the text may be broken.
+///
+/// An error is that of the file, of its font, of the text or of the writer.
+pub(crate) fn write_glyphs_of<W: Write>(
+    rt: &HostRuntime,
+    out: &mut W,
+    path: &str,
+    text: &str,
+) -> Result<()> {
+    let alloc = rt.alloc();
+    let bytes = fs::read(rt, path)?;
+    let face = Face::read(alloc, &bytes, 0)?;
+    let mut typesetter = Typesetter::new(alloc, &face);
+    let features = parse_features(alloc, "smcp")?;
+    let options = TextOptions {
+        features: &features,
+        ..TextOptions::new()
+    };
+    typesetter.line(text, &options)?;
+    for glyph in typesetter.glyphs() {
+        let bar = if glyph.may_break_before { '|' } else { ' ' };
+        let (id, cluster) = (glyph.glyph_id, glyph.cluster);
+        let (advance, offset) = (glyph.x_advance, glyph.x_offset);
+        writeln!(
+            out,
+            "{bar} glyph {id} cluster {cluster} advance {advance} offset {offset}"
+        )?;
+    }
+    Ok(())
+}

@@ -1,0 +1,4 @@
+pub mod Counted
+pub mod EndsKept
+pub mod FeaturesRead
+pub mod Hanging

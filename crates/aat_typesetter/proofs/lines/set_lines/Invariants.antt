@@ -1,0 +1,7 @@
+use Rattle.std.proofs.Common.{◌≡◌, ◌++◌, drop}
+use Rattle.aat_typesetter.specs.TypesetLines.{set_lines}
+use Rattle.aat_typesetter.proofs.lines.set_lines.Given as goal
+
+abbrev pub invariant-loop-line : goal.invariant-loop-line
+invariant-loop-line g l =
+    l.set.items ++ set_lines l.space l.glyphs l.start (drop l.line-index l.lines) ≡ set_lines l.space l.glyphs 0 l.lines

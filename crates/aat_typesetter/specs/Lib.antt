@@ -1,0 +1,7 @@
+pub mod FeatureLists
+pub mod Prepared
+pub mod Stops
+pub mod Typeset
+pub mod TypesetErrors
+pub mod TypesetLines
+pub mod inside

@@ -1,0 +1,37 @@
+//! A typesetter: a font that is read of a file and a `&str` go in, and the glyphs that are drawn come out, in one line
+//! or in lines of a width.
+//!
+//! ```
+//! let face = Face::read(alloc, &bytes, 0)?;
+//! let mut typesetter = Typesetter::new(alloc, &face);
+//! typesetter.line("fila fa-la", &TextOptions::new())?;
+//! for glyph in typesetter.glyphs() {
+//!     writeln!(out, "{} {}", glyph.glyph_id, glyph.x_advance)?;
+//! }
+//! ```
+//!
+//! [`Typesetter::lines`] breaks a text into lines of a width. A program that makes the text of a shaper itself takes
+//! `aat_text` and `aat_shaper`.
+#![tactic(auto)]
+
+mod error;
+mod features;
+mod lines;
+mod options;
+mod prepared;
+mod shaping;
+mod stops;
+mod typesetter;
+
+pub use aat_face::Face;
+pub use aat_features::FeatureError;
+pub use aat_font::Feature;
+pub use aat_glyph::Direction;
+pub use aat_run::AatError;
+pub use aat_shaped_text::{ShapedGlyph, TextGlyph};
+pub use aat_text::ClusterUnit;
+pub use error::{FeatureListError, TypesetError};
+pub use features::parse_features;
+pub use lines::TypesetLine;
+pub use options::TextOptions;
+pub use typesetter::Typesetter;

@@ -1,0 +1,96 @@
+//! The lines of a text, as they are typeset.
+ghost use Rattle.std.specs.Prelude.{◌≡◌, IfOk, slice_range};
+ghost use Rattle.aat_typesetter.specs.TypesetLines.{set_line, set_lines};
+
+use aat_lookup::GlyphId;
+use aat_shaped_text::ShapedGlyph;
+use aat_shaper::TextLine;
+use aat_text::hide_ignorables;
+use std::alloc::{AllocError, Allocator, Global};
+use std::marker::Model;
+
+/// A line of a text. It begins where the one before it ends. A contract sees it as the record `SetLine`.
+#[derive(Drop)]
+pub struct TypesetLine<A: Allocator = Global> {
+    text_end: usize,
+    shaped: Vec<ShapedGlyph, A>,
+    glyphs: Vec<ShapedGlyph, A>,
+}
+
+impl<A: Allocator> Model for TypesetLine<A> {
+    ghost use Rattle.aat_typesetter.specs.TypesetLines.{SetLine};
+
+    ghost Value = { SetLine };
+
+    ghost view = { λ l. record { text_end = l.text_end; shaped = l.shaped.items; glyphs = l.glyphs.items } };
+}
+
+impl<A: Allocator> TypesetLine<A> {
+    /// How many glyphs of the text, as [`Typesetter::text`](crate::Typesetter::text) has them, are before its end.
+    pub fn text_end(&self) -> usize
+        ensures { result ≡ self.now.text_end }
+    {
+        self.text_end
+    }
+
+    /// What was shaped of it, in drawing order: what is drawn, before ignorable glyphs were hidden.
+    pub fn shaped(&self) -> &[ShapedGlyph]
+        ensures { result.now ≡ self.now.shaped }
+    {
+        &self.shaped
+    }
+
+    /// What is drawn of it, in drawing order.
+    pub fn glyphs(&self) -> &[ShapedGlyph]
+        ensures { result.now ≡ self.now.glyphs }
+    {
+        &self.glyphs
+    }
+}
+
+/// The glyphs from a place up to another.
+fn part(glyphs: &[ShapedGlyph], start: usize, end: usize) -> &[ShapedGlyph]
+    ensures { result.now ≡ slice_range glyphs.now start end }
+{
+    let end = end.min(glyphs.len());
+    if start < end {
+        &glyphs[start..end]
+    } else {
+        &[]
+    }
+}
+
+/// A line of these glyphs, whose ignorable ones are hidden.
+fn set_line<A: Allocator + Copy>(
+    alloc: A,
+    space: Option<GlyphId>,
+    text_end: usize,
+    shaped: &[ShapedGlyph],
+) -> Result<TypesetLine<A>, AllocError>
+    ensures { IfOk result (λ line. line ≡ set_line space text_end shaped.now) }
+{
+    Ok(TypesetLine {
+        text_end,
+        shaped: Vec::from_slice(alloc, shaped)?,
+        glyphs: hide_ignorables(alloc, space, shaped)?,
+    })
+}
+
+/// The lines whose glyphs stand one behind the other, each by itself, with its ignorable glyphs hidden.
+pub(crate) fn set_lines<A: Allocator + Copy>(
+    alloc: A,
+    space: Option<GlyphId>,
+    glyphs: &[ShapedGlyph],
+    lines: &[TextLine],
+) -> Result<Vec<TypesetLine<A>, A>, AllocError>
+    ensures { IfOk result (λ set. set.items ≡ set_lines space glyphs.now 0 lines.now) }
+{
+    let mut set = Vec::with_capacity(alloc, lines.len())?;
+    let mut start = 0;
+    for line in lines {
+        let shaped = part(glyphs, start, line.glyphs_end);
+        set.push(set_line(alloc, space, line.text_end, shaped)?)?;
+        start = line.glyphs_end;
+    }
+    Ok(set)
+}

@@ -1,0 +1,338 @@
+//! The typesetter: a text of characters goes in, and what is drawn comes out.
+ghost use Rattle.std.specs.Prelude.{◌≡◌, ◌≤◌, ◌^◌, ◌↔◌, length, true, IfErr, IfOk, IsErrOf, OnErr, OnOk};
+ghost use Rattle.aat_face.specs.Faces.{font_value};
+ghost use Rattle.aat_shaped_text.specs.Breaks.{is_rising};
+ghost use Rattle.aat_typesetter.specs.Prepared.{glyph_text, prepared};
+ghost use Rattle.aat_typesetter.specs.Typeset.{BreaksHoldIn, IsWithinLimits, RefusesSetting, drawn_setting, nothing_set, setting, setting_of, shaped_setting, typeset_line, uses_up};
+ghost use Rattle.aat_typesetter.specs.TypesetErrors.{RefusesTypesetting};
+ghost use Rattle.aat_typesetter.specs.TypesetLines.{AreSetLines, AreTypesetLines, RefusesParts, end_of_lines};
+
+use crate::error::TypesetError;
+use crate::lines::TypesetLine;
+use crate::options::TextOptions;
+use crate::prepared::{PreparedText, prepare};
+use crate::shaping::{draw, draw_lines, track_at};
+use aat_face::Face;
+use aat_glyph::Direction;
+use aat_shaped_text::{ShapedGlyph, TextGlyph};
+use aat_shaper::Shaper;
+use aat_text::laws::{breaks_hold_without_ignorables, texts_rise};
+use aat_text::{LineEnd, line_ends};
+use std::alloc::{Allocator, Global};
+use std::marker::Model;
+
+/// A typesetter of texts of a face. It is made once for a face, typesets many texts, and keeps its memory between them.
+/// A contract sees it as the record `TypesetterValue`.
+///
+/// ```
+/// let face = Face::read(alloc, &bytes, 0)?;
+/// let mut typesetter = Typesetter::new(alloc, &face);
+/// let features = parse_features(alloc, "smcp,-liga")?;
+/// let options = TextOptions { features: &features, ..TextOptions::new() };
+/// typesetter.line("fila fa-la", &options)?;
+/// ```
+#[derive(Drop)]
+pub struct Typesetter<'f, A: Allocator + Copy = Global> {
+    face: &'f Face<'f>,
+    global: Global,
+    alloc: A,
+    shaper: Shaper<'f, A>,
+    text: PreparedText<A>,
+    glyphs: Vec<ShapedGlyph, A>,
+    /// Whether the text is that which the shaper has shaped last.
+    is_set: bool,
+}
+
+impl<'f, A: Allocator + Copy> Model for Typesetter<'f, A> {
+    ghost use Rattle.aat_typesetter.specs.Typeset.{TypesetterValue};
+    ghost use Rattle.aat_typesetter.specs.inside.Inside.{TracksByTable, typesetter_of};
+
+    ghost Value = { TypesetterValue };
+
+    ghost view = { typesetter_of };
+
+    ghost invariant = { TracksByTable };
+}
+
+impl<'f> Typesetter<'f> {
+    /// A typesetter of texts of a face. It takes no memory before the first text.
+    pub fn new(alloc: Global, face: &'f Face<'f>) -> Typesetter<'f>
+        ensures face { result.face ≡ face.now }
+        ensures font { font_value result.font ≡ face.now.font }
+        ensures nothing { result ≡ nothing_set result }
+    {
+        Typesetter::new_in(alloc, alloc, face)
+    }
+}
+
+impl<'f, A: Allocator + Copy> Typesetter<'f, A> {
+    /// A typesetter of texts of a face that takes its memory from `alloc`, but that for the features, which it takes
+    /// from `global`. It takes no memory before the first text.
+    pub fn new_in(global: Global, alloc: A, face: &'f Face<'f>) -> Typesetter<'f, A>
+        ensures face { result.face ≡ face.now }
+        ensures font { font_value result.font ≡ face.now.font }
+        ensures nothing { result ≡ nothing_set result }
+    {
+        Typesetter {
+            face,
+            global,
+            alloc,
+            shaper: Shaper::new_in(global, alloc, face.font()),
+            text: PreparedText::none(alloc),
+            glyphs: Vec::new(alloc),
+            is_set: false,
+        }
+    }
+
+    /// The face.
+    pub fn face(&self) -> &'f Face<'f>
+        ensures { result.now ≡ self.now.face }
+    {
+        self.face
+    }
+
+    /// The direction of the text that was typeset last: left to right before the first one, and where that was refused.
+    pub fn direction(&self) -> Direction
+        ensures { result ≡ self.now.text.direction }
+    {
+        self.text.direction
+    }
+
+    /// The glyphs of the text that was typeset last, in reading order, before it was shaped. There are none before the
+    /// first text, and where the last one was refused.
+    pub fn text(&self) -> &[TextGlyph]
+        ensures { result.now ≡ self.now.text.glyphs }
+    {
+        &self.text.glyphs
+    }
+
+    /// What was shaped of the text that was typeset last, in one line in drawing order: what is drawn, before ignorable
+    /// glyphs were hidden. There is nothing before the first text, and where the last one was refused.
+    pub fn shaped(&self) -> &[ShapedGlyph]
+        ensures { result.now ≡ self.now.shaped }
+    {
+        if self.is_set {
+            self.shaper.glyphs()
+        } else {
+            &[]
+        }
+    }
+
+    /// What is drawn of the text that was typeset last in one line, in drawing order: from left to right, or from top
+    /// to bottom. There are no glyphs before the first text, where the last one was refused, and where it was broken
+    /// into lines, which have their own.
+    pub fn glyphs(&self) -> &[ShapedGlyph]
+        ensures { result.now ≡ self.now.glyphs }
+    {
+        &self.glyphs
+    }
+
+    /// Whether the text that was typeset last used up its budget of operations in one line, as
+    /// `Shaper::is_budget_used_up` of `aat_shaper` has it. It is `false` before the first text, and where the last one
+    /// was refused.
+    pub fn is_budget_used_up(&self) -> bool
+        ensures { result ≡ self.now.is_budget_used_up }
+    {
+        self.is_set && self.shaper.is_budget_used_up()
+    }
+
+    /// Leaves nothing of the text that was typeset last.
+    fn forget(&mut self)
+        ensures { self.new ≡ nothing_set self.old }
+    {
+        self.text = PreparedText::none(self.alloc);
+        self.glyphs.clear();
+        self.is_set = false;
+    }
+
+    /// Typesets a text that is ready, in one line.
+    fn set(&mut self, text: PreparedText<A>, options: &TextOptions<'_>) -> Result<(), TypesetError>
+        ensures face { self.new.face ≡ self.old.face }
+        ensures font { self.new.font ≡ self.old.font }
+        ensures text { OnOk result (self.new.text ≡ text) }
+        ensures shaped { OnOk result (self.new.shaped ≡ shaped_setting (setting_of self.old options.now text)) }
+        ensures drawn { OnOk result (self.new.glyphs ≡ drawn_setting (setting_of self.old options.now text)) }
+        ensures budget { OnOk result (self.new.is_budget_used_up ≡ uses_up (setting_of self.old options.now text)) }
+        ensures refused { IfErr result
+            (RefusesTypesetting ⊥ (RefusesSetting (setting_of self.old options.now text))) }
+        ensures fits { OnOk result (IsWithinLimits (setting_of self.old options.now text)) }
+        ensures empty { OnErr result (self.new ≡ nothing_set self.old) }
+    {
+        let (face, features) = (self.face, options.features);
+        track_at(
+            self.global,
+            self.alloc,
+            face,
+            options.size,
+            &mut self.shaper,
+        );
+        match draw(self.alloc, face, &mut self.shaper, features, &text) {
+            Ok(glyphs) => {
+                self.glyphs = glyphs;
+                self.text = text;
+                self.is_set = true;
+                Ok(())
+            }
+            Err(error) => {
+                self.forget();
+                Err(error)
+            }
+        }
+    }
+
+    /// Typesets a text in one line, of which [`Typesetter::glyphs`] then has what is drawn.
+    ///
+    /// The text becomes one glyph for each character, with the place of its grapheme cluster, as `text_of` of
+    /// `aat_text` has it. It runs in the direction of the options, else in that of its first strong character, else
+    /// from left to right. It is shaped as `Shaper::shape` of `aat_shaper` does, with the features of the options, and
+    /// tracked by the normal track of the face at their size. Then its ignorable glyphs are hidden, as
+    /// `hide_ignorables` of `aat_text` does: they are drawn as the space of the face without width, and are taken out
+    /// where it has none.
+    ///
+    /// The text may be broken before each glyph that says so, at the later one of the two clusters that meet there: its
+    /// two parts, typeset by themselves, look as they do here.
+    ///
+    /// Refused as 1, `TextTooLong`, exactly where the text has more than 4,294,967,295 bytes. Then as 2, `Refused`,
+    /// where the shaper refuses its glyphs: as `TooLong` where they are more than 2^24, as `AaltValue` for a value
+    /// above 65535 that a feature `aalt` asks for, and as `TooLong` where substitution makes the line too long. And as
+    /// 3, `OutOfMemory`, where memory is wanting. Where it is refused there are no glyphs.
+    pub fn line(&mut self, text: &str, options: &TextOptions<'_>) -> Result<(), TypesetError>
+        ensures face { self.new.face ≡ self.old.face }
+        ensures font { self.new.font ≡ self.old.font }
+        ensures text { OnOk result (self.new.text
+            ≡ prepared self.old.face options.now.unit options.now.direction text.now) }
+        ensures shaped { OnOk result (self.new.shaped ≡ shaped_setting (setting self.old options.now text.now)) }
+        ensures ok { OnOk result (self.new.glyphs ≡ typeset_line self.old options.now text.now) }
+        ensures breaks { OnOk result (BreaksHoldIn (setting self.old options.now text.now) self.new.glyphs) }
+        ensures budget { OnOk result
+            (self.new.is_budget_used_up ≡ uses_up (setting self.old options.now text.now)) }
+        ensures too_long { IsErrOf result TypesetError.TextTooLong ↔ (2 ^ 32 ≤ length text.now) }
+        ensures refused { IfErr result (RefusesTypesetting (2 ^ 32 ≤ length text.now)
+            (RefusesSetting (setting self.old options.now text.now))) }
+        ensures fits { OnOk result (IsWithinLimits (setting self.old options.now text.now)) }
+        ensures empty { OnErr result (self.new ≡ nothing_set self.old) }
+    {
+        self.forget();
+        let ready = prepare(self.alloc, self.face, options.unit, options.direction, text)?;
+        self.set(ready, options)?;
+        breaks_hold_without_ignorables();
+        Ok(())
+    }
+
+    /// Typesets a text of glyphs in one line, as [`Typesetter::line`] does with those of characters: for who has glyphs
+    /// with clusters of their own. It runs from left to right where the options have no direction, and their unit does
+    /// not count.
+    ///
+    /// Refused as [`Typesetter::line`] refuses a text, but for 1, `TextTooLong`.
+    pub fn line_of_glyphs(
+        &mut self,
+        text: Vec<TextGlyph, A>,
+        options: &TextOptions<'_>,
+    ) -> Result<(), TypesetError>
+        ensures face { self.new.face ≡ self.old.face }
+        ensures font { self.new.font ≡ self.old.font }
+        ensures text { OnOk result (self.new.text ≡ glyph_text options.now.direction text.items) }
+        ensures ok { OnOk result (self.new.glyphs
+            ≡ drawn_setting (setting_of self.old options.now (glyph_text options.now.direction text.items))) }
+        ensures refused { IfErr result (RefusesTypesetting ⊥
+            (RefusesSetting (setting_of self.old options.now (glyph_text options.now.direction text.items)))) }
+        ensures empty { OnErr result (self.new ≡ nothing_set self.old) }
+    {
+        let direction = options.direction.unwrap_or(Direction::LeftToRight);
+        self.set(
+            PreparedText {
+                glyphs: text,
+                direction,
+            },
+            options,
+        )
+    }
+
+    /// Typesets a text that is ready in lines of a width, which may end at places of its characters.
+    fn set_in_lines(
+        &mut self,
+        text: PreparedText<A>,
+        ends: &[LineEnd],
+        width: u64,
+        options: &TextOptions<'_>,
+    ) -> Result<Vec<TypesetLine<A>, A>, TypesetError>
+        requires { is_rising text.glyphs ≡ true }
+        ensures face { self.new.face ≡ self.old.face }
+        ensures font { self.new.font ≡ self.old.font }
+        ensures text { OnOk result (self.new.text ≡ text) }
+        ensures shaped { OnOk result (self.new.shaped ≡ shaped_setting (setting_of self.old options.now text)) }
+        ensures lines { IfOk result (λ r. AreSetLines (setting_of self.old options.now text) ends.now width r.items) }
+        ensures end { IfOk result (λ r. end_of_lines r.items ≡ length text.glyphs) }
+        ensures budget { OnOk result (self.new.is_budget_used_up ≡ uses_up (setting_of self.old options.now text)) }
+        ensures refused { IfErr result (RefusesTypesetting ⊥ (RefusesParts (setting_of self.old options.now text))) }
+        ensures fits { OnOk result (IsWithinLimits (setting_of self.old options.now text)) }
+        ensures empty { OnErr result (self.new ≡ nothing_set self.old) }
+    {
+        let (face, features) = (self.face, options.features);
+        track_at(
+            self.global,
+            self.alloc,
+            face,
+            options.size,
+            &mut self.shaper,
+        );
+        let lines = draw_lines(
+            self.global,
+            self.alloc,
+            face,
+            &mut self.shaper,
+            features,
+            &text,
+            ends,
+            width,
+        );
+        if lines.is_err() {
+            self.forget();
+            return lines;
+        }
+        self.glyphs.clear();
+        self.text = text;
+        self.is_set = true;
+        lines
+    }
+
+    /// Typesets a text and breaks it into lines of a width, in units of the font.
+    ///
+    /// A line may end where `line_ends` of `aat_text` has it, and at the end of the text; it ends where that is forced.
+    /// The spaces before its end, glyphs of the face's space, hang over it and count for no width, nor do ignorable
+    /// glyphs. It takes in ends as long as the text up to the next one fits, and at least one, as `Shaper::shape_lines`
+    /// of `aat_shaper` does. What is drawn of a line looks as its part of the text does that is shaped by itself, with
+    /// its ignorable glyphs hidden. A text without an end is one line, and an empty one has no line.
+    ///
+    /// [`Typesetter::shaped`] has what is shaped of the text in one line, and [`Typesetter::glyphs`] nothing.
+    ///
+    /// Refused as [`Typesetter::line`] refuses the text or a part of it.
+    pub fn lines(
+        &mut self,
+        text: &str,
+        width: u64,
+        options: &TextOptions<'_>,
+    ) -> Result<Vec<TypesetLine<A>, A>, TypesetError>
+        ensures face { self.new.face ≡ self.old.face }
+        ensures font { self.new.font ≡ self.old.font }
+        ensures text { OnOk result (self.new.text
+            ≡ prepared self.old.face options.now.unit options.now.direction text.now) }
+        ensures shaped { OnOk result (self.new.shaped ≡ shaped_setting (setting self.old options.now text.now)) }
+        ensures lines { IfOk result (λ r. AreTypesetLines self.old options.now text.now width r.items) }
+        ensures end { IfOk result (λ r.
+            end_of_lines r.items ≡ length (prepared self.old.face options.now.unit options.now.direction text.now).glyphs) }
+        ensures too_long { IsErrOf result TypesetError.TextTooLong ↔ (2 ^ 32 ≤ length text.now) }
+        ensures budget { OnOk result
+            (self.new.is_budget_used_up ≡ uses_up (setting self.old options.now text.now)) }
+        ensures refused { IfErr result (RefusesTypesetting (2 ^ 32 ≤ length text.now)
+            (RefusesParts (setting self.old options.now text.now))) }
+        ensures fits { OnOk result (IsWithinLimits (setting self.old options.now text.now)) }
+        ensures empty { OnErr result (self.new ≡ nothing_set self.old) }
+    {
+        self.forget();
+        let ready = prepare(self.alloc, self.face, options.unit, options.direction, text)?;
+        let ends = line_ends(self.alloc, options.unit, text)?;
+        texts_rise();
+        self.set_in_lines(ready, &ends, width, options)
+    }
+}
