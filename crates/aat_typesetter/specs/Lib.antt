@@ -1,5 +1,6 @@
 pub mod FeatureLists
 pub mod Prepared
+pub mod ScriptSettings
 pub mod Stops
 pub mod Typeset
 pub mod TypesetErrors

@@ -1,6 +1,7 @@
 -- Where lines of a text may end, among its glyphs.
-use Rattle.std.specs.Prelude.{ℕ, ◌==◌, Bool, true, false, List, [], ◌∷◌, ◌++◌, length, map, fold, count_by, nat_lt, reverse, take, take_while, Option, Some, None}
+use Rattle.std.specs.Prelude.{ℕ, ◌==◌, Bool, true, false, List, [], ◌∷◌, ◌++◌, length, map, fold, count_by, nat_lt, reverse, take, take_while, Option, Some, None, if◌then◌else◌}
 use Rattle.aat_lookup.specs.declared.glyph_id.GlyphId.{GlyphId}
+use Rattle.aat_shaped_text.specs.Breaks.{is_rising}
 use Rattle.aat_shaped_text.specs.declared.text.TextGlyph.{TextGlyph}
 use Rattle.aat_shaper.specs.declared.lines.LineStop.{LineStop}
 use Rattle.aat_text.specs.declared.lines.LineEnd.{LineEnd}
@@ -30,8 +31,11 @@ stop_behind space text is_forced place = record {
   is_forced = is_forced;
 }
 
--- the stops of a text whose lines may end at these places: each place among the glyphs, and the end
+-- the stops at these places of a text: each place among the glyphs
+abbrev pub stops_at : Option GlyphId → List TextGlyph → List LineEnd → List LineStop
+stops_at space text ends = map (λ end. stop_behind space text end.is_forced (count_before end.place text)) ends
+
+-- the stops of a text whose lines may end at these places, and its end; where clusters fall along it that is the only one
 abbrev pub stops_for : Option GlyphId → List TextGlyph → List LineEnd → List LineStop
 stops_for space text ends =
-    map (λ end. stop_behind space text end.is_forced (count_before end.place text)) ends
-    ++ stop_behind space text true (length text) ∷ []
+    (if is_rising text then stops_at space text ends else []) ++ (stop_behind space text true (length text) ∷ [])

@@ -1,5 +1,5 @@
 -- A text in one line, as it is typeset.
-use Rattle.std.specs.Prelude.{◌≡◌, ℕ, ℤ, pos, ◌<◌, ◌≤◌, Bool, true, false, List, [], length, Option, Some, None}
+use Rattle.std.specs.Prelude.{◌≡◌, ℕ, ℤ, pos, ◌<◌, ◌≤◌, Bool, true, false, List, [], length, Option, Some, None, if◌then◌else◌}
 use Rattle.std.specs.Option.{option_map_or}
 use Rattle.aat_face.specs.Faces.{FaceValue, glyph_of_character}
 use Rattle.aat_font.specs.Face.{tables_of}
@@ -12,9 +12,9 @@ use Rattle.aat_shaped_text.specs.Parts.{shaped_at}
 use Rattle.aat_shaped_text.specs.ShapedText.{RefusesText, most_text, shaped_text, uses_up_budget}
 use Rattle.aat_shaped_text.specs.declared.text.ShapedGlyph.{ShapedGlyph}
 use Rattle.aat_shaper.specs.Shaper.{TrackValues, no_values, value_along, values_at}
-use Rattle.aat_text.specs.HiddenParts.{IsShownInParts}
-use Rattle.aat_text.specs.Ignorables.{drawn_without_ignorables}
-use Rattle.aat_typesetter.specs.Prepared.{Prepared, no_text, prepared}
+use Rattle.aat_text.specs.HiddenParts.{IsShownInParts, Showing, shown}
+use Rattle.aat_typesetter.specs.Prepared.{Prepared, no_text, options_for_lines, prepared}
+use Rattle.aat_typesetter.specs.ScriptSettings.{features_for, marks_for}
 use Rattle.aat_typesetter.specs.declared.options.TextOptions.{TextOptions}
 
 -- a typesetter: its face, and the font of that face for the layer; of the text that was typeset last its glyphs and its
@@ -31,17 +31,21 @@ pub record TypesetterValue : Type 0 where
 abbrev pub nothing_set : TypesetterValue → TypesetterValue
 nothing_set t = record t { text = no_text; shaped = []; glyphs = []; is_budget_used_up = false }
 
--- the values by which texts are tracked at a point size: those of the normal track of the face, none without a size or
--- without tracks
-abbrev pub values_for : FaceValue → Option ℕ → TrackValues
-values_for face None = no_values
-values_for face (Some size) = option_map_or (λ table. values_at table (pos 0) size) face.tracking no_values
+-- the point size at which texts are tracked: the one that is told, else 12 points, HarfBuzz's, where the file has `STAT`
+abbrev pub size_for : FaceValue → Option ℕ → ℕ
+size_for face None = if face.has_stat then 786432 else 0
+size_for face (Some size) = size
 
--- what is typeset: a text that is ready, with the font, the features, the value by which it is tracked, and the glyph
--- of the space
+-- the values by which texts are tracked: those of the normal track of the face at the size, none without tracks
+abbrev pub values_for : FaceValue → Option ℕ → TrackValues
+values_for face size = option_map_or (λ table. values_at table (pos 0) (size_for face size)) face.tracking no_values
+
+-- what is typeset: a text that is ready, with the font, the features, the value by which it is tracked, where its marks
+-- lose their width, whether they move, and the glyph of the space
 pub record Setting : Type 0 where
   pub font : hb_font_t
   pub space : Option GlyphId
+  pub marks : Option Bool
   pub value : ℤ
   pub features : List Feature
   pub text : Prepared
@@ -51,22 +55,31 @@ abbrev pub setting_of : TypesetterValue → TextOptions → Prepared → Setting
 setting_of t options text = record {
   font = t.font;
   space = glyph_of_character t.face 0x20;
+  marks = marks_for t.font text.rules text.direction;
   value = value_along (values_for t.face options.size) text.direction;
-  features = options.features.now;
+  features = features_for t.font text.rules options.features.now;
   text = text;
 }
 
 -- a text of characters, as the options ask
 abbrev pub setting : TypesetterValue → TextOptions → List ℕ → Setting
-setting t options text = setting_of t options (prepared t.face options.unit options.direction text)
+setting t options text = setting_of t options (prepared t.face options text)
+
+-- one that is broken into lines
+abbrev pub setting_for_lines : TypesetterValue → TextOptions → List ℕ → Setting
+setting_for_lines t options text = setting t (options_for_lines options text) text
+
+-- how what is drawn is shown: marks without width where that is asked, and ignorable glyphs hidden
+abbrev pub showing_of : Setting → Showing
+showing_of s = record { marks = s.marks; ignorables = Some s.space }
 
 -- what is shaped of it
 unfoldable pub shaped_setting : Setting → List ShapedGlyph
 shaped_setting s = shaped_text s.value s.font s.text.direction s.features s.text.glyphs
 
--- what is drawn of it: its ignorable glyphs are hidden
+-- what is drawn of it
 unfoldable pub drawn_setting : Setting → List ShapedGlyph
-drawn_setting s = drawn_without_ignorables s.space (shaped_setting s)
+drawn_setting s = shown (showing_of s) (shaped_setting s)
 
 -- what is drawn of a text in one line
 abbrev pub typeset_line : TypesetterValue → TextOptions → List ℕ → List ShapedGlyph
@@ -76,7 +89,7 @@ typeset_line t options text = drawn_setting (setting t options text)
 abbrev pub BreaksHoldIn : Setting → List ShapedGlyph → Type 0
 BreaksHoldIn s glyphs =
     (k : ℕ) → k < length glyphs → (shaped_at glyphs k).may_break_before ≡ true
-    → IsShownInParts s.space s.value s.font s.text.direction s.features s.text.glyphs glyphs k
+    → IsShownInParts (showing_of s) s.value s.font s.text.direction s.features s.text.glyphs glyphs k
 
 -- its budget of operations is used up
 unfoldable pub uses_up : Setting → Bool

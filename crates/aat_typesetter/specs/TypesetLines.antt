@@ -1,15 +1,14 @@
 -- A text in lines of a width, as it is typeset.
-use Rattle.std.specs.Prelude.{◌≡◌, ℕ, true, List, [], ◌∷◌, fold, length, slice_range, Option}
-use Rattle.aat_lookup.specs.declared.glyph_id.GlyphId.{GlyphId}
+use Rattle.std.specs.Prelude.{◌≡◌, ℕ, true, List, [], ◌∷◌, fold, length, slice_range}
 use Rattle.aat_run.specs.declared.error.AatError.{AatError}
 use Rattle.aat_shaped_text.specs.declared.text.ShapedGlyph.{ShapedGlyph}
 use Rattle.aat_shaper.specs.Lines.{AreLines, Paragraph, RefusesLines, stops_behind}
 use Rattle.aat_shaper.specs.declared.lines.TextLine.{TextLine}
-use Rattle.aat_text.specs.Ignorables.{drawn_without_ignorables}
+use Rattle.aat_text.specs.HiddenParts.{Showing, shown}
 use Rattle.aat_text.specs.LineEnds.{line_ends}
 use Rattle.aat_text.specs.declared.lines.LineEnd.{LineEnd}
 use Rattle.aat_typesetter.specs.Stops.{stops_for}
-use Rattle.aat_typesetter.specs.Typeset.{Setting, TypesetterValue, setting}
+use Rattle.aat_typesetter.specs.Typeset.{Setting, TypesetterValue, setting_for_lines, showing_of}
 use Rattle.aat_typesetter.specs.declared.options.TextOptions.{TextOptions}
 
 -- a line: how many glyphs of the text are before its end, what is shaped of it, and what is drawn of it
@@ -18,19 +17,20 @@ pub record SetLine : Type 0 where
   pub shaped : List ShapedGlyph
   pub glyphs : List ShapedGlyph
 
--- a line whose ignorable glyphs are hidden
-abbrev pub set_line : Option GlyphId → ℕ → List ShapedGlyph → SetLine
-set_line space text_end shaped = record {
+-- a line, and how it is shown
+abbrev pub set_line : Showing → ℕ → List ShapedGlyph → SetLine
+set_line showing text_end glyphs = record {
   text_end = text_end;
-  shaped = shaped;
-  glyphs = drawn_without_ignorables space shaped;
+  shaped = glyphs;
+  glyphs = shown showing glyphs;
 }
 
 -- lines whose glyphs stand one behind the other from a place on, each by itself
-abbrev pub set_lines : Option GlyphId → List ShapedGlyph → ℕ → List TextLine → List SetLine
-set_lines space glyphs start [] = []
-set_lines space glyphs start (line ∷ lines) =
-    set_line space line.text_end (slice_range glyphs start line.glyphs_end) ∷ set_lines space glyphs line.glyphs_end lines
+abbrev pub set_lines : Showing → List ShapedGlyph → ℕ → List TextLine → List SetLine
+set_lines showing glyphs start [] = []
+set_lines showing glyphs start (line ∷ lines) =
+    set_line showing line.text_end (slice_range glyphs start line.glyphs_end)
+    ∷ set_lines showing glyphs line.glyphs_end lines
 
 -- what is broken into lines of a width
 abbrev pub paragraph_for : Setting → List LineEnd → ℕ → Paragraph
@@ -46,16 +46,17 @@ paragraph_for s ends width = record {
 }
 
 -- lines are those of a text: their glyphs, one line behind the other, are the lines of its paragraph, and each line is
--- drawn with its ignorable glyphs hidden
+-- shown as the text is
 abbrev pub AreSetLines : Setting → List LineEnd → ℕ → List SetLine → Type 0
 AreSetLines s ends width lines =
     (glyphs : List ShapedGlyph) × (row : List TextLine)
     × AreLines (paragraph_for s ends width) (length (paragraph_for s ends width).stops) glyphs row
-    × (lines ≡ set_lines s.space glyphs 0 row)
+    × (lines ≡ set_lines (showing_of s) glyphs 0 row)
 
 -- lines are what is typeset of a text of characters in lines of a width
 abbrev pub AreTypesetLines : TypesetterValue → TextOptions → List ℕ → ℕ → List SetLine → Type 0
-AreTypesetLines t options text width lines = AreSetLines (setting t options text) (line_ends options.unit text) width lines
+AreTypesetLines t options text width lines =
+    AreSetLines (setting_for_lines t options text) (line_ends options.unit text) width lines
 
 -- the shaper refuses a part of a text for an error
 unfoldable pub RefusesParts : Setting → AatError → Type 0

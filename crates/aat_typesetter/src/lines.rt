@@ -1,11 +1,11 @@
 //! The lines of a text, as they are typeset.
 ghost use Rattle.std.specs.Prelude.{◌≡◌, IfOk, slice_range};
 ghost use Rattle.aat_typesetter.specs.TypesetLines.{set_line, set_lines};
+ghost use Rattle.aat_typesetter.specs.inside.Inside.{showing_by};
 
-use aat_lookup::GlyphId;
+use crate::showing::{Shown, shown};
 use aat_shaped_text::ShapedGlyph;
 use aat_shaper::TextLine;
-use aat_text::hide_ignorables;
 use std::alloc::{AllocError, Allocator, Global};
 use std::marker::Model;
 
@@ -33,7 +33,8 @@ impl<A: Allocator> TypesetLine<A> {
         self.text_end
     }
 
-    /// What was shaped of it, in drawing order: what is drawn, before ignorable glyphs were hidden.
+    /// What was shaped of it, in drawing order: what is drawn, before marks lost their width and ignorable glyphs were
+    /// hidden.
     pub fn shaped(&self) -> &[ShapedGlyph]
         ensures { result.now ≡ self.now.shaped }
     {
@@ -60,36 +61,36 @@ fn part(glyphs: &[ShapedGlyph], start: usize, end: usize) -> &[ShapedGlyph]
     }
 }
 
-/// A line of these glyphs, whose ignorable ones are hidden.
+/// A line of these glyphs, as they are shown.
 fn set_line<A: Allocator + Copy>(
     alloc: A,
-    space: Option<GlyphId>,
+    showing: Shown,
     text_end: usize,
     shaped: &[ShapedGlyph],
 ) -> Result<TypesetLine<A>, AllocError>
-    ensures { IfOk result (λ line. line ≡ set_line space text_end shaped.now) }
+    ensures { IfOk result (λ line. line ≡ set_line (showing_by showing) text_end shaped.now) }
 {
     Ok(TypesetLine {
         text_end,
         shaped: Vec::from_slice(alloc, shaped)?,
-        glyphs: hide_ignorables(alloc, space, shaped)?,
+        glyphs: shown(alloc, showing, shaped)?,
     })
 }
 
-/// The lines whose glyphs stand one behind the other, each by itself, with its ignorable glyphs hidden.
+/// The lines whose glyphs stand one behind the other, each shown by itself.
 pub(crate) fn set_lines<A: Allocator + Copy>(
     alloc: A,
-    space: Option<GlyphId>,
+    showing: Shown,
     glyphs: &[ShapedGlyph],
     lines: &[TextLine],
 ) -> Result<Vec<TypesetLine<A>, A>, AllocError>
-    ensures { IfOk result (λ set. set.items ≡ set_lines space glyphs.now 0 lines.now) }
+    ensures { IfOk result (λ set. set.items ≡ set_lines (showing_by showing) glyphs.now 0 lines.now) }
 {
     let mut set = Vec::with_capacity(alloc, lines.len())?;
     let mut start = 0;
     for line in lines {
         let shaped = part(glyphs, start, line.glyphs_end);
-        set.push(set_line(alloc, space, line.text_end, shaped)?)?;
+        set.push(set_line(alloc, showing, line.text_end, shaped)?)?;
         start = line.glyphs_end;
     }
     Ok(set)

@@ -1,20 +1,24 @@
 //! A text that is ready to be shaped.
 ghost use Rattle.std.specs.Prelude.{◌≡◌, ◌≤◌, ◌^◌, ◌↔◌, length, IfOk, IsErrOf};
-ghost use Rattle.aat_typesetter.specs.Prepared.{direction_for, no_text, prepared};
+ghost use Rattle.aat_typesetter.specs.Prepared.{no_text, options_for_lines, prepared, shaped_direction};
 
+use crate::options::TextOptions;
+use aat_characters::{ScriptRules, native_direction, natural_direction, told_script};
 use aat_face::Face;
 use aat_glyph::Direction;
 use aat_shaped_text::TextGlyph;
-use aat_text::{ClusterUnit, TextError, first_strong_direction, text_of};
+use aat_text::{TextError, prepare_text};
 use std::alloc::{Allocator, Global};
 use std::marker::Model;
 
 /// A text that is ready to be shaped.
 #[derive(Drop)]
 pub(crate) struct PreparedText<A: Allocator = Global> {
-    /// Its glyphs in reading order.
+    /// Its glyphs in the order in which they are shaped.
     pub(crate) glyphs: Vec<TextGlyph, A>,
-    /// Its direction.
+    /// The rules of its script, if it is a text of characters.
+    pub(crate) rules: Option<ScriptRules>,
+    /// The direction in which it is shaped.
     pub(crate) direction: Direction,
 }
 
@@ -23,7 +27,7 @@ impl<A: Allocator> Model for PreparedText<A> {
 
     ghost Value = { Prepared };
 
-    ghost view = { λ t. record { glyphs = t.glyphs.items; direction = t.direction } };
+    ghost view = { λ t. record { glyphs = t.glyphs.items; rules = t.rules; direction = t.direction } };
 }
 
 impl<A: Allocator> PreparedText<A> {
@@ -33,34 +37,53 @@ impl<A: Allocator> PreparedText<A> {
     {
         PreparedText {
             glyphs: Vec::new(alloc),
+            rules: None,
             direction: Direction::LeftToRight,
         }
     }
 }
 
-/// The direction of a text, which may be told.
-fn direction_for(told: Option<Direction>, text: &str) -> Direction
-    ensures { result ≡ direction_for told text.now }
-{
-    match told {
-        Some(direction) => direction,
-        None => first_strong_direction(text).unwrap_or(Direction::LeftToRight),
-    }
-}
-
-/// A text made ready in a face: its glyphs, and its direction, which may be told.
-pub(crate) fn prepare<A: Allocator>(
+/// A text made ready in a face.
+pub(crate) fn prepare<A: Allocator + Copy>(
     alloc: A,
     face: &Face,
-    unit: ClusterUnit,
-    told: Option<Direction>,
+    options: &TextOptions<'_>,
     text: &str,
 ) -> Result<PreparedText<A>, TextError>
-    ensures ok { IfOk result (λ ready. ready ≡ prepared face.now unit told text.now) }
+    ensures ok { IfOk result (λ ready. ready ≡ prepared face.now options.now text.now) }
     ensures too_long { IsErrOf result TextError.TooLong ↔ (2 ^ 32 ≤ length text.now) }
 {
+    let ready = prepare_text(
+        alloc,
+        face,
+        options.unit,
+        options.level,
+        options.script,
+        options.direction,
+        text,
+    )?;
     Ok(PreparedText {
-        glyphs: text_of(alloc, face, unit, text)?,
-        direction: direction_for(told, text),
+        glyphs: ready.glyphs,
+        rules: Some(ScriptRules::of(ready.script, ready.direction)),
+        direction: ready.direction,
     })
+}
+
+/// The direction in which a text is shaped.
+fn shaped_direction(options: &TextOptions<'_>, text: &str) -> Direction
+    ensures { result ≡ shaped_direction options.now text.now }
+{
+    let script = told_script(options.script, text);
+    let told = options.direction.unwrap_or(natural_direction(script));
+    native_direction(script, text, told)
+}
+
+/// The options of a text that is broken into lines: it is told the direction in which it is shaped, and so is not turned.
+pub(crate) fn options_for_lines<'o>(options: &TextOptions<'o>, text: &str) -> TextOptions<'o>
+    ensures { result ≡ options_for_lines options.now text.now }
+{
+    TextOptions {
+        direction: Some(shaped_direction(options, text)),
+        ..*options
+    }
 }

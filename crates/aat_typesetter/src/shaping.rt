@@ -1,8 +1,7 @@
-//! A text that is ready is shaped, and its ignorable glyphs are hidden.
-ghost use Rattle.std.specs.Prelude.{◌≡◌, None, length, true, IfErr, IfOk, OnOk};
-ghost use Rattle.aat_shaped_text.specs.Breaks.{is_rising};
+//! A text that is ready is shaped and shown.
+ghost use Rattle.std.specs.Prelude.{◌≡◌, None, length, IfErr, IfOk, OnOk};
 ghost use Rattle.aat_shaper.specs.Shaper.{no_values};
-ghost use Rattle.aat_typesetter.specs.Typeset.{IsWithinLimits, RefusesSetting, drawn_setting, shaped_setting, uses_up, values_for};
+ghost use Rattle.aat_typesetter.specs.Typeset.{IsWithinLimits, RefusesSetting, drawn_setting, shaped_setting, size_for, uses_up, values_for};
 ghost use Rattle.aat_typesetter.specs.TypesetErrors.{RefusesTypesetting};
 ghost use Rattle.aat_typesetter.specs.TypesetLines.{AreSetLines, RefusesParts, end_of_lines};
 ghost use Rattle.aat_typesetter.specs.inside.Inside.{setting_by};
@@ -10,14 +9,27 @@ ghost use Rattle.aat_typesetter.specs.inside.Inside.{setting_by};
 use crate::error::TypesetError;
 use crate::lines::{TypesetLine, set_lines};
 use crate::prepared::PreparedText;
+use crate::script_settings::{features_for, marks_for};
+use crate::showing::{Shown, shown};
 use crate::stops::stops_for;
 use aat_face::Face;
 use aat_font::Feature;
 use aat_shaped_text::ShapedGlyph;
 use aat_shaper::Shaper;
-use aat_text::{LineEnd, hide_ignorables};
+use aat_text::LineEnd;
 use std::alloc::{Allocator, Global};
 use std::mem;
+
+/// The point size at which texts are tracked: the one that is told, else HarfBuzz's 12 points where the file has `STAT`.
+fn size_for(face: &Face<'_>, size: Option<u32>) -> u32
+    ensures { result ≡ size_for face.now size }
+{
+    match size {
+        Some(size) => size,
+        None if face.has_stat() => 12 << 16,
+        None => 0,
+    }
+}
 
 /// Has a shaper of a face track texts at a point size from now on.
 pub(crate) fn track_at<'f, A: Allocator + Copy>(
@@ -34,7 +46,7 @@ pub(crate) fn track_at<'f, A: Allocator + Copy>(
     if let Some(tracking) = face.tracking() {
         let fresh = Shaper::new_in(global, alloc, shaper.font());
         let kept = mem::replace(shaper, fresh);
-        *shaper = kept.with_point_size(tracking, size.unwrap_or(0));
+        *shaper = kept.with_point_size(tracking, size_for(face, size));
     }
 }
 
@@ -59,8 +71,14 @@ pub(crate) fn draw<A: Allocator + Copy>(
         (RefusesTypesetting ⊥ (RefusesSetting (setting_by face.now shaper.old features.now text.now))) }
     ensures fits { OnOk result (IsWithinLimits (setting_by face.now shaper.old features.now text.now)) }
 {
-    shaper.shape(text.direction, &text.glyphs, features)?;
-    let glyphs = hide_ignorables(alloc, face.glyph_of(' '), shaper.glyphs())?;
+    let font = shaper.font();
+    let asked = features_for(alloc, font, text.rules, features)?;
+    shaper.shape(text.direction, &text.glyphs, &asked)?;
+    let showing = Shown {
+        marks: marks_for(font, text.rules, text.direction),
+        space: face.glyph_of(' '),
+    };
+    let glyphs = shown(alloc, showing, shaper.glyphs())?;
     Ok(glyphs)
 }
 
@@ -76,7 +94,6 @@ pub(crate) fn draw_lines<A: Allocator + Copy>(
     ends: &[LineEnd],
     width: u64,
 ) -> Result<Vec<TypesetLine<A>, A>, TypesetError>
-    requires { is_rising text.now.glyphs ≡ true }
     ensures font { shaper.new.font ≡ shaper.old.font }
     ensures values { shaper.new.values ≡ shaper.old.values }
     ensures lines { IfOk result (λ lines.
@@ -90,6 +107,8 @@ pub(crate) fn draw_lines<A: Allocator + Copy>(
         (RefusesTypesetting ⊥ (RefusesParts (setting_by face.now shaper.old features.now text.now))) }
     ensures fits { OnOk result (IsWithinLimits (setting_by face.now shaper.old features.now text.now)) }
 {
+    let font = shaper.font();
+    let asked = features_for(alloc, font, text.rules, features)?;
     let space = face.glyph_of(' ');
     let stops = stops_for(alloc, space, &text.glyphs, ends)?;
     let lines = shaper.shape_lines(
@@ -97,11 +116,15 @@ pub(crate) fn draw_lines<A: Allocator + Copy>(
         alloc,
         text.direction,
         &text.glyphs,
-        features,
+        &asked,
         &stops,
         true,
         width,
     )?;
-    let set = set_lines(alloc, space, &lines.glyphs, &lines.lines)?;
+    let showing = Shown {
+        marks: marks_for(font, text.rules, text.direction),
+        space,
+    };
+    let set = set_lines(alloc, showing, &lines.glyphs, &lines.lines)?;
     Ok(set)
 }

@@ -1,7 +1,7 @@
 //! Where lines of a text may end, among its glyphs.
 ghost use Rattle.std.specs.Prelude.{◌≡◌, ◌≤◌, IfOk, length, true};
 ghost use Rattle.aat_shaped_text.specs.Breaks.{is_rising};
-ghost use Rattle.aat_typesetter.specs.Stops.{count_before, hang_of, is_space, stop_behind, stops_for};
+ghost use Rattle.aat_typesetter.specs.Stops.{count_before, hang_of, is_space, stop_behind, stops_at, stops_for};
 
 use aat_lookup::GlyphId;
 use aat_shaped_text::TextGlyph;
@@ -60,22 +60,51 @@ fn stop_behind(
     }
 }
 
-/// The stops of a text, along which clusters never fall, whose lines may end at these places: each place among the
-/// glyphs, and the end.
-pub(crate) fn stops_for<A: Allocator>(
+/// Whether clusters never fall along a text.
+fn is_rising(text: &[TextGlyph]) -> bool
+    ensures { result ≡ is_rising text.now }
+{
+    for i in 1..text.len() {
+        if text[i].cluster < text[i - 1].cluster {
+            return false;
+        }
+    }
+    true
+}
+
+/// The stops at these places of a text, along which clusters never fall: each place among the glyphs.
+fn stops_at<A: Allocator>(
     alloc: A,
     space: Option<GlyphId>,
     text: &[TextGlyph],
     ends: &[LineEnd],
 ) -> Result<Vec<LineStop, A>, AllocError>
     requires { is_rising text.now ≡ true }
-    ensures { IfOk result (λ stops. stops.items ≡ stops_for space text.now ends.now) }
+    ensures { IfOk result (λ stops. stops.items ≡ stops_at space text.now ends.now) }
 {
     let mut stops = Vec::with_capacity(alloc, ends.len())?;
     for end in ends {
         let place = count_before(text, end.place);
         stops.push(stop_behind(space, text, end.is_forced, place))?;
     }
+    Ok(stops)
+}
+
+/// The stops of a text whose lines may end at these places, and its end; where clusters fall along it that is the only
+/// one.
+pub(crate) fn stops_for<A: Allocator>(
+    alloc: A,
+    space: Option<GlyphId>,
+    text: &[TextGlyph],
+    ends: &[LineEnd],
+) -> Result<Vec<LineStop, A>, AllocError>
+    ensures { IfOk result (λ stops. stops.items ≡ stops_for space text.now ends.now) }
+{
+    let mut stops = if is_rising(text) {
+        stops_at(alloc, space, text, ends)?
+    } else {
+        Vec::new(alloc)
+    };
     stops.push(stop_behind(space, text, true, text.len()))?;
     Ok(stops)
 }

@@ -1,22 +1,21 @@
 //! The typesetter: a text of characters goes in, and what is drawn comes out.
 ghost use Rattle.std.specs.Prelude.{◌≡◌, ◌≤◌, ◌^◌, ◌↔◌, length, true, IfErr, IfOk, IsErrOf, OnErr, OnOk};
 ghost use Rattle.aat_face.specs.Faces.{font_value};
-ghost use Rattle.aat_shaped_text.specs.Breaks.{is_rising};
-ghost use Rattle.aat_typesetter.specs.Prepared.{glyph_text, prepared};
-ghost use Rattle.aat_typesetter.specs.Typeset.{BreaksHoldIn, IsWithinLimits, RefusesSetting, drawn_setting, nothing_set, setting, setting_of, shaped_setting, typeset_line, uses_up};
+ghost use Rattle.aat_typesetter.specs.Prepared.{glyph_text, options_for_lines, prepared};
+ghost use Rattle.aat_typesetter.specs.Typeset.{BreaksHoldIn, IsWithinLimits, RefusesSetting, drawn_setting, nothing_set, setting, setting_for_lines, setting_of, shaped_setting, typeset_line, uses_up};
 ghost use Rattle.aat_typesetter.specs.TypesetErrors.{RefusesTypesetting};
 ghost use Rattle.aat_typesetter.specs.TypesetLines.{AreSetLines, AreTypesetLines, RefusesParts, end_of_lines};
 
 use crate::error::TypesetError;
 use crate::lines::TypesetLine;
 use crate::options::TextOptions;
-use crate::prepared::{PreparedText, prepare};
+use crate::prepared::{PreparedText, options_for_lines, prepare};
 use crate::shaping::{draw, draw_lines, track_at};
 use aat_face::Face;
 use aat_glyph::Direction;
 use aat_shaped_text::{ShapedGlyph, TextGlyph};
 use aat_shaper::Shaper;
-use aat_text::laws::{breaks_hold_without_ignorables, texts_rise};
+use aat_text::laws::breaks_hold_as_shown;
 use aat_text::{LineEnd, line_ends};
 use std::alloc::{Allocator, Global};
 use std::marker::Model;
@@ -200,7 +199,7 @@ impl<'f, A: Allocator + Copy> Typesetter<'f, A> {
         ensures face { self.new.face ≡ self.old.face }
         ensures font { self.new.font ≡ self.old.font }
         ensures text { OnOk result (self.new.text
-            ≡ prepared self.old.face options.now.unit options.now.direction text.now) }
+            ≡ prepared self.old.face options.now text.now) }
         ensures shaped { OnOk result (self.new.shaped ≡ shaped_setting (setting self.old options.now text.now)) }
         ensures ok { OnOk result (self.new.glyphs ≡ typeset_line self.old options.now text.now) }
         ensures breaks { OnOk result (BreaksHoldIn (setting self.old options.now text.now) self.new.glyphs) }
@@ -213,9 +212,9 @@ impl<'f, A: Allocator + Copy> Typesetter<'f, A> {
         ensures empty { OnErr result (self.new ≡ nothing_set self.old) }
     {
         self.forget();
-        let ready = prepare(self.alloc, self.face, options.unit, options.direction, text)?;
+        let ready = prepare(self.alloc, self.face, options, text)?;
         self.set(ready, options)?;
-        breaks_hold_without_ignorables();
+        breaks_hold_as_shown();
         Ok(())
     }
 
@@ -256,7 +255,6 @@ impl<'f, A: Allocator + Copy> Typesetter<'f, A> {
         width: u64,
         options: &TextOptions<'_>,
     ) -> Result<Vec<TypesetLine<A>, A>, TypesetError>
-        requires { is_rising text.glyphs ≡ true }
         ensures face { self.new.face ≡ self.old.face }
         ensures font { self.new.font ≡ self.old.font }
         ensures text { OnOk result (self.new.text ≡ text) }
@@ -319,23 +317,24 @@ impl<'f, A: Allocator + Copy> Typesetter<'f, A> {
         ensures face { self.new.face ≡ self.old.face }
         ensures font { self.new.font ≡ self.old.font }
         ensures text { OnOk result (self.new.text
-            ≡ prepared self.old.face options.now.unit options.now.direction text.now) }
-        ensures shaped { OnOk result (self.new.shaped ≡ shaped_setting (setting self.old options.now text.now)) }
+            ≡ prepared self.old.face (options_for_lines options.now text.now) text.now) }
+        ensures shaped { OnOk result
+            (self.new.shaped ≡ shaped_setting (setting_for_lines self.old options.now text.now)) }
         ensures lines { IfOk result (λ r. AreTypesetLines self.old options.now text.now width r.items) }
         ensures end { IfOk result (λ r.
-            end_of_lines r.items ≡ length (prepared self.old.face options.now.unit options.now.direction text.now).glyphs) }
+            end_of_lines r.items ≡ length (setting_for_lines self.old options.now text.now).text.glyphs) }
         ensures too_long { IsErrOf result TypesetError.TextTooLong ↔ (2 ^ 32 ≤ length text.now) }
         ensures budget { OnOk result
-            (self.new.is_budget_used_up ≡ uses_up (setting self.old options.now text.now)) }
+            (self.new.is_budget_used_up ≡ uses_up (setting_for_lines self.old options.now text.now)) }
         ensures refused { IfErr result (RefusesTypesetting (2 ^ 32 ≤ length text.now)
-            (RefusesParts (setting self.old options.now text.now))) }
-        ensures fits { OnOk result (IsWithinLimits (setting self.old options.now text.now)) }
+            (RefusesParts (setting_for_lines self.old options.now text.now))) }
+        ensures fits { OnOk result (IsWithinLimits (setting_for_lines self.old options.now text.now)) }
         ensures empty { OnErr result (self.new ≡ nothing_set self.old) }
     {
         self.forget();
-        let ready = prepare(self.alloc, self.face, options.unit, options.direction, text)?;
+        let told = options_for_lines(options, text);
+        let ready = prepare(self.alloc, self.face, &told, text)?;
         let ends = line_ends(self.alloc, options.unit, text)?;
-        texts_rise();
-        self.set_in_lines(ready, &ends, width, options)
+        self.set_in_lines(ready, &ends, width, &told)
     }
 }

@@ -1,7 +1,7 @@
 use Rattle.std.proofs.Common.{◌≡◌, map, take}
 use Rattle.aat_text.specs.declared.lines.LineEnd.{LineEnd}
 use Rattle.aat_typesetter.specs.Stops.{count_before, stop_behind}
-use Rattle.aat_typesetter.proofs.stops.stops_for.Given as goal
+use Rattle.aat_typesetter.proofs.stops.stops_at.Given as goal
 
 abbrev pub invariant-loop-end : goal.invariant-loop-end
 invariant-loop-end g l =
