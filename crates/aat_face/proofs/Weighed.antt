@@ -16,8 +16,7 @@ use Rattle.aat_bytes.specs.declared.error.FaultKind.TheVariants.{PastEnd, Unknow
 use Rattle.aat_bytes.specs.declared.tag.Tag.{Tag}
 use Rattle.aat_bytes.specs.facts.Parts.{ok_parts, parts, passes}
 use Rattle.aat_bytes.specs.declared.tags.TheConstants.{ANKR, FEAT, KERN, KERX, MORX, TRAK}
-use Rattle.aat_lookup.specs.FeatureNames.{kind_of}
-use Rattle.aat_lookup.specs.Keys.{first, first_fall}
+use Rattle.aat_lookup.specs.Keys.{first}
 use Rattle.aat_lookup.specs.declared.feat.FeatureName.{FeatureName}
 use Rattle.aat_lookup.specs.GlyphSpans.{glyph_span}
 use Rattle.aat_read_kern.specs.Kern.{KernValue, kern_of}
@@ -45,7 +44,7 @@ use Rattle.aat_face.specs.Faces.{face_of_tables, faults_of, tables_in}
 use Rattle.aat_face.specs.Features.{FeatureTable, feature_table_of, features_in}
 use Rattle.aat_face.specs.Kerning.{ankr_values_of, kerx_values_of}
 use Rattle.aat_face.specs.Lists.{advance_pairs, mark_property, pairs_over, property_pairs}
-use Rattle.aat_face.specs.Tables.{fault_in, found_in, none_if_missing, number_in, glyph_count_in, read_if_found, table_in, unless_missing}
+use Rattle.aat_face.specs.Tables.{classes_fault, fault_in, found_in, none_if_missing, number_in, glyph_count_in, read_if_found, table_in, unless_missing}
 use Rattle.aat_face.specs.declared.tables.Tables.{Tables}
 use Rattle.aat_face.specs.Weights.{bytes_of_table, features_weight, plain_weight}
 
@@ -116,7 +115,7 @@ few_of (o ∷ xs) = join_light o xs (length xs) (few_of xs)
 abbrev all_faults : Tables → List (Option Fault)
 all_faults tables =
     fault_in tables.maxp ∷ fault_in tables.head ∷ fault_in tables.hhea ∷ fault_in tables.hmtx
-    ∷ fault_in tables.cmap ∷ fault_in tables.gdef ∷ fault_in tables.name ∷ fault_in tables.feat
+    ∷ fault_in tables.cmap ∷ classes_fault tables.gdef ∷ fault_in tables.name ∷ fault_in tables.feat
     ∷ fault_in tables.morx ∷ fault_in tables.kerx ∷ fault_in tables.kern ∷ fault_in tables.ankr
     ∷ fault_in tables.trak ∷ []
 

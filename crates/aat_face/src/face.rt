@@ -11,8 +11,8 @@ use crate::kerning::{
 };
 use crate::lists::{advance_lookup, property_lookup};
 use crate::tables::{
-    Tables, characters_in, classes_fault, classes_in, fault_in, found_in, glyph_count_in, long_metric_count_in,
-    metrics_in, names_in, number_in, units_per_em_in,
+    Tables, characters_in, classes_fault, classes_in, fault_in, found_in, glyph_count_in,
+    long_metric_count_in, metrics_in, names_in, number_in, units_per_em_in,
 };
 use crate::text::{NameText, english_text};
 use crate::tracking::trak_in;

@@ -1,9 +1,9 @@
 -- Glyphs of characters that are written are read again.
-use Rattle.std.proofs.Common.{◌≡◌, ◌∙◌, sym, ap, refl, subst, ℕ, zero, suc, ◌+◌, ◌*◌, ◌-◌, ◌/◌, ◌%◌, ◌<◌, ◌≤◌, Bool, true, false, List, [], ◌∷◌, length, get_or, drop, take, All, Option, None, Some, Result, Ok, Err, inl, inr, cond, arith}
+use Rattle.std.proofs.Common.{◌≡◌, ◌∙◌, sym, ap, refl, subst, ℕ, suc, ◌+◌, ◌*◌, ◌-◌, ◌/◌, ◌%◌, ◌<◌, ◌≤◌, Bool, true, false, List, [], ◌∷◌, length, get_or, drop, take, All, Option, None, Some, Result, Ok, Err, cond, arith}
 use Rattle.std.specs.List.{find, flat_map, range_with_len}
 use Rattle.std.specs.Option.{option_or}
 use Rattle.std.specs.Prelude.{nat_le, nat_lt, ◌&&◌, ◌==◌, option_and_then}
-use Rattle.std.proofs.lemmas.Bool.{cases_eq, cases_lt, le-ltb, ltb-false}
+use Rattle.std.proofs.lemmas.Bool.{le-ltb, ltb-false}
 use Rattle.std.proofs.lemmas.Bool.Decides.{nat_tests}
 use Rattle.std.proofs.lemmas.List.{get_or-append-add, length-take-le}
 use Rattle.std.proofs.lemmas.List.Concat.{get_or-flat_map}
@@ -12,7 +12,7 @@ use Rattle.aat_bytes.specs.Numbers.{be16, be32, slice_from}
 use Rattle.aat_bytes.specs.Faults.{after, fault_at}
 use Rattle.aat_bytes.specs.declared.error.Fault.{Fault}
 use Rattle.aat_bytes.specs.declared.error.FaultKind.TheVariants.{Missing, PastEnd}
-use Rattle.aat_lookup.specs.Keys.{IsRising, at_key, first_fall}
+use Rattle.aat_lookup.specs.Keys.{at_key, first_fall}
 use Rattle.aat_lookup.specs.facts.Falls.{rising}
 use Rattle.aat_read_sfnt.specs.Characters.{best_encoding, cmap_of, encodings, first_encoding, map_of, record_with, sound_encoding, subtable_at, subtable_of, subtable_with}
 use Rattle.aat_read_sfnt.specs.SegmentedCoverage.{end_char, glyph_in_group, group_glyph, groups_at, known_glyph, start_char, start_glyph}
