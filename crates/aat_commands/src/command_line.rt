@@ -8,6 +8,7 @@ use crate::faults::faults;
 use crate::inspect::inspect;
 use crate::make::make;
 use crate::output::OUTPUT;
+use crate::rows::rows;
 use crate::session::Session;
 use crate::settled::settled;
 use crate::shape::shape;
@@ -51,6 +52,7 @@ pub(crate) fn run_command<W: Write>(
         "bench" => bench(rt, out, session, matches),
         "make" => make(rt, out, session, matches),
         "example" => example(rt, out, matches),
+        "rows" => rows(rt.alloc(), out, matches),
         _ => bail!("no request asks for {name}"),
     }
 }

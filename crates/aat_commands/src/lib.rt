@@ -23,6 +23,8 @@ mod output;
 mod progress;
 mod request;
 mod request_words;
+mod rows;
+mod script_tags;
 mod session;
 mod settled;
 mod shape;

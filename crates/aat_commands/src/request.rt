@@ -1,9 +1,11 @@
 //! What a command line asks of `aat shape`.
 
+use crate::script_tags::script_of;
 use aat_typesetter::{
-    ClusterUnit, Direction, Feature, FeatureListError, TextOptions, parse_features,
+    ClusterLevel, ClusterUnit, Direction, Feature, FeatureListError, Script, TextOptions,
+    parse_features,
 };
-use anyhow::{Result, bail, ensure};
+use anyhow::{Context, Result, anyhow, bail, ensure};
 use clap::ArgMatches;
 use std::alloc::Global;
 
@@ -47,6 +49,10 @@ pub(crate) struct Request {
     pub(crate) width: Option<u32>,
     /// What clusters count.
     pub(crate) unit: ClusterUnit,
+    /// The script, where the command line has one.
+    pub(crate) script: Option<Script>,
+    /// What has a cluster of its own.
+    pub(crate) level: ClusterLevel,
     /// The form in which lines are shown.
     pub(crate) output: Output,
     /// Whether flags of glyphs are shown.
@@ -93,6 +99,8 @@ impl Request {
             features: &self.features,
             size: self.size.map(|size| u32::from(size) << 16),
             unit: self.unit,
+            script: self.script,
+            level: self.level,
         }
     }
 
@@ -106,6 +114,14 @@ impl Request {
         let unit = match matches.get_str("clusters") {
             Some("bytes") => ClusterUnit::Bytes,
             _ => ClusterUnit::Characters,
+        };
+        let script = match matches.get_str("script") {
+            Some(tag) => Some(script_of(tag).with_context(|| anyhow!("no script \"{tag}\""))?),
+            None => None,
+        };
+        let level = match matches.get_str("level") {
+            Some("1") => ClusterLevel::Characters,
+            _ => ClusterLevel::Graphemes,
         };
         let output = if matches.get_flag("trace") {
             Output::Trace
@@ -123,6 +139,8 @@ impl Request {
             size: matches.get_one::<u16>("size"),
             width: matches.get_one::<u32>("width"),
             unit,
+            script,
+            level,
             output,
             shows_flags,
         })
