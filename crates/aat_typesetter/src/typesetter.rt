@@ -241,6 +241,7 @@ impl<'f, A: Allocator + Copy> Typesetter<'f, A> {
         self.set(
             PreparedText {
                 glyphs: text,
+                rules: None,
                 direction,
             },
             options,
