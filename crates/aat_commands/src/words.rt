@@ -286,7 +286,7 @@ fn example_font_argument<'a>(alloc: Global) -> Arg<'a> {
 fn example_text_argument<'a>(alloc: Global) -> Arg<'a> {
     Arg::new(alloc, "text")
         .value_name("TEXT")
-        .default_value("fila fa-la")
+        .default_value("fila")
         .action(ArgAction::Set)
         .help("The text")
 }

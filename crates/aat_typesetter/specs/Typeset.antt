@@ -61,11 +61,11 @@ abbrev pub setting : TypesetterValue → TextOptions → List ℕ → Setting
 setting t options text = setting_of t options (prepared t.face options.unit options.direction text)
 
 -- what is shaped of it
-abbrev pub shaped_setting : Setting → List ShapedGlyph
+unfoldable pub shaped_setting : Setting → List ShapedGlyph
 shaped_setting s = shaped_text s.value s.font s.text.direction s.features s.text.glyphs
 
 -- what is drawn of it: its ignorable glyphs are hidden
-abbrev pub drawn_setting : Setting → List ShapedGlyph
+unfoldable pub drawn_setting : Setting → List ShapedGlyph
 drawn_setting s = drawn_without_ignorables s.space (shaped_setting s)
 
 -- what is drawn of a text in one line
@@ -79,11 +79,11 @@ BreaksHoldIn s glyphs =
     → IsShownInParts s.space s.value s.font s.text.direction s.features s.text.glyphs glyphs k
 
 -- its budget of operations is used up
-abbrev pub uses_up : Setting → Bool
+unfoldable pub uses_up : Setting → Bool
 uses_up s = uses_up_budget s.font s.text.direction s.features s.text.glyphs
 
 -- the shaper refuses it for an error
-abbrev pub RefusesSetting : Setting → AatError → Type 0
+unfoldable pub RefusesSetting : Setting → AatError → Type 0
 RefusesSetting s error = RefusesText s.font s.text.direction s.features s.text.glyphs error
 
 -- it is within the limits: the text is not too long, and no value of alternates too large

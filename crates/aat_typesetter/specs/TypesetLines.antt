@@ -58,7 +58,7 @@ abbrev pub AreTypesetLines : TypesetterValue → TextOptions → List ℕ → �
 AreTypesetLines t options text width lines = AreSetLines (setting t options text) (line_ends options.unit text) width lines
 
 -- the shaper refuses a part of a text for an error
-abbrev pub RefusesParts : Setting → AatError → Type 0
+unfoldable pub RefusesParts : Setting → AatError → Type 0
 RefusesParts s error = RefusesLines s.font s.text.direction s.features s.text.glyphs error
 
 -- where the last of some lines ends

@@ -39,6 +39,7 @@ pub(crate) fn track_at<'f, A: Allocator + Copy>(
 }
 
 /// Shapes a text, and answers what is drawn of it.
+#[tactic(auto, unfolding(crate::specs::Typeset::shaped_setting, crate::specs::Typeset::drawn_setting, crate::specs::Typeset::uses_up, crate::specs::Typeset::RefusesSetting))]
 pub(crate) fn draw<A: Allocator + Copy>(
     alloc: A,
     face: &Face<'_>,
@@ -64,6 +65,7 @@ pub(crate) fn draw<A: Allocator + Copy>(
 }
 
 /// Shapes a text in lines of a width, which may end at places of its characters, and answers what is drawn of them.
+#[tactic(auto, unfolding(crate::specs::Typeset::shaped_setting, crate::specs::Typeset::uses_up, crate::specs::TypesetLines::RefusesParts))]
 pub(crate) fn draw_lines<A: Allocator + Copy>(
     global: Global,
     alloc: A,

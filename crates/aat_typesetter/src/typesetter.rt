@@ -276,7 +276,7 @@ impl<'f, A: Allocator + Copy> Typesetter<'f, A> {
             options.size,
             &mut self.shaper,
         );
-        let lines = draw_lines(
+        match draw_lines(
             self.global,
             self.alloc,
             face,
@@ -285,15 +285,18 @@ impl<'f, A: Allocator + Copy> Typesetter<'f, A> {
             &text,
             ends,
             width,
-        );
-        if lines.is_err() {
-            self.forget();
-            return lines;
+        ) {
+            Ok(lines) => {
+                self.glyphs.clear();
+                self.text = text;
+                self.is_set = true;
+                Ok(lines)
+            }
+            Err(error) => {
+                self.forget();
+                Err(error)
+            }
         }
-        self.glyphs.clear();
-        self.text = text;
-        self.is_set = true;
-        lines
     }
 
     /// Typesets a text and breaks it into lines of a width, in units of the font.
