@@ -3,7 +3,7 @@ ghost use Rattle.std.specs.Prelude.{◌≡◌, IfOk, slice_range};
 ghost use Rattle.aat_typesetter.specs.TypesetLines.{set_line, set_lines};
 ghost use Rattle.aat_typesetter.specs.inside.Inside.{showing_by};
 
-use crate::showing::{Shown, shown};
+use crate::showing::{Shown, show};
 use aat_shaped_text::ShapedGlyph;
 use aat_shaper::TextLine;
 use std::alloc::{AllocError, Allocator, Global};
@@ -73,7 +73,7 @@ fn set_line<A: Allocator + Copy>(
     Ok(TypesetLine {
         text_end,
         shaped: Vec::from_slice(alloc, shaped)?,
-        glyphs: shown(alloc, showing, shaped)?,
+        glyphs: show(alloc, showing, shaped)?,
     })
 }
 

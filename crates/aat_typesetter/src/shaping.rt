@@ -10,7 +10,7 @@ use crate::error::TypesetError;
 use crate::lines::{TypesetLine, set_lines};
 use crate::prepared::PreparedText;
 use crate::script_settings::{features_for, marks_for};
-use crate::showing::{Shown, shown};
+use crate::showing::{Shown, show};
 use crate::stops::stops_for;
 use aat_face::Face;
 use aat_font::Feature;
@@ -78,7 +78,7 @@ pub(crate) fn draw<A: Allocator + Copy>(
         marks: marks_for(font, text.rules, text.direction),
         space: face.glyph_of(' '),
     };
-    let glyphs = shown(alloc, showing, shaper.glyphs())?;
+    let glyphs = show(alloc, showing, shaper.glyphs())?;
     Ok(glyphs)
 }
 

@@ -18,7 +18,7 @@ pub(crate) struct Shown {
 }
 
 /// Glyphs as they are shown.
-pub(crate) fn shown<A: Allocator + Copy>(
+pub(crate) fn show<A: Allocator + Copy>(
     alloc: A,
     showing: Shown,
     glyphs: &[ShapedGlyph],
