@@ -1,5 +1,7 @@
 //! What HarfBuzz does around the layer by the script of a text.
 ghost use Rattle.std.specs.Prelude.{◌≡◌, IfOk};
+ghost use Rattle.std.specs.List.{list_any};
+ghost use Rattle.aat_font.specs.Face.{kern_in, tables_of};
 ghost use Rattle.aat_typesetter.specs.ScriptSettings.{are_zeroed, features_for, is_machine, kern_off, kerns_across, kerns_by_machine, marks_for, moves_marks, zeroes_marks};
 
 use aat_characters::{MarkWidths, ScriptRules};
@@ -59,26 +61,36 @@ fn is_machine(subtable: &KernSubtable) -> bool
     matches!(&subtable.kind, KernKind::Machine(_))
 }
 
+/// Whether `kern` of a font has a machine.
+fn has_machine(font: &hb_font_t) -> bool
+    ensures { result ≡ list_any (λ s. is_machine s.kind) (kern_in (tables_of font.now).kern) }
+{
+    font.kern_subtables()
+        .iter()
+        .any(|subtable| is_machine(subtable))
+}
+
+/// Whether `kern` of a font has values across the line.
+fn has_cross_stream(font: &hb_font_t) -> bool
+    ensures { result ≡ list_any (λ s. s.has_cross_stream) (kern_in (tables_of font.now).kern) }
+{
+    font.kern_subtables()
+        .iter()
+        .any(|subtable| subtable.has_cross_stream)
+}
+
 /// Whether the script takes `kern`, which has a machine.
 fn kerns_by_machine(font: &hb_font_t, rules: ScriptRules) -> bool
     ensures { result ≡ kerns_by_machine font.now rules }
 {
-    rules.applies_kern()
-        && font
-            .kern_subtables()
-            .iter()
-            .any(|subtable| is_machine(subtable))
+    rules.applies_kern() && has_machine(font)
 }
 
 /// Whether the script takes `kern`, which has values across the line.
 fn kerns_across(font: &hb_font_t, rules: ScriptRules) -> bool
     ensures { result ≡ kerns_across font.now rules }
 {
-    rules.applies_kern()
-        && font
-            .kern_subtables()
-            .iter()
-            .any(|subtable| subtable.has_cross_stream)
+    rules.applies_kern() && has_cross_stream(font)
 }
 
 /// Whether marks lose their width.
