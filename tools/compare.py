@@ -8,8 +8,8 @@ tools/compare.py --fonts FONT.. [--texts FILE | --lines N --seed N] [--features 
     Compares the program with hb-shape over any fonts: over each line of a file, or over random lines of the letters,
     digits and signs that the fonts have, but for those that a backward line mirrors.
 
-What is asked of hb-shape: direction, script and level as they are told, for glyphs a script that it turns round for no
-direction, and kerning in columns, which is off by itself there. Of columns counts only what kerning moves, since HarfBuzz has vertical origins and advances of its
+What is asked of hb-shape: the script Hung, whose lines it turns round for no direction, and kerning in columns, which is
+off by itself there. Of columns counts only what kerning moves, since HarfBuzz has vertical origins and advances of its
 own. `--glyphs` is shaped with a `cmap` that gives U+F0000 and the characters behind it the glyphs from 0 on. The flags of
 `--show-flags` are passed over, as are other forms than `glyphs`, `--width` and `--file`; of `--trace` the glyphs count.
 """
@@ -60,15 +60,7 @@ class Request:
         return self.plain[2]
 
     def direction(self):
-        return self.options.get("--direction") or "ltr"
-
-    def is_told(self):
-        """Whether the direction is told. That of glyphs is, from left to right without a word."""
-        return "--direction" in self.options or "--glyphs" in self.options
-
-    def script(self):
-        """The script that is told. That of glyphs is written both ways, so that they are not turned round."""
-        return self.options.get("--script", "Hung" if "--glyphs" in self.options else "")
+        return self.options.get("--direction") or first_strong(self.text())
 
     def is_column(self):
         return self.direction() in ("ttb", "btt")
@@ -83,6 +75,14 @@ class Request:
 
 def bytes_of(path):
     return open(path, "rb").read()
+
+
+def first_strong(text):
+    for character in text:
+        kind = unicodedata.bidirectional(character)
+        if kind in ("L", "R", "AL"):
+            return "ltr" if kind == "L" else "rtl"
+    return "ltr"
 
 
 def changed(data, changes):
@@ -181,10 +181,7 @@ class HarfBuzz:
         return self.files[data]
 
     def words(self, request, data):
-        words = [self.file(data), "--shapers=ot", "--no-glyph-names"]
-        words += ["--direction=" + request.direction()] if request.is_told() else []
-        words += ["--script=" + request.script()] if request.script() else []
-        words += ["--cluster-level=" + request.options["--cluster-level"]] if "--cluster-level" in request.options else []
+        words = [self.file(data), "--shapers=ot", "--no-glyph-names", "--script=Hung", "--direction=" + request.direction()]
         features = request.options.get("--features", "")
         if request.is_column():
             features = "vkrn," + re.sub(r"\bkern\b", "vkrn", features)
