@@ -2,3 +2,4 @@ pub mod Counted
 pub mod EndsKept
 pub mod FeaturesRead
 pub mod Hanging
+pub mod Refusals

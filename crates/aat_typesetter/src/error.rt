@@ -16,7 +16,7 @@ pub enum TypesetError {
     #[error("the text has more than 4294967295 bytes")]
     TextTooLong,
     /// 2: the shaper refuses the glyphs of the text, or of a part of it: as `AaltValue`, or as `TooLong`, where they
-    /// are more than 2^24, or substitution makes their line too long. It is never `OutOfMemory` or `BufferFailed`.
+    /// are more than 2^24, or substitution makes their line too long. It is never `BufferFailed`.
     #[error("{0}")]
     Refused(AatError),
     /// 3: memory is wanting.

@@ -90,14 +90,15 @@ impl<'f, A: Allocator + Copy> Typesetter<'f, A> {
         self.face
     }
 
-    /// The direction of the text that was typeset last: left to right before the first one, and where that was refused.
+    /// The direction in which the text that was typeset last was shaped: left to right before the first one, and where
+    /// that was refused.
     pub fn direction(&self) -> Direction
         ensures { result ≡ self.now.text.direction }
     {
         self.text.direction
     }
 
-    /// The glyphs of the text that was typeset last, in reading order, before it was shaped. There are none before the
+    /// The glyphs of the text that was typeset last, in the order in which they were shaped. There are none before the
     /// first text, and where the last one was refused.
     pub fn text(&self) -> &[TextGlyph]
         ensures { result.now ≡ self.now.text.glyphs }
@@ -105,8 +106,8 @@ impl<'f, A: Allocator + Copy> Typesetter<'f, A> {
         &self.text.glyphs
     }
 
-    /// What was shaped of the text that was typeset last, in one line in drawing order: what is drawn, before ignorable
-    /// glyphs were hidden. There is nothing before the first text, and where the last one was refused.
+    /// What was shaped of the text that was typeset last, in one line in drawing order: what is drawn, before marks
+    /// lost their width and ignorable glyphs were hidden. There is nothing before the first text, and where the last one was refused.
     pub fn shaped(&self) -> &[ShapedGlyph]
         ensures { result.now ≡ self.now.shaped }
     {
@@ -181,15 +182,15 @@ impl<'f, A: Allocator + Copy> Typesetter<'f, A> {
 
     /// Typesets a text in one line, of which [`Typesetter::glyphs`] then has what is drawn.
     ///
-    /// The text becomes one glyph for each character, with the place of its grapheme cluster, as `text_of` of
-    /// `aat_text` has it. It runs in the direction of the options, else in that of its first strong character, else
-    /// from left to right. It is shaped as `Shaper::shape` of `aat_shaper` does, with the features of the options, and
-    /// tracked by the normal track of the face at their size. Then its ignorable glyphs are hidden, as
-    /// `hide_ignorables` of `aat_text` does: they are drawn as the space of the face without width, and are taken out
-    /// where it has none.
+    /// The text becomes glyphs as `prepare_text` of `aat_text` has it: turned, mirrored and composed as in HarfBuzz. It
+    /// runs in the direction of the options, else in that of its script, and is shaped in the native one, as
+    /// `Shaper::shape` of `aat_shaper` does, with the features of the options, and tracked by the normal track of the
+    /// face at their size. Without `kerx`, `kern` is off where the script does not take it. Then marks lose their width
+    /// where HarfBuzz has it (`zero_marks` of `aat_text`), and ignorable glyphs are hidden (`hide_ignorables`): they are
+    /// drawn as the space of the face without width, and are taken out where it has none.
     ///
     /// The text may be broken before each glyph that says so, at the later one of the two clusters that meet there: its
-    /// two parts, typeset by themselves, look as they do here.
+    /// glyphs in two parts, shaped and shown alike, look as they do here. A part of its characters may have another script.
     ///
     /// Refused as 1, `TextTooLong`, exactly where the text has more than 4,294,967,295 bytes. Then as 2, `Refused`,
     /// where the shaper refuses its glyphs: as `TooLong` where they are more than 2^24, as `AaltValue` for a value
@@ -218,9 +219,8 @@ impl<'f, A: Allocator + Copy> Typesetter<'f, A> {
         Ok(())
     }
 
-    /// Typesets a text of glyphs in one line, as [`Typesetter::line`] does with those of characters: for who has glyphs
-    /// with clusters of their own. It runs from left to right where the options have no direction, and their unit does
-    /// not count.
+    /// Typesets glyphs with clusters of their own in one line: none is turned, marks keep their width, and `kern` is not
+    /// put off. They run from left to right where the options have no direction. Script, unit and level do not count.
     ///
     /// Refused as [`Typesetter::line`] refuses a text, but for 1, `TextTooLong`.
     pub fn line_of_glyphs(
@@ -303,8 +303,10 @@ impl<'f, A: Allocator + Copy> Typesetter<'f, A> {
     /// A line may end where `line_ends` of `aat_text` has it, and at the end of the text; it ends where that is forced.
     /// The spaces before its end, glyphs of the face's space, hang over it and count for no width, nor do ignorable
     /// glyphs. It takes in ends as long as the text up to the next one fits, and at least one, as `Shaper::shape_lines`
-    /// of `aat_shaper` does. What is drawn of a line looks as its part of the text does that is shaped by itself, with
-    /// its ignorable glyphs hidden. A text without an end is one line, and an empty one has no line.
+    /// of `aat_shaper` does. The text runs in the direction in which it is shaped, whatever the options tell, and marks
+    /// count with the width that they had. What is drawn of a line looks as its glyphs do, shaped and shown by
+    /// themselves with the rules of the whole text's script. A text without an end, or along which clusters fall, is
+    /// one line, and an empty one has no line.
     ///
     /// [`Typesetter::shaped`] has what is shaped of the text in one line, and [`Typesetter::glyphs`] nothing.
     ///
