@@ -8,9 +8,8 @@ tools/compare.py --fonts FONT.. [--texts FILE | --lines N --seed N] [--features 
     Compares the program with hb-shape over any fonts: over each line of a file, or over random lines of the letters,
     digits and signs that the fonts have, but for those that a backward line mirrors.
 
-What is asked of hb-shape: the script Hung, whose lines it turns round for no direction, and kerning in columns, which is
-off by itself there. Of columns counts only what kerning moves, since HarfBuzz has vertical origins and advances of its
-own. `--glyphs` is shaped with a `cmap` that gives U+F0000 and the characters behind it the glyphs from 0 on. The flags of
+What is asked of hb-shape: direction, script and level as they are told, for glyphs a script that it turns round for no
+direction, and kerning in columns, which is off by itself there. `--glyphs` is shaped with a `cmap` that gives U+F0000 and the characters behind it the glyphs from 0 on. The flags of
 `--show-flags` are passed over, as are other forms than `glyphs`, `--width` and `--file`; of `--trace` the glyphs count.
 """
 import argparse, os, random, re, struct, subprocess, sys, tempfile, unicodedata
@@ -60,7 +59,15 @@ class Request:
         return self.plain[2]
 
     def direction(self):
-        return self.options.get("--direction") or first_strong(self.text())
+        return self.options.get("--direction") or "ltr"
+
+    def is_told(self):
+        """Whether the direction is told. That of glyphs is, from left to right without a word."""
+        return "--direction" in self.options or "--glyphs" in self.options
+
+    def script(self):
+        """The script that is told. That of glyphs is written both ways, so that they are not turned round."""
+        return self.options.get("--script", "Hung" if "--glyphs" in self.options else "")
 
     def is_column(self):
         return self.direction() in ("ttb", "btt")
@@ -75,14 +82,6 @@ class Request:
 
 def bytes_of(path):
     return open(path, "rb").read()
-
-
-def first_strong(text):
-    for character in text:
-        kind = unicodedata.bidirectional(character)
-        if kind in ("L", "R", "AL"):
-            return "ltr" if kind == "L" else "rtl"
-    return "ltr"
 
 
 def changed(data, changes):
@@ -128,15 +127,6 @@ def with_identity(data):
     return with_table(data, b"cmap", cmap)
 
 
-def without_kerning(data):
-    """The font with its tables of kerning under other names, and that of classes, by which HarfBuzz then zeroes marks."""
-    data = bytearray(data)
-    for place in records(data):
-        if data[place:place + 4] in (b"kerx", b"kern", b"GPOS", b"GDEF"):
-            data[place:place + 4] = b"none"
-    return bytes(data)
-
-
 def with_column_kerning(data):
     """The font with a table that has the feature `vkrn`, without which hb-shape kerns no column: `GPOS` beside `kerx`, else
     `GSUB`, beside which it takes no `morx`."""
@@ -146,25 +136,6 @@ def with_column_kerning(data):
     script = (1, b"DFLT", 8, 4, 0, 0, 0xFFFF, 1, 0)
     body = struct.pack(">5H H4sH 2H 4H H4sH 2H H", 1, 0, 10, 30, 42, *script, 1, b"vkrn", 8, 0, 0, 0)
     return with_table(data, tag, body)
-
-
-def advances(data):
-    """The advance of each glyph of a font."""
-    hmtx, glyphs = table(data, b"hmtx"), int.from_bytes(table(data, b"maxp")[4:6], "big")
-    count = min(int.from_bytes(table(data, b"hhea")[34:36], "big"), len(hmtx) // 4)
-    return [struct.unpack_from(">H", hmtx, 4 * min(i, count - 1))[0] for i in range(glyphs)] if count else []
-
-
-def moved(line, base, widths):
-    """What kerning moves in a column, from where `aat` has it without kerning."""
-    lines = ([tuple(int(number or 0) for number in found) for found in GLYPH.findall(text)] for text in (line, base))
-    out = []
-    for (glyph, cluster, *kerned), (_, _, *plain) in zip(*lines):
-        x, y, width, height = (a - b for a, b in zip(kerned, plain))
-        height -= widths[glyph] if glyph < len(widths) else 0
-        offset = "@%d,%d" % (x, y) if x or y else ""
-        out.append("%d=%d%s+%d%s" % (glyph, cluster, offset, width, ",%d" % height if height else ""))
-    return "[" + "|".join(out) + "]" if line else line
 
 
 class HarfBuzz:
@@ -181,7 +152,10 @@ class HarfBuzz:
         return self.files[data]
 
     def words(self, request, data):
-        words = [self.file(data), "--shapers=ot", "--no-glyph-names", "--script=Hung", "--direction=" + request.direction()]
+        words = [self.file(data), "--shapers=ot", "--no-glyph-names"]
+        words += ["--direction=" + request.direction()] if request.is_told() else []
+        words += ["--script=" + request.script()] if request.script() else []
+        words += ["--cluster-level=" + request.options["--cluster-level"]] if "--cluster-level" in request.options else []
         features = request.options.get("--features", "")
         if request.is_column():
             features = "vkrn," + re.sub(r"\bkern\b", "vkrn", features)
@@ -211,12 +185,7 @@ class HarfBuzz:
         """The answers to requests, in the form of `aat`."""
         fonts = [request.font() for request in requests]
         asked = [with_column_kerning(font) if request.is_column() else font for request, font in zip(requests, fonts)]
-        lines = self.lines([self.words(*pair) for pair in zip(requests, asked)])
-        columns = [i for i, request in enumerate(requests) if request.is_column()]
-        base = self.lines([self.words(requests[i], without_kerning(fonts[i])) for i in columns])
-        for i, line in zip(columns, base):
-            lines[i] = moved(lines[i], line, advances(fonts[i]))
-        return lines
+        return self.lines([self.words(*pair) for pair in zip(requests, asked)])
 
 
 def comparable(answer, request):

@@ -1,12 +1,14 @@
 -- Which way to write a character is chosen.
-use Rattle.std.proofs.Common.{◌≡◌, ℕ, zero, suc, ◌+◌, ◌<◌, ◌≤◌, Bool, true, false, cond, List, [], ◌∷◌, ◌++◌, length, map, drop, reverse, slice_get, get_or, Option, Some, None, refl, sym, ap, ap₂, ◌∙◌, arith, append-nil}
+use Rattle.std.proofs.Common.{◌≡◌, ℕ, zero, suc, ◌+◌, ◌<◌, ◌≤◌, Bool, true, false, cond, List, [], ◌∷◌, ◌++◌, length, map, drop, reverse, slice_get, get_or, Option, Some, None, refl, sym, ap, ap₂, ◌∙◌, arith}
 use Rattle.std.proofs.lemmas.List.{drop_all, reverse-append}
 use Rattle.std.specs.List.{find, list_all}
 use Rattle.std.specs.Option.{option_map_or, option_or}
-use Rattle.std.specs.Prelude.{option_and_then, option_map, unwrap_or, if◌then◌else◌}
+use Rattle.std.specs.Prelude.{option_and_then, option_map}
 use Rattle.unicode_normalization.specs.Compose.{primary_composite}
 use Rattle.unicode_normalization.specs.Decompose.{decompose_canonical}
-use Rattle.aat_characters.specs.Decomposed.{chosen_way, stand_in, ways, ways_from, ways_of_parts, written}
+use Rattle.aat_characters.specs.Decomposed.{chosen_way, decomposed_character, stand_in, ways, ways_from, ways_of_parts}
+use Rattle.aat_characters.specs.PlacedCharacters.{written_as}
+use Rattle.aat_characters.specs.declared.placed_character.PlacedCharacter.{PlacedCharacter}
 use Rattle.aat_characters.specs.inside.Ways.{passing, way_at}
 
 find-append : {X : Type 0} (test : X → Bool) (xs ys : List X) → find test (xs ++ ys) ≡ option_or (find test xs) (find test ys)
@@ -118,13 +120,12 @@ module _ (has : ℕ → Bool) (shortest : Bool) (character first : ℕ) (parts :
       ∙ ap (find (list_all has)) (reverse-append ((character ∷ []) ∷ []) (ways_of_parts (decompose_canonical character)))
       ∙ find-append (list_all has) (reverse (ways_of_parts (decompose_canonical character))) ((character ∷ []) ∷ []))
 
--- the way that is written, where one is chosen, and where none is
-pub written_some : (has : ℕ → Bool) (shortest : Bool) (character : ℕ) (parts : List ℕ) (way : ℕ × ℕ)
-    → option_map (way_at parts) (Some way) ≡ chosen_way has shortest (ways character) → way_at parts way ≡ written has shortest character
-written_some has shortest character parts way e = ap (λ o. unwrap_or o (stand_in has character ∷ [])) e
+-- the characters with which one is written, where a way is chosen, and where none is
+pub written_some : (has : ℕ → Bool) (shortest : Bool) (c : PlacedCharacter) (parts : List ℕ) (way : ℕ × ℕ)
+    → option_map (way_at parts) (Some way) ≡ chosen_way has shortest (ways c.character)
+    → map (written_as c) (way_at parts way) ≡ decomposed_character has shortest c
+written_some has shortest c parts way e = ap (λ o. option_map_or (map (written_as c)) o (stand_in has c ∷ [])) e
 
-pub written_none : (has : ℕ → Bool) (shortest : Bool) (character : ℕ) (parts : List ℕ) (first rest : ℕ) → first ≡ stand_in has character → rest ≡ length parts
-    → None ≡ chosen_way has shortest (ways character) → first ∷ drop rest parts ≡ written has shortest character
-written_none has shortest character parts first rest f r e =
-    ap₂ (λ c ps. c ∷ ps) f (ap (λ n. drop n parts) r ∙ drop_all (length parts) parts (omega arith))
-    ∙ ap (λ o. unwrap_or o (stand_in has character ∷ [])) e
+pub written_none : (has : ℕ → Bool) (shortest : Bool) (c : PlacedCharacter)
+    → None ≡ chosen_way has shortest (ways c.character) → stand_in has c ∷ [] ≡ decomposed_character has shortest c
+written_none has shortest c e = ap (λ o. option_map_or (map (written_as c)) o (stand_in has c ∷ [])) e

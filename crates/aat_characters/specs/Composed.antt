@@ -5,7 +5,7 @@ use Rattle.std.specs.Option.{option_map_or}
 use Rattle.unicode_normalization.specs.Compose.{primary_composite}
 use Rattle.aat_characters.specs.Decomposed.{decomposed}
 use Rattle.aat_characters.specs.Ordered.{ordered}
-use Rattle.aat_characters.specs.PlacedCharacters.{at_place, has_mark, is_moved, placed_class}
+use Rattle.aat_characters.specs.PlacedCharacters.{at_place, has_mark, is_moved, placed, placed_class}
 use Rattle.aat_characters.specs.declared.placed_character.PlacedCharacter.{PlacedCharacter}
 
 -- nothing between a starter and a mark keeps the two apart: the last character there has a lower class
@@ -20,7 +20,7 @@ composite_in has a b = option_and_then (λ p. if has p then Some p else None) (p
 abbrev pub composite_of : (ℕ → Bool) → PlacedCharacter → List PlacedCharacter → PlacedCharacter → Option PlacedCharacter
 composite_of has starter between c =
     if has_mark c && is_free between c then
-    option_map (λ p. record { place = min starter.place c.place; character = p }) (composite_in has starter.character c.character)
+    option_map (λ p. placed (min starter.place c.place, p)) (composite_in has starter.character c.character)
     else None
 
 -- The characters behind a starter and those between it and them, composed. What is between a starter and a mark that

@@ -1,11 +1,11 @@
 -- Characters that a font lacks as others that it has, and letters apart from their marks.
-use Rattle.std.specs.Prelude.{ℕ, Bool, ◌&&◌, ◌||◌, ◌==◌, nat_le, List, [], ◌∷◌, ◌++◌, length, map, reverse, find, flat_map, is_some, Option, unwrap_or, if◌then◌else◌}
+use Rattle.std.specs.Prelude.{ℕ, Bool, ◌&&◌, ◌||◌, ◌==◌, nat_le, List, [], ◌∷◌, ◌++◌, length, map, reverse, find, flat_map, is_some, Option, Some, if◌then◌else◌}
 use Rattle.std.specs.List.{list_all, list_any}
 use Rattle.std.specs.Option.{option_map_or}
 use Rattle.unicode_normalization.specs.Compose.{primary_composite}
 use Rattle.unicode_normalization.specs.Decompose.{decompose_canonical}
 use Rattle.aat_face.specs.Faces.{FaceValue, glyph_of_character}
-use Rattle.aat_characters.specs.Parts.{in_parts}
+use Rattle.aat_characters.specs.Parts.{parts_of}
 use Rattle.aat_characters.specs.PlacedCharacters.{has_mark, written_as}
 use Rattle.aat_characters.specs.declared.placed_character.PlacedCharacter.{PlacedCharacter}
 
@@ -37,19 +37,18 @@ abbrev pub is_other_space : ℕ → Bool
 is_other_space c =
     c == 0xA0 || nat_le 0x2000 c && nat_le c 0x200A || c == 0x202F || c == 0x205F || c == 0x3000
 
--- what stands for a character that the font cannot write: the space for another space, the hyphen for one that does not
--- break, and else itself
-abbrev pub stand_in : (ℕ → Bool) → ℕ → ℕ
-stand_in has c = if is_other_space c && has 0x20 then 0x20 else if c == 0x2011 && has 0x2010 then 0x2010 else c
+-- what stands for a character that the font cannot write: the space for another space, which it tells, the hyphen for one
+-- that does not break, and else itself
+abbrev pub stand_in : (ℕ → Bool) → PlacedCharacter → PlacedCharacter
+stand_in has c =
+    if is_other_space c.character && has 0x20 then record c { character = 0x20; space = Some c.character }
+    else if c.character == 0x2011 && has 0x2010 then written_as c 0x2010
+    else c
 
 -- a character as the font can write it, with the fewest characters or else with the most
-abbrev pub written : (ℕ → Bool) → Bool → ℕ → List ℕ
-written has shortest character =
-    unwrap_or (chosen_way has shortest (ways character)) (stand_in has character ∷ [])
-
--- the same of a character at a place
 abbrev pub decomposed_character : (ℕ → Bool) → Bool → PlacedCharacter → List PlacedCharacter
-decomposed_character has shortest c = map (written_as c) (written has shortest c.character)
+decomposed_character has shortest c =
+    option_map_or (map (written_as c)) (chosen_way has shortest (ways c.character)) (stand_in has c ∷ [])
 
 abbrev pub is_variation_selector : ℕ → Bool
 is_variation_selector c = nat_le 0xFE00 c && nat_le c 0xFE0F || nat_le 0xE0100 c && nat_le c 0xE01EF
@@ -66,4 +65,4 @@ decomposed_part has part =
 
 -- the characters of a text as the font can write them
 abbrev pub decomposed : (ℕ → Bool) → List PlacedCharacter → List PlacedCharacter
-decomposed has characters = in_parts has_mark (decomposed_part has) [] characters
+decomposed has characters = flat_map (decomposed_part has) (parts_of (λ part c. has_mark c) characters)

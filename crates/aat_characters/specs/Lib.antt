@@ -1,6 +1,11 @@
+pub mod ClusterExamples
+pub mod Clusters
 pub mod Composed
 pub mod Decomposed
 pub mod Exchanges
+pub mod Lengths
+pub mod MarkExamples
+pub mod MarkPlaces
 pub mod Marks
 pub mod MirroredRows
 pub mod Native

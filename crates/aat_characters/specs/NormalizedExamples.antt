@@ -1,12 +1,17 @@
 -- Worked examples of letters and marks that are composed, decomposed and put in order.
-use Rattle.std.specs.Prelude.{◌≡◌, ℕ, Bool, ◌==◌, List, [], ◌∷◌}
+use Rattle.std.specs.Prelude.{◌≡◌, ℕ, Bool, ◌==◌, List, [], ◌∷◌, Some}
 use Rattle.std.specs.List.{list_any}
 use Rattle.aat_characters.specs.Composed.{normalized}
+use Rattle.aat_characters.specs.PlacedCharacters.{placed}
 use Rattle.aat_characters.specs.declared.placed_character.PlacedCharacter.{PlacedCharacter}
 
 -- a character at a place
 abbrev pub at : ℕ → ℕ → PlacedCharacter
-at place character = record { place = place; character = character }
+at place character = placed (place, character)
+
+-- the space, which stands for another one
+abbrev pub space_for : ℕ → ℕ → PlacedCharacter
+space_for place character = record { place = place; character = 0x20; space = Some character }
 
 -- whether a font that has some characters has one
 abbrev pub among : List ℕ → ℕ → Bool
@@ -25,8 +30,11 @@ MarksAreOrdered =
     normalized (among (0x61 ∷ 0x301 ∷ 0x323 ∷ [])) (at 0 0x61 ∷ at 1 0x301 ∷ at 3 0x323 ∷ [])
     ≡ at 0 0x61 ∷ at 1 0x323 ∷ at 1 0x301 ∷ []
 
--- an em space becomes a space, and a hyphen that does not break a hyphen; a letter with a variation selector stays
+-- an em space becomes a space, where the font lacks it, and a hyphen that does not break a hyphen; a letter with a variation
+-- selector stays
 abbrev pub OthersStandIn : Type 0
 OthersStandIn =
-    (normalized (among (0x20 ∷ 0x2010 ∷ [])) (at 0 0x2003 ∷ at 3 0x2011 ∷ []) ≡ at 0 0x20 ∷ at 3 0x2010 ∷ [])
+    (normalized (among (0x20 ∷ 0x2010 ∷ [])) (at 0 0x2003 ∷ at 3 0x2011 ∷ []) ≡ space_for 0 0x2003 ∷ at 3 0x2010 ∷ [])
+    × (normalized (among (0x20 ∷ 0x2003 ∷ [])) (at 0 0x2003 ∷ at 3 0xA0 ∷ []) ≡ at 0 0x2003 ∷ space_for 3 0xA0 ∷ [])
+    × (normalized (among (0x2003 ∷ [])) (at 0 0x2001 ∷ at 3 0x3000 ∷ []) ≡ at 0 0x2003 ∷ at 3 0x3000 ∷ [])
     × (normalized (among (0x65 ∷ 0x301 ∷ [])) (at 0 0xE9 ∷ at 2 0xFE0F ∷ []) ≡ at 0 0xE9 ∷ at 2 0xFE0F ∷ [])

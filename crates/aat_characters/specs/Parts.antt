@@ -1,10 +1,17 @@
--- Lists that are changed in parts.
-use Rattle.std.specs.Prelude.{Bool, List, [], ◌∷◌, ◌++◌, if◌then◌else◌}
+-- Lists in parts.
+use Rattle.std.specs.Prelude.{Bool, ◌-◌, List, [], ◌∷◌, ◌++◌, fold, length, slice_index_or, take, if◌then◌else◌}
 
-module _ {X : Type 0} (joins : X → Bool) (change : List X → List X) where
-  -- What is made of a list behind the beginning of a part, where each part is changed by itself: a part ends before each
-  -- element that does not join the one before it.
-  abbrev pub in_parts : List X → List X → List X
-  in_parts part [] = change part
-  in_parts part (x ∷ xs) =
-      if joins x then in_parts (part ++ x ∷ []) xs else change part ++ in_parts (x ∷ []) xs
+-- the last of some parts, an empty one of none
+abbrev pub last_part : {X : Type 0} → List (List X) → List X
+last_part parts = slice_index_or parts (length parts - 1) []
+
+module _ {X : Type 0} (joins : List X → X → Bool) where
+  -- parts and one more element, which is one of the last part where it joins it, and else begins another one
+  abbrev pub with_next : List (List X) → X → List (List X)
+  with_next parts x =
+      if joins (last_part parts) x then take (length parts - 1) parts ++ (last_part parts ++ x ∷ []) ∷ []
+      else parts ++ (x ∷ []) ∷ []
+
+  -- a list in parts: each is one element and those behind it that join it
+  abbrev pub parts_of : List X → List (List X)
+  parts_of xs = fold with_next [] xs

@@ -1,7 +1,11 @@
 -- The characters of a text with their places.
-use Rattle.std.specs.Prelude.{ℕ, Bool, not, ◌==◌}
+use Rattle.std.specs.Prelude.{ℕ, Bool, not, ◌==◌, None}
 use Rattle.aat_characters.specs.Marks.{is_mark, mark_class}
 use Rattle.aat_characters.specs.declared.placed_character.PlacedCharacter.{PlacedCharacter}
+
+-- a character behind its place, which stands for no space
+abbrev pub placed : ℕ × ℕ → PlacedCharacter
+placed (place, character) = record { place = place; character = character; space = None }
 
 -- whether it is a mark
 abbrev pub has_mark : PlacedCharacter → Bool

@@ -1,5 +1,5 @@
 -- Worked examples of scripts, native directions and exchanged characters.
-use Rattle.std.specs.Prelude.{◌≡◌, ℕ, List, [], ◌∷◌, encode_utf8_all, Some, None}
+use Rattle.std.specs.Prelude.{◌≡◌, [], ◌∷◌, encode_utf8_all, Some, None}
 use Rattle.ucd_script.specs.declared.Script.TheVariants as Scripts
 use Rattle.aat_glyph.specs.declared.glyph.Direction.TheVariants.{LeftToRight, RightToLeft, TopToBottom, BottomToTop}
 use Rattle.aat_characters.specs.Exchanges.{mirrored, vertical_form}

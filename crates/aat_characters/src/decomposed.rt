@@ -3,7 +3,8 @@ ghost use Rattle.std.specs.Prelude.{◌≡◌, ◌<◌, ◌≤◌, ◌++◌, [],
 ghost use Rattle.std.specs.List.{list_all};
 ghost use Rattle.unicode_normalization.specs.Compose.{primary_composite};
 ghost use Rattle.unicode_normalization.specs.Decompose.{decompose_canonical};
-ghost use Rattle.aat_characters.specs.Decomposed.{chosen_way, decomposed, decomposed_character, decomposed_part, has_glyph, has_selector, is_other_space, is_variation_selector, stand_in, ways, ways_from, written};
+ghost use Rattle.aat_characters.specs.Decomposed.{chosen_way, decomposed, decomposed_character, decomposed_part, has_glyph, has_selector, is_other_space, is_variation_selector, stand_in, ways, ways_from};
+ghost use Rattle.aat_characters.specs.PlacedCharacters.{written_as};
 ghost use Rattle.aat_characters.specs.inside.Ways.{passing, way_at};
 
 use crate::placed_character::PlacedCharacter;
@@ -90,15 +91,19 @@ fn is_other_space(character: char) -> bool
         || code == 0x3000
 }
 
-/// What stands for a character that the font cannot write: the space for another space, the hyphen for one that does
-/// not break, and else itself.
-fn stand_in(face: &Face, character: char) -> char
+/// What stands for a character that the font cannot write: the space for another space, which it tells, the hyphen for
+/// one that does not break, and else itself.
+fn stand_in(face: &Face, character: PlacedCharacter) -> PlacedCharacter
     ensures { result ≡ stand_in (has_glyph face.now) character }
 {
-    if is_other_space(character) && has_glyph(face, ' ') {
-        ' '
-    } else if character == '\u{2011}' && has_glyph(face, '\u{2010}') {
-        '\u{2010}'
+    if is_other_space(character.character) && has_glyph(face, ' ') {
+        PlacedCharacter {
+            character: ' ',
+            space: Some(character.character),
+            ..character
+        }
+    } else if character.character == '\u{2011}' && has_glyph(face, '\u{2010}') {
+        character.written_as('\u{2010}')
     } else {
         character
     }
@@ -121,18 +126,20 @@ fn chosen_way(face: &Face, shortest: bool, character: char, parts: &[char]) -> O
     }
 }
 
-/// The way in which a character with these parts is written: the first character, and the place of the part that
-/// follows it.
-fn written(face: &Face, shortest: bool, character: char, parts: &[char]) -> (char, usize)
-    requires some { 0 < length parts.now }
-    requires parts { parts.now ≡ decompose_canonical character }
-    ensures way { way_at parts.now result ≡ written (has_glyph face.now) shortest character }
-    ensures within { result.1 ≤ length parts.now }
+/// Puts the characters with which one is written behind others, at its place.
+fn put_written<A: Allocator>(
+    character: PlacedCharacter,
+    first: char,
+    others: &[char],
+    out: &mut Vec<PlacedCharacter, A>,
+) -> Result<(), AllocError>
+    ensures { OnOk result (out.new.items ≡ out.old.items ++ map (written_as character) (first ∷ others.now)) }
 {
-    match chosen_way(face, shortest, character, parts) {
-        Some(way) => way,
-        None => (stand_in(face, character), parts.len()),
+    out.push(character.written_as(first))?;
+    for other in others {
+        out.push(character.written_as(*other))?;
     }
+    Ok(())
 }
 
 /// Puts a character behind others, as the font can write it.
@@ -147,12 +154,13 @@ fn put_character<A: Allocator>(
 {
     let mut room = ['\0'; 3];
     let parts = decomposition(character.character, Form::Nfd, &mut room);
-    let (first, rest) = written(face, shortest, character.character, parts);
-    out.push(character.written_as(first))?;
-    for part in &parts[rest..] {
-        out.push(character.written_as(*part))?;
+    match chosen_way(face, shortest, character.character, parts) {
+        Some((first, rest)) => put_written(character, first, &parts[rest..], out),
+        None => {
+            out.push(stand_in(face, character))?;
+            Ok(())
+        }
     }
-    Ok(())
 }
 
 /// Whether a character is a variation selector, which chooses a glyph for the character before it.

@@ -53,7 +53,7 @@ fn is_digit(character: char) -> bool
 }
 
 /// Whether a character is a regional indicator, two of which are a flag.
-fn is_regional_indicator(character: char) -> bool
+pub(crate) fn is_regional_indicator(character: char) -> bool
     ensures { result ≡ is_regional_indicator character }
 {
     let code = character as u32;

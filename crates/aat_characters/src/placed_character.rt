@@ -1,11 +1,9 @@
 //! The characters of a text with their places.
 ghost use Rattle.std.specs.Prelude.{◌≡◌, ◌++◌, map, OnOk};
-ghost use Rattle.aat_characters.specs.PlacedCharacters.{at_place, has_mark, is_moved, placed_class, written_as};
+ghost use Rattle.aat_characters.specs.PlacedCharacters.{at_place, has_mark, is_moved, placed, placed_class, written_as};
 
-use crate::mark::shaping_class;
+use crate::mark::{is_mark, mark_class};
 use std::alloc::{AllocError, Allocator};
-use ucd_category::{GeneralCategory, GeneralCategoryGroup};
-use ucd_normal::canonical_combining_class;
 
 /// A character of a text, with the place that its glyph has as its cluster.
 #[derive(Clone, Copy)]
@@ -14,27 +12,34 @@ pub struct PlacedCharacter {
     pub place: u32,
     /// The character.
     pub character: char,
+    /// The space of the text for which it stands, if it does: U+0020, where the font lacks that space.
+    pub space: Option<char>,
 }
 
 impl PlacedCharacter {
+    /// A character that stands for no space.
+    pub fn new(place: u32, character: char) -> PlacedCharacter
+        ensures { result ≡ placed (place, character) }
+    {
+        PlacedCharacter {
+            place,
+            character,
+            space: None,
+        }
+    }
+
     /// Whether it is a mark.
     pub(crate) fn is_mark(self) -> bool
         ensures { result ≡ has_mark self }
     {
-        GeneralCategoryGroup::Mark.contains(GeneralCategory::for_char(self.character))
+        is_mark(self.character)
     }
 
     /// The class by which a mark is ordered behind its letter, as HarfBuzz has it, and 0 of a character that is not moved.
     pub(crate) fn class(self) -> u8
         ensures { result ≡ placed_class self }
     {
-        match self.character {
-            // Tai Tham sakot, and Tibetan padma
-            '\u{1A60}' | '\u{FC6}' => 254,
-            // Tibetan tsa-phru
-            '\u{F39}' => 127,
-            character => shaping_class(canonical_combining_class(character)),
-        }
+        mark_class(self.character)
     }
 
     /// The same character at another place.

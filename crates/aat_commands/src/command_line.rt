@@ -3,7 +3,7 @@
 use crate::batch::batch;
 use crate::bench::bench;
 use crate::dump::dump;
-use crate::example::write_example;
+use crate::example::write_glyphs_of;
 use crate::faults::faults;
 use crate::inspect::inspect;
 use crate::make::make;
@@ -28,6 +28,13 @@ pub enum Answer {
     Words(Error),
 }
 
+/// Runs the example of the README over the font and the text that the command line names.
+fn example<W: Write>(rt: &HostRuntime, out: &mut W, matches: &ArgMatches<'_>) -> Result<()> {
+    let path = matches.get_str("font").context("a font is missing")?;
+    let text = matches.get_str("text").context("a text is missing")?;
+    write_glyphs_of(rt, out, path, text)
+}
+
 /// Runs a command of a name that a request of a batch may ask for too.
 pub(crate) fn run_command<W: Write>(
     rt: &HostRuntime,
@@ -44,7 +51,7 @@ pub(crate) fn run_command<W: Write>(
         "settled" => settled(rt, out, session, matches),
         "bench" => bench(rt, out, session, matches),
         "make" => make(rt, out, session, matches),
-        "example" => write_example(rt.alloc(), out),
+        "example" => example(rt, out, matches),
         "rows" => rows(rt.alloc(), out, matches),
         _ => bail!("no request asks for {name}"),
     }

@@ -1,15 +1,12 @@
-//! A line is shaped, and what is told of it is put together.
+//! What is told of a line that is typeset is put together.
 
-use crate::paragraph::Paragraph;
 use crate::request::{Output, Request};
 use crate::session::Speaker;
 use aat_calls::trace_of;
 use aat_drawing::{DrawnGlyph, DrawnLine, LineBreak, drawn_changes};
-use aat_face::Face;
-use aat_layout::buffer::Direction;
-use aat_shaper::{ShapedGlyph, TextGlyph};
-use aat_text::{LineEnd, hide_ignorables};
+use aat_text::LineEnd;
 use aat_trace::Trace;
+use aat_typesetter::{Direction, Face, ShapedGlyph, TextGlyph};
 use anyhow::Result;
 use std::alloc::{AllocError, Global};
 
@@ -98,25 +95,37 @@ fn is_traced(output: Output, text: &[TextGlyph]) -> bool {
     output == Output::Trace || output.is_picture() && text.len() <= MOST_COLOURED
 }
 
-/// A line of a paragraph whose glyphs were shaped: hides the ignorable ones, and tells where it may be broken.
+/// A line that is typeset, with the text that it is a part of.
+#[derive(Clone, Copy)]
+pub(crate) struct SetLine<'t> {
+    /// Where lines of the text may end.
+    pub(crate) ends: &'t [LineEnd],
+    /// The direction of the text.
+    pub(crate) direction: Direction,
+    /// The glyphs of the line, one for each character.
+    pub(crate) text: &'t [TextGlyph],
+    /// What was shaped of them.
+    pub(crate) shaped: &'t [ShapedGlyph],
+    /// What is drawn, where ignorable glyphs are hidden.
+    pub(crate) glyphs: &'t [ShapedGlyph],
+}
+
+/// Tells of a line that is typeset what changed it, and where it may be broken.
 pub(crate) fn shaped_line(
     alloc: Global,
     context: &Context<'_, '_>,
-    paragraph: &Paragraph,
-    text: &[TextGlyph],
-    glyphs: &[ShapedGlyph],
+    line: SetLine<'_>,
 ) -> Result<ShapedLine> {
     let features = context.request.features.as_slice();
-    let direction = paragraph.direction;
-    let space = context.face.glyph_of(' ');
-    let visible = hide_ignorables(alloc, space, glyphs)?;
-    let trace = if is_traced(context.request.output, text) {
-        Some(trace_of(alloc, context.face.font(), direction, text, features)?)
+    let direction = line.direction;
+    let trace = if is_traced(context.request.output, line.text) {
+        let font = context.face.font();
+        Some(trace_of(alloc, font, direction, line.text, features)?)
     } else {
         None
     };
-    let changes = changes_of(alloc, &trace, direction, glyphs, &visible)?;
-    let glyphs = drawn_glyphs(alloc, &paragraph.ends, &visible, &changes)?;
+    let changes = changes_of(alloc, &trace, direction, line.shaped, line.glyphs)?;
+    let glyphs = drawn_glyphs(alloc, line.ends, line.glyphs, &changes)?;
     let drawn = DrawnLine { direction, glyphs };
     Ok(ShapedLine { drawn, trace })
 }

@@ -1,10 +1,11 @@
 //! What a command line asks of `aat shape`.
 
-use aat_features::parse_feature;
-use aat_layout::buffer::Direction;
-use aat_layout::font::Feature;
-use aat_text::ClusterUnit;
-use anyhow::{Context, Result, anyhow, ensure};
+use crate::script_tags::script_of;
+use aat_typesetter::{
+    ClusterLevel, ClusterUnit, Direction, Feature, FeatureListError, Script, TextOptions,
+    parse_features,
+};
+use anyhow::{Context, Result, anyhow, bail, ensure};
 use clap::ArgMatches;
 use std::alloc::Global;
 
@@ -48,6 +49,10 @@ pub(crate) struct Request {
     pub(crate) width: Option<u32>,
     /// What clusters count.
     pub(crate) unit: ClusterUnit,
+    /// The script, where the command line has one.
+    pub(crate) script: Option<Script>,
+    /// What has a cluster of its own.
+    pub(crate) level: ClusterLevel,
     /// The form in which lines are shown.
     pub(crate) output: Output,
     /// Whether flags of glyphs are shown.
@@ -77,15 +82,28 @@ fn output_of(word: &str) -> Output {
 
 /// The features of a list, parted by commas.
 fn features_of(alloc: Global, list: &str) -> Result<Vec<Feature>> {
-    let mut features = Vec::new(alloc);
-    for text in list.split(',') {
-        let feature = parse_feature(text).with_context(|| anyhow!("feature \"{text}\""))?;
-        features.push(feature)?;
+    match parse_features(alloc, list) {
+        Err(FeatureListError::NoFeature(number, error)) => {
+            let text = list.split(',').nth(number).unwrap_or(list);
+            bail!("feature \"{text}\": {error}")
+        }
+        features => Ok(features?),
     }
-    Ok(features)
 }
 
 impl Request {
+    /// How a text is typeset.
+    pub(crate) fn options(&self) -> TextOptions<'_> {
+        TextOptions {
+            direction: self.direction,
+            features: &self.features,
+            size: self.size.map(|size| u32::from(size) << 16),
+            unit: self.unit,
+            script: self.script,
+            level: self.level,
+        }
+    }
+
     /// What the command line asks.
     pub(crate) fn of_matches(alloc: Global, matches: &ArgMatches<'_>) -> Result<Request> {
         let features = match matches.get_str("features") {
@@ -96,6 +114,14 @@ impl Request {
         let unit = match matches.get_str("clusters") {
             Some("bytes") => ClusterUnit::Bytes,
             _ => ClusterUnit::Characters,
+        };
+        let script = match matches.get_str("script") {
+            Some(tag) => Some(script_of(tag).with_context(|| anyhow!("no script \"{tag}\""))?),
+            None => None,
+        };
+        let level = match matches.get_str("level") {
+            Some("1") => ClusterLevel::Characters,
+            _ => ClusterLevel::Graphemes,
         };
         let output = if matches.get_flag("trace") {
             Output::Trace
@@ -113,6 +139,8 @@ impl Request {
             size: matches.get_one::<u16>("size"),
             width: matches.get_one::<u32>("width"),
             unit,
+            script,
+            level,
             output,
             shows_flags,
         })

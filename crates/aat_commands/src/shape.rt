@@ -1,40 +1,32 @@
 //! The command `aat shape`.
 
-use crate::filling::{drawn_part, lines_of, part};
 use crate::fonts::Font;
-use crate::line::{Context, ShapedLine, shaped_line};
+use crate::glyph_list::glyphs_of;
+use crate::line::{Context, SetLine, ShapedLine, shaped_line};
+use crate::missing::tell_missing;
 use crate::output::{OUTPUT, write_line, write_picture};
-use crate::paragraph::{Paragraph, tell_missing};
 use crate::progress::Progress;
 use crate::request::Request;
 use crate::session::Session;
 use crate::source::{FontSource, text_of_file};
 use aat_calls::subtable_names;
 use aat_drawing::DrawnLine;
-use aat_face::Face;
-use aat_shaper::{Shaper, TextLines};
+use aat_text::{LineEnd, line_ends};
+use aat_typesetter::{TextGlyph, TypesetLine, Typesetter};
 use anyhow::{Context as _, Result, anyhow};
 use clap::ArgMatches;
 use std::alloc::Global;
 use std::io::Write;
-
-/// A shaper of the font, which tracks texts where a size is asked.
-fn shaper_of<'f>(alloc: Global, face: &'f Face<'_>, request: &Request) -> Shaper<'f> {
-    let shaper = Shaper::new(alloc, face.font());
-    match (face.tracking(), request.size) {
-        (Some(tracking), Some(size)) => shaper.with_point_size(tracking, u32::from(size) << 16),
-        _ => shaper,
-    }
-}
 
 /// Writes a line, or keeps it for a picture.
 fn show_line<W: Write>(
     alloc: Global,
     out: &mut W,
     context: &Context<'_, '_>,
-    shaped: ShapedLine,
+    line: SetLine<'_>,
     kept: &mut Vec<DrawnLine>,
 ) -> Result<()> {
+    let shaped = shaped_line(alloc, context, line)?;
     if context.request.output.is_picture() {
         kept.push(shaped.drawn)?;
         Ok(())
@@ -43,89 +35,92 @@ fn show_line<W: Write>(
     }
 }
 
-/// Writes the lines that a paragraph is broken into, or keeps them for a picture.
+/// Writes the line that was typeset last, or keeps it for a picture.
+fn show_whole<W: Write>(
+    alloc: Global,
+    out: &mut W,
+    context: &Context<'_, '_>,
+    typesetter: &Typesetter<'_>,
+    ends: &[LineEnd],
+    kept: &mut Vec<DrawnLine>,
+) -> Result<()> {
+    let line = SetLine {
+        ends,
+        direction: typesetter.direction(),
+        text: typesetter.text(),
+        shaped: typesetter.shaped(),
+        glyphs: typesetter.glyphs(),
+    };
+    show_line(alloc, out, context, line, kept)
+}
+
+/// The part of a text between two places, none where they are not places of it.
+fn part(text: &[TextGlyph], start: usize, end: usize) -> &[TextGlyph] {
+    match text.get(start..end) {
+        Some(part) => part,
+        None => &[],
+    }
+}
+
+/// Writes the lines of the text that was typeset last, or keeps them for a picture.
 fn show_lines<W: Write>(
     alloc: Global,
     out: &mut W,
     context: &Context<'_, '_>,
-    paragraph: &Paragraph,
-    lines: &TextLines,
+    typesetter: &Typesetter<'_>,
+    ends: &[LineEnd],
+    lines: &[TypesetLine],
     kept: &mut Vec<DrawnLine>,
 ) -> Result<()> {
     let mut start = 0;
-    let mut first = 0;
-    for line in &lines.lines {
-        let text = part(&paragraph.text, start, line.text_end);
-        let glyphs = drawn_part(&lines.glyphs, first, line.glyphs_end);
-        let shaped = shaped_line(alloc, context, paragraph, text, glyphs)?;
-        show_line(alloc, out, context, shaped, kept)?;
-        start = line.text_end;
-        first = line.glyphs_end;
+    for line in lines {
+        let set = SetLine {
+            ends,
+            direction: typesetter.direction(),
+            text: part(typesetter.text(), start, line.text_end()),
+            shaped: line.shaped(),
+            glyphs: line.glyphs(),
+        };
+        show_line(alloc, out, context, set, kept)?;
+        start = line.text_end();
     }
     Ok(())
 }
 
-/// Shapes a paragraph as one line, and writes or keeps it.
-fn shape_whole<W: Write>(
-    alloc: Global,
-    out: &mut W,
-    context: &Context<'_, '_>,
-    shaper: &mut Shaper<'_>,
-    paragraph: &Paragraph,
-    kept: &mut Vec<DrawnLine>,
-) -> Result<()> {
-    let text = paragraph.text.as_slice();
-    let features = context.request.features.as_slice();
-    shaper.shape(paragraph.direction, text, features)?;
-    let shaped = shaped_line(alloc, context, paragraph, text, shaper.glyphs())?;
-    show_line(alloc, out, context, shaped, kept)
-}
-
-/// Shapes a paragraph, and writes the lines that it is broken into, or keeps them for a picture. A paragraph without a
-/// glyph is one line.
-fn shape_paragraph<W: Write>(
-    alloc: Global,
-    out: &mut W,
-    context: &Context<'_, '_>,
-    shaper: &mut Shaper<'_>,
-    paragraph: &Paragraph,
-    kept: &mut Vec<DrawnLine>,
-) -> Result<()> {
-    let Some(width) = context.request.width else {
-        return shape_whole(alloc, out, context, shaper, paragraph, kept);
-    };
-    if paragraph.text.is_empty() {
-        return shape_whole(alloc, out, context, shaper, paragraph, kept);
-    }
-    let lines = lines_of(alloc, context, shaper, paragraph, u64::from(width))?;
-    show_lines(alloc, out, context, paragraph, &lines, kept)
-}
-
-/// Shapes a line of the text, and writes or keeps the lines that it is broken into.
+/// Typesets a line of the text, and writes or keeps the lines that it is broken into. One without a character is one
+/// line.
 fn shape_text_line<W: Write>(
     alloc: Global,
     out: &mut W,
     context: &Context<'_, '_>,
-    shaper: &mut Shaper<'_>,
-    line: &str,
+    typesetter: &mut Typesetter<'_>,
+    text: &str,
     kept: &mut Vec<DrawnLine>,
 ) -> Result<()> {
-    let paragraph = Paragraph::new(alloc, context, line)?;
-    shape_paragraph(alloc, out, context, shaper, &paragraph, kept)
+    let options = context.request.options();
+    let ends = line_ends(alloc, options.unit, text)?;
+    if let Some(width) = context.request.width
+        && !text.is_empty()
+    {
+        let lines = typesetter.lines(text, u64::from(width), &options)?;
+        return show_lines(alloc, out, context, typesetter, &ends, &lines, kept);
+    }
+    typesetter.line(text, &options)?;
+    show_whole(alloc, out, context, typesetter, &ends, kept)
 }
 
-/// Shapes the line of a number, and tells how far the work is.
+/// Typesets the line of a number, and tells how far the work is.
 fn shape_told_line<W: Write>(
     rt: &HostRuntime,
     out: &mut W,
     context: &Context<'_, '_>,
     progress: &mut Progress,
-    shaper: &mut Shaper<'_>,
+    typesetter: &mut Typesetter<'_>,
     (number, line): (usize, &str),
     kept: &mut Vec<DrawnLine>,
 ) -> Result<()> {
     tell_missing(rt, progress, context, number, line)?;
-    let shaped = shape_text_line(rt.alloc(), out, context, shaper, line, kept);
+    let shaped = shape_text_line(rt.alloc(), out, context, typesetter, line, kept);
     shaped.with_context(|| anyhow!("line {number}"))?;
     progress.add(rt, line.len())?;
     Ok(())
@@ -139,13 +134,21 @@ fn shape_told_lines<W: Write>(
     progress: &mut Progress,
     text: &str,
 ) -> Result<Vec<DrawnLine>> {
-    let mut shaper = shaper_of(rt.alloc(), context.face, &context.request);
+    let mut typesetter = Typesetter::new(rt.alloc(), context.face);
     let mut kept = Vec::new(rt.alloc());
     let mut number = 0usize;
     for line in text.lines() {
         number = number.saturating_add(1);
         let numbered = (number, line);
-        shape_told_line(rt, out, context, progress, &mut shaper, numbered, &mut kept)?;
+        shape_told_line(
+            rt,
+            out,
+            context,
+            progress,
+            &mut typesetter,
+            numbered,
+            &mut kept,
+        )?;
     }
     Ok(kept)
 }
@@ -163,17 +166,17 @@ fn shape_lines<W: Write>(
     kept
 }
 
-/// Shapes a line of glyphs, and writes it or keeps it for a picture.
+/// Typesets a line of glyphs, which ends only at its end, and writes it or keeps it for a picture.
 fn shape_glyphs<W: Write>(
     alloc: Global,
     out: &mut W,
     context: &Context<'_, '_>,
     list: &str,
 ) -> Result<Vec<DrawnLine>> {
-    let mut shaper = shaper_of(alloc, context.face, &context.request);
+    let mut typesetter = Typesetter::new(alloc, context.face);
     let mut kept = Vec::new(alloc);
-    let paragraph = Paragraph::of_glyphs(alloc, context, list)?;
-    shape_paragraph(alloc, out, context, &mut shaper, &paragraph, &mut kept)?;
+    typesetter.line_of_glyphs(glyphs_of(alloc, list)?, &context.request.options())?;
+    show_whole(alloc, out, context, &typesetter, &[], &mut kept)?;
     Ok(kept)
 }
 

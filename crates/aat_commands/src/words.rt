@@ -15,6 +15,9 @@ static TABLES: [&str; 7] = ["hmtx", "feat", "morx", "kerx", "kern", "ankr", "tra
 /// What clusters count.
 static UNITS: [&str; 2] = ["characters", "bytes"];
 
+/// The cluster levels.
+static LEVELS: [&str; 2] = ["0", "1"];
+
 /// The font of every command.
 fn font_argument<'a>(alloc: Global) -> Arg<'a> {
     Arg::new(alloc, "font")
@@ -116,7 +119,26 @@ fn direction_argument<'a>(alloc: Global) -> Arg<'a> {
         .long("direction")
         .value_name("WORD")
         .value_parser(DIRECTIONS.as_slice())
-        .help("The direction; else the first strong character gives it")
+        .help("The direction; else that of the script")
+}
+
+/// The script of a text.
+fn script_argument<'a>(alloc: Global) -> Arg<'a> {
+    Arg::new(alloc, "script")
+        .long("script")
+        .value_name("TAG")
+        .action(ArgAction::Set)
+        .help("The script by its tag of ISO 15924, as Arab; else the first that a character has")
+}
+
+/// What has a cluster of its own.
+fn level_argument<'a>(alloc: Global) -> Arg<'a> {
+    Arg::new(alloc, "level")
+        .long("cluster-level")
+        .value_name("N")
+        .value_parser(LEVELS.as_slice())
+        .default_value("0")
+        .help("What has a cluster of its own: with 0 each grapheme, with 1 each character")
 }
 
 /// How the text is shaped.
@@ -193,7 +215,9 @@ fn output_arguments<'a>(alloc: Global, command: Command<'a>) -> Result<Command<'
         .arg(size_argument(alloc))?
         .arg(width_argument(alloc))?
         .arg(output_argument(alloc))?
-        .arg(unit_argument(alloc))?;
+        .arg(unit_argument(alloc))?
+        .arg(script_argument(alloc))?
+        .arg(level_argument(alloc))?;
     let command = add_argument(command, trace_argument(alloc))?;
     command.arg(flags_argument(alloc))
 }
@@ -273,11 +297,31 @@ fn batch_command<'a>(alloc: Global) -> Command<'a> {
         )
 }
 
+/// The font of the example.
+fn example_font_argument<'a>(alloc: Global) -> Arg<'a> {
+    Arg::new(alloc, "font")
+        .value_name("FONT")
+        .default_value("sample.ttf")
+        .action(ArgAction::Set)
+        .help("The file of a font")
+}
+
+/// The text of the example.
+fn example_text_argument<'a>(alloc: Global) -> Arg<'a> {
+    Arg::new(alloc, "text")
+        .value_name("TEXT")
+        .default_value("fila")
+        .action(ArgAction::Set)
+        .help("The text")
+}
+
 /// The command that runs the example of the README.
-fn example_command<'a>(alloc: Global) -> Command<'a> {
-    Command::new(alloc, "example").hide(true).about(
-        "Shapes four glyphs in a font of typed tables, as the README does",
-    )
+fn example_command<'a>(alloc: Global) -> Result<Command<'a>, AllocError> {
+    Command::new(alloc, "example")
+        .hide(true)
+        .about("Typesets a text, as the program of the README does")
+        .arg(example_font_argument(alloc))?
+        .arg(example_text_argument(alloc))
 }
 
 /// How often each step is timed.
@@ -384,9 +428,8 @@ pub(crate) fn command<'a>(alloc: Global) -> Result<Command<'a>, AllocError> {
     let command = add_command(command, faults_command(alloc))?;
     let command = add_command(command, settled_command(alloc))?;
     let command = add_command(command, bench_command(alloc))?;
-    let command = command
-        .subcommand(batch_command(alloc))?
-        .subcommand(example_command(alloc))?;
+    let command = command.subcommand(batch_command(alloc))?;
+    let command = add_command(command, example_command(alloc))?;
     let command = add_command(command, rows_command(alloc))?;
     add_command(command, make_command(alloc))
 }

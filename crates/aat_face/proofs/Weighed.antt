@@ -32,7 +32,7 @@ use Rattle.aat_read_lookup.specs.Sizes.{cells_beside, pairs_size}
 use Rattle.aat_read_lookup.specs.facts.FoundRows.{keeps_few}
 use Rattle.aat_read_morx.specs.Weights.{morx_weight}
 use Rattle.aat_read_morx.proofs.Bounded.{memory_bounded}
-use Rattle.aat_read_sfnt.specs.Metrics.{LongMetrics, advance_of}
+use Rattle.aat_read_sfnt.specs.Metrics.{advance_of}
 use Rattle.aat_read_sfnt.specs.declared.gdef.GlyphClasses.{GlyphClasses}
 use Rattle.aat_read_sfnt.specs.Directory.{Directory, cut_table_of, directory_at, directory_of, directory_place, is_font_version, part_of_record, record_of}
 use Rattle.aat_read_trak.specs.Trak.{trak_of}
@@ -43,7 +43,7 @@ use Rattle.aat_face.specs.FaceLaws.{FaceMemoryIsBounded, IsBounded}
 use Rattle.aat_face.specs.Faces.{face_of_tables, faults_of, tables_in}
 use Rattle.aat_face.specs.Features.{FeatureTable, feature_table_of, features_in}
 use Rattle.aat_face.specs.Kerning.{ankr_values_of, kerx_values_of}
-use Rattle.aat_face.specs.Lists.{advance_pairs, mark_property, pairs_over, property_pairs}
+use Rattle.aat_face.specs.Lists.{mark_property, pairs_over, property_pairs}
 use Rattle.aat_face.specs.Tables.{classes_fault, fault_in, found_in, none_if_missing, number_in, glyph_count_in, read_if_found, table_in, unless_missing}
 use Rattle.aat_face.specs.declared.tables.Tables.{Tables}
 use Rattle.aat_face.specs.Weights.{bytes_of_table, features_weight, plain_weight}
@@ -102,7 +102,7 @@ values_light value (suc n) =
     ∙ ap (cells_beside (suc n)) (span_is value n) in
     omega (arith, long, cells, cells_light (suc n))
 
--- faults of thirteen tables
+-- faults of twelve tables
 join_light : {X : Type 0} (o : Option X) (xs : List (Option X)) (n : ℕ)
     → length (filter_map (λ x. x) xs) ≤ n → length (filter_map (λ x. x) (o ∷ xs)) ≤ suc n
 join_light None xs n few = omega (arith, few)
@@ -114,10 +114,9 @@ few_of (o ∷ xs) = join_light o xs (length xs) (few_of xs)
 
 abbrev all_faults : Tables → List (Option Fault)
 all_faults tables =
-    fault_in tables.maxp ∷ fault_in tables.head ∷ fault_in tables.hhea ∷ fault_in tables.hmtx
-    ∷ fault_in tables.cmap ∷ classes_fault tables.gdef ∷ fault_in tables.name ∷ fault_in tables.feat
-    ∷ fault_in tables.morx ∷ fault_in tables.kerx ∷ fault_in tables.kern ∷ fault_in tables.ankr
-    ∷ fault_in tables.trak ∷ []
+    fault_in tables.maxp ∷ fault_in tables.head ∷ fault_in tables.hhea ∷ fault_in tables.cmap
+    ∷ classes_fault tables.gdef ∷ fault_in tables.name ∷ fault_in tables.feat ∷ fault_in tables.morx
+    ∷ fault_in tables.kerx ∷ fault_in tables.kern ∷ fault_in tables.ankr ∷ fault_in tables.trak ∷ []
 
 -- a table that is found has bytes, and what is read of them
 found_ok : {X : Type 0} (r : Result X Fault) (x : X)
@@ -274,16 +273,15 @@ module _ (file : List ℕ) (index : ℕ) (directory : Directory) (is : directory
     fits (Ok bytes) here = omega (arith, ap length (bytes_are tag bytes here), within tag bytes here)
     fits (Err fault) here = omega (arith, ap length (none_is tag fault here))
 
-  face_light : IsBounded file index (face_of_tables (tables_in directory))
+  face_light : IsBounded file index (face_of_tables directory (tables_in directory))
   face_light =
       let tables = tables_in directory in
       let n = number_in (glyph_count_in directory) in
-      let advances = light (λ (metrics : LongMetrics). advance_pairs metrics n) pairs_size (8 * n) (found_in tables.hmtx)
-      (λ metrics found. values_light (λ glyph. unwrap_or (advance_of metrics glyph) 0) n) in
+      let advances = values_light (λ glyph. unwrap_or (advance_of tables.hmtx glyph) (tables.units_per_em / 2)) n in
       let properties = light (λ (classes : GlyphClasses). property_pairs classes n) pairs_size (8 * n) (found_in tables.gdef)
       (λ classes found. values_light (mark_property classes) n) in
-      let faults : length (faults_of tables) ≤ 13 = few_of (all_faults tables) in
-      let features = features_weigh (face_of_tables tables).font.feat in
+      let faults : length (faults_of tables) ≤ 12 = few_of (all_faults tables) in
+      let features = features_weigh (face_of_tables directory tables).font.feat in
       let morx = table_light MORX (chain_values_of n) (λ bytes chains. morx_weight bytes n) 24
       (λ bytes chains. memory_bounded bytes n chains) in
       let kerx = table_light KERX (kerx_values_of n) (λ bytes read. kerx_weight bytes n) 32
@@ -310,5 +308,5 @@ module _ (file : List ℕ) (index : ℕ) (directory : Directory) (is : directory
 pub face_memory_bounded : FaceMemoryIsBounded
 face_memory_bounded file index face is =
     let read = parts (directory_of file index) _ face is in
-    let same : face_of_tables (tables_in read.0) ≡ face = ok_parts _ face read.2 in
+    let same : face_of_tables read.0 (tables_in read.0) ≡ face = ok_parts _ face read.2 in
     subst (IsBounded file index) same (face_light file index read.0 read.1)

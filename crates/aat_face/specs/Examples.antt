@@ -8,6 +8,7 @@ use Rattle.aat_machine_tables.specs.declared.morx.Subtable.{Subtable}
 use Rattle.aat_machine_tables.specs.declared.morx.SubtableKind.TheVariants.{NonContextual}
 use Rattle.aat_read_lookup.specs.FeatureExamples.{example_feat}
 use Rattle.aat_read_morx.specs.MorxExamples.{example_chain, example_table}
+use Rattle.aat_read_sfnt.specs.Directory.{Directory}
 use Rattle.aat_read_sfnt.specs.Examples.{example_file, example_metrics, example_profile}
 use Rattle.aat_read_sfnt.specs.Metrics.{metrics_of}
 use Rattle.aat_read_sfnt.specs.declared.class_definition.ClassDefinition.TheVariants.{Array, Ranges}
@@ -19,21 +20,42 @@ use Rattle.aat_face.specs.Faces.{FaceValue, FontValue, face_of, feature_text, se
 use Rattle.aat_face.specs.Lists.{advance_pairs, property_pairs}
 use Rattle.aat_face.specs.declared.encoding.NameEncoding.TheVariants.{Utf16, MacRoman}
 
--- a font without tables
-abbrev pub empty_font : FontValue
-empty_font =
-    record { morx = None; kerx = None; kern = None; feat = None; ankr = None; properties = None; advances = None }
+-- the directory at the start of a file
+abbrev pub directory_in : List ℕ → Directory
+directory_in file = record { file = file; place = 0 }
 
--- the file has `maxp` with 7 glyphs, and `head` that reaches past the end: that is listed, and what is missing is not
+-- a font without tables, whose glyphs have these advances
+abbrev pub font_of_advances : List (ℕ × ℕ) → FontValue
+font_of_advances advances = record {
+  morx = None;
+  kerx = None;
+  kern = None;
+  feat = None;
+  ankr = None;
+  properties = None;
+  advances = Some advances;
+}
+
+-- a font without tables and glyphs
+abbrev pub empty_font : FontValue
+empty_font = font_of_advances []
+
+-- seven glyphs, each of half an em of 1,000 units
+abbrev pub half_an_em_each : List (ℕ × ℕ)
+half_an_em_each = (0, 500) ∷ (1, 500) ∷ (2, 500) ∷ (3, 500) ∷ (4, 500) ∷ (5, 500) ∷ (6, 500) ∷ []
+
+-- the file has `maxp` with 7 glyphs, and `head` that reaches past the end: that is listed, and what is missing is not.
+-- Without metrics each glyph has half an em
 abbrev pub FaultsAreListed : Type 0
 FaultsAreListed =
     (face_of example_file 0 ≡ Ok (record {
+      directory = directory_in example_file;
       glyph_count = 7;
       units_per_em = 1000;
       characters = None;
       names = None;
       features = None;
-      font = empty_font;
+      font = font_of_advances half_an_em_each;
       tracking = None;
       has_gpos = false;
       has_stat = false;
@@ -70,12 +92,13 @@ example_subtable_of_chain = record {
 -- the font has the chain, with a value for as many glyphs as `maxp` has
 abbrev pub ChainsAreOfTheFont : Type 0
 ChainsAreOfTheFont = face_of example_chains_file 0 ≡ Ok (record {
+  directory = directory_in example_chains_file;
   glyph_count = 7;
   units_per_em = 1000;
   characters = None;
   names = None;
   features = None;
-  font = record empty_font {
+  font = record (font_of_advances half_an_em_each) {
     morx = Some (record { default_flags = 1; features = []; subtables = example_subtable_of_chain ∷ [] } ∷ []);
   };
   tracking = None;
@@ -96,9 +119,10 @@ file_of_table tag size table =
 abbrev pub trak_file : ℕ → List ℕ → List ℕ
 trak_file = file_of_table (116 ∷ 114 ∷ 97 ∷ 107 ∷ [])
 
--- a face of tracking alone, with faults
-abbrev pub tracking_face : Option TrackingTable → List Fault → FaceValue
-tracking_face tracking faults = record {
+-- a face of a file with tracking alone, with faults
+abbrev pub tracking_face : List ℕ → Option TrackingTable → List Fault → FaceValue
+tracking_face file tracking faults = record {
+  directory = directory_in file;
   glyph_count = 0;
   units_per_em = 1000;
   characters = None;
@@ -113,11 +137,18 @@ tracking_face tracking faults = record {
   left_out_of_kern = [];
 }
 
+-- a file with two tracks, and one whose tracks have a fault
+abbrev pub file_of_tracks : List ℕ
+file_of_tracks = trak_file 52 (trak_header ++ two_tracks ++ sizes_and_values)
+
+abbrev pub file_of_faulty_tracks : List ℕ
+file_of_faulty_tracks = trak_file 12 (0 ∷ 2 ∷ 0 ∷ 0 ∷ 0 ∷ 0 ∷ 0 ∷ 0 ∷ 0 ∷ 0 ∷ 0 ∷ 0 ∷ [])
+
 -- the face has the tracks of the table, and no tracks where the table has a fault, which is listed
 abbrev pub FacesHaveTracks : Type 0
 FacesHaveTracks =
-    (face_of (trak_file 52 (trak_header ++ two_tracks ++ sizes_and_values)) 0
-    ≡ Ok (tracking_face (Some (record {
+    (face_of file_of_tracks 0
+    ≡ Ok (tracking_face file_of_tracks (Some (record {
       rows = Some (record {
         sizes = pos 786432 ∷ pos 1572864 ∷ [];
         tracks = record { value = negsuc 65535; name = 256 } ∷ record { value = pos 0; name = 258 } ∷ [];
@@ -125,18 +156,22 @@ FacesHaveTracks =
       });
       columns = None;
     })) []))
-    × (face_of (trak_file 12 (0 ∷ 2 ∷ 0 ∷ 0 ∷ 0 ∷ 0 ∷ 0 ∷ 0 ∷ 0 ∷ 0 ∷ 0 ∷ 0 ∷ [])) 0
-    ≡ Ok (tracking_face None (fault_at TRAK UnknownFormat 0 ∷ [])))
+    × (face_of file_of_faulty_tracks 0
+    ≡ Ok (tracking_face file_of_faulty_tracks None (fault_at TRAK UnknownFormat 0 ∷ [])))
 
 -- a font without glyphs whose kerning has no subtables
 abbrev pub font_of_no_kerning : FontValue
 font_of_no_kerning = record empty_font { kern = Some [] }
 
--- the subtable of `kern` of format 3 with OpenType's header is left out, and told
+-- a file with a subtable of `kern` of format 3 with OpenType's header
+abbrev pub file_of_left_out : List ℕ
+file_of_left_out = file_of_table (107 ∷ 101 ∷ 114 ∷ 110 ∷ []) 10 (0 ∷ 0 ∷ 0 ∷ 1 ∷ 0 ∷ 0 ∷ 0 ∷ 6 ∷ 3 ∷ 1 ∷ [])
+
+-- that subtable is left out, and told
 abbrev pub LeftOutsAreTold : Type 0
 LeftOutsAreTold =
-    face_of (file_of_table (107 ∷ 101 ∷ 114 ∷ 110 ∷ []) 10 (0 ∷ 0 ∷ 0 ∷ 1 ∷ 0 ∷ 0 ∷ 0 ∷ 6 ∷ 3 ∷ 1 ∷ [])) 0
-    ≡ Ok (record (tracking_face None []) {
+    face_of file_of_left_out 0
+    ≡ Ok (record (tracking_face file_of_left_out None []) {
       font = font_of_no_kerning;
       left_out_of_kern = record { number = 0; fault = fault_at KERN UnknownFormat 8 } ∷ [];
     })
@@ -151,8 +186,8 @@ example_classes = record {
 -- each glyph has its advance, and a mark its property, without its class among marks
 abbrev pub GlyphsHaveValues : Type 0
 GlyphsHaveValues =
-    (advance_pairs (metrics_of example_metrics 2 3) 3 ≡ (0, 500) ∷ (1, 600) ∷ (2, 600) ∷ [])
-    × (advance_pairs (metrics_of example_metrics 0 2) 2 ≡ (0, 0) ∷ (1, 0) ∷ [])
+    (advance_pairs (metrics_of example_metrics 2 3) 100 3 ≡ (0, 500) ∷ (1, 600) ∷ (2, 600) ∷ [])
+    × (advance_pairs (metrics_of example_metrics 0 2) 100 2 ≡ (0, 100) ∷ (1, 100) ∷ [])
     × (property_pairs example_classes 3 ≡ (0, 0) ∷ (1, 8) ∷ (2, 8) ∷ [])
 
 -- names 1 and 2 of the Macintosh, and name 2 of Windows
@@ -180,6 +215,7 @@ example_feature_names =
 -- a face of these names, and of the features 1, of the name 256, with the setting 2, of the name 257, and 3, of 260
 abbrev pub example_face : FaceValue
 example_face = record {
+  directory = directory_in [];
   glyph_count = 0;
   units_per_em = 1000;
   characters = None;

@@ -1,5 +1,5 @@
 -- A font from the bytes of its file, with the list of its faults.
-use Rattle.std.specs.Prelude.{ℕ, List, [], ◌∷◌, Bool, Option, Result, Ok, option_map, option_and_then, unwrap_or}
+use Rattle.std.specs.Prelude.{ℕ, ◌/◌, List, [], ◌∷◌, Bool, Option, Some, Result, Ok, option_map, option_and_then}
 use Rattle.std.specs.List.{filter_map}
 use Rattle.aat_bytes.specs.Faults.{after}
 use Rattle.aat_bytes.specs.declared.error.Fault.{Fault}
@@ -20,20 +20,24 @@ use Rattle.aat_placement.specs.Tracks.{TrackingTable}
 use Rattle.aat_face.specs.Chains.{chains_in}
 use Rattle.aat_face.specs.English.{Text, english_text}
 use Rattle.aat_face.specs.Features.{feature_bytes, feature_tables, features_in}
+use Rattle.aat_face.specs.GlyphMetrics.{em_in, glyph_box_in, row_metrics, vertical_advance_in, vertical_origin_in}
 use Rattle.aat_face.specs.Kerning.{ankr_in, has_gpos_in, has_stat_in, kern_in, kerx_in, left_out_of, left_out_of_kern}
 use Rattle.aat_face.specs.Lists.{advance_pairs, property_pairs}
-use Rattle.aat_face.specs.Tables.{characters_in, classes_fault, classes_in, fault_in, found_in, glyph_count_in, long_metric_count_in, metrics_in, names_in, number_in, units_per_em_in}
+use Rattle.aat_face.specs.Tables.{characters_in, classes_fault, classes_in, fault_in, found_in, glyph_count_in, long_metric_count_in, names_in, number_in, units_per_em_in}
 use Rattle.aat_face.specs.Tracking.{trak_in}
+use Rattle.aat_face.specs.declared.glyph_metrics.GlyphBox.{GlyphBox}
+use Rattle.aat_face.specs.declared.glyph_metrics.Origin.{Origin}
 use Rattle.aat_face.specs.declared.tables.Tables.{Tables}
 
--- the tables of a file as they are read: metrics need the number of long ones and that of glyphs, 0 where it is
--- missing, and chains, extended kerning and anchor points that of glyphs
+-- the tables of a file as they are read: chains, extended kerning and anchor points need the number of glyphs
 abbrev pub tables_in : Directory → Tables
 tables_in file = record {
   maxp = glyph_count_in file;
   head = units_per_em_in file;
   hhea = long_metric_count_in file;
-  hmtx = metrics_in file (number_in (long_metric_count_in file)) (number_in (glyph_count_in file));
+  hmtx = row_metrics file;
+  units_per_em = em_in file;
+  glyph_count = number_in (glyph_count_in file);
   cmap = characters_in file;
   gdef = classes_in file;
   name = names_in file;
@@ -50,10 +54,9 @@ tables_in file = record {
 -- the faults of tables in their order
 abbrev pub faults_of : Tables → List Fault
 faults_of tables = filter_map (λ fault. fault)
-    (fault_in tables.maxp ∷ fault_in tables.head ∷ fault_in tables.hhea ∷ fault_in tables.hmtx
-    ∷ fault_in tables.cmap ∷ classes_fault tables.gdef ∷ fault_in tables.name ∷ fault_in tables.feat
-    ∷ fault_in tables.morx ∷ fault_in tables.kerx ∷ fault_in tables.kern ∷ fault_in tables.ankr
-    ∷ fault_in tables.trak ∷ [])
+    (fault_in tables.maxp ∷ fault_in tables.head ∷ fault_in tables.hhea ∷ fault_in tables.cmap
+    ∷ classes_fault tables.gdef ∷ fault_in tables.name ∷ fault_in tables.feat ∷ fault_in tables.morx
+    ∷ fault_in tables.kerx ∷ fault_in tables.kern ∷ fault_in tables.ankr ∷ fault_in tables.trak ∷ [])
 
 -- what a font has for the layer: what its tables hold, and the properties and the advances of its glyphs
 pub record FontValue : Type 0 where
@@ -79,6 +82,7 @@ font_value font = record {
 
 -- a face, whose names and features are the bytes of their tables
 pub record FaceValue : Type 0 where
+  pub directory : Directory
   pub glyph_count : ℕ
   pub units_per_em : ℕ
   pub characters : Option CharacterMap
@@ -92,13 +96,13 @@ pub record FaceValue : Type 0 where
   pub left_out : List LeftOutSubtable
   pub left_out_of_kern : List LeftOutSubtable
 
--- the advances of glyphs, if the font has metrics
-abbrev pub advances_in : Tables → ℕ → Option (List (ℕ × ℕ))
-advances_in tables glyph_count = option_map (λ metrics. advance_pairs metrics glyph_count) (found_in tables.hmtx)
+-- the advances of glyphs: half an em where there is no long metric
+abbrev pub advances_in : Tables → List (ℕ × ℕ)
+advances_in tables = advance_pairs tables.hmtx (tables.units_per_em / 2) tables.glyph_count
 
 -- the property of marks, if the font has classes of glyphs
-abbrev pub properties_in : Tables → ℕ → Option (List (ℕ × ℕ))
-properties_in tables glyph_count = option_map (λ classes. property_pairs classes glyph_count) (found_in tables.gdef)
+abbrev pub properties_in : Tables → Option (List (ℕ × ℕ))
+properties_in tables = option_map (λ classes. property_pairs classes tables.glyph_count) (found_in tables.gdef)
 
 -- the font of tables
 abbrev pub font_of : Tables → FontValue
@@ -108,15 +112,16 @@ font_of tables = record {
   kern = option_map (λ read. read.subtables) (found_in tables.kern);
   feat = (feature_tables tables.feat).feat;
   ankr = found_in tables.ankr;
-  advances = advances_in tables (number_in tables.maxp);
-  properties = properties_in tables (number_in tables.maxp);
+  advances = Some (advances_in tables);
+  properties = properties_in tables;
 }
 
--- the face of tables. Units of the em are 1,000 where they are missing, as HarfBuzz has it
-abbrev pub face_of_tables : Tables → FaceValue
-face_of_tables tables = record {
-  glyph_count = number_in tables.maxp;
-  units_per_em = unwrap_or (found_in tables.head) 1000;
+-- the face of the tables of a directory
+abbrev pub face_of_tables : Directory → Tables → FaceValue
+face_of_tables directory tables = record {
+  directory = directory;
+  glyph_count = tables.glyph_count;
+  units_per_em = tables.units_per_em;
   characters = found_in tables.cmap;
   names = found_in tables.name;
   features = feature_bytes tables.feat;
@@ -149,6 +154,16 @@ abbrev pub setting_text : FaceValue → ℕ → ℕ → Option Text
 setting_text face kind setting =
     option_and_then (name_of face) (option_and_then (λ bytes. setting_name_id bytes kind setting) face.features)
 
+-- the box of a glyph, if the font has data of glyphs, where its origin lies in a column, and how far down the pen moves
+abbrev pub glyph_box_of : FaceValue → ℕ → Option GlyphBox
+glyph_box_of face glyph = glyph_box_in face.directory glyph
+
+abbrev pub vertical_origin_of : FaceValue → ℕ → Origin
+vertical_origin_of face glyph = vertical_origin_in face.directory glyph
+
+abbrev pub vertical_advance_of : FaceValue → ℕ → ℕ
+vertical_advance_of face glyph = vertical_advance_in face.directory glyph
+
 -- the face of the font at an index of a file
 abbrev pub face_of : List ℕ → ℕ → Result FaceValue Fault
-face_of file index = after (directory_of file index) (λ directory. Ok (face_of_tables (tables_in directory)))
+face_of file index = after (directory_of file index) (λ directory. Ok (face_of_tables directory (tables_in directory)))

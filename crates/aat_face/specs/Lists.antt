@@ -9,9 +9,9 @@ use Rattle.aat_read_sfnt.specs.declared.gdef.GlyphClasses.{GlyphClasses}
 abbrev pub pairs_over : ℕ → (ℕ → ℕ) → List (ℕ × ℕ)
 pairs_over glyph_count value = map (λ glyph. (glyph, value glyph)) (range_with_len 0 glyph_count)
 
--- the advances of glyphs in units of the font, 0 where a glyph has none
-abbrev pub advance_pairs : LongMetrics → ℕ → List (ℕ × ℕ)
-advance_pairs metrics glyph_count = pairs_over glyph_count (λ glyph. unwrap_or (advance_of metrics glyph) 0)
+-- the advances of glyphs in units of the font: without a long metric each has another one
+abbrev pub advance_pairs : LongMetrics → ℕ → ℕ → List (ℕ × ℕ)
+advance_pairs metrics other glyph_count = pairs_over glyph_count (λ glyph. unwrap_or (advance_of metrics glyph) other)
 
 -- the property of marks, 8, and no other: kerning skips marks alone, as in HarfBuzz
 abbrev pub mark_property : GlyphClasses → ℕ → ℕ

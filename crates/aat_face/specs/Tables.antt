@@ -5,12 +5,12 @@ use Rattle.aat_bytes.specs.declared.error.Fault.{Fault}
 use Rattle.aat_bytes.specs.declared.error.FaultKind.{FaultKind}
 use Rattle.aat_bytes.specs.declared.error.FaultKind.TheVariants.{PastEnd, UnknownFormat, ShortLength, Missing, NotRising}
 use Rattle.aat_bytes.specs.declared.tag.Tag.{Tag}
-use Rattle.aat_bytes.specs.declared.tags.TheConstants.{CMAP, GDEF, HEAD, HHEA, HMTX, MAXP, NAME}
+use Rattle.aat_bytes.specs.declared.tags.TheConstants.{CMAP, GDEF, HEAD, HHEA, MAXP, NAME}
 use Rattle.aat_read_sfnt.specs.Characters.{cmap_of}
 use Rattle.aat_read_sfnt.specs.Directory.{Directory, cut_table_of}
 use Rattle.aat_read_sfnt.specs.GlyphClasses.{class_fault, glyph_classes_of}
 use Rattle.aat_read_sfnt.specs.Header.{glyph_count, units_per_em}
-use Rattle.aat_read_sfnt.specs.Metrics.{LongMetrics, long_metric_count, metrics_of}
+use Rattle.aat_read_sfnt.specs.Metrics.{long_metric_count}
 use Rattle.aat_read_sfnt.specs.Names.{names_of}
 use Rattle.aat_read_sfnt.specs.declared.cmap.CharacterMap.{CharacterMap}
 use Rattle.aat_read_sfnt.specs.declared.gdef.GlyphClasses.{GlyphClasses}
@@ -48,11 +48,6 @@ units_per_em_in file = table_in file HEAD units_per_em
 -- the number of long metrics
 abbrev pub long_metric_count_in : Directory → Result (Option ℕ) Fault
 long_metric_count_in file = table_in file HHEA long_metric_count
-
--- the metrics, of so many long ones and so many glyphs
-abbrev pub metrics_in : Directory → ℕ → ℕ → Result (Option LongMetrics) Fault
-metrics_in file long_metric_count glyph_count =
-    table_in file HMTX (λ bytes. Ok (metrics_of bytes long_metric_count glyph_count))
 
 -- the fault of classes, also of some by which no glyph has a class
 abbrev pub classes_fault : Result (Option GlyphClasses) Fault → Option Fault

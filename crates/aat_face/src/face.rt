@@ -1,18 +1,21 @@
 //! A font with the list of its faults.
-ghost use Rattle.std.specs.Prelude.{◌≡◌, IfOk, IfErr, option_copied};
+ghost use Rattle.std.specs.Prelude.{◌≡◌, Some, IfOk, IfErr, option_copied};
 ghost use Rattle.aat_bytes.specs.declared.error.ReadError.TheVariants as errors;
 ghost use Rattle.aat_read_lookup.specs.Lookups.{Gives};
-ghost use Rattle.aat_face.specs.Faces.{advances_in, face_of, face_of_tables, faults_of, feature_text, font_value, glyph_of_character, name_of, properties_in, setting_text, tables_in};
+ghost use Rattle.aat_face.specs.Faces.{advances_in, face_of, face_of_tables, faults_of, feature_text, font_value, glyph_box_of, glyph_of_character, name_of, properties_in, setting_text, tables_in, vertical_advance_of, vertical_origin_of};
 
 use crate::chains::{chains_in, layer_tables};
 use crate::features::{feature_bytes, features_in};
+use crate::glyph_metrics::{
+    GlyphBox, Origin, em_in, glyph_box_in, row_metrics, vertical_advance_in, vertical_origin_in,
+};
 use crate::kerning::{
     ankr_in, has_gpos_in, has_stat_in, kern_in, kern_parts, kerx_in, kerx_parts, with_kerning,
 };
 use crate::lists::{advance_lookup, property_lookup};
 use crate::tables::{
     Tables, characters_in, classes_fault, classes_in, fault_in, found_in, glyph_count_in,
-    long_metric_count_in, metrics_in, names_in, number_in, units_per_em_in,
+    long_metric_count_in, names_in, number_in, units_per_em_in,
 };
 use crate::text::{NameText, english_text};
 use crate::tracking::trak_in;
@@ -31,6 +34,7 @@ use std::marker::Model;
 /// Apple's TrueType Reference Manual, "The font directory".
 #[derive(Drop)]
 pub struct Face<'a> {
+    file: FontFile<'a>,
     glyph_count: u16,
     units_per_em: u16,
     characters: Option<CharacterMap<'a>>,
@@ -52,6 +56,7 @@ impl<'a> Model for Face<'a> {
     ghost Value = { FaceValue };
 
     ghost view = { λ m. record {
+      directory = m.file;
       glyph_count = m.glyph_count;
       units_per_em = m.units_per_em;
       characters = m.characters;
@@ -79,12 +84,13 @@ fn tables_in<'a>(alloc: Global, file: &FontFile<'a>) -> Result<Tables<'a>, Alloc
     let kern = kern_in(alloc, file)?;
     let ankr = ankr_in(alloc, file, glyph_count)?;
     let trak = trak_in(alloc, file)?;
-    let hhea = long_metric_count_in(file);
     Ok(Tables {
-        hmtx: metrics_in(file, number_in(&hhea), glyph_count),
         maxp,
         head: units_per_em_in(file),
-        hhea,
+        hhea: long_metric_count_in(file),
+        hmtx: row_metrics(file),
+        units_per_em: em_in(file),
+        glyph_count,
         cmap: characters_in(file),
         gdef: classes_in(file),
         name: names_in(file),
@@ -107,7 +113,6 @@ fn faults_of(alloc: Global, tables: &Tables<'_>) -> Result<Vec<Fault>, AllocErro
         fault_in(&tables.maxp),
         fault_in(&tables.head),
         fault_in(&tables.hhea),
-        fault_in(&tables.hmtx),
         fault_in(&tables.cmap),
         classes_fault(&tables.gdef),
         fault_in(&tables.name),
@@ -121,53 +126,47 @@ fn faults_of(alloc: Global, tables: &Tables<'_>) -> Result<Vec<Fault>, AllocErro
     faults.iter().filter_map(|fault| *fault).collect(alloc)
 }
 
-/// The advances of glyphs, if the font has metrics.
-fn advances_of(
-    alloc: Global,
-    tables: &Tables<'_>,
-    glyph_count: u16,
-) -> Result<Option<Lookup>, ReadError>
-    ensures ok { IfOk result (λ advances. advances ≡ advances_in tables.now glyph_count) }
+/// The advances of glyphs: half an em where there is no long metric.
+fn advances_of(alloc: Global, tables: &Tables<'_>) -> Result<Option<Lookup>, ReadError>
+    ensures ok { IfOk result (λ advances. advances ≡ Some (advances_in tables.now)) }
     ensures refused { IfErr result (λ error. error ≡ errors.OutOfMemory) }
 {
-    match &tables.hmtx {
-        Ok(Some(metrics)) => Ok(Some(advance_lookup(alloc, metrics, glyph_count)?)),
-        _ => Ok(None),
-    }
+    let half = tables.units_per_em / 2;
+    let advances = advance_lookup(alloc, &tables.hmtx, half, tables.glyph_count)?;
+    Ok(Some(advances))
 }
 
 /// The property of marks, if the font has classes of glyphs.
-fn properties_of(
-    alloc: Global,
-    tables: &Tables<'_>,
-    glyph_count: u16,
-) -> Result<Option<Lookup>, ReadError>
-    ensures ok { IfOk result (λ properties. properties ≡ properties_in tables.now glyph_count) }
+fn properties_of(alloc: Global, tables: &Tables<'_>) -> Result<Option<Lookup>, ReadError>
+    ensures ok { IfOk result (λ properties. properties ≡ properties_in tables.now) }
     ensures refused { IfErr result (λ error. error ≡ errors.OutOfMemory) }
 {
     match &tables.gdef {
-        Ok(Some(classes)) => Ok(Some(property_lookup(alloc, classes, glyph_count)?)),
+        Ok(Some(classes)) => {
+            let properties = property_lookup(alloc, classes, tables.glyph_count)?;
+            Ok(Some(properties))
+        }
         _ => Ok(None),
     }
 }
 
 impl<'a> Face<'a> {
     /// The font of a directory.
-    fn of_file(alloc: Global, file: &FontFile<'a>) -> Result<Face<'a>, ReadError>
-        ensures ok { IfOk result (λ face. face ≡ face_of_tables (tables_in file.now)) }
+    fn of_file(alloc: Global, file: FontFile<'a>) -> Result<Face<'a>, ReadError>
+        ensures ok { IfOk result (λ face. face ≡ face_of_tables file.entry (tables_in file.entry)) }
         ensures refused { IfErr result (λ error. error ≡ errors.OutOfMemory) }
     {
-        let tables = tables_in(alloc, file)?;
+        let tables = tables_in(alloc, &file)?;
         let faults = faults_of(alloc, &tables)?;
-        let glyph_count = number_in(&tables.maxp);
-        let advances = advances_of(alloc, &tables, glyph_count)?;
-        let properties = properties_of(alloc, &tables, glyph_count)?;
+        let advances = advances_of(alloc, &tables)?;
+        let properties = properties_of(alloc, &tables)?;
         let (kerx, left_out) = kerx_parts(alloc, tables.kerx);
         let (kern, left_out_of_kern) = kern_parts(alloc, tables.kern);
         let ankr = found_in(tables.ankr);
         Ok(Face {
-            glyph_count,
-            units_per_em: found_in(tables.head).unwrap_or(1000),
+            file,
+            glyph_count: tables.glyph_count,
+            units_per_em: tables.units_per_em,
             characters: found_in(tables.cmap),
             names: found_in(tables.name),
             features: feature_bytes(&tables.feat),
@@ -190,8 +189,8 @@ impl<'a> Face<'a> {
     /// A table that reaches past the end of the file is cut there, as in HarfBuzz. A table that has a fault is not
     /// read, and the face lists its first fault; the other tables stand. But `GDEF` is read where its classes are of
     /// another format, or those of marks are cut short: no glyph has a class by these, and the face lists the fault. A
-    /// table that is missing is no fault: without `maxp` the font has no glyphs, without `head` 1,000 units of the em,
-    /// without `hmtx` no advances, without `hhea` advances of 0, without `cmap` no characters, without `GDEF` no
+    /// table that is missing is no fault: without `maxp` the font has no glyphs, without `head` 1,000 units
+    /// of the em, without `hmtx` or `hhea` advances of half an em, without `cmap` no characters, without `GDEF` no
     /// properties, without `feat` or `name` no names of features, without `morx` no chains, without `kerx`, `kern` or
     /// `ankr` no such tables, and without `trak` no tracking. `morx`, `kerx` and `ankr` are read as those of a font of
     /// so many glyphs as `maxp` has, and the subtables of `morx` reach as far as `read_morx` says.
@@ -202,7 +201,7 @@ impl<'a> Face<'a> {
         ensures { Gives result (face_of file.now index) }
     {
         let directory = FontFile::read(file, index)?;
-        Face::of_file(alloc, &directory)
+        Face::of_file(alloc, directory)
     }
 
     /// The number of glyphs, 0 where the table `maxp` is missing or has a fault.
@@ -217,6 +216,41 @@ impl<'a> Face<'a> {
         ensures { result ≡ self.now.units_per_em }
     {
         self.units_per_em
+    }
+
+    /// The box of a glyph, in units of the font, as its data has it by the tables `glyf` and `loca`: moved so that its
+    /// left edge is the left bearing of `hmtx`, as HarfBuzz moves it. A glyph without contours has an empty box, and so
+    /// has one whose data is not there. `None` where the font has no data of glyphs, as with outlines of `CFF`, and
+    /// past the last glyph of `maxp` or of `loca`.
+    ///
+    /// Apple's TrueType Reference Manual, "The 'glyf' table".
+    pub fn glyph_box(&self, glyph: u16) -> Option<GlyphBox>
+        ensures { result ≡ glyph_box_of self.now glyph }
+    {
+        glyph_box_in(&self.file, glyph)
+    }
+
+    /// Where the origin of a glyph in a column lies, in units of the font, seen from its origin in a row.
+    ///
+    /// It lies at half the advance along rows. Its height is that of the table `VORG`. Without it, and with `vmtx` and
+    /// `loca`, it is the top of the glyph and its bearing in `vmtx`. Else the box of the glyph is put in the middle
+    /// between the font's ascender and descender; without a box the height is the ascender.
+    ///
+    /// OpenType specification, "VORG - Vertical Origin Table" and "vmtx - Vertical Metrics Table".
+    pub fn vertical_origin(&self, glyph: u16) -> Origin
+        ensures { result ≡ vertical_origin_of self.now glyph }
+    {
+        vertical_origin_in(&self.file, glyph)
+    }
+
+    /// How far down the pen moves at a glyph in a column, in units of the font: its advance in `vmtx`, and without long
+    /// metrics there the way from the font's ascender to its descender. HarfBuzz's advance in y is 0 less this.
+    ///
+    /// OpenType specification, "vmtx - Vertical Metrics Table".
+    pub fn vertical_advance(&self, glyph: u16) -> u32
+        ensures { result ≡ vertical_advance_of self.now glyph }
+    {
+        vertical_advance_in(&self.file, glyph)
     }
 
     /// The glyph of a character, if the font has one that is not 0.
@@ -306,8 +340,8 @@ impl<'a> Face<'a> {
         self.has_stat
     }
 
-    /// The faults of tables, at most one of each, in the order `maxp`, `head`, `hhea`, `hmtx`, `cmap`, `GDEF`, `name`,
-    /// `feat`, `morx`, `kerx`, `kern`, `ankr`, `trak`.
+    /// The faults of tables, at most one of each, in the order `maxp`, `head`, `hhea`, `cmap`, `GDEF`, `name`, `feat`,
+    /// `morx`, `kerx`, `kern`, `ankr`, `trak`.
     pub fn faults(&self) -> &[Fault]
         ensures { result.now ≡ self.now.faults }
     {

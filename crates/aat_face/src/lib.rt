@@ -10,6 +10,8 @@ mod chains;
 mod encoding;
 mod face;
 mod features;
+mod font_extents;
+mod glyph_metrics;
 mod kerning;
 #[doc(hidden)]
 pub mod laws;
@@ -23,4 +25,5 @@ pub mod worked;
 
 pub use encoding::NameEncoding;
 pub use face::Face;
+pub use glyph_metrics::{GlyphBox, Origin};
 pub use text::NameText;

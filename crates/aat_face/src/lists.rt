@@ -25,25 +25,27 @@ fn rising_lookup(alloc: Global, pairs: &[(u16, u16)]) -> Result<Lookup, ReadErro
 fn advance_pairs(
     alloc: Global,
     metrics: &Metrics<'_>,
+    other: u16,
     glyph_count: u16,
 ) -> Result<Vec<(u16, u16)>, AllocError>
-    ensures { IfOk result (λ pairs. pairs.items ≡ advance_pairs metrics.now glyph_count) }
+    ensures { IfOk result (λ pairs. pairs.items ≡ advance_pairs metrics.now other glyph_count) }
 {
     (0..glyph_count)
-        .map(|glyph| (glyph, metrics.advance(glyph).unwrap_or(0)))
+        .map(|glyph| (glyph, metrics.advance(glyph).unwrap_or(other)))
         .collect(alloc)
 }
 
-/// The advances of so many glyphs, in units of the font, 0 where a glyph has none.
+/// The advances of so many glyphs, in units of the font. Without a long metric each has another one.
 pub fn advance_lookup(
     alloc: Global,
     metrics: &Metrics<'_>,
+    other: u16,
     glyph_count: u16,
 ) -> Result<Lookup, ReadError>
-    ensures ok { IfOk result (λ lookup. lookup ≡ advance_pairs metrics.now glyph_count) }
+    ensures ok { IfOk result (λ lookup. lookup ≡ advance_pairs metrics.now other glyph_count) }
     ensures refused { IfErr result (λ error. error ≡ errors.OutOfMemory) }
 {
-    let pairs = advance_pairs(alloc, metrics, glyph_count)?;
+    let pairs = advance_pairs(alloc, metrics, other, glyph_count)?;
     rising_lookup(alloc, &pairs)
 }
 

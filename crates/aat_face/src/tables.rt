@@ -1,7 +1,7 @@
 //! What is read of each table of a font file. A table that the directory does not name is missing, which is no fault.
 ghost use Rattle.std.specs.Prelude.{◌≡◌, MatchResult, option_copied};
 ghost use Rattle.aat_read_sfnt.specs.Directory.{cut_table_of};
-ghost use Rattle.aat_face.specs.Tables.{characters_in, classes_fault, classes_in, fault_in, found_in, glyph_count_in, long_metric_count_in, metrics_in, names_in, number_in, unless_missing, units_per_em_in};
+ghost use Rattle.aat_face.specs.Tables.{characters_in, classes_fault, classes_in, fault_in, found_in, glyph_count_in, long_metric_count_in, names_in, number_in, unless_missing, units_per_em_in};
 
 use crate::chains::Chains;
 use crate::features::Features;
@@ -10,7 +10,7 @@ use aat_kerning_tables::Ankr;
 use aat_placement::Tracking;
 use aat_read_kern::KernRead;
 use aat_read_kerx::KerxRead;
-use aat_read_sfnt::tags::{CMAP, GDEF, HEAD, HHEA, HMTX, MAXP, NAME};
+use aat_read_sfnt::tags::{CMAP, GDEF, HEAD, HHEA, MAXP, NAME};
 use aat_read_sfnt::{CharacterMap, FontFile, GlyphClasses, Metrics, Names};
 
 /// The bytes of a table as far as the file has them, or nothing where the table is missing.
@@ -53,20 +53,6 @@ pub fn long_metric_count_in(file: &FontFile<'_>) -> Result<Option<u16>, Fault>
 {
     match optional_table(file, HHEA)? {
         Some(bytes) => Ok(Some(aat_read_sfnt::long_metric_count(bytes)?)),
-        None => Ok(None),
-    }
-}
-
-/// The metrics of the table `hmtx`, of so many long ones and so many glyphs.
-pub fn metrics_in<'a>(
-    file: &FontFile<'a>,
-    long_metric_count: u16,
-    glyph_count: u16,
-) -> Result<Option<Metrics<'a>>, Fault>
-    ensures { result ≡ metrics_in file.now long_metric_count glyph_count }
-{
-    match optional_table(file, HMTX)? {
-        Some(bytes) => Ok(Some(Metrics::new(bytes, long_metric_count, glyph_count))),
         None => Ok(None),
     }
 }
@@ -148,7 +134,10 @@ pub struct Tables<'a> {
     pub maxp: Result<Option<u16>, Fault>,
     pub head: Result<Option<u16>, Fault>,
     pub hhea: Result<Option<u16>, Fault>,
-    pub hmtx: Result<Option<Metrics<'a>>, Fault>,
+    pub hmtx: Metrics<'a>,
+    pub units_per_em: u16,
+    /// How many glyphs the font has.
+    pub glyph_count: u16,
     pub cmap: Result<Option<CharacterMap<'a>>, Fault>,
     pub gdef: Result<Option<GlyphClasses<'a>>, Fault>,
     pub name: Result<Option<Names<'a>>, Fault>,

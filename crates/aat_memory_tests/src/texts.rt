@@ -1,7 +1,7 @@
 //! The calls for characters, over a heap.
 
 use aat_face::Face;
-use aat_shaped_text::ShapedGlyph;
+use aat_shaped_text::{CharacterKind, ShapedGlyph};
 use aat_text::{ClusterUnit, TextError, hide_ignorables, line_ends, missing_characters, text_of};
 use linked_list_allocator::LocalHeap;
 
@@ -34,6 +34,7 @@ fn is_hidden(heap: &LocalHeap, face: &Face) -> Result<bool, TextError> {
         cluster,
         is_ignorable: cluster == 1,
         is_mark: false,
+        kind: CharacterKind::Other,
         x_advance: 500,
         y_advance: 0,
         x_offset: 0,

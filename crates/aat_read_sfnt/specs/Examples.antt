@@ -1,19 +1,23 @@
 -- Worked examples of a font's bytes.
-use Rattle.std.specs.Prelude.{◌≡◌, ℕ, List, [], ◌∷◌, take, drop, Some, None, Ok, Err, replicate}
+use Rattle.std.specs.Prelude.{◌≡◌, ℕ, pos, negsuc, Bool, false, true, List, [], ◌∷◌, ◌++◌, take, drop, codes, Some, None, Ok, Err, replicate}
 use Rattle.aat_bytes.specs.Faults.{fault_at}
+use Rattle.aat_bytes.specs.Numbers.{tag_at}
 use Rattle.aat_bytes.specs.declared.error.FaultKind.TheVariants.{PastEnd, UnknownFormat, ShortLength, Missing}
 use Rattle.aat_bytes.specs.declared.tags.TheConstants.{CMAP, GDEF, HEAD, MAXP, SFNT, TTCF}
 use Rattle.aat_read_sfnt.specs.Characters.{cmap_of, mapped_glyph}
 use Rattle.aat_read_sfnt.specs.CharacterSets.{mac_roman_code}
 use Rattle.aat_read_sfnt.specs.ClassDefinition.{class_in_ranges, class_ranges_at}
 use Rattle.aat_read_sfnt.specs.Directory.{Directory, cut_table_of, directory_of, table_of}
+use Rattle.aat_read_sfnt.specs.GlyphData.{DataTables, data_of, has_long_offsets, header_of}
 use Rattle.aat_read_sfnt.specs.Header.{glyph_count}
-use Rattle.aat_read_sfnt.specs.Metrics.{advance_of, metrics_of}
+use Rattle.aat_read_sfnt.specs.Metrics.{advance_of, bearing_of, metrics_of}
 use Rattle.aat_read_sfnt.specs.SegmentMapping.{segment_glyph, segments_at}
 use Rattle.aat_read_sfnt.specs.SegmentedCoverage.{group_glyph, groups_at}
+use Rattle.aat_read_sfnt.specs.VerticalOrigins.{vertical_origin_at}
 use Rattle.aat_read_sfnt.specs.declared.cmap.Cmap.TheVariants.{TrimmedTable}
 use Rattle.aat_read_sfnt.specs.declared.cmap.CharacterMap.{CharacterMap}
 use Rattle.aat_read_sfnt.specs.declared.cmap.character_set.TheConstants.{MAC_ROMAN}
+use Rattle.aat_read_sfnt.specs.declared.tags.TheConstants.{OS_2, VHEA, VMTX, VORG}
 use Rattle.aat_read_sfnt.specs.declared.cmap.character_set.CharacterSet.{CharacterSet}
 use Rattle.aat_read_sfnt.specs.declared.cmap.character_set.CharacterSet.TheVariants.{Unicode, Symbol, MacRoman}
 
@@ -61,14 +65,61 @@ CollectionsListTheirFonts =
 abbrev pub example_metrics : List ℕ
 example_metrics = 1 ∷ 244 ∷ 0 ∷ 9 ∷ 2 ∷ 88 ∷ 0 ∷ 9 ∷ 0 ∷ 9 ∷ []
 
--- a glyph past the long metrics has the last advance; long metrics that are not there do not count
+-- a glyph past the long metrics has the last advance, one without a bearing 0; what is not there does not count
 abbrev pub AdvancesAreListed : Type 0
 AdvancesAreListed =
     (advance_of (metrics_of example_metrics 2 3) 0 ≡ Some 500)
     × (advance_of (metrics_of example_metrics 2 3) 1 ≡ Some 600)
-    × (advance_of (metrics_of example_metrics 9 3) 2 ≡ Some 600)
-    × (advance_of (metrics_of example_metrics 2 3) 3 ≡ None)
+    × (advance_of (metrics_of example_metrics 9 3) 1 ≡ Some 600)
+    × (advance_of (metrics_of example_metrics 2 3) 2 ≡ Some 600)
+    × (advance_of (metrics_of example_metrics 2 3) 3 ≡ Some 0)
+    × (advance_of (metrics_of example_metrics 2 9) 3 ≡ Some 0)
     × (advance_of (metrics_of example_metrics 0 3) 0 ≡ None)
+    × (bearing_of (metrics_of example_metrics 2 3) 1 ≡ pos 9)
+    × (bearing_of (metrics_of example_metrics 1 3) 1 ≡ pos 600)
+    × (bearing_of (metrics_of example_metrics 1 3) 3 ≡ pos 0)
+
+-- two offsets of 16 bits, and two of 32: a glyph of 10 bytes, and one from 10 back to 0
+abbrev pub example_data : Bool → List ℕ → DataTables
+example_data is_long loca = record {
+  glyf = 255 ∷ 255 ∷ 0 ∷ 1 ∷ 0 ∷ 2 ∷ 255 ∷ 253 ∷ 0 ∷ 4 ∷ 7 ∷ [];
+  loca = loca;
+  is_long = is_long;
+  glyph_count = 9;
+}
+
+-- a table `head` with a format of data and one of offsets
+abbrev pub example_head : ℕ → ℕ → List ℕ
+example_head format offsets =
+    0 ∷ 1 ∷ (replicate 10 0 ++ 0x5F ∷ 0x0F ∷ 0x3C ∷ 0xF5 ∷ (replicate 35 0 ++ offsets ∷ 0 ∷ format ∷ []))
+
+-- short offsets count twice, data stands between two offsets that rise, and a header has its numbers, or 0
+abbrev pub HeadersAreRead : Type 0
+HeadersAreRead =
+    (has_long_offsets [] ≡ Some false)
+    × (has_long_offsets (example_head 0 1) ≡ Some true)
+    × (has_long_offsets (example_head 0 2) ≡ None)
+    × (has_long_offsets (example_head 2 1) ≡ None)
+    × (data_of (example_data false (0 ∷ 0 ∷ 0 ∷ 5 ∷ 0 ∷ 0 ∷ [])) 0
+    ≡ Some (255 ∷ 255 ∷ 0 ∷ 1 ∷ 0 ∷ 2 ∷ 255 ∷ 253 ∷ 0 ∷ 4 ∷ []))
+    × (data_of (example_data false (0 ∷ 0 ∷ 0 ∷ 5 ∷ 0 ∷ 0 ∷ [])) 1 ≡ None)
+    × (data_of (example_data true (0 ∷ 0 ∷ 0 ∷ 9 ∷ 0 ∷ 0 ∷ 0 ∷ 11 ∷ [])) 0 ≡ Some (4 ∷ 7 ∷ []))
+    × (data_of (example_data true (0 ∷ 0 ∷ 0 ∷ 9 ∷ 0 ∷ 0 ∷ 0 ∷ 11 ∷ [])) 1 ≡ None)
+    × (header_of (255 ∷ 255 ∷ 0 ∷ 1 ∷ 0 ∷ 2 ∷ 255 ∷ 253 ∷ 0 ∷ 4 ∷ [])
+    ≡ record { contours = negsuc 0; x_min = pos 1; y_min = pos 2; x_max = negsuc 2; y_max = pos 4 })
+    × ((header_of (255 ∷ 255 ∷ [])).contours ≡ pos 0)
+
+-- origins of 800, and of -1 for glyph 3 and 820 for glyph 5
+abbrev pub example_origins : List ℕ
+example_origins = 0 ∷ 1 ∷ 0 ∷ 0 ∷ 3 ∷ 32 ∷ 0 ∷ 2 ∷ 0 ∷ 3 ∷ 255 ∷ 255 ∷ 0 ∷ 5 ∷ 3 ∷ 52 ∷ []
+
+-- a glyph has its origin, or that of all others; a table that is cut short has none
+abbrev pub OriginsAreListed : Type 0
+OriginsAreListed =
+    (vertical_origin_at example_origins 3 ≡ Some (negsuc 0))
+    × (vertical_origin_at example_origins 4 ≡ Some (pos 800))
+    × (vertical_origin_at example_origins 5 ≡ Some (pos 820))
+    × (vertical_origin_at (take 15 example_origins) 4 ≡ None)
 
 -- segments from A to C by a delta of -55, from a to b by a list of 20 and 0 and a delta of 1, and the last of all
 abbrev pub example_segments : List ℕ
@@ -219,3 +270,11 @@ FallingRangesAreFound =
     × (class_in_ranges falling_ranges 7 ≡ 3)
     × (class_in_ranges falling_ranges 8 ≡ 1)
     × (class_in_ranges falling_ranges 9 ≡ 0)
+
+-- the tags of the tables of columns and of OpenType's metrics
+abbrev pub TagsAreNames : Type 0
+TagsAreNames =
+    (tag_at (codes "OS/2") 0 ≡ Some OS_2)
+    × (tag_at (codes "vhea") 0 ≡ Some VHEA)
+    × (tag_at (codes "vmtx") 0 ≡ Some VMTX)
+    × (tag_at (codes "VORG") 0 ≡ Some VORG)

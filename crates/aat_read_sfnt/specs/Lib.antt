@@ -4,6 +4,7 @@ pub mod ClassDefinition
 pub mod Directory
 pub mod Examples
 pub mod GlyphClasses
+pub mod GlyphData
 pub mod Header
 pub mod Metrics
 pub mod Names
@@ -11,3 +12,4 @@ pub mod RisingEnds
 pub mod SegmentMapping
 pub mod SegmentedCoverage
 pub mod ShortTables
+pub mod VerticalOrigins

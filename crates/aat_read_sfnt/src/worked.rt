@@ -1,5 +1,5 @@
 //! Worked examples of a font's bytes as theorems. These calls do nothing: what is proved is their contracts.
-ghost use Rattle.aat_read_sfnt.specs.Examples.{AdvancesAreListed, CollectionsListTheirFonts, FallingGroupsAreFound, FallingRangesAreFound, FallingSegmentsAreFound, FaultySubtablesArePassedOver, GroupsMapCharacters, MacRomanIsRead, RangesHaveTheirEnds, SegmentsMapCharacters, ShortSegmentsAreAFault, SymbolsAreDoubled, TablesAreSlices};
+ghost use Rattle.aat_read_sfnt.specs.Examples.{AdvancesAreListed, CollectionsListTheirFonts, FallingGroupsAreFound, FallingRangesAreFound, FallingSegmentsAreFound, FaultySubtablesArePassedOver, GroupsMapCharacters, HeadersAreRead, MacRomanIsRead, OriginsAreListed, RangesHaveTheirEnds, SegmentsMapCharacters, ShortSegmentsAreAFault, SymbolsAreDoubled, TablesAreSlices, TagsAreNames};
 
 /// The definitions of directories and of the profile compute to the examples.
 #[tactic(auto, unfolding(aat_bytes::specs::Numbers::slice, aat_bytes::specs::Numbers::slice_from, crate::specs::Directory::place_in_collection, crate::specs::Directory::directory_place, crate::specs::Directory::directory_at, crate::specs::Header::glyph_count))]
@@ -32,4 +32,12 @@ pub fn lists()
     ensures falling_groups { FallingGroupsAreFound }
     ensures ranges { RangesHaveTheirEnds }
     ensures falling { FallingRangesAreFound }
+{}
+
+/// The definitions of headers of glyphs, of vertical origins and of tags compute to the examples.
+#[tactic(auto, unfolding(aat_bytes::specs::Numbers::slice, aat_bytes::specs::Numbers::u32_at, crate::specs::Header::units_per_em))]
+pub fn columns()
+    ensures headers { HeadersAreRead }
+    ensures origins { OriginsAreListed }
+    ensures tags { TagsAreNames }
 {}

@@ -15,7 +15,7 @@ use Rattle.aat_closing.specs.Unflagged.{SameButFlags, bare, erased, unflagged}
 use Rattle.aat_closing.specs.facts.BlindBuffers.{erased_of, same_of}
 use Rattle.aat_closing.specs.facts.BlindLines.{bare_at, bare_cluster_at, bare_length}
 use Rattle.aat_shaped_text.specs.Breaks.{kept_before}
-use Rattle.aat_shaped_text.specs.ShapedText.{drawn_cluster, drawn_glyph, drawn_glyphs, is_ignorable, is_mark, kept_place, kept_places, tracked_by, tracked_line, with_clusters_of}
+use Rattle.aat_shaped_text.specs.ShapedText.{drawn_cluster, drawn_glyph, drawn_glyphs, is_ignorable, is_mark, kept_place, kept_places, kind_of, tracked_by, tracked_line, with_clusters_of}
 use Rattle.aat_shaped_text.specs.declared.text.ShapedGlyph.{ShapedGlyph}
 use Rattle.aat_shaped_text.proofs.KernedBlind.{erased_ordered}
 use Rattle.aat_shaped_text.proofs.Looks.{Positions, left_of, with_clusters}
@@ -112,6 +112,7 @@ glyph_bare m b i =
       cluster = bare_cluster_at b.line i k;
       is_ignorable = is_ignorable (bare_at b.line i k);
       is_mark = is_mark (bare_at b.line i k);
+      kind = kind_of (bare_at b.line i k);
       attached_to = place_bare b.line (parent b.direction (position_list b) i) k;
     }
 

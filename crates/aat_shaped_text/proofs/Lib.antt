@@ -18,6 +18,7 @@ pub mod KernedPairs
 pub mod KernedText
 pub mod KernedTexts
 pub mod KernsApart
+pub mod KindsRead
 pub mod LaterRuns
 pub mod LineRuns
 pub mod Looks

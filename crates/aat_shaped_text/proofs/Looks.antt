@@ -9,7 +9,7 @@ use Rattle.aat_buffer.specs.Buffer.{Buffer, glyph_at, position_list, zero_positi
 use Rattle.aat_buffer.specs.Removal.{is_deleted, removed}
 use Rattle.aat_placement.specs.Attachments.{added_up}
 use Rattle.aat_shaped_text.specs.Parts.{looks}
-use Rattle.aat_shaped_text.specs.ShapedText.{drawn_glyph, drawn_glyphs, is_ignorable, is_mark, kept_places, with_clusters_of}
+use Rattle.aat_shaped_text.specs.ShapedText.{drawn_glyph, drawn_glyphs, is_ignorable, is_mark, kept_places, kind_of, with_clusters_of}
 use Rattle.aat_shaped_text.specs.declared.text.ShapedGlyph.{ShapedGlyph}
 use Rattle.aat_shaped_text.proofs.ChainsSplit.{length_added}
 use Rattle.aat_shaped_text.proofs.Spots.{lefts}
@@ -26,6 +26,7 @@ look g q = record {
   cluster = g.cluster;
   is_ignorable = is_ignorable g;
   is_mark = is_mark g;
+  kind = kind_of g;
   x_advance = q.x_advance;
   y_advance = q.y_advance;
   x_offset = q.x_offset;

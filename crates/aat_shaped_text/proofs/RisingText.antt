@@ -9,6 +9,7 @@ use Rattle.aat_font.specs.declared.plan.Feature.{Feature}
 use Rattle.aat_glyph.specs.declared.glyph.hb_glyph_info_t.{hb_glyph_info_t}
 use Rattle.aat_shaped_text.specs.Breaks.{is_rising}
 use Rattle.aat_shaped_text.specs.ShapedText.{line_glyph}
+use Rattle.aat_shaped_text.specs.declared.text.CharacterKind.TheVariants.{Other}
 use Rattle.aat_shaped_text.specs.declared.text.TextGlyph.{TextGlyph}
 
 both : (a b : Bool) → (a && b) ≡ true → (a ≡ true) × (b ≡ true)
@@ -50,7 +51,7 @@ pairs_up (g ∷ text) up (suc i) (suc j) d below low =
     pairs_up text (rest_up g text up) i j d (omega (arith, below)) (omega (arith, low))
 
 pub no_text_glyph : TextGlyph
-no_text_glyph = record { glyph_id = 0; cluster = 0; is_ignorable = false; is_mark = false }
+no_text_glyph = record { glyph_id = 0; cluster = 0; is_ignorable = false; is_mark = false; kind = Other }
 
 -- so the line of the text rises
 pub rising_line :

@@ -16,7 +16,9 @@ use Rattle.aat_shaped_text.specs.Breaks.{front_of, may_break_at}
 use Rattle.aat_shaped_text.specs.Parts.{no_shaped_glyph}
 use Rattle.aat_shaped_text.specs.ShapedText.{drawn_glyphs, kept_place, kept_places, text_props, tracked_line}
 use Rattle.aat_shaped_text.specs.TextFeatures.{ask_alike, ask_alike_through, is_kerned_at, requests_kerning}
+use Rattle.aat_shaped_text.specs.declared.text.CharacterKind.TheVariants.{Mark, Other, Space}
 use Rattle.aat_shaped_text.specs.declared.text.ShapedGlyph.{ShapedGlyph}
+use Rattle.aat_shaped_text.specs.declared.text.SpaceWidth.TheVariants.{Narrow}
 use Rattle.aat_shaped_text.specs.declared.text.TextGlyph.{TextGlyph}
 
 -- the places of kept glyphs before which a line may be broken
@@ -125,6 +127,16 @@ MarksSaySo =
     (in_row (pos 500) (pos 0) (pos 0) ∷ in_row (pos 300) (pos 0) (pos 0) ∷ [])))
     ≡ false ∷ true ∷ []
 
+-- so does a glyph that came from a space that the font lacks, or from a mark
+abbrev pub KindsSaySo : Type 0
+KindsSaySo =
+    map (λ g. g.kind)
+    (drawn_glyphs (λ i. false)
+    (drawing LeftToRight
+    (glyph_in 7 0 ∷ record (glyph_in 3 1) { unicode_props = 0x580 } ∷ record (glyph_in 9 2) { unicode_props = 0xF360 } ∷ [])
+    (in_row (pos 500) (pos 0) (pos 0) ∷ in_row (pos 200) (pos 0) (pos 0) ∷ in_row (pos 0) (pos 0) (pos 0) ∷ [])))
+    ≡ Other ∷ Space Narrow ∷ Mark 230 ∷ []
+
 -- a font without tables, with these classes of glyphs
 abbrev pub classed : Option (List (ℕ × ℕ)) → hb_font_t
 classed classes = record {
@@ -135,7 +147,7 @@ classed classes = record {
 
 -- glyph 5 of a character that is a mark or not
 abbrev pub five : Bool → TextGlyph
-five mark = record { glyph_id = 5; cluster = 0; is_ignorable = false; is_mark = mark }
+five mark = record { glyph_id = 5; cluster = 0; is_ignorable = false; is_mark = mark; kind = Other }
 
 -- its properties where it is no mark, and where it is one
 abbrev pub props_in : Option (List (ℕ × ℕ)) → List ℕ

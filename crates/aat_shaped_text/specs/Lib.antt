@@ -3,6 +3,7 @@ pub mod ClosingDraws
 pub mod Examples
 pub mod KernedBreaks
 pub mod KernedPlaces
+pub mod Kinds
 pub mod OpenExamples
 pub mod Parts
 pub mod ShapedText

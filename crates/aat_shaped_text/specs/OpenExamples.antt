@@ -16,6 +16,7 @@ use Rattle.aat_placement.specs.Attachments.{no_position}
 use Rattle.aat_cut_kinds.specs.KerningExamples.{kerning_at_end, kerning_before_two, kerning_each}
 use Rattle.aat_shaped_text.specs.Breaks.{is_unchained}
 use Rattle.aat_shaped_text.specs.ShapedText.{is_open_by_marks, may_break_text}
+use Rattle.aat_shaped_text.specs.declared.text.CharacterKind.TheVariants.{Other}
 use Rattle.aat_shaped_text.specs.declared.text.TextGlyph.{TextGlyph}
 
 -- a font of these subtables of `kern` alone
@@ -44,7 +45,7 @@ pair left right = kern_subtable (pairs_of_kern ((left, right, pos 7) ∷ []))
 
 -- the text of these glyphs, each a cluster of its own
 abbrev pub text_of : List ℕ → List TextGlyph
-text_of ids = map (λ g. record { glyph_id = g; cluster = g; is_ignorable = false; is_mark = false }) ids
+text_of ids = map (λ g. record { glyph_id = g; cluster = g; is_ignorable = false; is_mark = false; kind = Other }) ids
 
 -- the places of a text of four glyphs that pass a test
 abbrev pub places_of : (ℕ → Bool) → List ℕ

@@ -6,6 +6,7 @@ use Rattle.aat_glyph.specs.declared.glyph.Direction.{Direction}
 use Rattle.aat_font.specs.declared.face.hb_font_t.{hb_font_t}
 use Rattle.aat_font.specs.declared.plan.Feature.{Feature}
 use Rattle.aat_shaped_text.specs.ShapedText.{most_text, shaped_text}
+use Rattle.aat_shaped_text.specs.declared.text.CharacterKind.TheVariants.{Other}
 use Rattle.aat_shaped_text.specs.declared.text.ShapedGlyph.{ShapedGlyph}
 use Rattle.aat_shaped_text.specs.declared.text.TextGlyph.{TextGlyph}
 
@@ -16,6 +17,7 @@ no_shaped_glyph = record {
   cluster = 0;
   is_ignorable = false;
   is_mark = false;
+  kind = Other;
   x_advance = pos 0;
   y_advance = pos 0;
   x_offset = pos 0;
@@ -28,7 +30,8 @@ no_shaped_glyph = record {
 abbrev pub shaped_at : List ShapedGlyph → ℕ → ShapedGlyph
 shaped_at glyphs k = slice_index_or glyphs k no_shaped_glyph
 
--- how a glyph looks: its id, its cluster, whether it is ignorable and whether a mark, its advances and its offsets
+-- how a glyph looks: its id, its cluster, whether it is ignorable and whether a mark, the kind of its character, its
+-- advances and its offsets
 abbrev pub looks : ShapedGlyph → ShapedGlyph
 looks g = record g { attached_to = None; may_break_before = false }
 

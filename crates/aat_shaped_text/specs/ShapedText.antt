@@ -1,7 +1,7 @@
 -- A text that is shaped: its glyphs as a line, what the layer's calls leave of it, and what is drawn. (How a text is
 -- handed in and out is the shaper's own. Apple's TrueType Reference Manual, "The 'morx' table", "The 'kerx' table" and
 -- "The 'kern' table".)
-use Rattle.std.specs.Prelude.{◌≡◌, ◌⊎◌, ℕ, ℤ, is_some, option_map, nat_lt, ◌<◌, ◌≤◌, ◌+◌, ◌*◌, ◌^◌, ◌==◌, ◌&&◌, not, Bool, bit_and, pos, List, AllPairs, Option, Some, None, length, filter, map, max, min, zip, slice_index_or, if◌then◌else◌}
+use Rattle.std.specs.Prelude.{◌≡◌, ◌⊎◌, ℕ, ℤ, is_some, option_map, nat_lt, ◌<◌, ◌≤◌, ◌+◌, ◌*◌, ◌/◌, ◌^◌, ◌==◌, ◌&&◌, not, Bool, bit_and, pos, List, AllPairs, Option, Some, None, length, filter, map, max, min, zip, slice_index_or, if◌then◌else◌}
 use Rattle.std.specs.Bool.{MatchBool}
 use Rattle.std.specs.List.{range_with_len}
 use Rattle.std.specs.Ordering.{int_eq}
@@ -35,7 +35,9 @@ use Rattle.aat_closing.specs.ClosingRuns.{Told}
 use Rattle.aat_placement.specs.TrackedLines.{tracked}
 use Rattle.aat_shaped_text.specs.Breaks.{front_of, is_rising, is_unchained, kept_before, kerns_by_pairs, may_break_at, skips_of, substitutes_evenly}
 use Rattle.aat_shaped_text.specs.KernedBreaks.{kerning_opens}
+use Rattle.aat_shaped_text.specs.Kinds.{kind_of_number, number_of_kind}
 use Rattle.aat_shaped_text.specs.TextFeatures.{is_kerned_at, requests_kerning}
+use Rattle.aat_shaped_text.specs.declared.text.CharacterKind.{CharacterKind}
 use Rattle.aat_shaped_text.specs.declared.text.ShapedGlyph.{ShapedGlyph}
 use Rattle.aat_shaped_text.specs.declared.text.TextGlyph.{TextGlyph}
 
@@ -55,15 +57,19 @@ most_operations n = min (max (n * 1024) 16384) 0x7FFFFFFF
 abbrev pub text_props : hb_font_t → TextGlyph → ℕ
 text_props face g = if has_classes face then props_of face g.glyph_id else (if g.is_mark then 8 else 0)
 
--- a glyph of a text as one of a line: where it is kerned its mask has the bit 8, and an ignorable character has the
--- layer's property, 0x20, and 0x40, which the layer leaves as it is
+-- what a glyph of a text says of its character: an ignorable one has the layer's property, 0x20, and 0x40, which the
+-- layer leaves as it is, as it does the number of the kind from 0x80 on
+abbrev pub text_unicode_props : TextGlyph → ℕ
+text_unicode_props g = number_of_kind g.kind * 0x80 + (if g.is_ignorable then 0x60 else 0)
+
+-- a glyph of a text as one of a line: where it is kerned its mask has the bit 8
 abbrev pub line_glyph : hb_font_t → List Feature → TextGlyph → hb_glyph_info_t
 line_glyph face features g = record {
   glyph_id = g.glyph_id;
   mask = if is_kerned_at features g.cluster then 8 else 0;
   cluster = g.cluster;
   glyph_props = text_props face g;
-  unicode_props = if g.is_ignorable then 0x60 else 0;
+  unicode_props = text_unicode_props g;
 }
 
 -- the buffer of a text
@@ -140,6 +146,16 @@ kept_place line (Some j) = if is_deleted (glyph_at line j) then None else Some (
 abbrev pub is_ignorable : hb_glyph_info_t → Bool
 is_ignorable g = not (bit_and g.unicode_props 0x40 == 0)
 
+-- the kind of the character that a glyph of a line stands for
+abbrev pub kind_of : hb_glyph_info_t → CharacterKind
+kind_of g = kind_of_number (g.unicode_props / 0x80)
+
+-- what a glyph of a text says of its character is read of its glyph on the line
+abbrev pub CharactersAreRead : Type 0
+CharactersAreRead =
+    (face : hb_font_t) (features : List Feature) (g : TextGlyph)
+    → (is_ignorable (line_glyph face features g) ≡ g.is_ignorable) × (kind_of (line_glyph face features g) ≡ g.kind)
+
 -- a glyph of a line has the property of marks
 abbrev pub is_mark : hb_glyph_info_t → Bool
 is_mark g = not (bit_and g.glyph_props 8 == 0)
@@ -151,6 +167,7 @@ drawn_glyph may_break b i = record {
   cluster = cluster_at b.line i;
   is_ignorable = is_ignorable (glyph_at b.line i);
   is_mark = is_mark (glyph_at b.line i);
+  kind = kind_of (glyph_at b.line i);
   x_advance = (drawn_position b i).x_advance;
   y_advance = (drawn_position b i).y_advance;
   x_offset = (drawn_position b i).x_offset;

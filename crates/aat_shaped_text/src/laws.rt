@@ -3,7 +3,7 @@
 
 ghost use Rattle.aat_shaped_text.specs.ClosingDraws.{ClosingDrawsAlike};
 ghost use Rattle.aat_shaped_text.specs.Parts.{PartsKeepBreaks, TextsAreDrawnInParts};
-ghost use Rattle.aat_shaped_text.specs.ShapedText.{UntrackedLinesStay};
+ghost use Rattle.aat_shaped_text.specs.ShapedText.{CharactersAreRead, UntrackedLinesStay};
 
 use aat_kerning::laws::{kerning_changes_little, parts_are_kerned_apart};
 use aat_placement::laws::parts_are_tracked_apart;
@@ -12,6 +12,11 @@ use aat_placement::laws::parts_are_tracked_apart;
 #[tactic(auto, using(crate::proofs::Tracked::untracked))]
 pub fn untracked_lines_stay()
     ensures { UntrackedLinesStay }
+{}
+
+/// What a glyph of a text says of its character is read of its glyph on the line.
+pub fn characters_are_read()
+    ensures { CharactersAreRead }
 {}
 
 /// What is drawn of a text of at most 2^24 glyphs, in whatever font, may be broken before each glyph that says so: what is

@@ -25,4 +25,4 @@ pub use breaks::{BreakRules, front_of, may_break_at, operations_left, takes_few_
 pub use features::{is_kerned_at, requests_kerning};
 pub use font::{kerns_by_pairs, skips_of, substitutes_apart};
 pub use open_line::{close_chained, is_kept, place_openly, turn};
-pub use text::{ShapedGlyph, TextGlyph};
+pub use text::{CharacterKind, ShapedGlyph, SpaceWidth, TextGlyph};

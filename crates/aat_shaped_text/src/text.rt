@@ -1,6 +1,45 @@
 //! The glyphs of a text, and those that are drawn.
 ghost use Rattle.std.specs.Prelude.{◌≡◌, false, true};
 
+/// How wide a space is that the font lacks, for which its glyph of U+0020 stands, as HarfBuzz's space fallback has it.
+#[derive(Clone, Copy, PartialEq, Eq, Debug)]
+pub enum SpaceWidth {
+    /// An em: U+2001 EM QUAD, U+2003 EM SPACE and U+3000 IDEOGRAPHIC SPACE.
+    Em,
+    /// Half an em: U+2000 EN QUAD and U+2002 EN SPACE.
+    HalfEm,
+    /// A third of an em: U+2004 THREE-PER-EM SPACE.
+    ThirdOfEm,
+    /// A fourth of an em: U+2005 FOUR-PER-EM SPACE.
+    FourthOfEm,
+    /// A fifth of an em: U+2009 THIN SPACE.
+    FifthOfEm,
+    /// A sixth of an em: U+2006 SIX-PER-EM SPACE.
+    SixthOfEm,
+    /// A sixteenth of an em: U+200A HAIR SPACE.
+    SixteenthOfEm,
+    /// Four eighteenths of an em: U+205F MEDIUM MATHEMATICAL SPACE.
+    FourEighteenthsOfEm,
+    /// As wide as a digit: U+2007 FIGURE SPACE.
+    Figure,
+    /// As wide as a full stop: U+2008 PUNCTUATION SPACE.
+    Punctuation,
+    /// Narrower than the font's space: U+202F NARROW NO-BREAK SPACE.
+    Narrow,
+}
+
+/// What sort of character a glyph came from, as far as its glyph is placed by it.
+#[derive(Clone, Copy, PartialEq, Eq, Debug)]
+pub enum CharacterKind {
+    /// A character that is placed as its glyph is.
+    Other,
+    /// A space of this width that the font lacks.
+    Space(SpaceWidth),
+    /// A mark (`General_Category` Mn, Mc or Me), and its combining class as HarfBuzz sorts marks and places them by
+    /// their boxes, 0 where it has none.
+    Mark(u8),
+}
+
 /// A glyph of a text, and the character that it stands for.
 #[derive(Clone, Copy, PartialEq, Eq, Debug)]
 pub struct TextGlyph {
@@ -16,30 +55,47 @@ pub struct TextGlyph {
     /// classes of glyphs, its glyph then has the property of marks (8), so that kerning by pairs skips it, as HarfBuzz
     /// 12.3.2 has it. Where it has classes, they alone say which glyphs are marks.
     pub is_mark: bool,
+    /// The kind of the character.
+    pub kind: CharacterKind,
 }
 
 impl TextGlyph {
-    /// A glyph that stands for the character `cluster`, which is neither ignorable nor a mark.
+    /// A glyph that stands for the character `cluster`, which is neither ignorable nor a mark, and no space that the font
+    /// lacks.
     pub fn new(glyph_id: u16, cluster: u32) -> TextGlyph
-        ensures { result ≡ record { glyph_id = glyph_id; cluster = cluster; is_ignorable = false; is_mark = false } }
+        ensures { result ≡ record {
+          glyph_id = glyph_id;
+          cluster = cluster;
+          is_ignorable = false;
+          is_mark = false;
+          kind = CharacterKind.Other;
+        } }
     {
         TextGlyph {
             glyph_id,
             cluster,
             is_ignorable: false,
             is_mark: false,
+            kind: CharacterKind::Other,
         }
     }
 
     /// A glyph that stands for the ignorable character `cluster`, which is no mark.
     pub fn ignorable(glyph_id: u16, cluster: u32) -> TextGlyph
-        ensures { result ≡ record { glyph_id = glyph_id; cluster = cluster; is_ignorable = true; is_mark = false } }
+        ensures { result ≡ record {
+          glyph_id = glyph_id;
+          cluster = cluster;
+          is_ignorable = true;
+          is_mark = false;
+          kind = CharacterKind.Other;
+        } }
     {
         TextGlyph {
             glyph_id,
             cluster,
             is_ignorable: true,
             is_mark: false,
+            kind: CharacterKind::Other,
         }
     }
 }
@@ -60,6 +116,8 @@ pub struct ShapedGlyph {
     /// it as the font says, or where the font has no classes of glyphs as the text says. A glyph that it is changed
     /// into keeps that, unless a lookup of a font with classes changed it: then the font says it of the new glyph.
     pub is_mark: bool,
+    /// The kind of the character of the glyph of the text that it came from.
+    pub kind: CharacterKind,
     /// How far the pen moves to the right.
     pub x_advance: i32,
     /// How far the pen moves up: in vertical text it is usually below 0.

@@ -1,5 +1,5 @@
 //! Worked examples of a text that is shaped as theorems. These calls do nothing: what is proved is their contracts.
-ghost use Rattle.aat_shaped_text.specs.Examples.{AttachmentsAreDrawn, BreaksAreBetweenClusters, DeletedGlyphsAreAsked, DeletedGlyphsGo, DeletedGlyphsHandOn, FeaturesStayWhole, FontsDecide, IgnorableGlyphsSaySo, KeptGlyphsAreCounted, KerningIsRequested, LastKernDecides, LaterClusterIsAsked, LigaturesBeginWithComponents, MarksSaySo, RangesBetweenAreAsked, TrackedLinesAreDrawn};
+ghost use Rattle.aat_shaped_text.specs.Examples.{AttachmentsAreDrawn, BreaksAreBetweenClusters, DeletedGlyphsAreAsked, DeletedGlyphsGo, DeletedGlyphsHandOn, FeaturesStayWhole, FontsDecide, IgnorableGlyphsSaySo, KindsSaySo, KeptGlyphsAreCounted, KerningIsRequested, LastKernDecides, LaterClusterIsAsked, LigaturesBeginWithComponents, MarksSaySo, RangesBetweenAreAsked, TrackedLinesAreDrawn};
 ghost use Rattle.aat_shaped_text.specs.OpenExamples.{AttachedGlyphsStay, ChainsAreAsked, MixedKerningIsTold, OpenPlacesAreTold, SkippedGlyphsStay, UnkernedGlyphsOpen};
 
 /// The definitions of breaks compute to the examples.
@@ -20,6 +20,7 @@ pub fn drawn()
     ensures deleted { DeletedGlyphsGo }
     ensures ignorable { IgnorableGlyphsSaySo }
     ensures marks { MarksSaySo }
+    ensures kinds { KindsSaySo }
     ensures classes { FontsDecide }
     ensures attached { AttachmentsAreDrawn }
     ensures tracked { TrackedLinesAreDrawn }

@@ -8,13 +8,16 @@ ghost use Rattle.aat_kerning_machines.specs.Positions.{IsPlaced};
 ghost use Rattle.aat_shaped_text.specs.Breaks.{kept_before};
 ghost use Rattle.aat_shaped_text.specs.KernedPlaces.{ClosesChained};
 ghost use Rattle.aat_shaper.specs.inside.Drawing.{IsDrawn, clusters_of, may_break};
-ghost use Rattle.aat_shaped_text.specs.ShapedText.{drawn_glyph, drawn_glyphs, drawn_position, is_ignorable, is_mark, kept_place, kept_places, with_clusters_of};
+ghost use Rattle.aat_shaped_text.specs.ShapedText.{drawn_glyph, drawn_glyphs, drawn_position, is_ignorable, is_mark, kept_place, kept_places, kind_of, with_clusters_of};
 
-use crate::line::MARK;
+use crate::kinds::kind_of_number;
+use crate::line::{KIND, MARK};
 use aat_layout::buffer::{GlyphPosition, hb_buffer_t, hb_glyph_info_t};
 use aat_layout::{AatError, hb_aat_layout_remove_deleted_glyphs, is_solid};
 use aat_placement::{add_up_attachments, parent_of};
-use aat_shaped_text::{BreakRules, ShapedGlyph, close_chained, front_of, is_kept, may_break_at};
+use aat_shaped_text::{
+    BreakRules, CharacterKind, ShapedGlyph, close_chained, front_of, is_kept, may_break_at,
+};
 use std::alloc::{AllocError, Allocator};
 
 /// What allows a line to be broken.
@@ -201,6 +204,13 @@ fn is_mark(glyph: &hb_glyph_info_t) -> bool
     glyph.glyph_props & MARK != 0
 }
 
+/// The kind of the character that a glyph stands for.
+fn kind_of(glyph: &hb_glyph_info_t) -> CharacterKind
+    ensures { result ≡ kind_of glyph.now }
+{
+    kind_of_number(glyph.unicode_props / KIND)
+}
+
 /// The glyph at a place of a line that is drawn, before which so many glyphs are kept.
 fn drawn_glyph<H: Allocator + Copy>(
     breaks: Breaks,
@@ -226,6 +236,7 @@ fn drawn_glyph<H: Allocator + Copy>(
         cluster: glyph.cluster,
         is_ignorable: is_ignorable(&glyph),
         is_mark: is_mark(&glyph),
+        kind: kind_of(&glyph),
         x_advance: position.x_advance,
         y_advance: position.y_advance,
         x_offset: position.x_offset,

@@ -11,6 +11,7 @@
 #![tactic(auto)]
 
 mod drawn;
+mod kinds;
 mod line;
 mod lines;
 mod names;
@@ -22,6 +23,6 @@ mod tracking;
 pub mod worked;
 
 pub use aat_placement::{Track, TrackData, Tracking, TrackingError};
-pub use aat_shaped_text::{ShapedGlyph, TextGlyph};
+pub use aat_shaped_text::{CharacterKind, ShapedGlyph, SpaceWidth, TextGlyph};
 pub use lines::{LineStop, TextLine, TextLines};
 pub use shaper::Shaper;

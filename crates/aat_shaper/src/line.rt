@@ -3,8 +3,9 @@ ghost use Rattle.std.specs.Prelude.{◌≡◌, ◌≤◌, IfErr, IfOk, length, p
 ghost use Rattle.aat_buffer.specs.Clusters.{IsSmall};
 ghost use Rattle.aat_font.specs.Face.{has_classes};
 ghost use Rattle.aat_shaped_text.specs.Breaks.{is_rising};
-ghost use Rattle.aat_shaped_text.specs.ShapedText.{line_glyph, most_glyphs, most_operations, most_text, text_buffer, text_props};
+ghost use Rattle.aat_shaped_text.specs.ShapedText.{line_glyph, most_glyphs, most_operations, most_text, text_buffer, text_props, text_unicode_props};
 
+use crate::kinds::number_of_kind;
 use aat_layout::AatError;
 use aat_layout::buffer::{Direction, hb_buffer_t, hb_glyph_info_t, hb_mask_t};
 use aat_layout::font::{Feature, GlyphId, hb_font_t};
@@ -38,6 +39,10 @@ pub(crate) const MARK: u16 = 8;
 /// A component that a ligature deletes gets 0x20 alone, and may be given a glyph again.
 const IGNORABLE_CHARACTER: u16 = 0x60;
 
+/// What the number of the kind of a character is multiplied with, so that it stands above the layer's properties and
+/// `IGNORABLE_CHARACTER`. The layer leaves it as it is.
+pub(crate) const KIND: u16 = 0x80;
+
 /// The most glyphs that the line of a text may have.
 fn most_glyphs(len: usize) -> usize
     requires { len ≤ most_text }
@@ -70,6 +75,18 @@ fn text_props(face: &hb_font_t, is_classed: bool, glyph: &TextGlyph) -> u16
     }
 }
 
+/// What a glyph of a text says of its character.
+fn text_unicode_props(glyph: &TextGlyph) -> u16
+    ensures { result ≡ text_unicode_props glyph.now }
+{
+    let ignorable = if glyph.is_ignorable {
+        IGNORABLE_CHARACTER
+    } else {
+        0
+    };
+    number_of_kind(glyph.kind) * KIND + ignorable
+}
+
 /// A glyph of a text as one of a line, given whether the font has classes of glyphs.
 fn line_glyph(
     face: &hb_font_t,
@@ -87,11 +104,7 @@ fn line_glyph(
         mask: if is_kerned { KERNED } else { 0 },
         cluster: glyph.cluster,
         glyph_props: text_props(face, is_classed, glyph),
-        unicode_props: if glyph.is_ignorable {
-            IGNORABLE_CHARACTER
-        } else {
-            0
-        },
+        unicode_props: text_unicode_props(glyph),
     }
 }
 

@@ -1,26 +1,24 @@
 -- Where what is drawn of a text may be broken, its marks without width and its ignorable glyphs hidden.
-use Rattle.std.proofs.Common.{◌≡◌, ◌∙◌, sym, ap, ap₂, refl, subst, ℕ, zero, suc, ◌+◌, ◌-◌, ◌<◌, ◌≤◌, ◌&&◌, Bool, true, false, not, cond, List, [], ◌∷◌, ◌++◌, Option, Some, None, drop, filter, get_or, length, map, max, take, arith, true≢false}
+use Rattle.std.proofs.Common.{◌≡◌, ◌∙◌, sym, ap, ap₂, refl, subst, ℕ, zero, suc, ◌+◌, ◌-◌, ◌<◌, ◌&&◌, Bool, true, false, not, cond, List, [], ◌∷◌, ◌++◌, Option, Some, None, drop, filter, get_or, length, map, max, take, arith, true≢false}
 use Rattle.std.specs.Bool.{MatchBool}
 use Rattle.std.specs.List.{range_with_len}
-use Rattle.std.specs.Prelude.{ℤ}
 use Rattle.std.proofs.lemmas.List.{drop-map, get_or-append-add, get_or-drop, get_or-map, get_or-take, length-append, length-drop, length-map, length-take-le, take-map}
-use Rattle.aat_font.specs.declared.face.hb_font_t.{hb_font_t}
-use Rattle.aat_font.specs.declared.plan.Feature.{Feature}
 use Rattle.aat_glyph.specs.Directions.{is_backward}
-use Rattle.aat_glyph.specs.declared.glyph.Direction.{Direction}
 use Rattle.aat_lookup.specs.declared.glyph_id.GlyphId.{GlyphId}
 use Rattle.aat_shaped_text.specs.Parts.{IsDrawnInParts, LooksAsParts, TextsAreDrawnInParts, cut_before, looks, no_shaped_glyph, shaped_at, text_before, text_from}
-use Rattle.aat_shaped_text.specs.ShapedText.{most_text, shaped_text}
+use Rattle.aat_shaped_text.specs.ShapedText.{shaped_text}
 use Rattle.aat_shaped_text.specs.declared.text.ShapedGlyph.{ShapedGlyph}
 use Rattle.aat_shaped_text.specs.declared.text.TextGlyph.{TextGlyph}
-use Rattle.aat_text.specs.HiddenParts.{BreaksHoldAsShown, IsShownInParts, ShowsAsParts, Showing, shown, shown_text, with_ignorables, with_marks}
+use Rattle.aat_text.specs.Columns.{ColumnMetrics, in_column, in_columns}
+use Rattle.aat_text.specs.HiddenParts.{BreaksHoldAsShown, ShowsAsParts, Showing, asked, shown, shown_text}
 use Rattle.aat_text.specs.Ignorables.{as_space, drawn_without_ignorables, kept_glyph, kept_glyphs, places_kept, space_for, stays}
-use Rattle.aat_text.specs.Marks.{without_width, zeroed_mark}
+use Rattle.aat_text.specs.MarkBoxes.{place_marks, placed_marks}
+use Rattle.aat_text.specs.Marks.{zero_marks, zeroed_mark}
+use Rattle.aat_text.specs.Spaces.{SpaceMetrics, widen_spaces, widened}
 use Rattle.aat_shaped_text.proofs.Looks.{looks_of_places}
 use Rattle.aat_text.proofs.HiddenGlyphs.{passed_more}
-
-abbrev Drawn : Type 0
-Drawn = List ShapedGlyph
+use Rattle.aat_text.proofs.PlacedMarks.{placed_keep}
+use Rattle.aat_text.proofs.Shown.{Drawn, IsByGlyph, KeepsBreaks, ShownAt, as_they_are, by_column, by_mark, by_width, glyph_by_glyph, one_by_one}
 
 -- the places from a on, of n, that pass a test
 abbrev passed : (ℕ → Bool) → ℕ → ℕ → List ℕ
@@ -152,82 +150,6 @@ looks_from glyphs a (x ∷ xs) same =
     by true is look below = whole is ∙ below
     by false is look below = whole is ∙ ap₂ (λ (h : ShapedGlyph) (hs : Drawn). h ∷ hs) look below
 
--- The place of a glyph that is shown: it says the same of a break, which cuts the text at the same cluster, and the glyphs
--- before it and from it on look as those before and from it on do, changed.
-record ShownAt (change : Drawn → Drawn) (glyphs seen : Drawn) (k : ℕ) : Type 0 where
-  at : ℕ
-  low : at < length glyphs
-  breaks : (shaped_at glyphs at).may_break_before ≡ true
-  cut : cut_before seen k ≡ cut_before glyphs at
-  front : map looks (take k seen) ≡ change (map looks (take at glyphs))
-  back : map looks (drop k seen) ≡ change (map looks (drop at glyphs))
-
--- a way to show glyphs changes how they look so, and keeps what is told of breaks
-record KeepsBreaks (show change : Drawn → Drawn) : Type 0 where
-  looked : (glyphs : Drawn) → map looks (show glyphs) ≡ change (map looks glyphs)
-  shown_at :
-      (glyphs : Drawn) (k : ℕ) → k < length (show glyphs) → (shaped_at (show glyphs) k).may_break_before ≡ true
-      → ShownAt change glyphs (show glyphs) k
-
--- so does showing them as they are
-as_they_are : KeepsBreaks (λ glyphs. glyphs) (λ glyphs. glyphs)
-as_they_are = record {
-  looked = λ glyphs. refl;
-  shown_at = λ glyphs k low may. record { at = k; low = low; breaks = may; cut = refl; front = refl; back = refl };
-}
-
--- and so do two ways, one after the other
-one_by_one :
-    (show change later after : Drawn → Drawn) → KeepsBreaks show change → KeepsBreaks later after
-    → KeepsBreaks (λ glyphs. later (show glyphs)) (λ glyphs. after (change glyphs))
-one_by_one show change later after first second = record {
-  looked = λ glyphs. second.looked (show glyphs) ∙ ap after (first.looked glyphs);
-  shown_at = λ glyphs k low may.
-      let y = second.shown_at (show glyphs) k low may in
-      let x = first.shown_at glyphs y.at y.low y.breaks in
-      record {
-        at = x.at;
-        low = x.low;
-        breaks = x.breaks;
-        cut = y.cut ∙ x.cut;
-        front = y.front ∙ ap after x.front;
-        back = y.back ∙ ap after x.back;
-      };
-}
-
--- a change of each glyph by itself that keeps its cluster and what it says of a break, and looks at how it looks alone
-record IsByGlyph (f : ShapedGlyph → ShapedGlyph) : Type 0 where
-  look : (g : ShapedGlyph) → looks (f g) ≡ f (looks g)
-  cluster : (g : ShapedGlyph) → (f g).cluster ≡ g.cluster
-  break : (g : ShapedGlyph) → (f g).may_break_before ≡ g.may_break_before
-
-module _ (f : ShapedGlyph → ShapedGlyph) (is : IsByGlyph f) where
-  looks_each : (glyphs : Drawn) → map looks (map f glyphs) ≡ map f (map looks glyphs)
-  looks_each [] = refl
-  looks_each (g ∷ glyphs) = ap₂ (λ (h : ShapedGlyph) (hs : Drawn). h ∷ hs) (is.look g) (looks_each glyphs)
-
-  each_at : (glyphs : Drawn) (k : ℕ) → k < length glyphs → shaped_at (map f glyphs) k ≡ f (shaped_at glyphs k)
-  each_at glyphs k low = get_or-map f glyphs k no_shaped_glyph no_shaped_glyph low
-
-  shown_each :
-      (glyphs : Drawn) (k : ℕ) → k < length (map f glyphs) → (shaped_at (map f glyphs) k).may_break_before ≡ true
-      → ShownAt (map f) glyphs (map f glyphs) k
-  shown_each glyphs k low may =
-      let within : k < length glyphs = omega (arith, low, length-map glyphs f) in
-      let cluster : (j : ℕ) → j < length glyphs → (shaped_at (map f glyphs) j).cluster ≡ (shaped_at glyphs j).cluster =
-      λ j inside. ap (λ (g : ShapedGlyph). g.cluster) (each_at glyphs j inside) ∙ is.cluster (shaped_at glyphs j) in
-      record {
-        at = k;
-        low = within;
-        breaks = sym (ap (λ (g : ShapedGlyph). g.may_break_before) (each_at glyphs k within) ∙ is.break (shaped_at glyphs k)) ∙ may;
-        cut = ap₂ max (cluster (k - 1) (omega (arith, within))) (cluster k within);
-        front = ap (map looks) (take-map f k glyphs) ∙ looks_each (take k glyphs);
-        back = ap (map looks) (drop-map f k glyphs) ∙ looks_each (drop k glyphs);
-      }
-
-  glyph_by_glyph : KeepsBreaks (map f) (map f)
-  glyph_by_glyph = record { looked = looks_each; shown_at = shown_each }
-
 -- a space in place of an ignorable glyph
 by_space : (space : GlyphId) → IsByGlyph (space_for space)
 by_space space = record {
@@ -245,26 +167,6 @@ by_space space = record {
     cluster g false = refl
 
     break : (g : ShapedGlyph) (t : Bool) → (cond t (as_space space g) g).may_break_before ≡ g.may_break_before
-    break g true = refl
-    break g false = refl
-
--- a mark without width
-by_mark : (moves : Bool) → IsByGlyph (zeroed_mark moves)
-by_mark moves = record {
-  look = λ g. look g g.is_mark;
-  cluster = λ g. cluster g g.is_mark;
-  break = λ g. break g g.is_mark;
-}
-  where
-    look : (g : ShapedGlyph) (t : Bool) → looks (cond t (without_width moves g) g) ≡ cond t (without_width moves (looks g)) (looks g)
-    look g true = refl
-    look g false = refl
-
-    cluster : (g : ShapedGlyph) (t : Bool) → (cond t (without_width moves g) g).cluster ≡ g.cluster
-    cluster g true = refl
-    cluster g false = refl
-
-    break : (g : ShapedGlyph) (t : Bool) → (cond t (without_width moves g) g).may_break_before ≡ g.may_break_before
     break g true = refl
     break g false = refl
 
@@ -325,31 +227,51 @@ looks_kept glyphs =
     ∙ looks_from glyphs 0 glyphs (λ j low. let same : 0 + j ≡ j = omega arith in ap (shaped_at glyphs) same)
 
 -- How showing changes looks.
-abbrev marks_change : Option Bool → Drawn → Drawn
-marks_change None glyphs = glyphs
-marks_change (Some moves) glyphs = map (zeroed_mark moves) glyphs
-
-abbrev hidden_change : Option (Option GlyphId) → Drawn → Drawn
-hidden_change None glyphs = glyphs
-hidden_change (Some (Some space)) glyphs = map (space_for space) glyphs
-hidden_change (Some None) glyphs = filter stays glyphs
-
-marks_keep : (o : Option Bool) → KeepsBreaks (with_marks o) (marks_change o)
-marks_keep None = as_they_are
-marks_keep (Some moves) = glyph_by_glyph (zeroed_mark moves) (by_mark moves)
-
-ignorables_keep : (o : Option (Option GlyphId)) → KeepsBreaks (with_ignorables o) (hidden_change o)
-ignorables_keep None = as_they_are
-ignorables_keep (Some (Some space)) = glyph_by_glyph (space_for space) (by_space space)
-ignorables_keep (Some None) = record { looked = looks_kept; shown_at = shown_kept }
+abbrev hidden_change : Option GlyphId → Drawn → Drawn
+hidden_change (Some space) glyphs = map (space_for space) glyphs
+hidden_change None glyphs = filter stays glyphs
 
 abbrev change : Showing → Drawn → Drawn
-change s glyphs = hidden_change s.ignorables (marks_change s.marks glyphs)
+change s glyphs =
+    asked hidden_change s.ignorables
+    (asked placed_marks s.boxes (asked zero_marks s.marks (asked widen_spaces s.spaces (asked in_columns s.columns glyphs))))
+
+asked_keep :
+    {X : Type 0} (show change : X → Drawn → Drawn) → ((x : X) → KeepsBreaks (show x) (change x)) → (o : Option X)
+    → KeepsBreaks (asked show o) (asked change o)
+asked_keep show change keep None = as_they_are
+asked_keep show change keep (Some x) = keep x
+
+hidden_keep : (o : Option GlyphId) → KeepsBreaks (drawn_without_ignorables o) (hidden_change o)
+hidden_keep (Some space) = glyph_by_glyph (space_for space) (by_space space)
+hidden_keep None = record { looked = looks_kept; shown_at = shown_kept }
+
+columns_keep : (m : ColumnMetrics) → KeepsBreaks (in_columns m) (in_columns m)
+columns_keep m = glyph_by_glyph (in_column m) (by_column m)
+
+spaces_keep : (m : SpaceMetrics) → KeepsBreaks (widen_spaces m) (widen_spaces m)
+spaces_keep m = glyph_by_glyph (λ g. widened m g.kind g) (by_width m)
+
+marks_keep : (moves : Bool) → KeepsBreaks (zero_marks moves) (zero_marks moves)
+marks_keep moves = glyph_by_glyph (zeroed_mark moves) (by_mark moves)
+
+-- one way to show glyphs behind another one that is asked
+then_asked :
+    {X : Type 0} (before after : Drawn → Drawn) (show change : X → Drawn → Drawn) → KeepsBreaks before after
+    → ((x : X) → KeepsBreaks (show x) (change x)) → (o : Option X)
+    → KeepsBreaks (λ glyphs. asked show o (before glyphs)) (λ glyphs. asked change o (after glyphs))
+then_asked before after show change first keep o =
+    one_by_one before after (asked show o) (asked change o) first (asked_keep show change keep o)
 
 showing_keeps : (s : Showing) → KeepsBreaks (shown s) (change s)
 showing_keeps s =
-    one_by_one (with_marks s.marks) (marks_change s.marks) (with_ignorables s.ignorables) (hidden_change s.ignorables)
-    (marks_keep s.marks) (ignorables_keep s.ignorables)
+    then_asked _ _ drawn_without_ignorables hidden_change
+    (then_asked _ _ place_marks placed_marks
+    (then_asked _ _ zero_marks zero_marks
+    (then_asked _ _ widen_spaces widen_spaces (asked_keep in_columns in_columns columns_keep s.columns) spaces_keep s.spaces)
+    marks_keep s.marks)
+    placed_keep s.boxes)
+    hidden_keep s.ignorables
 
 match_map : {A B C D : Type 0} (t : Bool) → (A → C) → (B → D) → MatchBool t A B → MatchBool t C D
 match_map true f g m = f m

@@ -1,5 +1,5 @@
 -- Worked examples of texts, written out as their characters.
-use Rattle.std.specs.Prelude.{◌≡◌, ℕ, ℤ, pos, negsuc, true, false, List, [], ◌∷◌, map, encode_utf8_all, Option, Some, None}
+use Rattle.std.specs.Prelude.{◌≡◌, ℕ, ℤ, pos, negsuc, true, false, List, [], ◌∷◌, map, encode_utf8_all, Some, None}
 use Rattle.aat_face.specs.Faces.{FaceValue}
 use Rattle.aat_glyph.specs.declared.glyph.Direction.TheVariants.{LeftToRight, RightToLeft}
 use Rattle.aat_shaped_text.specs.Parts.{no_shaped_glyph}

@@ -1,4 +1,4 @@
--- Where what is drawn of a text may be broken, its marks without width and its ignorable glyphs hidden. (No chapter of
+-- Where what is drawn of a text may be broken, its glyphs in their places and its ignorable glyphs hidden. (No chapter of
 -- the manual: where a line may be broken is the shaper's own.)
 use Rattle.std.specs.Prelude.{◌≡◌, ℕ, ℤ, ◌<◌, ◌≤◌, Bool, true, drop, List, length, map, Option, Some, None, take}
 use Rattle.std.specs.Bool.{MatchBool}
@@ -11,28 +11,37 @@ use Rattle.aat_shaped_text.specs.Parts.{cut_before, looks, shaped_at, text_befor
 use Rattle.aat_shaped_text.specs.ShapedText.{most_text, shaped_text}
 use Rattle.aat_shaped_text.specs.declared.text.ShapedGlyph.{ShapedGlyph}
 use Rattle.aat_shaped_text.specs.declared.text.TextGlyph.{TextGlyph}
+use Rattle.aat_text.specs.Columns.{ColumnMetrics, in_columns}
 use Rattle.aat_text.specs.Ignorables.{drawn_without_ignorables}
+use Rattle.aat_text.specs.MarkBoxes.{MarkPlacing, place_marks}
 use Rattle.aat_text.specs.Marks.{zero_marks}
+use Rattle.aat_text.specs.Spaces.{SpaceMetrics, widen_spaces}
 
--- How what is drawn of a text is shown: where marks have no width, whether they move; and where ignorable glyphs are
--- hidden, as which space, if the font has one.
+-- How what is drawn of a text is shown, each where that is asked: how glyphs stand in columns, what spaces are as wide
+-- as, whether marks without width move, what marks are placed by, and as which space, if the font has one, ignorable
+-- glyphs are hidden.
 pub record Showing : Type 0 where
+  pub columns : Option ColumnMetrics
+  pub spaces : Option SpaceMetrics
   pub marks : Option Bool
+  pub boxes : Option MarkPlacing
   pub ignorables : Option (Option GlyphId)
 
--- glyphs, with marks without width where that is asked
-abbrev pub with_marks : Option Bool → List ShapedGlyph → List ShapedGlyph
-with_marks None glyphs = glyphs
-with_marks (Some moves) glyphs = zero_marks moves glyphs
+-- glyphs that are changed by what is asked, if anything is
+abbrev pub asked :
+    {X : Type 0} → (X → List ShapedGlyph → List ShapedGlyph) → Option X → List ShapedGlyph → List ShapedGlyph
+asked change None glyphs = glyphs
+asked change (Some x) glyphs = change x glyphs
 
--- glyphs, with ignorable ones hidden where that is asked
-abbrev pub with_ignorables : Option (Option GlyphId) → List ShapedGlyph → List ShapedGlyph
-with_ignorables None glyphs = glyphs
-with_ignorables (Some space) glyphs = drawn_without_ignorables space glyphs
+-- glyphs in their places: in columns, then spaces as wide as they are to be, and then marks, first without width and
+-- then placed by boxes
+abbrev pub positioned : Showing → List ShapedGlyph → List ShapedGlyph
+positioned s glyphs =
+    asked place_marks s.boxes (asked zero_marks s.marks (asked widen_spaces s.spaces (asked in_columns s.columns glyphs)))
 
--- glyphs as they are shown: first marks lose their width, and then ignorable glyphs are hidden
+-- glyphs as they are shown: in their places, and then ignorable glyphs are hidden
 abbrev pub shown : Showing → List ShapedGlyph → List ShapedGlyph
-shown s glyphs = with_ignorables s.ignorables (with_marks s.marks glyphs)
+shown s glyphs = asked drawn_without_ignorables s.ignorables (positioned s glyphs)
 
 -- what is shown of a text that is tracked by a value
 abbrev pub shown_text : Showing → ℤ → hb_font_t → Direction → List Feature → List TextGlyph → List ShapedGlyph

@@ -1,17 +1,18 @@
 -- The glyphs of a text as HarfBuzz hands it to the layer.
-use Rattle.std.specs.Prelude.{ℕ, ◌+◌, Bool, List, map, reverse, Option, unwrap_or, if◌then◌else◌}
-use Rattle.std.specs.List.{flat_map}
-use Rattle.std.specs.Str.{chars}
+use Rattle.std.specs.Prelude.{ℕ, Bool, List, map, Option, unwrap_or, if◌then◌else◌}
 use Rattle.ucd_script.specs.declared.Script.{Script}
 use Rattle.aat_face.specs.Faces.{FaceValue}
 use Rattle.aat_glyph.specs.Directions.{is_backward, is_forward, is_vertical}
 use Rattle.aat_glyph.specs.declared.glyph.Direction.{Direction}
 use Rattle.aat_shaped_text.specs.declared.text.TextGlyph.{TextGlyph}
+use Rattle.aat_characters.specs.Clusters.{merged_clusters, turned_clusters}
 use Rattle.aat_characters.specs.Composed.{normalized}
 use Rattle.aat_characters.specs.Decomposed.{has_glyph}
 use Rattle.aat_characters.specs.Exchanges.{mirrored, vertical_form}
 use Rattle.aat_characters.specs.Native.{native_direction, natural_direction}
-use Rattle.aat_text.specs.Places.{clusters, width_in, with_places}
+use Rattle.aat_characters.specs.PlacedCharacters.{placed}
+use Rattle.aat_text.specs.Kinds.{placed_kind}
+use Rattle.aat_text.specs.Places.{characters}
 use Rattle.aat_text.specs.TextGlyphs.{text_glyph}
 use Rattle.aat_text.specs.declared.clusters.ClusterLevel.{ClusterLevel}
 use Rattle.aat_text.specs.declared.clusters.ClusterLevel.TheVariants.{Graphemes, Characters}
@@ -33,24 +34,25 @@ exchanged has direction character =
     let seen = mirrored_in has direction character in
     if is_vertical direction then preferred has (vertical_form seen) seen else seen
 
--- how far the place moves behind a character of a cluster
-abbrev pub step_of : ClusterLevel → ClusterUnit → ℕ → ℕ
-step_of Graphemes unit character = 0
-step_of Characters unit character = width_in unit character
+-- so is a character at its place
+abbrev pub exchanged_at : (ℕ → Bool) → Direction → PlacedCharacter → PlacedCharacter
+exchanged_at has direction c = record c { character = exchanged has direction c.character }
 
--- the characters of a cluster, exchanged, with their places
-abbrev pub cluster_characters : (ℕ → Bool) → Direction → ClusterLevel → ClusterUnit → ℕ × List ℕ → List PlacedCharacter
-cluster_characters has direction level unit (place, piece) =
-    map (λ (at, character). record { place = at; character = exchanged has direction character })
-    (with_places (step_of level unit) place (chars piece))
+-- the characters of a text, each at its own place
+abbrev pub own_characters : ClusterUnit → List ℕ → List PlacedCharacter
+own_characters unit text = map placed (characters unit text)
+
+-- the same at their own places or at those of their clusters
+abbrev pub by_level : ClusterLevel → List PlacedCharacter → List PlacedCharacter
+by_level Graphemes characters = merged_clusters characters
+by_level Characters characters = characters
 
 -- those of a text in its order, and those of one whose clusters are taken from last to first, each with one place
 abbrev pub placed_text : (ℕ → Bool) → Direction → ClusterLevel → ClusterUnit → List ℕ → List PlacedCharacter
-placed_text has direction level unit text = flat_map (cluster_characters has direction level unit) (clusters unit text)
+placed_text has direction level unit text = map (exchanged_at has direction) (by_level level (own_characters unit text))
 
 abbrev pub turned_text : (ℕ → Bool) → Direction → ClusterUnit → List ℕ → List PlacedCharacter
-turned_text has direction unit text =
-    flat_map (cluster_characters has direction Graphemes unit) (reverse (clusters unit text))
+turned_text has direction unit text = map (exchanged_at has direction) (turned_clusters (own_characters unit text))
 
 -- the direction that a text is told, or else that of its script
 abbrev pub told_direction : Option Direction → Option Script → Direction
@@ -69,8 +71,12 @@ shaped_characters has script direction level unit text =
     normalized has
     (if is_turned script direction text then turned_text has direction unit text else placed_text has direction level unit text)
 
+-- a character as a glyph
+abbrev pub placed_glyph : FaceValue → PlacedCharacter → TextGlyph
+placed_glyph face c = record (text_glyph face c.place c.character) { kind = placed_kind c }
+
 -- their glyphs
 abbrev pub prepared_glyphs :
     FaceValue → ClusterUnit → ClusterLevel → Option Script → Direction → List ℕ → List TextGlyph
 prepared_glyphs face unit level script direction text =
-    map (λ c. text_glyph face c.place c.character) (shaped_characters (has_glyph face) script direction level unit text)
+    map (placed_glyph face) (shaped_characters (has_glyph face) script direction level unit text)

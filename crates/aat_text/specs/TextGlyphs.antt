@@ -9,6 +9,7 @@ use Rattle.ucd_category.specs.declared.GeneralCategory.TheVariants as Category
 use Rattle.ucd_derived.specs.Binary.{is_default_ignorable_code_point}
 use Rattle.aat_face.specs.Faces.{FaceValue, glyph_of_character}
 use Rattle.aat_shaped_text.specs.declared.text.TextGlyph.{TextGlyph}
+use Rattle.aat_text.specs.Kinds.{character_kind}
 use Rattle.aat_text.specs.Places.{clusters}
 use Rattle.aat_text.specs.declared.unit.ClusterUnit.{ClusterUnit}
 
@@ -28,6 +29,7 @@ text_glyph face cluster character = record {
   cluster = cluster;
   is_ignorable = is_default_ignorable_code_point character;
   is_mark = is_mark_character character;
+  kind = character_kind character;
 }
 
 -- the glyphs of the characters of a text, each with the place of its extended grapheme cluster

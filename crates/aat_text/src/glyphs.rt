@@ -5,6 +5,7 @@ ghost use Rattle.aat_text.specs.TextGlyphs.{is_mark_character, text_glyph, text_
 ghost use Rattle.aat_text.specs.declared.error.TextError.TheVariants as errors;
 
 use crate::error::TextError;
+use crate::kinds::character_kind;
 use crate::unit::ClusterUnit;
 use aat_face::Face;
 use aat_shaped_text::TextGlyph;
@@ -39,6 +40,7 @@ pub(crate) fn text_glyph(face: &Face, cluster: u32, character: char) -> TextGlyp
         cluster,
         is_ignorable: is_default_ignorable_code_point(character),
         is_mark: is_mark_character(character),
+        kind: character_kind(character),
     }
 }
 
@@ -61,8 +63,12 @@ fn put_cluster<A: Allocator>(
 ///
 /// The glyph is that of the character in the font, and 0 where the font has none. Its cluster is the place at which the
 /// extended grapheme cluster of the character begins, as Unicode has it: the number of bytes or of characters of the
-/// text before it, as `unit` says. It is ignorable where Unicode has the character as a Default_Ignorable_Code_Point,
-/// and else a mark where its General_Category is Mn. So clusters never fall along the text.
+/// text before it, as `unit` says. Clusters never fall along the text.
+///
+/// The glyph is ignorable (`is_ignorable`) where the character is a `Default_Ignorable_Code_Point`. It is a mark
+/// (`is_mark`) where the character is not ignorable and its `General_Category` is Mn. Its kind is `Mark`, with the class
+/// by which HarfBuzz places marks by their boxes, where the `General_Category` is Mn, Mc or Me, also of an ignorable
+/// character, and else `Other`.
 ///
 /// Refused as 1 `TooLong` exactly where the text has more than 4,294,967,295 bytes, and else as 2 `OutOfMemory` where
 /// memory is wanting.

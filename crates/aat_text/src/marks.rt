@@ -29,7 +29,7 @@ fn without_width(moves: bool, glyph: ShapedGlyph) -> ShapedGlyph
 }
 
 /// A glyph, without width where it is a mark.
-fn zeroed_mark(moves: bool, glyph: ShapedGlyph) -> ShapedGlyph
+pub(crate) fn zeroed_mark(moves: bool, glyph: ShapedGlyph) -> ShapedGlyph
     ensures { result ≡ zeroed_mark moves glyph }
 {
     if glyph.is_mark {
@@ -43,10 +43,11 @@ fn zeroed_mark(moves: bool, glyph: ShapedGlyph) -> ShapedGlyph
 ///
 /// Each glyph that is a mark gets advances of 0, in units of the font as all lengths are. Where marks move (`moves`),
 /// the advances that it had are taken from its offsets: it is drawn over what is before it, and differences wrap at 32
-/// bits. All else stays as it was, other glyphs too. So does HarfBuzz 12.3.2, which also tells when: where the script
-/// asks for it, and the font has neither `kerx` nor machines of `kern`. There marks move in forward texts, unless
-/// `kern` goes across the line. A glyph that is attached to one before a mark does not follow, since its offset is
-/// added up.
+/// bits. Nothing else of a mark changes, and glyphs that are no marks stay as they were. Offsets of glyphs that are
+/// attached over a mark stay too, though the advance that it had was added up in them.
+///
+/// HarfBuzz 12.3.2 does so where the script asks for it, and the font has neither `kerx` nor machines of `kern`. Its
+/// marks move in forward texts, unless `kern` goes across the line.
 ///
 /// Where the text may be broken before a glyph, its two parts, with their marks so, look by themselves as they do here.
 ///

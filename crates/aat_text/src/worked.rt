@@ -1,6 +1,7 @@
 //! Worked examples as theorems. These calls do nothing: what is proved is their contracts.
-ghost use Rattle.aat_text.specs.PreparedExamples.{HebrewIsTurned, ParenthesesAreMirrored};
+ghost use Rattle.aat_text.specs.PreparedExamples.{FamiliesStayWhole, HebrewIsTurned, KindsAreTold, ParenthesesAreMirrored};
 ghost use Rattle.aat_text.specs.Examples.{AccentsAreMarks, AccentsShareClusters, BreaksAreForced, ClosingBracketsStay, HiddenGlyphsAreSpaces, HiddenGlyphsGo, IdeographsEndLines, IgnorablesAreNotMissing, JoinersAreIgnorable, LettersAreStrong, LinesEndBehindSpaces, MarksHaveNoWidth};
+ghost use Rattle.aat_text.specs.ShowingExamples.{ColumnsRunDown, MarksAreStacked, MarksHaveSides, MarksOfBackwardText, MarksStayBeyond, MarksWithoutBoxes, SpacesAreWidened, SpacesHaveWidths};
 
 /// The definitions of glyphs and of missing characters compute to the examples.
 pub fn glyphs()
@@ -18,6 +19,8 @@ pub fn directions()
 /// The definition of prepared texts computes to the examples.
 pub fn prepared()
     ensures turned { HebrewIsTurned }
+    ensures whole { FamiliesStayWhole }
+    ensures kinds { KindsAreTold }
     ensures mirrored { ParenthesesAreMirrored }
 {}
 
@@ -38,4 +41,16 @@ pub fn ignorables()
 /// The definition of what is drawn with marks without width computes to the examples.
 pub fn marks()
     ensures { MarksHaveNoWidth }
+{}
+
+/// The definitions of columns, of widths of spaces, and of marks that are placed by boxes compute to the examples.
+pub fn placed()
+    ensures columns { ColumnsRunDown }
+    ensures widths { SpacesHaveWidths }
+    ensures widened { SpacesAreWidened }
+    ensures stacked { MarksAreStacked }
+    ensures sides { MarksHaveSides }
+    ensures beyond { MarksStayBeyond }
+    ensures boxless { MarksWithoutBoxes }
+    ensures backward { MarksOfBackwardText }
 {}

@@ -1,3 +1,4 @@
+pub mod BreaksHeld
 pub mod Counted
 pub mod EndsKept
 pub mod FeaturesRead

@@ -19,7 +19,7 @@ with_feature number (Err error) others = Err (NoFeature number error)
 with_feature number (Ok feature) (Err error) = Err error
 with_feature number (Ok feature) (Ok features) = Ok (feature ∷ features)
 
--- the features of texts, which are numbered from one on
+-- the features of texts, which are numbered from a number on
 abbrev pub features_from : ℕ → List (List ℕ) → Result (List Feature) FeatureListError
 features_from number [] = Ok []
 features_from number (text ∷ texts) = with_feature number (feature_of text) (features_from (number + 1) texts)
@@ -28,7 +28,7 @@ features_from number (text ∷ texts) = with_feature number (feature_of text) (f
 abbrev pub texts_of : List ℕ → List (List ℕ)
 texts_of list = slice_split (λ b. b == 0x2C) list
 
--- the features of a list
+-- the features of a list, whose texts are numbered from 0
 abbrev pub features_of : List ℕ → Result (List Feature) FeatureListError
 features_of list = features_from 0 (texts_of list)
 

@@ -1,3 +1,4 @@
+pub mod Examples
 pub mod FeatureLists
 pub mod Prepared
 pub mod ScriptSettings

@@ -56,3 +56,15 @@ abbrev pub marks_for : hb_font_t → Option ScriptRules → Direction → Option
 marks_for font None direction = None
 marks_for font (Some rules) direction =
     if zeroes_marks font rules then Some (moves_marks font rules direction) else None
+
+-- Marks are placed by boxes where the script's shaper does so, as it does where it takes `kern`, and neither `kerx` acts
+-- nor `kern` across the line.
+abbrev pub places_marks : hb_font_t → ScriptRules → Bool
+places_marks font rules =
+    applies_kern rules && is_none (tables_of font).kerx && not (kerns_across font rules)
+
+-- where they are, whether those that lose their width move
+abbrev pub boxes_for : hb_font_t → Option ScriptRules → Direction → Option Bool
+boxes_for font None direction = None
+boxes_for font (Some rules) direction =
+    if places_marks font rules then Some (moves_marks font rules direction) else None

@@ -1,5 +1,10 @@
 -- A text in one line, as it is typeset.
-use Rattle.std.specs.Prelude.{◌≡◌, ℕ, ℤ, pos, ◌<◌, ◌≤◌, Bool, true, false, List, [], length, Option, Some, None, if◌then◌else◌}
+use Rattle.std.specs.Prelude.{◌≡◌, ℕ, ℤ, pos, ◌<◌, ◌≤◌, Bool, true, false, List, [], length, option_map, Option, Some, None, if◌then◌else◌}
+use Rattle.aat_characters.specs.declared.script_rules.ScriptRules.{ScriptRules}
+use Rattle.aat_glyph.specs.Directions.{is_vertical}
+use Rattle.aat_glyph.specs.declared.glyph.Direction.{Direction}
+use Rattle.aat_text.specs.Columns.{ColumnMetrics}
+use Rattle.aat_text.specs.FaceMetrics.{column_metrics, mark_placing, space_metrics}
 use Rattle.std.specs.Option.{option_map_or}
 use Rattle.aat_face.specs.Faces.{FaceValue, glyph_of_character}
 use Rattle.aat_font.specs.Face.{tables_of}
@@ -11,10 +16,11 @@ use Rattle.aat_run.specs.declared.error.AatError.{AatError}
 use Rattle.aat_shaped_text.specs.Parts.{shaped_at}
 use Rattle.aat_shaped_text.specs.ShapedText.{RefusesText, most_text, shaped_text, uses_up_budget}
 use Rattle.aat_shaped_text.specs.declared.text.ShapedGlyph.{ShapedGlyph}
+use Rattle.aat_shaped_text.specs.declared.text.TextGlyph.{TextGlyph}
 use Rattle.aat_shaper.specs.Shaper.{TrackValues, no_values, value_along, values_at}
 use Rattle.aat_text.specs.HiddenParts.{IsShownInParts, Showing, shown}
-use Rattle.aat_typesetter.specs.Prepared.{Prepared, no_text, options_for_lines, prepared}
-use Rattle.aat_typesetter.specs.ScriptSettings.{features_for, marks_for}
+use Rattle.aat_typesetter.specs.Prepared.{Prepared, glyph_text, no_text, options_for_lines, prepared}
+use Rattle.aat_typesetter.specs.ScriptSettings.{boxes_for, features_for, marks_for}
 use Rattle.aat_typesetter.specs.declared.options.TextOptions.{TextOptions}
 
 -- a typesetter: its face, and the font of that face for the layer; of the text that was typeset last its glyphs and its
@@ -40,12 +46,27 @@ size_for face (Some size) = size
 abbrev pub values_for : FaceValue → Option ℕ → TrackValues
 values_for face size = option_map_or (λ table. values_at table (pos 0) (size_for face size)) face.tracking no_values
 
--- what is typeset: a text that is ready, with the font, the features, the value by which it is tracked, where its marks
--- lose their width, whether they move, and the glyph of the space
+-- how glyphs of a face stand in columns, where the text is vertical
+abbrev pub columns_for : FaceValue → Direction → Option ColumnMetrics
+columns_for face direction = if is_vertical direction then Some (column_metrics face) else None
+
+-- how what is drawn of a text in a face is shown, as HarfBuzz does: in columns where it is vertical, spaces as wide as
+-- they are to be, marks without width and placed by boxes where the script asks for that, and ignorable glyphs hidden
+unfoldable pub showing_for : FaceValue → hb_font_t → Option ScriptRules → Direction → Showing
+showing_for face font rules direction = record {
+  columns = columns_for face direction;
+  spaces = Some (space_metrics face direction);
+  marks = marks_for font rules direction;
+  boxes = option_map (mark_placing face direction) (boxes_for font rules direction);
+  ignorables = Some (glyph_of_character face 0x20);
+}
+
+-- what is typeset: a text that is ready, with the font, the glyph of the space, the features, the value by which it is
+-- tracked, and how what is drawn is shown
 pub record Setting : Type 0 where
   pub font : hb_font_t
   pub space : Option GlyphId
-  pub marks : Option Bool
+  pub showing : Showing
   pub value : ℤ
   pub features : List Feature
   pub text : Prepared
@@ -55,7 +76,7 @@ abbrev pub setting_of : TypesetterValue → TextOptions → Prepared → Setting
 setting_of t options text = record {
   font = t.font;
   space = glyph_of_character t.face 0x20;
-  marks = marks_for t.font text.rules text.direction;
+  showing = showing_for t.face t.font text.rules text.direction;
   value = value_along (values_for t.face options.size) text.direction;
   features = features_for t.font text.rules options.features.now;
   text = text;
@@ -65,13 +86,13 @@ setting_of t options text = record {
 abbrev pub setting : TypesetterValue → TextOptions → List ℕ → Setting
 setting t options text = setting_of t options (prepared t.face options text)
 
--- one that is broken into lines
+-- a text of glyphs with clusters of their own, as the options ask
+abbrev pub setting_of_glyphs : TypesetterValue → TextOptions → List TextGlyph → Setting
+setting_of_glyphs t options glyphs = setting_of t options (glyph_text options.direction glyphs)
+
+-- a text of characters that is broken into lines
 abbrev pub setting_for_lines : TypesetterValue → TextOptions → List ℕ → Setting
 setting_for_lines t options text = setting t (options_for_lines options text) text
-
--- how what is drawn is shown: marks without width where that is asked, and ignorable glyphs hidden
-abbrev pub showing_of : Setting → Showing
-showing_of s = record { marks = s.marks; ignorables = Some s.space }
 
 -- what is shaped of it
 unfoldable pub shaped_setting : Setting → List ShapedGlyph
@@ -79,7 +100,7 @@ shaped_setting s = shaped_text s.value s.font s.text.direction s.features s.text
 
 -- what is drawn of it
 unfoldable pub drawn_setting : Setting → List ShapedGlyph
-drawn_setting s = shown (showing_of s) (shaped_setting s)
+drawn_setting s = shown s.showing (shaped_setting s)
 
 -- what is drawn of a text in one line
 abbrev pub typeset_line : TypesetterValue → TextOptions → List ℕ → List ShapedGlyph
@@ -89,7 +110,7 @@ typeset_line t options text = drawn_setting (setting t options text)
 abbrev pub BreaksHoldIn : Setting → List ShapedGlyph → Type 0
 BreaksHoldIn s glyphs =
     (k : ℕ) → k < length glyphs → (shaped_at glyphs k).may_break_before ≡ true
-    → IsShownInParts (showing_of s) s.value s.font s.text.direction s.features s.text.glyphs glyphs k
+    → IsShownInParts s.showing s.value s.font s.text.direction s.features s.text.glyphs glyphs k
 
 -- its budget of operations is used up
 unfoldable pub uses_up : Setting → Bool

@@ -8,7 +8,7 @@ use Rattle.aat_text.specs.HiddenParts.{Showing, shown}
 use Rattle.aat_text.specs.LineEnds.{line_ends}
 use Rattle.aat_text.specs.declared.lines.LineEnd.{LineEnd}
 use Rattle.aat_typesetter.specs.Stops.{stops_for}
-use Rattle.aat_typesetter.specs.Typeset.{Setting, TypesetterValue, setting_for_lines, showing_of}
+use Rattle.aat_typesetter.specs.Typeset.{Setting, TypesetterValue, setting_for_lines}
 use Rattle.aat_typesetter.specs.declared.options.TextOptions.{TextOptions}
 
 -- a line: how many glyphs of the text are before its end, what is shaped of it, and what is drawn of it
@@ -51,7 +51,7 @@ abbrev pub AreSetLines : Setting → List LineEnd → ℕ → List SetLine → T
 AreSetLines s ends width lines =
     (glyphs : List ShapedGlyph) × (row : List TextLine)
     × AreLines (paragraph_for s ends width) (length (paragraph_for s ends width).stops) glyphs row
-    × (lines ≡ set_lines (showing_of s) glyphs 0 row)
+    × (lines ≡ set_lines s.showing glyphs 0 row)
 
 -- lines are what is typeset of a text of characters in lines of a width
 abbrev pub AreTypesetLines : TypesetterValue → TextOptions → List ℕ → ℕ → List SetLine → Type 0

@@ -24,6 +24,7 @@ mod shaping;
 mod showing;
 mod stops;
 mod typesetter;
+pub mod worked;
 
 pub use aat_characters::Script;
 pub use aat_face::Face;

@@ -4,6 +4,7 @@ ghost use Rattle.aat_typesetter.specs.TypesetLines.{set_line, set_lines};
 ghost use Rattle.aat_typesetter.specs.inside.Inside.{showing_by};
 
 use crate::showing::{Shown, show};
+use aat_face::Face;
 use aat_shaped_text::ShapedGlyph;
 use aat_shaper::TextLine;
 use std::alloc::{AllocError, Allocator, Global};
@@ -33,8 +34,8 @@ impl<A: Allocator> TypesetLine<A> {
         self.text_end
     }
 
-    /// What was shaped of it, in drawing order: what is drawn, before marks lost their width and ignorable glyphs were
-    /// hidden.
+    /// What was shaped of it, in drawing order: what is drawn, before glyphs were put in their places and ignorable
+    /// ones hidden.
     pub fn shaped(&self) -> &[ShapedGlyph]
         ensures { result.now ≡ self.now.shaped }
     {
@@ -64,33 +65,35 @@ fn part(glyphs: &[ShapedGlyph], start: usize, end: usize) -> &[ShapedGlyph]
 /// A line of these glyphs, as they are shown.
 fn set_line<A: Allocator + Copy>(
     alloc: A,
+    face: &Face<'_>,
     showing: Shown,
     text_end: usize,
     shaped: &[ShapedGlyph],
 ) -> Result<TypesetLine<A>, AllocError>
-    ensures { IfOk result (λ line. line ≡ set_line (showing_by showing) text_end shaped.now) }
+    ensures { IfOk result (λ line. line ≡ set_line (showing_by face.now showing) text_end shaped.now) }
 {
     Ok(TypesetLine {
         text_end,
         shaped: Vec::from_slice(alloc, shaped)?,
-        glyphs: show(alloc, showing, shaped)?,
+        glyphs: show(alloc, face, showing, shaped)?,
     })
 }
 
 /// The lines whose glyphs stand one behind the other, each shown by itself.
 pub(crate) fn set_lines<A: Allocator + Copy>(
     alloc: A,
+    face: &Face<'_>,
     showing: Shown,
     glyphs: &[ShapedGlyph],
     lines: &[TextLine],
 ) -> Result<Vec<TypesetLine<A>, A>, AllocError>
-    ensures { IfOk result (λ set. set.items ≡ set_lines (showing_by showing) glyphs.now 0 lines.now) }
+    ensures { IfOk result (λ set. set.items ≡ set_lines (showing_by face.now showing) glyphs.now 0 lines.now) }
 {
     let mut set = Vec::with_capacity(alloc, lines.len())?;
     let mut start = 0;
     for line in lines {
         let shaped = part(glyphs, start, line.glyphs_end);
-        set.push(set_line(alloc, showing, line.text_end, shaped)?)?;
+        set.push(set_line(alloc, face, showing, line.text_end, shaped)?)?;
         start = line.glyphs_end;
     }
     Ok(set)

@@ -2,7 +2,7 @@
 ghost use Rattle.std.specs.Prelude.{◌≡◌, IfOk};
 ghost use Rattle.std.specs.List.{list_any};
 ghost use Rattle.aat_font.specs.Face.{kern_in, tables_of};
-ghost use Rattle.aat_typesetter.specs.ScriptSettings.{are_zeroed, features_for, is_machine, kern_off, kerns_across, kerns_by_machine, marks_for, moves_marks, zeroes_marks};
+ghost use Rattle.aat_typesetter.specs.ScriptSettings.{are_zeroed, boxes_for, features_for, is_machine, kern_off, kerns_across, kerns_by_machine, marks_for, moves_marks, places_marks, zeroes_marks};
 
 use aat_characters::{MarkWidths, ScriptRules};
 use aat_font::{Feature, hb_font_t, hb_tag_t};
@@ -119,6 +119,27 @@ pub(crate) fn marks_for(
 {
     match rules {
         Some(rules) if zeroes_marks(font, rules) => Some(moves_marks(font, rules, direction)),
+        _ => None,
+    }
+}
+
+/// Whether marks are placed by boxes.
+fn places_marks(font: &hb_font_t, rules: ScriptRules) -> bool
+    ensures { result ≡ places_marks font.now rules }
+{
+    rules.applies_kern() && font.tables().kerx.is_none() && !kerns_across(font, rules)
+}
+
+/// Where marks of a text are placed by boxes, whether those that lose their width move.
+pub(crate) fn boxes_for(
+    font: &hb_font_t,
+    rules: Option<ScriptRules>,
+    direction: Direction,
+) -> Option<bool>
+    ensures { result ≡ boxes_for font.now rules direction }
+{
+    match rules {
+        Some(rules) if places_marks(font, rules) => Some(moves_marks(font, rules, direction)),
         _ => None,
     }
 }

@@ -9,8 +9,8 @@ ghost use Rattle.aat_typesetter.specs.inside.Inside.{setting_by};
 use crate::error::TypesetError;
 use crate::lines::{TypesetLine, set_lines};
 use crate::prepared::PreparedText;
-use crate::script_settings::{features_for, marks_for};
-use crate::showing::{Shown, show};
+use crate::script_settings::features_for;
+use crate::showing::{show, shown_for};
 use crate::stops::stops_for;
 use aat_face::Face;
 use aat_font::Feature;
@@ -74,11 +74,8 @@ pub(crate) fn draw<A: Allocator + Copy>(
     let font = shaper.font();
     let asked = features_for(alloc, font, text.rules, features)?;
     shaper.shape(text.direction, &text.glyphs, &asked)?;
-    let showing = Shown {
-        marks: marks_for(font, text.rules, text.direction),
-        space: face.glyph_of(' '),
-    };
-    let glyphs = show(alloc, showing, shaper.glyphs())?;
+    let showing = shown_for(face, font, text.rules, text.direction);
+    let glyphs = show(alloc, face, showing, shaper.glyphs())?;
     Ok(glyphs)
 }
 
@@ -109,8 +106,7 @@ pub(crate) fn draw_lines<A: Allocator + Copy>(
 {
     let font = shaper.font();
     let asked = features_for(alloc, font, text.rules, features)?;
-    let space = face.glyph_of(' ');
-    let stops = stops_for(alloc, space, &text.glyphs, ends)?;
+    let stops = stops_for(alloc, face.glyph_of(' '), &text.glyphs, ends)?;
     let lines = shaper.shape_lines(
         global,
         alloc,
@@ -121,10 +117,7 @@ pub(crate) fn draw_lines<A: Allocator + Copy>(
         true,
         width,
     )?;
-    let showing = Shown {
-        marks: marks_for(font, text.rules, text.direction),
-        space,
-    };
-    let set = set_lines(alloc, showing, &lines.glyphs, &lines.lines)?;
+    let showing = shown_for(face, font, text.rules, text.direction);
+    let set = set_lines(alloc, face, showing, &lines.glyphs, &lines.lines)?;
     Ok(set)
 }

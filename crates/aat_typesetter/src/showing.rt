@@ -1,36 +1,101 @@
 //! How what is drawn is shown.
-ghost use Rattle.std.specs.Prelude.{◌≡◌, IfOk};
-ghost use Rattle.aat_text.specs.HiddenParts.{shown};
+ghost use Rattle.std.specs.Prelude.{◌≡◌, IfOk, option_map};
+ghost use Rattle.aat_text.specs.Columns.{in_columns};
+ghost use Rattle.aat_text.specs.FaceMetrics.{mark_placing};
+ghost use Rattle.aat_text.specs.HiddenParts.{asked, positioned, shown};
+ghost use Rattle.aat_text.specs.MarkBoxes.{place_marks};
+ghost use Rattle.aat_text.specs.Marks.{zero_marks};
+ghost use Rattle.aat_typesetter.specs.Typeset.{columns_for, showing_for};
 ghost use Rattle.aat_typesetter.specs.inside.Inside.{showing_by};
 
+use crate::script_settings::{boxes_for, marks_for};
+use aat_characters::ScriptRules;
+use aat_face::Face;
+use aat_font::hb_font_t;
+use aat_glyph::Direction;
 use aat_lookup::GlyphId;
 use aat_shaped_text::ShapedGlyph;
-use aat_text::{hide_ignorables, zero_marks};
+use aat_text::{hide_ignorables, place_marks, set_in_columns, widen_spaces, zero_marks};
 use std::alloc::{AllocError, Allocator};
 
-/// How what is drawn is shown.
+/// How what is drawn of a text in a face is shown.
 #[derive(Clone, Copy)]
 pub(crate) struct Shown {
+    /// The direction in which the text is shaped: where it is vertical, glyphs are set in columns.
+    pub(crate) direction: Direction,
     /// Where marks lose their width, whether they move.
     pub(crate) marks: Option<bool>,
+    /// Where marks are placed by boxes, whether those that lose their width move.
+    pub(crate) boxes: Option<bool>,
     /// The space that ignorable glyphs become, if the font has one. They are taken out where it has none.
     pub(crate) space: Option<GlyphId>,
+}
+
+/// How what is drawn of a text with the rules of a script, if it has any, is shown.
+#[tactic(auto, unfolding(crate::specs::Typeset::showing_for))]
+pub(crate) fn shown_for(
+    face: &Face<'_>,
+    font: &hb_font_t,
+    rules: Option<ScriptRules>,
+    direction: Direction,
+) -> Shown
+    ensures { showing_by face.now result ≡ showing_for face.now font.now rules direction }
+{
+    Shown {
+        direction,
+        marks: marks_for(font, rules, direction),
+        boxes: boxes_for(font, rules, direction),
+        space: face.glyph_of(' '),
+    }
+}
+
+/// Sets glyphs in columns, where the text is vertical.
+fn turn_down(glyphs: &mut [ShapedGlyph], face: &Face<'_>, direction: Direction)
+    ensures { glyphs.new ≡ asked in_columns (columns_for face.now direction) glyphs.old }
+{
+    if direction.is_vertical() {
+        set_in_columns(glyphs, face);
+    }
+}
+
+/// Has marks take no room, where that is asked.
+fn narrow_marks(glyphs: &mut [ShapedGlyph], marks: Option<bool>)
+    ensures { glyphs.new ≡ asked zero_marks marks glyphs.old }
+{
+    if let Some(moves) = marks {
+        zero_marks(glyphs, moves);
+    }
+}
+
+/// Places marks by boxes, where that is asked.
+fn set_marks(glyphs: &mut [ShapedGlyph], face: &Face<'_>, direction: Direction, boxes: Option<bool>)
+    ensures { glyphs.new ≡ asked place_marks (option_map (mark_placing face.now direction) boxes) glyphs.old }
+{
+    if let Some(moves) = boxes {
+        place_marks(glyphs, face, direction, moves);
+    }
+}
+
+/// Puts glyphs in their places.
+fn position(glyphs: &mut [ShapedGlyph], face: &Face<'_>, showing: Shown)
+    ensures { glyphs.new ≡ positioned (showing_by face.now showing) glyphs.old }
+{
+    turn_down(glyphs, face, showing.direction);
+    widen_spaces(glyphs, face, showing.direction);
+    narrow_marks(glyphs, showing.marks);
+    set_marks(glyphs, face, showing.direction, showing.boxes);
 }
 
 /// Glyphs as they are shown.
 pub(crate) fn show<A: Allocator + Copy>(
     alloc: A,
+    face: &Face<'_>,
     showing: Shown,
     glyphs: &[ShapedGlyph],
 ) -> Result<Vec<ShapedGlyph, A>, AllocError>
-    ensures { IfOk result (λ out. out.items ≡ shown (showing_by showing) glyphs.now) }
+    ensures { IfOk result (λ out. out.items ≡ shown (showing_by face.now showing) glyphs.now) }
 {
-    match showing.marks {
-        None => hide_ignorables(alloc, showing.space, glyphs),
-        Some(moves) => {
-            let mut zeroed = Vec::from_slice(alloc, glyphs)?;
-            zero_marks(&mut zeroed, moves);
-            hide_ignorables(alloc, showing.space, &zeroed)
-        }
-    }
+    let mut positioned = Vec::from_slice(alloc, glyphs)?;
+    position(&mut positioned, face, showing);
+    hide_ignorables(alloc, showing.space, &positioned)
 }

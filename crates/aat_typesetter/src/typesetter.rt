@@ -1,8 +1,8 @@
 //! The typesetter: a text of characters goes in, and what is drawn comes out.
-ghost use Rattle.std.specs.Prelude.{◌≡◌, ◌≤◌, ◌^◌, ◌↔◌, length, true, IfErr, IfOk, IsErrOf, OnErr, OnOk};
+ghost use Rattle.std.specs.Prelude.{◌≡◌, ◌≤◌, ◌^◌, ◌↔◌, [], length, true, IfErr, IfOk, IsErrOf, OnErr, OnOk};
 ghost use Rattle.aat_face.specs.Faces.{font_value};
 ghost use Rattle.aat_typesetter.specs.Prepared.{glyph_text, options_for_lines, prepared};
-ghost use Rattle.aat_typesetter.specs.Typeset.{BreaksHoldIn, IsWithinLimits, RefusesSetting, drawn_setting, nothing_set, setting, setting_for_lines, setting_of, shaped_setting, typeset_line, uses_up};
+ghost use Rattle.aat_typesetter.specs.Typeset.{BreaksHoldIn, IsWithinLimits, RefusesSetting, drawn_setting, nothing_set, setting, setting_for_lines, setting_of, setting_of_glyphs, shaped_setting, typeset_line, uses_up};
 ghost use Rattle.aat_typesetter.specs.TypesetErrors.{RefusesTypesetting};
 ghost use Rattle.aat_typesetter.specs.TypesetLines.{AreSetLines, AreTypesetLines, RefusesParts, end_of_lines};
 
@@ -106,8 +106,9 @@ impl<'f, A: Allocator + Copy> Typesetter<'f, A> {
         &self.text.glyphs
     }
 
-    /// What was shaped of the text that was typeset last, in one line in drawing order: what is drawn, before marks
-    /// lost their width and ignorable glyphs were hidden. There is nothing before the first text, and where the last one was refused.
+    /// What was shaped of the text that was typeset last, in one line in drawing order: what is drawn, before
+    /// its glyphs were put in their places and ignorable ones hidden. There is nothing before the first text, and where
+    /// the last one was refused.
     pub fn shaped(&self) -> &[ShapedGlyph]
         ensures { result.now ≡ self.now.shaped }
     {
@@ -185,9 +186,11 @@ impl<'f, A: Allocator + Copy> Typesetter<'f, A> {
     /// The text becomes glyphs as `prepare_text` of `aat_text` has it: turned, mirrored and composed as in HarfBuzz. It
     /// runs in the direction of the options, else in that of its script, and is shaped in the native one, as
     /// `Shaper::shape` of `aat_shaper` does, with the features of the options, and tracked by the normal track of the
-    /// face at their size. Without `kerx`, `kern` is off where the script does not take it. Then marks lose their width
-    /// where HarfBuzz has it (`zero_marks` of `aat_text`), and ignorable glyphs are hidden (`hide_ignorables`): they are
-    /// drawn as the space of the face without width, and are taken out where it has none.
+    /// face at their size. Without `kerx`, `kern` is off where the script does not take it. Then glyphs of vertical text
+    /// are set in columns (`set_in_columns` of `aat_text`), spaces that the face lacks get their own width
+    /// (`widen_spaces`), where HarfBuzz has it marks lose their width (`zero_marks`) and are placed by boxes
+    /// (`place_marks`), and ignorable glyphs are hidden (`hide_ignorables`): they are drawn as the space of the face
+    /// without width, and are taken out where it has none.
     ///
     /// The text may be broken before each glyph that says so, at the later one of the two clusters that meet there: its
     /// glyphs in two parts, shaped and shown alike, look as they do here. A part of its characters may have another script.
@@ -219,8 +222,8 @@ impl<'f, A: Allocator + Copy> Typesetter<'f, A> {
         Ok(())
     }
 
-    /// Typesets glyphs with clusters of their own in one line: none is turned, marks keep their width, and `kern` is not
-    /// put off. They run from left to right where the options have no direction. Script, unit and level do not count.
+    /// Typesets glyphs with clusters of their own in one line: none is turned, marks keep their width and place, and `kern`
+    /// is not put off. They run from left to right where the options have no direction. Script, unit and level do not count.
     ///
     /// Refused as [`Typesetter::line`] refuses a text, but for 1, `TextTooLong`.
     pub fn line_of_glyphs(
@@ -231,10 +234,16 @@ impl<'f, A: Allocator + Copy> Typesetter<'f, A> {
         ensures face { self.new.face ≡ self.old.face }
         ensures font { self.new.font ≡ self.old.font }
         ensures text { OnOk result (self.new.text ≡ glyph_text options.now.direction text.items) }
-        ensures ok { OnOk result (self.new.glyphs
-            ≡ drawn_setting (setting_of self.old options.now (glyph_text options.now.direction text.items))) }
-        ensures refused { IfErr result (RefusesTypesetting ⊥
-            (RefusesSetting (setting_of self.old options.now (glyph_text options.now.direction text.items)))) }
+        ensures shaped { OnOk result
+            (self.new.shaped ≡ shaped_setting (setting_of_glyphs self.old options.now text.items)) }
+        ensures ok { OnOk result (self.new.glyphs ≡ drawn_setting (setting_of_glyphs self.old options.now text.items)) }
+        ensures breaks { OnOk result
+            (BreaksHoldIn (setting_of_glyphs self.old options.now text.items) self.new.glyphs) }
+        ensures budget { OnOk result
+            (self.new.is_budget_used_up ≡ uses_up (setting_of_glyphs self.old options.now text.items)) }
+        ensures refused { IfErr result
+            (RefusesTypesetting ⊥ (RefusesSetting (setting_of_glyphs self.old options.now text.items))) }
+        ensures fits { OnOk result (IsWithinLimits (setting_of_glyphs self.old options.now text.items)) }
         ensures empty { OnErr result (self.new ≡ nothing_set self.old) }
     {
         let direction = options.direction.unwrap_or(Direction::LeftToRight);
@@ -245,7 +254,9 @@ impl<'f, A: Allocator + Copy> Typesetter<'f, A> {
                 direction,
             },
             options,
-        )
+        )?;
+        breaks_hold_as_shown();
+        Ok(())
     }
 
     /// Typesets a text that is ready in lines of a width, which may end at places of its characters.
@@ -260,6 +271,7 @@ impl<'f, A: Allocator + Copy> Typesetter<'f, A> {
         ensures font { self.new.font ≡ self.old.font }
         ensures text { OnOk result (self.new.text ≡ text) }
         ensures shaped { OnOk result (self.new.shaped ≡ shaped_setting (setting_of self.old options.now text)) }
+        ensures glyphs { OnOk result (self.new.glyphs ≡ []) }
         ensures lines { IfOk result (λ r. AreSetLines (setting_of self.old options.now text) ends.now width r.items) }
         ensures end { IfOk result (λ r. end_of_lines r.items ≡ length text.glyphs) }
         ensures budget { OnOk result (self.new.is_budget_used_up ≡ uses_up (setting_of self.old options.now text)) }
@@ -303,9 +315,9 @@ impl<'f, A: Allocator + Copy> Typesetter<'f, A> {
     /// A line may end where `line_ends` of `aat_text` has it, and at the end of the text; it ends where that is forced.
     /// The spaces before its end, glyphs of the face's space, hang over it and count for no width, nor do ignorable
     /// glyphs. It takes in ends as long as the text up to the next one fits, and at least one, as `Shaper::shape_lines`
-    /// of `aat_shaper` does. The text runs in the direction in which it is shaped, whatever the options tell, and marks
-    /// count with the width that they had. What is drawn of a line looks as its glyphs do, shaped and shown by
-    /// themselves with the rules of the whole text's script. A text without an end, or along which clusters fall, is
+    /// of `aat_shaper` does. The text runs in the direction in which it is shaped, whatever the options tell, and glyphs
+    /// count with the advances that they had before they were put in their places. What is drawn of a line looks as its
+    /// glyphs do, shaped and shown by themselves with the rules of the whole text's script. A text without an end, or along which clusters fall, is
     /// one line, and an empty one has no line.
     ///
     /// [`Typesetter::shaped`] has what is shaped of the text in one line, and [`Typesetter::glyphs`] nothing.
@@ -323,6 +335,7 @@ impl<'f, A: Allocator + Copy> Typesetter<'f, A> {
             ≡ prepared self.old.face (options_for_lines options.now text.now) text.now) }
         ensures shaped { OnOk result
             (self.new.shaped ≡ shaped_setting (setting_for_lines self.old options.now text.now)) }
+        ensures glyphs { OnOk result (self.new.glyphs ≡ []) }
         ensures lines { IfOk result (λ r. AreTypesetLines self.old options.now text.now width r.items) }
         ensures end { IfOk result (λ r.
             end_of_lines r.items ≡ length (setting_for_lines self.old options.now text.now).text.glyphs) }

@@ -1,7 +1,7 @@
 -- Tables that are written are read again.
-use Rattle.std.proofs.Common.{◌≡◌, ◌∙◌, sym, ap, refl, subst, ℕ, zero, suc, ◌+◌, ◌*◌, ◌-◌, ◌/◌, ◌<◌, ◌≤◌, min, true, false, List, [], ◌∷◌, length, get_or, drop, All, None, Some, Ok, inl, inr, arith}
+use Rattle.std.proofs.Common.{◌≡◌, ◌∙◌, sym, ap, refl, subst, ℕ, zero, suc, ◌+◌, ◌*◌, ◌-◌, ◌/◌, ◌<◌, ◌≤◌, max, min, true, false, List, [], ◌∷◌, length, get_or, drop, All, None, Some, Ok, inl, inr, arith}
 use Rattle.std.specs.List.{flat_map}
-use Rattle.std.specs.Prelude.{nat_le, nat_lt}
+use Rattle.std.specs.Prelude.{◌==◌, nat_le, nat_lt}
 use Rattle.std.proofs.lemmas.Bool.{cases_lt, le-ltb, ltb-false}
 use Rattle.std.proofs.lemmas.Bool.Decides.{nat_tests}
 use Rattle.std.proofs.lemmas.List.{append-nil, get_or-append-add}
@@ -65,32 +65,52 @@ advance_word (a ∷ advances) (suc i) =
     let place : 2 * suc i ≡ suc (suc (2 * i)) = omega arith in
     ap (λ k. get_or (flat_map metric_words (a ∷ advances)) k 0) place ∙ advance_word advances i
 
-advance_is :
-    (bytes : List ℕ) (n count glyph advance : ℕ)
-    → length bytes ≡ 4 * n
-    → 0 < n
-    → glyph < count
-    → be16 bytes (4 * min glyph (n - 1)) ≡ advance
-    → advance_of (metrics_of bytes n count) glyph ≡ Some advance
-advance_is bytes n count glyph advance long some below at =
-    let fits : length bytes / 4 ≡ n = omega (arith, long) in
-    let all : min n n ≡ n = omega arith in
-    let inside : nat_lt glyph count ≡ true = grind (arith, nat_tests) in
-    let any : nat_lt 0 n ≡ true = grind (arith, nat_tests) in
-    rw (fits, all, inside, any, at) refl
+-- so many long metrics, of a font of any number of glyphs
+module _ (bytes : List ℕ) (n count : ℕ) (long : length bytes ≡ 4 * n) (some : 0 < n) where
+  fits : length bytes / 4 ≡ n
+  fits = omega (arith, long)
+
+  any : (n == 0) ≡ false
+  any = grind (arith, nat_tests)
+
+  most : min (max count n) (length bytes / 2 - n) ≡ n
+  most = omega (arith, long)
+
+  all : min n n ≡ n
+  all = omega arith
+
+  pub within_is :
+      (glyph advance : ℕ) → glyph < n → be16 bytes (4 * glyph) ≡ advance
+      → advance_of (metrics_of bytes n count) glyph ≡ Some advance
+  within_is glyph advance below at =
+      let inside : nat_lt glyph n ≡ true = grind (arith, nat_tests) in
+      let own : min glyph (n - 1) ≡ glyph = omega arith in
+      rw (fits, all, any, most, any, inside, own, at) refl
+
+  pub behind_is : (glyph : ℕ) → n ≤ glyph → advance_of (metrics_of bytes n count) glyph ≡ Some 0
+  behind_is glyph past =
+      let outside : nat_lt glyph n ≡ false = le-ltb glyph n past in
+      rw (fits, all, any, most, any, outside) refl
 
 pub advances_are_read : WrittenAdvancesAreRead
-advances_are_read advances bytes count glyph small is some below =
+advances_are_read advances bytes count glyph small is some =
     let words = flat_map metric_words advances in
     let made = written_is None (nat_lt 65535 (length advances)) (word_bytes words) bytes is in
     let long : length (word_bytes words) ≡ 4 * length advances =
     omega (arith, length_words words, metrics_long advances) in
-    let k : ℕ = min glyph (length advances - 1) in
-    let inside : 2 * k < length words = omega (arith, metrics_long advances) in
-    let here : be16 (word_bytes words) (4 * k) ≡ get_or advances k 0 =
-    word_of words (4 * k) (2 * k) inside (metrics_small advances small) (omega arith) ∙ advance_word advances k in
-    subst (λ (b : List ℕ). advance_of (metrics_of b (length advances) count) glyph ≡ Some (get_or advances k 0)) made.2
-    (advance_is (word_bytes words) (length advances) count glyph (get_or advances k 0) long some below here)
+    let read : advance_of (metrics_of (word_bytes words) (length advances) count) glyph ≡ Some (get_or advances glyph 0) =
+    elim (cases_lt glyph (length advances)) [
+      | inl below ↦
+          let inside : 2 * glyph < length words = omega (arith, below, metrics_long advances) in
+          within_is (word_bytes words) (length advances) count long some glyph (get_or advances glyph 0) below
+          (word_of words (4 * glyph) (2 * glyph) inside (metrics_small advances small) (omega arith)
+          ∙ advance_word advances glyph)
+      | inr past ↦
+          behind_is (word_bytes words) (length advances) count long some glyph past
+          ∙ ap Some (sym (get_or-eq_default advances 0 past))
+    ] in
+    subst (λ (b : List ℕ). advance_of (metrics_of b (length advances) count) glyph ≡ Some (get_or advances glyph 0)) made.2
+    read
 
 classes_at :
     (bytes : List ℕ) (n : ℕ)

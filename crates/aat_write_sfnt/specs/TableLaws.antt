@@ -1,5 +1,5 @@
 -- Tables that are written are read again.
-use Rattle.std.specs.Prelude.{◌≡◌, ℕ, ◌-◌, ◌<◌, min, List, length, drop, All, Some, Ok, slice_index}
+use Rattle.std.specs.Prelude.{◌≡◌, ℕ, ◌<◌, List, length, drop, All, Some, Ok, slice_index}
 use Rattle.aat_read_sfnt.specs.ClassDefinition.{class_of}
 use Rattle.aat_read_sfnt.specs.GlyphClasses.{glyph_classes_of}
 use Rattle.aat_read_sfnt.specs.Header.{glyph_count, known_units, units_per_em}
@@ -27,16 +27,14 @@ WrittenHeadersAreRead =
 abbrev pub WrittenCountsAreRead : Type 0
 WrittenCountsAreRead = (count : ℕ) → IsWord count → long_metric_count (word_bytes (hhea_words count)) ≡ Ok count
 
--- the advance of each glyph of a font: those behind the last one that was written have its advance
+-- the advance of each glyph, which is 0 behind those that were written
 abbrev pub WrittenAdvancesAreRead : Type 0
 WrittenAdvancesAreRead =
     (advances bytes : List ℕ) (glyph_count glyph : ℕ)
     → All IsWord advances
     → hmtx_written advances ≡ Ok bytes
     → 0 < length advances
-    → glyph < glyph_count
-    → advance_of (metrics_of bytes (length advances) glyph_count) glyph
-    ≡ Some (slice_index advances (min glyph (length advances - 1)))
+    → advance_of (metrics_of bytes (length advances) glyph_count) glyph ≡ Some (slice_index advances glyph)
 
 -- the class of each glyph, which is 0 behind those that were written. Marks have no classes
 abbrev pub WrittenClassesAreRead : Type 0

@@ -1,12 +1,13 @@
 -- How the fields of a typesetter show its value.
-use Rattle.std.specs.Prelude.{◌≡◌, ◌&&◌, List, [], None, Some, if◌then◌else◌}
+use Rattle.std.specs.Prelude.{◌≡◌, ◌&&◌, List, [], None, Some, option_map, if◌then◌else◌}
 use Rattle.aat_face.specs.Faces.{FaceValue, glyph_of_character}
 use Rattle.aat_font.specs.declared.plan.Feature.{Feature}
 use Rattle.aat_shaper.specs.Shaper.{ShaperValue, no_values, value_along}
+use Rattle.aat_text.specs.FaceMetrics.{mark_placing, space_metrics}
 use Rattle.aat_text.specs.HiddenParts.{Showing}
 use Rattle.aat_typesetter.specs.Prepared.{Prepared}
-use Rattle.aat_typesetter.specs.ScriptSettings.{features_for, marks_for}
-use Rattle.aat_typesetter.specs.Typeset.{Setting, TypesetterValue}
+use Rattle.aat_typesetter.specs.ScriptSettings.{features_for}
+use Rattle.aat_typesetter.specs.Typeset.{Setting, TypesetterValue, columns_for, showing_for}
 use Rattle.aat_typesetter.specs.declared.showing.Shown.{Shown}
 use Rattle.aat_typesetter.specs.declared.typesetter.Typesetter.TheInside.{Inside}
 
@@ -30,12 +31,18 @@ abbrev pub setting_by : FaceValue → ShaperValue → List Feature → Prepared 
 setting_by face shaper features text = record {
   font = shaper.font;
   space = glyph_of_character face 0x20;
-  marks = marks_for shaper.font text.rules text.direction;
+  showing = showing_for face shaper.font text.rules text.direction;
   value = value_along shaper.values text.direction;
   features = features_for shaper.font text.rules features;
   text = text;
 }
 
--- how glyphs are shown
-abbrev pub showing_by : Shown → Showing
-showing_by s = record { marks = s.marks; ignorables = Some s.space }
+-- how glyphs of a face are shown
+abbrev pub showing_by : FaceValue → Shown → Showing
+showing_by face s = record {
+  columns = columns_for face s.direction;
+  spaces = Some (space_metrics face s.direction);
+  marks = s.marks;
+  boxes = option_map (mark_placing face s.direction) s.boxes;
+  ignorables = Some s.space;
+}

@@ -1,7 +1,7 @@
 use Rattle.std.proofs.Common.{rules, ◌||◌}
 use Rattle.std.proofs.lemmas.Iterator.{YieldsList-from_chars}
 use Rattle.std.proofs.lemmas.Iterator.Search.{any_from_yields_List}
-use Rattle.aat_characters.specs.Native.{is_digit, is_letter, is_regional_indicator}
+use Rattle.aat_characters.specs.Native.{is_digit, is_regional_indicator}
 use Rattle.aat_characters.proofs.native.has_number.Goals as goal
 
 pub returns : goal.returns

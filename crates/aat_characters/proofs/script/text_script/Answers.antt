@@ -1,6 +1,5 @@
-use Rattle.std.proofs.Common.{sym, ap, ◌∙◌, slice_get}
+use Rattle.std.proofs.Common.{sym, ap, ◌∙◌}
 use Rattle.std.proofs.lemmas.Str.{IsUtf8-past_char}
-use Rattle.std.specs.List.{filter_map}
 use Rattle.std.specs.Prelude.{is_some}
 use Rattle.aat_characters.specs.Scripts.{specific_script}
 use Rattle.aat_characters.proofs.Firsts.{found_here, found_later, found_none}

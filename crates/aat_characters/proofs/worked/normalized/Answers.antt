@@ -14,4 +14,4 @@ returns-clause-ordered c = refl
 
 pub returns-clause-others : goal.returns-clause-others
 unfolding unicode_normalization ucd_category shaping_class
-returns-clause-others c = (refl, refl)
+returns-clause-others c = (refl, refl, refl, refl)

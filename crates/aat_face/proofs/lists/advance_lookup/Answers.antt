@@ -6,4 +6,4 @@ use Rattle.aat_face.proofs.lists.advance_lookup.Goals as goal
 pub rising_lookup-requires : goal.rising_lookup-requires
 rising_lookup-requires c =
     rw (c.deref.ensures.value, c.in_ok-pairs.ensures)
-    (pairs_rise (λ glyph. unwrap_or (advance_of c.args.metrics.now glyph) 0) c.args.glyph_count)
+    (pairs_rise (λ glyph. unwrap_or (advance_of c.args.metrics.now glyph) c.args.other) c.args.glyph_count)

@@ -1,6 +1,7 @@
 use Rattle.std.proofs.Common.{false, arith}
 use Rattle.std.proofs.lemmas.List.Elements.{All-push}
 use Rattle.aat_buffer.specs.Buffer.{Is16Bit}
+use Rattle.aat_shaped_text.specs.declared.text.CharacterKind.TheVariants.{Other}
 use Rattle.aat_shaper.proofs.LineMade.{length_more, line_more}
 use Rattle.aat_shaper.proofs.line.buffer_of.Goals as goal
 
@@ -10,7 +11,7 @@ loop-glyph-preserved g c =
     let x = c.line_glyph.result in
     record {
       made =
-          line_more c.args.face.now c.args.direction c.args.features.now c.args.text.now l.glyph-index (record { glyph_id = 0; cluster = 0; is_ignorable = false; is_mark = false }) x l.buffer c.add.new.self
+          line_more c.args.face.now c.args.direction c.args.features.now c.args.text.now l.glyph-index (record { glyph_id = 0; cluster = 0; is_ignorable = false; is_mark = false; kind = Other }) x l.buffer c.add.new.self
           c.loop-glyph-test.true c.line_glyph.ensures.value c.in_ok-add.ensures.ok l.invariant.made;
       ids =
           rw c.in_ok-add.ensures.ok

@@ -1,19 +1,16 @@
-use Rattle.std.proofs.Common.{◌≡◌, ◌∙◌, Bool, List, Option, ap, ap₂}
-use Rattle.std.specs.Prelude.{Some}
+use Rattle.std.proofs.Common.{◌≡◌, ◌∙◌, List, Option, ap, ap₂}
 use Rattle.aat_characters.specs.declared.script_rules.ScriptRules.{ScriptRules}
-use Rattle.aat_face.specs.Faces.{glyph_of_character}
 use Rattle.aat_font.specs.declared.face.hb_font_t.{hb_font_t}
 use Rattle.aat_font.specs.declared.plan.Feature.{Feature}
 use Rattle.aat_glyph.specs.declared.glyph.Direction.{Direction}
-use Rattle.aat_lookup.specs.declared.glyph_id.GlyphId.{GlyphId}
 use Rattle.aat_shaped_text.specs.ShapedText.{shaped_text}
-use Rattle.aat_shaped_text.specs.declared.text.ShapedGlyph.{ShapedGlyph}
 use Rattle.aat_shaped_text.specs.declared.text.TextGlyph.{TextGlyph}
 use Rattle.aat_shaper.specs.Shaper.{value_along}
-use Rattle.aat_text.specs.HiddenParts.{shown}
+use Rattle.aat_text.specs.HiddenParts.{Showing, shown}
 use Rattle.aat_typesetter.specs.Prepared.{Prepared}
-use Rattle.aat_typesetter.specs.ScriptSettings.{features_for, marks_for}
-use Rattle.aat_typesetter.specs.Typeset.{drawn_setting, shaped_setting}
+use Rattle.aat_typesetter.specs.ScriptSettings.{features_for}
+use Rattle.aat_typesetter.specs.Typeset.{drawn_setting, shaped_setting, showing_for}
+use Rattle.aat_typesetter.specs.inside.Inside.{showing_by}
 use Rattle.aat_typesetter.proofs.shaping.draw.Goals as goal
 
 pub returns-clause-shaped : goal.returns-clause-shaped
@@ -35,16 +32,14 @@ returns-clause-shaped g c =
 pub returns-clause-drawn : goal.returns-clause-drawn
 unfolding drawn_setting
 returns-clause-drawn g c =
+    let face = c.args.face.now in
     let shaper = c.args.shaper.now in
     let text = c.args.text.now in
-    let marks : c.marks_for.result ≡ marks_for shaper.font text.rules text.direction =
-    c.marks_for.ensures
-    ∙ (ap (λ (f : hb_font_t). marks_for f c.text.inside.rules c.text.inside.direction) c.font-font.ensures
-    ∙ ap (λ (p : Prepared). marks_for shaper.font p.rules p.direction) c.text.view_is)
+    let showing : showing_by face c.shown_for-showing.result ≡ showing_for face shaper.font text.rules text.direction =
+    c.shown_for-showing.ensures
+    ∙ (ap (λ (f : hb_font_t). showing_for face f c.text.inside.rules c.text.inside.direction) c.font-font.ensures
+    ∙ ap (λ (p : Prepared). showing_for face shaper.font p.rules p.direction) c.text.view_is)
     in
     c.in_ok-glyphs.ensures
-    ∙ (ap₂ (λ (m : Option Bool) (space : Option GlyphId). shown (record { marks = m; ignorables = Some space }) c.glyphs.result.now)
-    marks c.glyph_of.ensures
-    ∙ ap (λ (gs : List ShapedGlyph).
-    shown (record { marks = marks_for shaper.font text.rules text.direction; ignorables = Some (glyph_of_character c.args.face.now 0x20) }) gs)
-    (c.glyphs.ensures ∙ returns-clause-shaped g c))
+    ∙ (ap (λ (s : Showing). shown s c.glyphs.result.now) showing
+    ∙ ap (shown (showing_for face shaper.font text.rules text.direction)) (c.glyphs.ensures ∙ returns-clause-shaped g c))

@@ -1,5 +1,4 @@
 use Rattle.std.proofs.Common.{◌≡◌, ◌∙◌, List, Option, ap, ap₂, length, rules, subst}
-use Rattle.std.specs.Prelude.{Some}
 use Rattle.aat_characters.specs.declared.script_rules.ScriptRules.{ScriptRules}
 use Rattle.aat_font.specs.declared.face.hb_font_t.{hb_font_t}
 use Rattle.aat_font.specs.declared.plan.Feature.{Feature}
@@ -12,7 +11,7 @@ use Rattle.aat_typesetter.specs.Prepared.{Prepared}
 use Rattle.aat_typesetter.specs.ScriptSettings.{features_for}
 use Rattle.aat_typesetter.specs.Typeset.{shaped_setting}
 use Rattle.aat_typesetter.specs.TypesetLines.{RefusesParts, end_of_lines}
-use Rattle.aat_typesetter.specs.inside.Inside.{setting_by}
+use Rattle.aat_typesetter.specs.inside.Inside.{setting_by, showing_by}
 use Rattle.aat_typesetter.proofs.EndsKept.{ends_kept}
 use Rattle.aat_typesetter.proofs.shaping.draw_lines.Goals as goal
 
@@ -35,7 +34,7 @@ returns-clause-shaped g c =
 pub returns-clause-end : goal.returns-clause-end
 returns-clause-end g c =
     ap end_of_lines c.in_ok-set.ensures
-    ∙ (ends_kept (record { marks = c.marks_for.result; ignorables = Some c.glyph_of-space.result }) c.deref-5.result.now 0 0 c.deref-6.result.now
+    ∙ (ends_kept (showing_by c.args.face.now c.shown_for-showing.result) c.deref-5.result.now 0 0 c.deref-6.result.now
     ∙ (ap end_of c.deref-6.ensures.value
     ∙ (c.in_ok-lines.ensures.end ∙ ap length (c.deref-2.ensures.value ∙ ap (λ (p : Prepared). p.glyphs) c.text.view_is))))
 

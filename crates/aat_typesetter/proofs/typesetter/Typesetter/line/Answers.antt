@@ -1,17 +1,12 @@
 use Rattle.std.proofs.Common.{◌≡◌, ◌∙◌, ◌≤◌, ◌^◌, List, ap, ap₂, length, rules, subst, sym}
 use Rattle.aat_face.specs.Faces.{FaceValue}
 use Rattle.aat_shaped_text.specs.declared.text.ShapedGlyph.{ShapedGlyph}
-use Rattle.aat_typesetter.specs.Typeset.{BreaksHoldIn, IsWithinLimits, RefusesSetting, Setting, TypesetterValue, drawn_setting, setting, setting_of, shaped_setting, showing_of}
+use Rattle.aat_typesetter.specs.Typeset.{BreaksHoldIn, IsWithinLimits, RefusesSetting, Setting, TypesetterValue, drawn_setting, setting, setting_of}
 use Rattle.aat_typesetter.specs.Prepared.{Prepared, prepared}
 use Rattle.aat_typesetter.specs.TypesetErrors.{RefusesTypesetting}
+use Rattle.aat_typesetter.proofs.BreaksHeld.{breaks_hold}
 use Rattle.aat_typesetter.proofs.Refusals.{refused_besides}
-use Rattle.aat_text.specs.HiddenParts.{BreaksHoldAsShown}
 use Rattle.aat_typesetter.proofs.typesetter.Typesetter.line.Goals as goal
-
--- what is drawn may be broken
-breaks_hold : (s : Setting) → BreaksHoldAsShown → IsWithinLimits s → BreaksHoldIn s (drawn_setting s)
-unfolding drawn_setting shaped_setting
-breaks_hold s holds fits = holds (showing_of s) s.value s.font s.text.direction s.features s.text.glyphs fits.short
 
 pub returns-clause-breaks : goal.returns-clause-breaks
 returns-clause-breaks g c =

@@ -1,12 +1,13 @@
 use Rattle.std.proofs.Common.{◌≡◌, ◌<◌, arith, false, get_or, refl}
 use Rattle.aat_shaped_text.specs.Parts.{cut_before}
+use Rattle.aat_shaped_text.specs.declared.text.CharacterKind.TheVariants.{Other}
 use Rattle.aat_shaped_text.specs.declared.text.TextGlyph.{TextGlyph}
 use Rattle.aat_shaper.proofs.Texts.{opening}
 use Rattle.aat_shaper.proofs.Told.{rising_where_told}
 use Rattle.aat_shaper.proofs.lines.filling.Filling.opening_at.Goals as goal
 
 abbrev zero_glyph : TextGlyph
-zero_glyph = record { glyph_id = 0; cluster = 0; is_ignorable = false; is_mark = false }
+zero_glyph = record { glyph_id = 0; cluster = 0; is_ignorable = false; is_mark = false; kind = Other }
 
 pub returns-then-max-cluster : goal.returns-then-max-cluster
 returns-then-max-cluster c =

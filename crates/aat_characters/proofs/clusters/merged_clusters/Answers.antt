@@ -1,0 +1,32 @@
+use Rattle.std.proofs.Common.{◌<◌, length, slice_range, arith, refl, sym, ◌∙◌}
+use Rattle.aat_characters.specs.Clusters.{continues, merged}
+use Rattle.aat_characters.proofs.PartsLemmas.{made_end, made_more, made_of_parts, made_on, step_begins, step_joins}
+use Rattle.aat_characters.proofs.clusters.merged_clusters.Goals as goal
+use Rattle.aat_characters.proofs.clusters.merged_clusters.Goals.{then-not-continues+in_ok-put_merged, else-not-continues}
+
+pub loop-i-preserved : goal.loop-i-preserved
+loop-i-preserved g c =
+    let held = c.loop-i.invariant in
+    let xs = c.args.characters.now in
+    let change = merged in
+    let lt : c.loop-i.i < length xs = omega arith in
+    elim c.if-not-continues.branch [
+      | then-not-continues+in_ok-put_merged w ↦ record {
+        before = rw w.start-is (omega arith);
+        made = rw (w.start-is, w.out-is)
+            (made_more c.loop-i.out.items w.put_merged.new.out.items _ (change (slice_range xs c.loop-i.start c.loop-i.i)) _ _ w.in_ok-put_merged.ensures
+            (step_begins continues change xs c.loop-i.start c.loop-i.i _ held.before lt (sym c.continues.ensures ∙ w.if-not-continues.true)) held.made);
+      }
+      | else-not-continues w ↦ record {
+        before = rw w.start-is (omega arith);
+        made = rw (w.start-is, w.out-is)
+            (made_on c.loop-i.out.items c.loop-i.out.items _ _ _ refl
+            (step_joins continues change xs c.loop-i.start c.loop-i.i _ held.before lt (sym c.continues.ensures ∙ w.if-not-continues.false)) held.made);
+      }
+    ]
+
+pub returns : goal.returns
+returns g c =
+    made_end continues merged c.args.characters.now c.loop-i.start c.loop-i.i c.loop-i.out.items _ _
+    (omega arith) (omega arith) c.in_ok-put_merged-2.ensures c.loop-i.invariant.made
+    ∙ made_of_parts continues merged refl c.args.characters.now

@@ -1,0 +1,11 @@
+use Rattle.std.proofs.Common.{◌≡◌, ◌++◌, ◌≤◌, [], drop, slice_range}
+use Rattle.aat_characters.specs.Clusters.{continues, merged}
+use Rattle.aat_characters.proofs.PartsLemmas.{in_parts}
+use Rattle.aat_characters.proofs.clusters.merged_clusters.Given as goal
+
+abbrev pub invariant-loop-i : goal.invariant-loop-i
+invariant-loop-i g l = record {
+  before : l.start ≤ l.i;
+  made : l.out.items ++ in_parts continues merged (slice_range l.characters l.start l.i) (drop l.i l.characters)
+      ≡ in_parts continues merged [] l.characters;
+}

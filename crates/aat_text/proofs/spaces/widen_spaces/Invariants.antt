@@ -1,0 +1,10 @@
+use Rattle.std.proofs.Common.{◌≡◌, ◌++◌, drop, take}
+use Rattle.aat_text.specs.FaceMetrics.{space_metrics}
+use Rattle.aat_text.specs.Spaces.{widen_spaces}
+use Rattle.aat_text.proofs.spaces.widen_spaces.Given as goal
+
+-- the glyphs before this one are done, and those from it on are still to be
+abbrev pub invariant-loop-i : goal.invariant-loop-i
+invariant-loop-i l =
+    take l.i l.glyphs ++ widen_spaces (space_metrics l.face l.direction) (drop l.i l.glyphs)
+    ≡ widen_spaces (space_metrics l.face l.direction) l.initial.glyphs
