@@ -13,8 +13,8 @@ in_row characters = map (λ p. at p.0 p.1) (zip (range_with_len 0 (length charac
 abbrev pub sizes : List ℕ → List ℕ
 sizes characters = map length (clusters_of (in_row characters))
 
--- a mark continues its letter, also a spacing one that Unicode's clusters leave alone, and one that begins a text is alone;
--- letters of Hangul stay apart, and so do the halves of a line break; a zero width non-joiner begins a cluster
+-- a mark continues its letter, also a spacing one that Unicode's clusters leave alone, and one that begins a text is
+-- alone; letters of Hangul stay apart, and so do the halves of a line break; a zero width non-joiner begins a cluster
 abbrev pub MarksContinueLetters : Type 0
 MarksContinueLetters =
     (sizes (0x65 ∷ 0x301 ∷ 0x323 ∷ 0x65 ∷ []) ≡ 3 ∷ 1 ∷ [])
@@ -32,7 +32,8 @@ FlagsArePairs =
     × (sizes (0x1F1E9 ∷ 0x301 ∷ 0x1F1EA ∷ 0x1F1EB ∷ []) ≡ 2 ∷ 2 ∷ [])
     × (sizes (0x1F3F4 ∷ 0xE0067 ∷ 0xE0062 ∷ 0xE007F ∷ []) ≡ 4 ∷ [])
 
--- a family is one cluster, and so is a pictograph with the colour of its skin; a letter behind a joiner begins another one
+-- a family is one cluster, and so is a pictograph with the colour of its skin; a letter behind a joiner begins another
+-- one
 abbrev pub FamiliesAreWhole : Type 0
 FamiliesAreWhole =
     (sizes (0x1F468 ∷ 0x200D ∷ 0x1F469 ∷ 0x200D ∷ 0x1F467 ∷ []) ≡ 5 ∷ [])

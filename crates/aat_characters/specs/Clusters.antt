@@ -12,8 +12,8 @@ use Rattle.aat_characters.specs.declared.placed_character.PlacedCharacter.{Place
 abbrev pub is_joiner : ℕ → Bool
 is_joiner c = c == 0x200D
 
--- a character that continues each cluster: a mark, a modifier of emoji, a zero width joiner, a halfwidth voiced sound mark of
--- Katakana, and a tag
+-- a character that continues each cluster: a mark, a modifier of emoji, a zero width joiner, a halfwidth voiced sound
+-- mark of Katakana, and a tag
 abbrev pub extends : ℕ → Bool
 extends c =
     is_mark c || nat_le 0x1F3FB c && nat_le c 0x1F3FF || is_joiner c || nat_le 0xFF9E c && nat_le c 0xFF9F
@@ -27,8 +27,8 @@ ends_with_joiner cluster = list_any (λ c. is_joiner c.character) (drop (length 
 abbrev pub is_half_flag : List PlacedCharacter → Bool
 is_half_flag cluster = (length cluster == 1) && list_all (λ c. is_regional_indicator c.character) cluster
 
--- whether a character continues the cluster before it: so does also a pictograph behind a zero width joiner, and the second
--- half of a flag
+-- whether a character continues the cluster before it: so does also a pictograph behind a zero width joiner, and the
+-- second half of a flag
 abbrev pub continues : List PlacedCharacter → PlacedCharacter → Bool
 continues cluster c =
     extends c.character || ends_with_joiner cluster && is_extended_pictographic c.character

@@ -13,8 +13,8 @@ use Rattle.aat_characters.specs.declared.placed_character.PlacedCharacter.{Place
 abbrev pub has_glyph : FaceValue → ℕ → Bool
 has_glyph face character = is_some (glyph_of_character face character)
 
--- the ways to write a character with the parts behind it, from the fewest characters to the most: as many parts as compose
--- with it in turn are joined to it, or fewer
+-- the ways to write a character with the parts behind it, from the fewest characters to the most: as many parts as
+-- compose with it in turn are joined to it, or fewer
 abbrev pub ways_from : ℕ → List ℕ → List (List ℕ)
 ways_from first [] = (first ∷ []) ∷ []
 ways_from first (part ∷ parts) =
@@ -37,8 +37,8 @@ abbrev pub is_other_space : ℕ → Bool
 is_other_space c =
     c == 0xA0 || nat_le 0x2000 c && nat_le c 0x200A || c == 0x202F || c == 0x205F || c == 0x3000
 
--- what stands for a character that the font cannot write: the space for another space, which it tells, the hyphen for one
--- that does not break, and else itself
+-- what stands for a character that the font cannot write: the space for another space, which it tells, the hyphen for
+-- one that does not break, and else itself
 abbrev pub stand_in : (ℕ → Bool) → PlacedCharacter → PlacedCharacter
 stand_in has c =
     if is_other_space c.character && has 0x20 then record c { character = 0x20; space = Some c.character }
@@ -56,8 +56,8 @@ is_variation_selector c = nat_le 0xFE00 c && nat_le c 0xFE0F || nat_le 0xE0100 c
 abbrev pub has_selector : List PlacedCharacter → Bool
 has_selector part = list_any (λ c. is_variation_selector c.character) part
 
--- a character with the marks behind it, as few characters as can be where there is no mark, and else as many: it stays as
--- it is where one is a variation selector
+-- a character with the marks behind it, as few characters as can be where there is no mark, and else as many: it stays
+-- as it is where one is a variation selector
 abbrev pub decomposed_part : (ℕ → Bool) → List PlacedCharacter → List PlacedCharacter
 decomposed_part has part =
     if has_selector part then part

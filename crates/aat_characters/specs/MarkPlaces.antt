@@ -1,7 +1,7 @@
 -- Where a mark is placed around a box. (No chapter of the manual: these places are HarfBuzz's.)
 use Rattle.std.specs.Prelude.{ℕ, ℤ, pos, int_div, int_lt, ◌==◌, ◌&&◌, ◌||◌, Bool, if◌then◌else◌}
 use Rattle.std.specs.Int.{int_div_euclid}
-use Rattle.aat_face.specs.declared.glyph_metrics.GlyphBox.{GlyphBox}
+use Rattle.aat_read_metrics.specs.declared.glyph_metrics.GlyphBox.{GlyphBox}
 use Rattle.aat_glyph.specs.Directions.{is_forward, is_horizontal}
 use Rattle.aat_glyph.specs.declared.glyph.Direction.{Direction}
 use Rattle.aat_characters.specs.Lengths.{half, minus, plus}
@@ -47,8 +47,8 @@ at_far_edge d base mark = minus (minus (far_edge d base) (half (width_of mark)))
 unfoldable pub in_middle : GlyphBox → GlyphBox → ℤ
 in_middle base mark = minus (plus base.left (half (minus (width_of base) (width_of mark)))) mark.left
 
--- How far to the right of its base a mark is drawn: edge at edge, a double one of a row at the far edge, and others in the
--- middle.
+-- How far to the right of its base a mark is drawn: edge at edge, a double one of a row at the far edge, and others in
+-- the middle.
 abbrev pub beside : Direction → ℕ → GlyphBox → GlyphBox → ℤ
 beside d class base mark =
     if is_left class then minus base.left mark.left

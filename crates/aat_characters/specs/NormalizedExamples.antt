@@ -30,8 +30,8 @@ MarksAreOrdered =
     normalized (among (0x61 ∷ 0x301 ∷ 0x323 ∷ [])) (at 0 0x61 ∷ at 1 0x301 ∷ at 3 0x323 ∷ [])
     ≡ at 0 0x61 ∷ at 1 0x323 ∷ at 1 0x301 ∷ []
 
--- an em space becomes a space, where the font lacks it, and a hyphen that does not break a hyphen; a letter with a variation
--- selector stays
+-- an em space becomes a space, where the font lacks it, and a hyphen that does not break a hyphen; a letter with a
+-- variation selector stays
 abbrev pub OthersStandIn : Type 0
 OthersStandIn =
     (normalized (among (0x20 ∷ 0x2010 ∷ [])) (at 0 0x2003 ∷ at 3 0x2011 ∷ []) ≡ space_for 0 0x2003 ∷ at 3 0x2010 ∷ [])

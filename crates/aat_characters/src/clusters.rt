@@ -15,8 +15,8 @@ fn is_joiner(character: char) -> bool
     character == '\u{200D}'
 }
 
-/// Whether a character continues each cluster: a mark, a modifier of emoji, a zero width joiner, a halfwidth voiced sound
-/// mark of Katakana, and a tag.
+/// Whether a character continues each cluster: a mark, a modifier of emoji, a zero width joiner, a halfwidth voiced
+/// sound mark of Katakana, and a tag.
 fn extends(character: char) -> bool
     ensures { result ≡ extends character }
 {
@@ -45,8 +45,8 @@ fn is_half_flag(cluster: &[PlacedCharacter]) -> bool
     cluster.len() == 1 && is_regional_indicator(cluster[0].character)
 }
 
-/// Whether a character continues the cluster before it, as HarfBuzz has it: so does also a pictograph behind a zero width
-/// joiner, and the second half of a flag.
+/// Whether a character continues the cluster before it, as HarfBuzz has it: so does also a pictograph behind a zero
+/// width joiner, and the second half of a flag.
 fn continues(cluster: &[PlacedCharacter], character: PlacedCharacter) -> bool
     ensures { result ≡ continues cluster.now character }
 {
@@ -68,12 +68,12 @@ fn put_merged<A: Allocator>(
     }
 }
 
-/// The characters of a text, each with the place of its cluster, in the order of the text. `characters` is the text, each
-/// character with its own place.
+/// The characters of a text, each with the place of its cluster, in the order of the text. `characters` is the text,
+/// each character with its own place.
 ///
-/// A cluster is one character and those that continue it, as HarfBuzz 12.3.2 has it: a mark (`General_Category` Mn, Mc or
-/// Me), a modifier of emoji, a zero width joiner, `Extended_Pictographic` behind a zero width joiner, the second of two
-/// regional indicators, a tag (U+E0020 to U+E007F), and U+FF9E and U+FF9F.
+/// A cluster is one character and those that continue it, as HarfBuzz 12.3.2 has it: a mark (`General_Category` Mn, Mc
+/// or Me), a modifier of emoji, a zero width joiner, `Extended_Pictographic` behind a zero width joiner, the second of
+/// two regional indicators, a tag (U+E0020 to U+E007F), and U+FF9E and U+FF9F.
 pub fn merged_clusters<A: Allocator>(
     alloc: A,
     characters: &[PlacedCharacter],
@@ -92,7 +92,8 @@ pub fn merged_clusters<A: Allocator>(
     Ok(out)
 }
 
-/// Puts a cluster behind others from its last character to its first, at the place of the first one. `turned` is used up.
+/// Puts a cluster behind others from its last character to its first, at the place of the first one. `turned` is used
+/// up.
 fn put_turned<A: Allocator>(
     cluster: &[PlacedCharacter],
     turned: &mut Vec<PlacedCharacter, A>,

@@ -105,9 +105,9 @@ fn put_next<A: Allocator + Copy>(
     Ok(())
 }
 
-/// The characters of a text, composed. A mark composes with the last starter before it where the font has the composite,
-/// and the character right before the mark is that starter or has a lower class. A starter is the first character, and
-/// each one that is not moved among marks and does not compose.
+/// The characters of a text, composed. A mark composes with the last starter before it where the font has the
+/// composite, and the character right before the mark is that starter or has a lower class. A starter is the first
+/// character, and each one that is not moved among marks and does not compose.
 pub(crate) fn composed<A: Allocator + Copy>(
     alloc: A,
     face: &Face,
@@ -140,9 +140,9 @@ fn has_marks(characters: &[PlacedCharacter]) -> bool
         .any(|character| character.is_mark())
 }
 
-/// The characters of a text as the font can write them. Where no mark stands behind another character, each is written by
-/// itself, with as few characters as the font has. Else they are decomposed, their marks are put in order, and they are
-/// composed again.
+/// The characters of a text as the font can write them. Where no mark stands behind another character, each is written
+/// by itself, with as few characters as the font has. Else they are decomposed, their marks are put in order, and they
+/// are composed again.
 pub fn normalized<A: Allocator + Copy>(
     alloc: A,
     face: &Face,

@@ -53,8 +53,8 @@ fn way_here(face: &Face, first: char, parts: &[char], at: usize) -> Option<(char
     }
 }
 
-/// The way that the font can write a character with the parts from a place on: the first character, and the place of the
-/// part that follows it. It is the way with the fewest characters, or else with the most.
+/// The way that the font can write a character with the parts from a place on: the first character, and the place of
+/// the part that follows it. It is the way with the fewest characters, or else with the most.
 fn way_from(
     face: &Face,
     shortest: bool,

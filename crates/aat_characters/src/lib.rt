@@ -1,6 +1,6 @@
 //! The characters of a text as HarfBuzz hands them to the layer: the direction in which a script is written, clusters,
-//! mirrored and vertical characters, letters and marks composed and decomposed by what a font has, the classes of marks,
-//! and where marks are placed around boxes.
+//! mirrored and vertical characters, letters and marks composed and decomposed by what a font has, the classes of
+//! marks, and where marks are placed around boxes.
 #![tactic(auto)]
 
 mod clusters;

@@ -111,8 +111,9 @@ fn in_middle(base: GlyphBox, mark: GlyphBox) -> i32
 }
 
 /// How far to the right of its own place a mark of a combining class is drawn by its box around that of its base, as
-/// HarfBuzz 12.3.2 has it: at the left or the right edge, or in the middle. A double one of a row stands with its middle
-/// at the edge of the base where the next base follows. All is in units of the font, and lengths wrap at 32 bits.
+/// HarfBuzz 12.3.2 has it: at the left or the right edge, or in the middle. A double one of a row stands with its
+/// middle at the edge of the base where the next base follows. All is in units of the font, and lengths wrap at 32
+/// bits.
 pub fn beside(direction: Direction, class: u8, base: GlyphBox, mark: GlyphBox) -> i32
     ensures { result ≡ beside direction class base mark }
 {
@@ -161,8 +162,8 @@ fn above(gap: u16, class: u8, base: GlyphBox, mark: GlyphBox) -> i32
 
 /// How far above its own place a mark of a combining class is drawn by its box around that of its base, as HarfBuzz
 /// 12.3.2 has it: below or above the base, attached or off by a gap. It is not moved up to a base that it is below, and
-/// half of the way down to one that it is above. Marks of other classes stay at their height. All is in units of the font,
-/// and lengths wrap at 32 bits.
+/// half of the way down to one that it is above. Marks of other classes stay at their height. All is in units of the
+/// font, and lengths wrap at 32 bits.
 pub fn over(gap: u16, class: u8, base: GlyphBox, mark: GlyphBox) -> i32
     ensures { result ≡ over gap class base mark }
 {

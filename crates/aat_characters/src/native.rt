@@ -81,10 +81,10 @@ fn is_numeric(text: &str) -> bool
     has_number(text) && !has_letter(text)
 }
 
-/// The direction in which HarfBuzz shapes a text of a script that runs in `direction`. In rows it is that in which the script is
-/// written, `LeftToRight` where the text has no script, and `direction` where the script is written both ways. A text
-/// that is told to run to the right does so too where it has a decimal digit or a regional indicator, and no letter. In
-/// columns it is `TopToBottom`.
+/// The direction in which HarfBuzz shapes a text of a script that runs in `direction`. In rows it is that in which the
+/// script is written, `LeftToRight` where the text has no script, and `direction` where the script is written both
+/// ways. A text that is told to run to the right does so too where it has a decimal digit or a regional indicator, and
+/// no letter. In columns it is `TopToBottom`.
 ///
 /// Where it differs from `direction`, the text is turned: its clusters are taken from last to first.
 pub fn native_direction(script: Option<Script>, text: &str, direction: Direction) -> Direction

@@ -35,7 +35,8 @@ impl PlacedCharacter {
         is_mark(self.character)
     }
 
-    /// The class by which a mark is ordered behind its letter, as HarfBuzz has it, and 0 of a character that is not moved.
+    /// The class by which a mark is ordered behind its letter, as HarfBuzz has it, and 0 of a character that is not
+    /// moved.
     pub(crate) fn class(self) -> u8
         ensures { result ≡ placed_class self }
     {

@@ -28,8 +28,8 @@ pub enum ScriptRules {
     Universal,
 }
 
-/// What becomes of the advances of glyphs that are marks. The classes of `GDEF` tell which are, and where the font has no
-/// classes of glyphs their characters do.
+/// What becomes of the advances of glyphs that are marks. The classes of `GDEF` tell which are, and where the font has
+/// no classes of glyphs their characters do.
 #[derive(Clone, Copy, PartialEq, Eq, Debug)]
 pub enum MarkWidths {
     /// They stay.

@@ -35,16 +35,17 @@ use Rattle.aat_read_morx.proofs.Bounded.{memory_bounded}
 use Rattle.aat_read_sfnt.specs.Metrics.{advance_of}
 use Rattle.aat_read_sfnt.specs.declared.gdef.GlyphClasses.{GlyphClasses}
 use Rattle.aat_read_sfnt.specs.Directory.{Directory, cut_table_of, directory_at, directory_of, directory_place, is_font_version, part_of_record, record_of}
-use Rattle.aat_read_trak.specs.Trak.{trak_of}
-use Rattle.aat_read_trak.specs.TrakLaws.{table_size}
-use Rattle.aat_read_trak.proofs.Bounded.{traks_are_bounded}
+use Rattle.aat_read_metrics.specs.Trak.{trak_of}
+use Rattle.aat_read_metrics.specs.TrakLaws.{table_size}
+use Rattle.aat_read_metrics.proofs.Bounded.{traks_are_bounded}
 use Rattle.aat_face.specs.Chains.{chain_values_of}
 use Rattle.aat_face.specs.FaceLaws.{FaceMemoryIsBounded, IsBounded}
 use Rattle.aat_face.specs.Faces.{face_of_tables, faults_of, tables_in}
 use Rattle.aat_face.specs.Features.{FeatureTable, feature_table_of, features_in}
 use Rattle.aat_face.specs.Kerning.{ankr_values_of, kerx_values_of}
 use Rattle.aat_face.specs.Lists.{mark_property, pairs_over, property_pairs}
-use Rattle.aat_face.specs.Tables.{classes_fault, fault_in, found_in, none_if_missing, number_in, glyph_count_in, read_if_found, table_in, unless_missing}
+use Rattle.aat_read_metrics.specs.Tables.{found_in, none_if_missing, number_in, glyph_count_in, read_if_found, table_in, unless_missing}
+use Rattle.aat_face.specs.Tables.{classes_fault, fault_in}
 use Rattle.aat_face.specs.declared.tables.Tables.{Tables}
 use Rattle.aat_face.specs.Weights.{bytes_of_table, features_weight, plain_weight}
 

@@ -4,7 +4,7 @@ use Rattle.aat_bytes.specs.declared.error.Fault.{Fault}
 use Rattle.aat_bytes.specs.declared.tags.TheConstants.{MORX}
 use Rattle.aat_read_morx.specs.Chains.{ChainValue, morx_of}
 use Rattle.aat_read_sfnt.specs.Directory.{Directory}
-use Rattle.aat_face.specs.Tables.{table_in}
+use Rattle.aat_read_metrics.specs.Tables.{table_in}
 
 -- the chains of these bytes
 abbrev pub chain_values_of : ℕ → List ℕ → Result (List ChainValue) Fault

@@ -20,13 +20,14 @@ use Rattle.aat_placement.specs.Tracks.{TrackingTable}
 use Rattle.aat_face.specs.Chains.{chains_in}
 use Rattle.aat_face.specs.English.{Text, english_text}
 use Rattle.aat_face.specs.Features.{feature_bytes, feature_tables, features_in}
-use Rattle.aat_face.specs.GlyphMetrics.{em_in, glyph_box_in, row_metrics, vertical_advance_in, vertical_origin_in}
+use Rattle.aat_read_metrics.specs.GlyphMetrics.{em_in, glyph_box_in, row_metrics, vertical_advance_in, vertical_origin_in}
 use Rattle.aat_face.specs.Kerning.{ankr_in, has_gpos_in, has_stat_in, kern_in, kerx_in, left_out_of, left_out_of_kern}
 use Rattle.aat_face.specs.Lists.{advance_pairs, property_pairs}
-use Rattle.aat_face.specs.Tables.{characters_in, classes_fault, classes_in, fault_in, found_in, glyph_count_in, long_metric_count_in, names_in, number_in, units_per_em_in}
+use Rattle.aat_read_metrics.specs.Tables.{found_in, glyph_count_in, number_in, units_per_em_in}
+use Rattle.aat_face.specs.Tables.{characters_in, classes_fault, classes_in, fault_in, long_metric_count_in, names_in}
 use Rattle.aat_face.specs.Tracking.{trak_in}
-use Rattle.aat_face.specs.declared.glyph_metrics.GlyphBox.{GlyphBox}
-use Rattle.aat_face.specs.declared.glyph_metrics.Origin.{Origin}
+use Rattle.aat_read_metrics.specs.declared.glyph_metrics.GlyphBox.{GlyphBox}
+use Rattle.aat_read_metrics.specs.declared.glyph_metrics.Origin.{Origin}
 use Rattle.aat_face.specs.declared.tables.Tables.{Tables}
 
 -- the tables of a file as they are read: chains, extended kerning and anchor points need the number of glyphs

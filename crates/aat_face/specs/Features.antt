@@ -7,7 +7,7 @@ use Rattle.aat_font.specs.declared.face.FaceTables.{FaceTables}
 use Rattle.aat_lookup.specs.declared.feat.FeatureName.{FeatureName}
 use Rattle.aat_read_lookup.specs.Features.{feat_of}
 use Rattle.aat_read_sfnt.specs.Directory.{Directory}
-use Rattle.aat_face.specs.Tables.{found_in, table_in}
+use Rattle.aat_read_metrics.specs.Tables.{found_in, table_in}
 
 -- the table of features, and its bytes, where the numbers of names stand
 pub record FeatureTable : Type 0 where

@@ -10,7 +10,7 @@ use Rattle.aat_read_kerx.specs.Anchors.{ankr_of}
 use Rattle.aat_read_kerx.specs.KerxTables.{KerxValue, kerx_of}
 use Rattle.aat_read_pairs.specs.declared.left_out.LeftOutSubtable.{LeftOutSubtable}
 use Rattle.aat_read_sfnt.specs.Directory.{Directory, table_of}
-use Rattle.aat_face.specs.Tables.{found_in, table_in}
+use Rattle.aat_read_metrics.specs.Tables.{found_in, table_in}
 
 -- the extended kerning of these bytes, in a font of so many glyphs
 abbrev pub kerx_values_of : ℕ → List ℕ → Result KerxValue Fault

@@ -4,11 +4,8 @@ pub mod Examples
 pub mod FaceLaws
 pub mod Faces
 pub mod Features
-pub mod FontExtents
-pub mod GlyphMetrics
 pub mod Kerning
 pub mod Lists
-pub mod MetricExamples
 pub mod SizeExamples
 pub mod Tables
 pub mod Tracking

@@ -4,8 +4,8 @@ use Rattle.aat_bytes.specs.declared.error.Fault.{Fault}
 use Rattle.aat_bytes.specs.declared.tags.TheConstants.{TRAK}
 use Rattle.aat_read_sfnt.specs.Directory.{Directory}
 use Rattle.aat_placement.specs.Tracks.{TrackingTable}
-use Rattle.aat_read_trak.specs.Trak.{trak_of}
-use Rattle.aat_face.specs.Tables.{table_in}
+use Rattle.aat_read_metrics.specs.Trak.{trak_of}
+use Rattle.aat_read_metrics.specs.Tables.{table_in}
 
 -- the tracking of a file
 abbrev pub trak_in : Directory → Result (Option TrackingTable) Fault

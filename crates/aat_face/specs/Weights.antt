@@ -18,7 +18,7 @@ use Rattle.aat_read_morx.specs.Chains.{ChainValue}
 use Rattle.aat_read_morx.specs.Weights.{morx_weight}
 use Rattle.aat_read_sfnt.specs.Directory.{cut_table_of, directory_of}
 use Rattle.aat_placement.specs.Tracks.{TrackingTable}
-use Rattle.aat_read_trak.specs.TrakLaws.{table_size}
+use Rattle.aat_read_metrics.specs.TrakLaws.{table_size}
 use Rattle.aat_face.specs.Faces.{FaceValue}
 use Rattle.aat_face.specs.declared.weights.TheConstants.{FACE_SIZE, FAULT_SIZE, FEATURE_NAME_SIZE}
 

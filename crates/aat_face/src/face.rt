@@ -6,16 +6,12 @@ ghost use Rattle.aat_face.specs.Faces.{advances_in, face_of, face_of_tables, fau
 
 use crate::chains::{chains_in, layer_tables};
 use crate::features::{feature_bytes, features_in};
-use crate::glyph_metrics::{
-    GlyphBox, Origin, em_in, glyph_box_in, row_metrics, vertical_advance_in, vertical_origin_in,
-};
 use crate::kerning::{
     ankr_in, has_gpos_in, has_stat_in, kern_in, kern_parts, kerx_in, kerx_parts, with_kerning,
 };
 use crate::lists::{advance_lookup, property_lookup};
 use crate::tables::{
-    Tables, characters_in, classes_fault, classes_in, fault_in, found_in, glyph_count_in,
-    long_metric_count_in, names_in, number_in, units_per_em_in,
+    Tables, characters_in, classes_fault, classes_in, fault_in, long_metric_count_in, names_in,
 };
 use crate::text::{NameText, english_text};
 use crate::tracking::trak_in;
@@ -24,6 +20,10 @@ use aat_font::hb_font_t;
 use aat_lookup::{GlyphId, Lookup};
 use aat_placement::Tracking;
 use aat_read_lookup::{feature_name_id, setting_name_id};
+use aat_read_metrics::{
+    GlyphBox, Origin, em_in, found_in, glyph_box_in, glyph_count_in, number_in, row_metrics,
+    units_per_em_in, vertical_advance_in, vertical_origin_in,
+};
 use aat_read_pairs::LeftOutSubtable;
 use aat_read_sfnt::{CharacterMap, FontFile, Names};
 use std::alloc::{AllocError, Global};

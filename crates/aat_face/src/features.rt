@@ -1,13 +1,13 @@
 //! The table `feat` with its bytes, where the numbers of names stand.
 ghost use Rattle.std.specs.Prelude.{◌≡◌, Some, IfOk, option_copied};
 ghost use Rattle.aat_face.specs.Features.{feature_bytes, feature_table_of, feature_tables, features_in, tables_with};
-ghost use Rattle.aat_face.specs.Tables.{read_if_found};
+ghost use Rattle.aat_read_metrics.specs.Tables.{read_if_found};
 
-use crate::tables::{found_in, optional_table};
 use aat_bytes::{Fault, ReadError};
 use aat_font::FaceTables;
 use aat_lookup::Feat;
 use aat_read_lookup::{FEAT, read_feat};
+use aat_read_metrics::{found_in, optional_table};
 use aat_read_sfnt::FontFile;
 use std::alloc::{AllocError, Global};
 use std::marker::Model;

@@ -2,15 +2,15 @@
 ghost use Rattle.std.specs.Prelude.{◌≡◌, Some, IfOk, option_map};
 ghost use Rattle.aat_read_kern.specs.Kern.{kern_of};
 ghost use Rattle.aat_face.specs.Kerning.{ankr_in, ankr_values_of, has_gpos_in, has_stat_in, kern_in, kerx_in, kerx_values_of, left_out_of, left_out_of_kern};
-ghost use Rattle.aat_face.specs.Tables.{found_in, read_if_found};
+ghost use Rattle.aat_read_metrics.specs.Tables.{found_in, read_if_found};
 
-use crate::tables::{found_in, optional_table};
 use aat_bytes::tags::{GPOS, STAT};
 use aat_bytes::{Fault, ReadError};
 use aat_font::FaceTables;
 use aat_kerning_tables::{Ankr, Kern, Kerx};
 use aat_read_kern::{KernRead, read_kern};
 use aat_read_kerx::{ANKR, KerxRead, read_ankr, read_kerx};
+use aat_read_metrics::{found_in, optional_table};
 use aat_read_pairs::{KERN, KERX, LeftOutSubtable};
 use aat_read_sfnt::FontFile;
 use std::alloc::{AllocError, Global};

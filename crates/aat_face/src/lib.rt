@@ -10,8 +10,6 @@ mod chains;
 mod encoding;
 mod face;
 mod features;
-mod font_extents;
-mod glyph_metrics;
 mod kerning;
 #[doc(hidden)]
 pub mod laws;
@@ -23,7 +21,7 @@ pub mod weights;
 #[doc(hidden)]
 pub mod worked;
 
+pub use aat_read_metrics::{GlyphBox, Origin};
 pub use encoding::NameEncoding;
 pub use face::Face;
-pub use glyph_metrics::{GlyphBox, Origin};
 pub use text::NameText;

@@ -1,14 +1,13 @@
 //! The table `trak`.
 ghost use Rattle.std.specs.Prelude.{◌≡◌, Some, IfOk};
-ghost use Rattle.aat_read_trak.specs.Trak.{trak_of};
-ghost use Rattle.aat_face.specs.Tables.{read_if_found};
+ghost use Rattle.aat_read_metrics.specs.Tables.{read_if_found};
+ghost use Rattle.aat_read_metrics.specs.Trak.{trak_of};
 ghost use Rattle.aat_face.specs.Tracking.{trak_in};
 
-use crate::tables::optional_table;
 use aat_bytes::{Fault, ReadError};
 use aat_placement::Tracking;
+use aat_read_metrics::{TRAK, optional_table, read_trak};
 use aat_read_sfnt::FontFile;
-use aat_read_trak::{TRAK, read_trak};
 use std::alloc::{AllocError, Global};
 
 /// What is read of the bytes of the table `trak`.

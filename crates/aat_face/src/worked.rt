@@ -1,28 +1,27 @@
 //! Worked examples of faces as theorems. These calls do nothing: what is proved is their contracts.
 ghost use Rattle.aat_face.specs.Examples.{ChainsAreOfTheFont, FacesHaveTracks, FaultsAreListed, FeaturesHaveTexts, GlyphsHaveValues, LeftOutsAreTold, WindowsGoesFirst};
-ghost use Rattle.aat_face.specs.MetricExamples.{BoxesAreOfHeaders, BoxesBeginAtTheBearing, BoxesStandInTheMiddle, ExtentsAreAsked, TopsHaveBearings};
 ghost use Rattle.aat_face.specs.SizeExamples.{SizesAreKnown};
 
 /// The definition of a face computes to the examples.
-#[tactic(auto, unfolding(aat_bytes::specs::Numbers::slice, aat_bytes::specs::Numbers::slice_from, aat_read_sfnt::specs::Directory::place_in_collection, aat_read_sfnt::specs::Directory::directory_place, aat_read_sfnt::specs::Directory::directory_at, aat_read_sfnt::specs::Header::glyph_count, aat_read_sfnt::specs::Header::units_per_em, aat_read_sfnt::specs::Metrics::long_metric_count, crate::specs::GlyphMetrics::metrics_at))]
+#[tactic(auto, unfolding(aat_bytes::specs::Numbers::slice, aat_bytes::specs::Numbers::slice_from, aat_read_sfnt::specs::Directory::place_in_collection, aat_read_sfnt::specs::Directory::directory_place, aat_read_sfnt::specs::Directory::directory_at, aat_read_sfnt::specs::Header::glyph_count, aat_read_sfnt::specs::Header::units_per_em, aat_read_sfnt::specs::Metrics::long_metric_count, aat_read_metrics::specs::GlyphMetrics::metrics_at))]
 pub fn faces()
     ensures faults { FaultsAreListed }
 {}
 
 /// The definition of a face computes to the example of a font with chains.
-#[tactic(auto, unfolding(aat_bytes::specs::Numbers::slice, aat_bytes::specs::Numbers::slice_from, aat_read_sfnt::specs::Directory::place_in_collection, aat_read_sfnt::specs::Directory::directory_place, aat_read_sfnt::specs::Directory::directory_at, aat_read_sfnt::specs::Header::glyph_count, aat_read_sfnt::specs::Header::units_per_em, aat_read_sfnt::specs::Metrics::long_metric_count, crate::specs::GlyphMetrics::metrics_at, aat_read_morx::specs::Chains::morx_of, aat_read_morx::specs::Chains::chain_at, aat_read_morx::specs::Chains::chain_value_at, aat_read_morx::specs::ChainFeatures::whole_features, aat_read_morx::specs::ChainSubtables::subtable_at, aat_read_morx::specs::InTurn::end_at, aat_read_morx::specs::Reaches::allowance, aat_read_machine::specs::SubtableKinds::subtable_kind_at, aat_read_lookup::specs::Layouts::layout_at, aat_read_lookup::specs::Layouts::array_of))]
+#[tactic(auto, unfolding(aat_bytes::specs::Numbers::slice, aat_bytes::specs::Numbers::slice_from, aat_read_sfnt::specs::Directory::place_in_collection, aat_read_sfnt::specs::Directory::directory_place, aat_read_sfnt::specs::Directory::directory_at, aat_read_sfnt::specs::Header::glyph_count, aat_read_sfnt::specs::Header::units_per_em, aat_read_sfnt::specs::Metrics::long_metric_count, aat_read_metrics::specs::GlyphMetrics::metrics_at, aat_read_morx::specs::Chains::morx_of, aat_read_morx::specs::Chains::chain_at, aat_read_morx::specs::Chains::chain_value_at, aat_read_morx::specs::ChainFeatures::whole_features, aat_read_morx::specs::ChainSubtables::subtable_at, aat_read_morx::specs::InTurn::end_at, aat_read_morx::specs::Reaches::allowance, aat_read_machine::specs::SubtableKinds::subtable_kind_at, aat_read_lookup::specs::Layouts::layout_at, aat_read_lookup::specs::Layouts::array_of))]
 pub fn chains()
     ensures { ChainsAreOfTheFont }
 {}
 
 /// The definition of a face computes to the examples of tracking.
-#[tactic(auto, unfolding(aat_bytes::specs::Numbers::slice, aat_bytes::specs::Numbers::slice_from, aat_read_sfnt::specs::Directory::place_in_collection, aat_read_sfnt::specs::Directory::directory_place, aat_read_sfnt::specs::Directory::directory_at, aat_read_sfnt::specs::Header::glyph_count, aat_read_sfnt::specs::Header::units_per_em, aat_read_sfnt::specs::Metrics::long_metric_count, crate::specs::GlyphMetrics::metrics_at))]
+#[tactic(auto, unfolding(aat_bytes::specs::Numbers::slice, aat_bytes::specs::Numbers::slice_from, aat_read_sfnt::specs::Directory::place_in_collection, aat_read_sfnt::specs::Directory::directory_place, aat_read_sfnt::specs::Directory::directory_at, aat_read_sfnt::specs::Header::glyph_count, aat_read_sfnt::specs::Header::units_per_em, aat_read_sfnt::specs::Metrics::long_metric_count, aat_read_metrics::specs::GlyphMetrics::metrics_at))]
 pub fn tracks()
     ensures { FacesHaveTracks }
 {}
 
 /// The definition of a face computes to the example of a subtable that is left out.
-#[tactic(auto, unfolding(aat_bytes::specs::Numbers::slice, aat_bytes::specs::Numbers::slice_from, aat_read_sfnt::specs::Directory::place_in_collection, aat_read_sfnt::specs::Directory::directory_place, aat_read_sfnt::specs::Directory::directory_at, aat_read_sfnt::specs::Header::glyph_count, aat_read_sfnt::specs::Header::units_per_em, aat_read_sfnt::specs::Metrics::long_metric_count, crate::specs::GlyphMetrics::metrics_at, aat_read_kern::specs::Kern::list_of, aat_read_kern::specs::Kern::end_at, aat_read_kern::specs::Kern::read_up_to, aat_read_kern::specs::Kern::subtable_at))]
+#[tactic(auto, unfolding(aat_bytes::specs::Numbers::slice, aat_bytes::specs::Numbers::slice_from, aat_read_sfnt::specs::Directory::place_in_collection, aat_read_sfnt::specs::Directory::directory_place, aat_read_sfnt::specs::Directory::directory_at, aat_read_sfnt::specs::Header::glyph_count, aat_read_sfnt::specs::Header::units_per_em, aat_read_sfnt::specs::Metrics::long_metric_count, aat_read_metrics::specs::GlyphMetrics::metrics_at, aat_read_kern::specs::Kern::list_of, aat_read_kern::specs::Kern::end_at, aat_read_kern::specs::Kern::read_up_to, aat_read_kern::specs::Kern::subtable_at))]
 pub fn left_out()
     ensures { LeftOutsAreTold }
 {}
@@ -38,16 +37,6 @@ pub fn lists()
 #[tactic(auto, unfolding(aat_bytes::specs::Numbers::slice, aat_bytes::specs::Numbers::slice_from, aat_bytes::specs::Numbers::u16_at, aat_read_lookup::specs::Features::feature_count, aat_read_sfnt::specs::Names::has_pair, aat_read_sfnt::specs::Names::has_key))]
 pub fn features()
     ensures { FeaturesHaveTexts }
-{}
-
-/// The definitions of boxes and of columns compute to the examples.
-#[tactic(auto, unfolding(aat_bytes::specs::Numbers::slice, aat_bytes::specs::Numbers::slice_from, aat_read_sfnt::specs::Header::glyph_count, aat_read_sfnt::specs::Header::units_per_em, aat_read_sfnt::specs::Metrics::long_metric_count, crate::specs::GlyphMetrics::metrics_at, crate::specs::GlyphMetrics::data_in, crate::specs::GlyphMetrics::extents_in, crate::specs::GlyphMetrics::box_of, crate::specs::GlyphMetrics::glyph_header, crate::specs::GlyphMetrics::glyph_box_in, crate::specs::GlyphMetrics::vertical_advance_in, crate::specs::GlyphMetrics::tops_in, crate::specs::GlyphMetrics::height_without_origins, crate::specs::GlyphMetrics::vertical_origin_in))]
-pub fn glyph_metrics()
-    ensures boxes { BoxesAreOfHeaders }
-    ensures middle { BoxesStandInTheMiddle }
-    ensures bearings { BoxesBeginAtTheBearing }
-    ensures tops { TopsHaveBearings }
-    ensures extents { ExtentsAreAsked }
 {}
 
 /// The types by which memory is counted have their sizes.

@@ -45,4 +45,8 @@ pub use Rattle.aat_kerning_machines.specs.KerningMachine
 pub use Rattle.aat_kerning_machines.specs.Positions
 pub use Rattle.aat_kerning_machines.specs.Stack
 pub mod Planned
+pub mod RefusedShaping
 pub mod Refusals
+pub mod ShapedOrder
+pub mod Shaping
+pub mod ShapingRows

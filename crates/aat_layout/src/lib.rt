@@ -1,12 +1,16 @@
-//! Apple Advanced Typography: extended glyph substitution and kerning over a shaping buffer, the calls one by one. It
-//! hands on what a caller needs of the crates below. A program takes `aat_shaper` for texts.
+//! Apple Advanced Typography: extended glyph substitution and kerning over a shaping buffer, the calls one by one, and
+//! `shape`, which makes them with advances and removal of deleted glyphs. It hands on what a caller needs of the crates
+//! below. A program takes `aat_shaper` for texts; it and `aat_shape` stand on this crate.
 //!
 //! ```
 //! let turns = hb_aat_layout_substitute(alloc, &plan, &font, &mut buffer)?;
+//! let turns = shape(alloc, &plan, &font, &mut buffer)?;
 //! ```
 #![tactic(auto)]
 
 mod aat_layout;
+mod shaping;
+mod shaping_rows;
 
 /// The shaping buffer, a crate of its own.
 pub use aat_buffer as buffer;
@@ -55,6 +59,7 @@ pub use aat_run::{
     AatError, drive, driver_context_t, ends_at_last, hb_aat_apply_context_t, range_flags_t,
     range_of,
 };
+pub use shaping::{advance, place_with_deleted, shape, shape_with_deleted};
 
 /// The laws of the definitions as theorems.
 #[doc(hidden)]
@@ -77,6 +82,7 @@ pub mod laws {
 /// The worked rows as theorems.
 #[doc(hidden)]
 pub mod worked {
+    pub use crate::shaping_rows::shaping_rows;
     pub use aat_kerning::worked::{kerning_examples, kerning_rows};
     pub use aat_map::worked::{alternate_rows, mappings_rise, range_rows, small_capital_rows};
     pub use aat_morx::worked::{

@@ -26,3 +26,5 @@ mod substitution;
 mod tables;
 #[cfg(test)]
 mod texts;
+#[cfg(test)]
+mod typesetting;

@@ -5,9 +5,9 @@ use aat_layout::buffer::Direction;
 use aat_layout::font::{ExtendedStateTable, GlyphId};
 use aat_read_lookup::{read_feat, read_lookup};
 use aat_read_machine::{MORX, read_machine};
+use aat_read_metrics::read_trak;
 use aat_read_outlines::Outlines;
 use aat_read_pairs::read_kern_pairs;
-use aat_read_trak::read_trak;
 use linked_list_allocator::LocalHeap;
 
 /// `feat` of the types 1 and 3.

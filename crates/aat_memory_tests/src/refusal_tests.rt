@@ -11,12 +11,14 @@ use crate::shaping::{outcome_beside, outcome_of_text, outcome_within};
 use crate::substitution::{outcome_of_map, outcome_of_runs, runs_in, sixes, substitute};
 use crate::tables::{Table, is_made};
 use crate::texts::{FILE, Text, is_answered};
+use crate::typesetting::{Setting, is_set};
 use aat_bytes::ReadError;
 use aat_face::Face;
 use aat_layout::AatError;
 use aat_layout::font::{TableError, hb_font_t, hb_ot_shape_plan_t};
 use aat_shape::described::drop_font;
 use aat_text::TextError;
+use aat_typesetter::TypesetError;
 use linked_list_allocator::LocalHeap;
 use std::alloc::Global;
 use std::process::Abort;
@@ -28,6 +30,7 @@ enum Call {
     Made(Table),
     Read(Reader),
     Answered(Text),
+    Typeset(Setting),
     Grown(Growth),
     Asked(Asking),
     /// Runs of glyphs that go into a line.
@@ -50,6 +53,13 @@ fn outcome_over(alloc: Global, heap: &LocalHeap, call: Call) -> Result<Outcome, 
         Call::Answered(text) => {
             let face = Face::read(alloc, &FILE, 0)?;
             outcome_of(is_answered(heap, &face, text), TextError::OutOfMemory)
+        }
+        Call::Typeset(setting) => {
+            let face = Face::read(alloc, &FILE, 0)?;
+            outcome_of(
+                is_set(alloc, heap, &face, setting),
+                TypesetError::OutOfMemory,
+            )
         }
         _ => Outcome::Wrong,
     })
@@ -104,7 +114,9 @@ fn outcome_on_heap(alloc: Global, call: Call, blocks: usize) -> Result<Outcome, 
 fn outcome_within_blocks(alloc: Global, call: Call, blocks: usize) -> Result<Outcome, Fail> {
     match call {
         Call::Grown(growth) => outcome_of_growth(alloc, growth, blocks),
-        Call::Made(_) | Call::Read(_) | Call::Answered(_) => outcome_on_heap(alloc, call, blocks),
+        Call::Made(_) | Call::Read(_) | Call::Answered(_) | Call::Typeset(_) => {
+            outcome_on_heap(alloc, call, blocks)
+        }
         _ => outcome_in_font(alloc, call, blocks),
     }
 }
@@ -123,7 +135,7 @@ fn blocks_for(alloc: Global, call: Call) -> Result<Option<usize>, Fail> {
 }
 
 /// Each call with its name, and how often it asks for memory at least. Each request takes a block or more.
-static CALLS: [(&str, Call, usize); 37] = [
+static CALLS: [(&str, Call, usize); 40] = [
     ("a lookup with an array", Call::Made(Table::CloseLookup), 2),
     ("a lookup without one", Call::Made(Table::FarLookup), 1),
     ("segments", Call::Made(Table::Segments), 1),
@@ -142,6 +154,9 @@ static CALLS: [(&str, Call, usize); 37] = [
     ("missing characters", Call::Answered(Text::Missing), 1),
     ("the ends of lines", Call::Answered(Text::LineEnds), 1),
     ("hidden characters", Call::Answered(Text::Hidden), 1),
+    ("a text made ready", Call::Answered(Text::Prepared), 2),
+    ("a typeset line", Call::Typeset(Setting::Line), 4),
+    ("typeset lines", Call::Typeset(Setting::Lines), 6),
     ("add", Call::Grown(Growth::Add), 3),
     ("copy_glyph", Call::Grown(Growth::Copy), 3),
     ("output_glyph", Call::Grown(Growth::Output), 3),

@@ -1,8 +1,12 @@
 //! The calls for characters, over a heap.
 
 use aat_face::Face;
+use aat_glyph::Direction;
 use aat_shaped_text::{CharacterKind, ShapedGlyph};
-use aat_text::{ClusterUnit, TextError, hide_ignorables, line_ends, missing_characters, text_of};
+use aat_showing::hide_ignorables;
+use aat_text::{
+    ClusterLevel, ClusterUnit, TextError, line_ends, missing_characters, prepare_text, text_of,
+};
 use linked_list_allocator::LocalHeap;
 
 /// The file of a font: a directory of 44 bytes; `cmap` at 44, of one subtable of format 12, where U+0020 is the glyph 1,
@@ -25,6 +29,7 @@ pub(crate) enum Text {
     Missing,
     LineEnds,
     Hidden,
+    Prepared,
 }
 
 /// Whether what is left of two glyphs, of which the second is hidden, are two.
@@ -42,7 +47,7 @@ fn is_hidden(heap: &LocalHeap, face: &Face) -> Result<bool, TextError> {
         attached_to: None,
         may_break_before: false,
     });
-    Ok(hide_ignorables(heap, face.glyph_of(' '), &glyphs)?.len() == 2)
+    Ok(hide_ignorables(heap, Direction::LeftToRight, face.glyph_of(' '), &glyphs)?.len() == 2)
 }
 
 /// Whether a call answers as many as there are, over a heap.
@@ -53,5 +58,10 @@ pub(crate) fn is_answered(heap: &LocalHeap, face: &Face, text: Text) -> Result<b
         Text::Missing => Ok(missing_characters(heap, face, unit, TEXT)?.len() == 8),
         Text::LineEnds => Ok(line_ends(heap, unit, TEXT)?.len() == 7),
         Text::Hidden => is_hidden(heap, face),
+        Text::Prepared => {
+            let level = ClusterLevel::Graphemes;
+            let prepared = prepare_text(heap, face, unit, level, None, None, TEXT)?;
+            Ok(prepared.glyphs.len() == TEXT.len())
+        }
     }
 }

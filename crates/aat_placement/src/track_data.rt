@@ -103,11 +103,12 @@ impl<A: Allocator> TrackData<A> {
     /// The first track of that value counts. Its value at the size is the one on the straight line through its values
     /// at two sizes, rounded to the nearest number, halves up. They are the first size that is not below the size asked
     /// for and the one before it, in the order of the table. Where there is none before it, its own value counts, and
-    /// where all sizes are below, that of the last one. So does HarfBuzz 12.3.2, in floats; this is exact. Version 6.0.0
-    /// went on along the line beyond the first size and the last. A number of more than 32 bits counts as the greatest
-    /// or the least that they hold.
+    /// where all sizes are below, that of the last one. HarfBuzz 12.3.2 has the same value for a size, in floating point,
+    /// and here it is exact. HarfBuzz 6.0.0 goes on along the line below the first size and above the last. A number that
+    /// 32 bits do not hold is the greatest or the least that they hold.
     ///
-    /// It is 0 where there is no such track, no size, or where the size asked for is 0.
+    /// It is 0 where there is no such track, no size, or where the size asked for is 0. HarfBuzz 12.3.2 takes the nearest
+    /// track, or interpolates between the two nearest, where there is none of that value.
     pub fn tracking_at(&self, track: i32, size: u32) -> i32
         ensures { result ≡ tracking_at self.now track size }
     {

@@ -4,17 +4,17 @@ ghost use Rattle.aat_placement.specs.TrackedLines.{begins, tracked, widened};
 
 use aat_glyph::{Direction, GlyphPosition};
 
-/// Adds a value, in font units, along a line: rows get wider, columns, of negative advances, tighter. Each drawn glyph
-/// that begins a cluster gets the value added to its advance along the line. All else of the positions stays, and sums
-/// wrap. So does HarfBuzz 12.3.2, for each grapheme in place of each cluster. Version 6.0.0 also moved such a glyph by half
-/// of the value.
+/// Adds a value, in font units, to the advance along the line of each drawn glyph that begins a cluster. A value above 0
+/// makes a row longer, and a column, whose advances are below 0, shorter. Sums wrap at 32 bits, and nothing else of the
+/// positions changes. HarfBuzz 12.3.2 does the same for each grapheme in place of each cluster. HarfBuzz 6.0.0 also moved
+/// such a glyph by half of the value.
 ///
 /// The line stands as its text is read, whatever its direction. `clusters` has the cluster of each glyph, or `None`
 /// where the glyph is not drawn. A drawn glyph begins a cluster if the last one that is drawn before it has another, or
 /// if there is none. `clusters` is as long as `positions`.
 ///
-/// Attachments are to be added up later, so that glyphs that are attached to others move with them. It takes no memory
-/// and cannot be refused.
+/// The offsets of attached glyphs are to be added up after this call, so that each keeps its place at the glyph that it
+/// is attached to. It takes no memory and cannot be refused.
 pub fn track(
     direction: Direction,
     value: i32,

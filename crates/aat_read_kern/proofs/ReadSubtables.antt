@@ -39,34 +39,39 @@ pub record Ends (bytes : List ℕ) (header : KernHeader) (start : KernStart) (en
   pub is : end ≡ cond (start.left == 1) (length bytes) (start.place + length_at bytes header start.place)
   pub low : start.place + header_size header ≤ end
   pub high : end ≤ length bytes
+  pub long : header_size header ≤ length_at bytes header start.place
+  pub inside : start.place + length_at bytes header start.place ≤ length bytes
 
--- by whether it is the last one
+-- by its length, which is one
 ends_by :
-    (bytes : List ℕ) (place size least field end : ℕ) (b : Bool) → place + least ≤ length bytes
-    → cond b (Ok (length bytes)) (cond (nat_lt size least) (Err (fault_at KERN ShortLength field))
-    (cond (nat_lt (length bytes) (place + size)) (Err (fault_at KERN PastEnd field)) (Ok (place + size)))) ≡ Ok end
-    → (end ≡ cond b (length bytes) (place + size)) × (place + least ≤ end) × (end ≤ length bytes)
-ends_by bytes place size least field end true header is =
-    let same : length bytes ≡ end = ok_parts (length bytes) end is in
-    (sym same, omega (arith, same, header), omega (arith, same))
-ends_by bytes place size least field end false header is =
+    (bytes : List ℕ) (place size least field end : ℕ) (b : Bool)
+    → cond (nat_lt size least) (Err (fault_at KERN ShortLength field))
+    (cond (nat_lt (length bytes) (place + size)) (Err (fault_at KERN PastEnd field))
+    (Ok (cond b (length bytes) (place + size)))) ≡ Ok end
+    → (end ≡ cond b (length bytes) (place + size)) × (least ≤ size) × (place + size ≤ length bytes)
+ends_by bytes place size least field end b is =
     let long = passes (nat_lt size least) _ _ end is in
     let within = passes (nat_lt (length bytes) (place + size)) _ _ end long.1 in
-    let same : place + size ≡ end = ok_parts (place + size) end within.1 in
-    let low = ltb-false size least long.0 in
-    let high = ltb-false (length bytes) (place + size) within.0 in
-    (sym same, omega (arith, same, low), omega (arith, same, high))
+    let same : cond b (length bytes) (place + size) ≡ end = ok_parts (cond b (length bytes) (place + size)) end within.1 in
+    (sym same, ltb-false size least long.0, ltb-false (length bytes) (place + size) within.0)
+
+-- by whether it is the last one
+between :
+    (bytes : List ℕ) (place size least end : ℕ) (b : Bool) → end ≡ cond b (length bytes) (place + size)
+    → least ≤ size → place + size ≤ length bytes → (place + least ≤ end) × (end ≤ length bytes)
+between bytes place size least end true is low high = (omega (arith, is, low, high), omega (arith, is))
+between bytes place size least end false is low high = (omega (arith, is, low), omega (arith, is, high))
 
 pub ends : (bytes : List ℕ) (header : KernHeader) (start : KernStart) (end : ℕ)
     → end_at bytes header start ≡ Ok end → Ends bytes header start end
 unfolding end_at
 ends bytes header start end is =
     let whole = passes (nat_lt (length bytes) (start.place + header_size header)) _ _ end is in
-    let inside = ltb-false (length bytes) (start.place + header_size header) whole.0 in
-    let by =
-    ends_by bytes start.place (length_at bytes header start.place) (header_size header) (length_place header start.place)
-    end (start.left == 1) inside whole.1 in
-    record { is = by.0; low = by.1; high = by.2 }
+    let size : ℕ = length_at bytes header start.place in
+    let least : ℕ = header_size header in
+    let by = ends_by bytes start.place size least (length_place header start.place) end (start.left == 1) whole.1 in
+    let within = between bytes start.place size least end (start.left == 1) by.0 by.1 by.2 in
+    record { is = by.0; low = within.0; high = within.1; long = by.1; inside = by.2 }
 
 module _ (bytes : List ℕ) (list : KernList) where
   -- a subtable that is read, and where the next one starts
@@ -131,8 +136,8 @@ module _ (bytes : List ℕ) (list : KernList) where
       let same : subtable_end bytes list k start.place ≡ next.place =
       ap (λ n. cond (n == 1) (length bytes) (end_by_length bytes list start.place)) left ∙ sym e.is in
       let here : IsSubtableAt bytes list k start.place read = record {
-        header = subst (λ (n : ℕ). start.place + header_size list.header ≤ n) (sym same) e.low;
-        inside = subst (λ (n : ℕ). n ≤ length bytes) (sym same) e.high;
+        header = omega (arith, e.long);
+        inside = e.inside;
         is = subst (λ (n : ℕ). IsReadAs bytes list k start.place n read) (sym same)
             (read_as k start next.place read number r.does);
       } in

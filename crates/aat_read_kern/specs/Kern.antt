@@ -98,16 +98,15 @@ pub record KernStart : Type 0 where
   pub place : ℕ
   pub left : ℕ
 
--- where a subtable ends. The last one reaches to the end of the table, whatever its length says
+-- where a subtable ends. The last one reaches to the end of the table, but its length counts too, as for HarfBuzz
 unfoldable pub end_at : List ℕ → KernHeader → KernStart → Result ℕ Fault
 end_at bytes header start =
     let size = length_at bytes header start.place in
     let field = length_place header start.place in
     if nat_lt (length bytes) (start.place + header_size header) then Err (fault_at KERN PastEnd start.place) else
-    if start.left == 1 then Ok (length bytes) else
     if nat_lt size (header_size header) then Err (fault_at KERN ShortLength field) else
     if nat_lt (length bytes) (start.place + size) then Err (fault_at KERN PastEnd field) else
-    Ok (start.place + size)
+    Ok (if start.left == 1 then length bytes else start.place + size)
 
 -- a subtable of a coverage, which is not of variations
 abbrev pub with_coverage : KernHeader → ℕ → KernKind → KernSubtable

@@ -67,10 +67,10 @@ abbrev pub example_subtable : ℕ → List ℕ
 example_subtable size =
     0 ∷ 0 ∷ 0 ∷ size ∷ 0 ∷ 37 ∷ 0 ∷ 1 ∷ 0 ∷ 0 ∷ 0 ∷ 0 ∷ 0 ∷ 0 ∷ 0 ∷ 1 ∷ 0 ∷ 2 ∷ 255 ∷ 255 ∷ []
 
--- the length of the last subtable is not believed, and that of another one is
-abbrev pub LastLengthIsNotBelieved : Type 0
-LastLengthIsNotBelieved =
-    (kern_of (0 ∷ 0 ∷ 0 ∷ 1 ∷ [] ++ example_subtable 0) ≡ Ok (record {
+-- the last subtable reaches behind its length, which has to be one, as that of another subtable has
+abbrev pub LastReachesToTheEnd : Type 0
+LastReachesToTheEnd =
+    (kern_of (0 ∷ 0 ∷ 0 ∷ 1 ∷ [] ++ example_subtable 6) ≡ Ok (record {
       subtables =
           record {
             kind = Pairs ((1, 2, negsuc 0) ∷ []);
@@ -80,6 +80,8 @@ LastLengthIsNotBelieved =
           } ∷ [];
       left_out = [];
     }))
+    × (kern_of (0 ∷ 0 ∷ 0 ∷ 1 ∷ [] ++ example_subtable 5) ≡ Err (fault_at KERN ShortLength 6))
+    × (kern_of (0 ∷ 0 ∷ 0 ∷ 1 ∷ [] ++ example_subtable 21) ≡ Err (fault_at KERN PastEnd 6))
     × (kern_of (0 ∷ 0 ∷ 0 ∷ 2 ∷ [] ++ example_subtable 5) ≡ Err (fault_at KERN ShortLength 6))
     × (kern_of (0 ∷ 0 ∷ 0 ∷ 2 ∷ [] ++ example_subtable 20) ≡ Err (fault_at KERN PastEnd 24))
 

@@ -42,10 +42,10 @@ IsReadAs bytes list i place end (LeftOut subtable) =
     (at : ℕ) × (unread_place bytes list.header place ≡ Some at)
     × (subtable ≡ record { number = i; fault = fault_at KERN UnknownFormat at })
 
--- a subtable of a number is that of the bytes at a place: it has its header and ends in the table
+-- a subtable of a number is that of the bytes at a place: by its length it has its header and ends in the table
 pub record IsSubtableAt (bytes : List ℕ) (list : KernList) (i place : ℕ) (read : SubtableRead) : Type 0 where
-  pub header : place + header_size list.header ≤ subtable_end bytes list i place
-  pub inside : subtable_end bytes list i place ≤ length bytes
+  pub header : place + header_size list.header ≤ end_by_length bytes list place
+  pub inside : end_by_length bytes list place ≤ length bytes
   pub is : IsReadAs bytes list i place (subtable_end bytes list i place) read
 
 -- the subtables of a list, as many as it says, in order

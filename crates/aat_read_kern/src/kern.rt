@@ -68,17 +68,17 @@ fn subtables(
 }
 
 /// Reads the kerning table. `bytes` is the whole table. Version 0 has OpenType's headers, and version 1, of which the
-/// minor half is passed, Apple's. A subtable reaches to its end by its length, and the last one to the end of the table
-/// whatever its length says. Formats are 0 and 2, and with Apple's headers 1 and 3. A subtable of another format is left
-/// out, and with Apple's headers so is one whose coverage has the bit for variations: it is no fault, nothing behind
-/// its header is looked at, and `left_out` tells it. Of the coverage of others the bits for vertical or horizontal text
-/// and for values across the line are read, and `variable` is false.
+/// minor half is passed, Apple's. A subtable reaches to its end by its length, the last one to the end of the table.
+/// Formats are 0 and 2, and with Apple's headers 1 and 3. A subtable of another format is left out, and with Apple's
+/// headers so is one whose coverage has the bit for variations: it is no fault, nothing behind its header is looked at,
+/// and `left_out` tells it. Of the coverage of others the bits for vertical or horizontal text and for values across
+/// the line are read, and `variable` is false.
 ///
-/// The first fault in this order, of the table `kern`, with its place from the start of the table: 1, `PastEnd`, 4 bytes
-/// that are not there, at 0; 2, `UnknownFormat`, another version, at 0; of version 1 also 1, 8 bytes that are not there,
-/// at 0, and more than 65,535 subtables, at their number. Then for each subtable: 1, its header of 6 or 8 bytes that is
-/// not there, at its place; but for the last one 3, `ShortLength`, a length below that of the header, and 1, a length
-/// that reaches past the end, both at the length; then, where it is not left out, those of its format: of
+/// The first fault in this order, of the table `kern`, with its place from the start of the table: 1, `PastEnd`, 4
+/// bytes that are not there, at 0; 2, `UnknownFormat`, another version, at 0; of version 1 also 1, 8 bytes that are not
+/// there, at 0, and more than 65,535 subtables, at their number. Then for each subtable: 1, its header of 6 or 8 bytes
+/// that is not there, at its place; 3, `ShortLength`, a length below that of the header, and 1, one that reaches past
+/// the end, both at the length, also of the last one; then, where it is not left out, those of its format: of
 /// `read_kern_pairs`, `read_kern_machine`, `read_kern_classes` and `read_kern_indexes`. `OutOfMemory` may come before
 /// any of these is met.
 ///

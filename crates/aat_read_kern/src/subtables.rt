@@ -54,9 +54,6 @@ fn end_at(bytes: &[u8], header: KernHeader, place: usize, left: u32) -> Result<u
     if bytes.len() < place + header.size() {
         return Err(Fault::new(KERN, FaultKind::PastEnd, place));
     }
-    if left == 1 {
-        return Ok(bytes.len());
-    }
     let field = header.length_place(place, bytes);
     let size = header.length_at(place, bytes) as usize;
     if size < header.size() {
@@ -64,6 +61,10 @@ fn end_at(bytes: &[u8], header: KernHeader, place: usize, left: u32) -> Result<u
     }
     if bytes.len() < place + size {
         return Err(Fault::new(KERN, FaultKind::PastEnd, field));
+    }
+    // fonts have a last subtable of more bytes than 16 bits count
+    if left == 1 {
+        return Ok(bytes.len());
     }
     Ok(place + size)
 }

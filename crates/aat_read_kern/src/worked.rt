@@ -1,5 +1,5 @@
 //! Worked examples of the kerning table as theorems. These calls do nothing: what is proved is their contracts.
-ghost use Rattle.aat_read_kern.specs.KernExamples.{HeadersHaveTheirBits, LastLengthIsNotBelieved, MachineFaultsHaveTheirPlaces, OthersAreLeftOut, StatesAreNumberedAnew};
+ghost use Rattle.aat_read_kern.specs.KernExamples.{HeadersHaveTheirBits, LastReachesToTheEnd, MachineFaultsHaveTheirPlaces, OthersAreLeftOut, StatesAreNumberedAnew};
 ghost use Rattle.aat_read_kern.specs.SizeExamples.{SizesAreKnown};
 
 /// The definitions of machines of bytes compute to the examples.
@@ -12,7 +12,7 @@ pub fn machines()
 /// The definitions of the table compute to the examples.
 #[tactic(auto, unfolding(crate::specs::Kern::list_of, crate::specs::Kern::subtable_at, crate::specs::Kern::read_up_to, crate::specs::Kern::end_at, crate::specs::Kern::kern_kind_at, aat_read_pairs::specs::ListedPairs::kern_pairs_at, aat_read_pairs::specs::ListedPairs::listed_pairs))]
 pub fn tables()
-    ensures lengths { LastLengthIsNotBelieved }
+    ensures lengths { LastReachesToTheEnd }
     ensures headers { HeadersHaveTheirBits }
     ensures others { OthersAreLeftOut }
 {}

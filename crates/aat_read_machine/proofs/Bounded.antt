@@ -1,7 +1,7 @@
 -- What subtables weigh that are read.
-use Rattle.std.proofs.Common.{◌≡◌, ℕ, zero, suc, ◌+◌, ◌-◌, ◌*◌, ◌/◌, ◌≤◌, List, [], ◌∷◌, length, map, Bool, true, false, cond, None, Result, Ok, Err, refl, sym, ap, ◌∙◌, subst, arith}
+use Rattle.std.proofs.Common.{◌≡◌, ℕ, zero, suc, ◌+◌, ◌-◌, ◌*◌, ◌/◌, ◌≤◌, List, [], ◌∷◌, length, map, Bool, true, false, cond, Option, Some, None, Result, Ok, Err, refl, sym, ap, ◌∙◌, subst, arith}
 use Rattle.std.specs.List.{range_with_len}
-use Rattle.std.specs.Prelude.{nat_lt, unwrap_or, ◌==◌}
+use Rattle.std.specs.Prelude.{nat_lt, ◌==◌}
 use Rattle.std.proofs.Math.Nat.{mul-div-le}
 use Rattle.std.proofs.lemmas.Bool.{leb-true, ltb-false}
 use Rattle.std.proofs.lemmas.List.{length-drop}
@@ -20,7 +20,7 @@ use Rattle.aat_read_lookup.specs.Lookups.{lookup_at}
 use Rattle.aat_read_lookup.specs.Sizes.{lookup_bytes_at, lookup_size_at}
 use Rattle.aat_read_machine.specs.Contextual.{contextual_tables, contextual_tables_at, each_of, listed_lookup, lookups_within}
 use Rattle.aat_read_machine.specs.Entries.{contextual_at, insertion_at}
-use Rattle.aat_read_machine.specs.Kinds.{insertion_tables_at, ligature_at, list_place}
+use Rattle.aat_read_machine.specs.Kinds.{insertion_tables_at, ligature_at, list_at, list_place}
 use Rattle.aat_read_machine.specs.Lists.{count_from, glyphs_from, numbers16, numbers32}
 use Rattle.aat_read_machine.specs.Lookups.{lookup_count}
 use Rattle.aat_read_machine.specs.Machine.{machine_at, with_classes}
@@ -134,17 +134,17 @@ asked_light bytes place glyph_count =
     (λ count read. bytes_within MORX bytes place glyph_count count read)
 
 -- a lookup of a list has room for its values
-listed_by : (b : Bool) (weight size : ℕ) → weight ≤ 7 * size → cond b 0 weight + 88 ≤ 11 * cond b 8 (8 + size)
-listed_by true weight size light = omega arith
-listed_by false weight size light = omega (arith, light)
+module _ (bytes : List ℕ) (list glyph_count : ℕ) where
+  listed_by : (offset : Option ℕ)
+      → elim offset [ None ↦ 0 | Some o ↦ values_weight bytes (list + o) glyph_count ] + 88
+      ≤ 11 * elim offset [ None ↦ 8 | Some o ↦ 8 + lookup_size bytes (list + o) glyph_count ]
+  listed_by None = omega arith
+  listed_by (Some o) = let light = asked_light bytes (list + o) glyph_count in omega (arith, light)
 
 listed_light : (bytes : List ℕ) (list glyph_count i : ℕ)
     → listed_weight bytes list glyph_count i + 88 ≤ 11 * lookup_cost bytes list glyph_count i
 unfolding lookup_cost
-listed_light bytes list glyph_count i =
-    let offset = unwrap_or (u32_at bytes (list + 4 * i)) 0 in
-    listed_by (offset == 0) (values_weight bytes (list + offset) glyph_count) (lookup_size bytes (list + offset) glyph_count)
-    (asked_light bytes (list + offset) glyph_count)
+listed_light bytes list glyph_count i = listed_by bytes list glyph_count (u32_at bytes (list + 4 * i))
 
 all_listed_light : (bytes : List ℕ) (list glyph_count count : ℕ)
     → all_listed_weight bytes list glyph_count count + 88 * count ≤ 11 * lookups_cost bytes list glyph_count count
@@ -251,6 +251,13 @@ contextual_bounded bytes place glyph_count t is =
     let classes = counted.1 in
     omega (arith, light, behind, classes, there)
 
+-- a list with an offset starts behind the subtable's place
+list_behind : (bytes : List ℕ) (place at list : ℕ) → list_at bytes place at ≡ Ok list → place ≤ list
+list_behind bytes place at list is =
+    let some = passes (be32 bytes (place + at) == 0) _ _ list is in
+    let same : list_place bytes place at ≡ list = ok_parts _ list some.1 in
+    omega (arith, same)
+
 -- a list takes no more than the bytes from its place on
 list_fits : (size whole : ℕ) → size * (whole / size) ≤ whole
 list_fits size whole = mul-div-le whole size
@@ -261,10 +268,16 @@ ligature_bounded : (bytes : List ℕ) (place glyph_count : ℕ) (t : LigatureTab
 unfolding ligature_at
 ligature_bounded bytes place glyph_count t is =
     let whole = passes (nat_lt (length bytes) (place + 28)) _ _ t is in
-    let state = parts (machine_at 2 be16 MORX bytes place glyph_count) _ t whole.1 in
-    let one = list_place bytes place 16 in
-    let two = list_place bytes place 20 in
-    let three = list_place bytes place 24 in
+    let first = parts (list_at bytes place 16) _ t whole.1 in
+    let second = parts (list_at bytes place 20) _ t first.2 in
+    let third = parts (list_at bytes place 24) _ t second.2 in
+    let state = parts (machine_at 2 be16 MORX bytes place glyph_count) _ t third.2 in
+    let one = first.0 in
+    let two = second.0 in
+    let three = third.0 in
+    let one_behind = list_behind bytes place 16 one first.1 in
+    let two_behind = list_behind bytes place 20 two second.1 in
+    let three_behind = list_behind bytes place 24 three third.1 in
     let tables : LigatureTables = record {
       state = state.0;
       actions = numbers32 bytes one;
@@ -285,7 +298,7 @@ ligature_bounded bytes place glyph_count t is =
     let there = counted.0 in
     let classes = counted.1 in
     let light : ligature_weight tables + classes_weight bytes place glyph_count ≤ 19 * (length bytes - place) - 1 =
-    omega (arith, rules, actions, components, ligatures, a, b, c, classes, there) in
+    omega (arith, rules, actions, components, ligatures, a, b, c, classes, there, one_behind, two_behind, three_behind) in
     subst (λ (k : LigatureTables). ligature_weight k + classes_weight bytes place glyph_count
     ≤ 19 * (length bytes - place) - 1) same light
 
@@ -295,8 +308,10 @@ insertion_bounded : (bytes : List ℕ) (place glyph_count : ℕ) (t : InsertionT
 unfolding insertion_tables_at
 insertion_bounded bytes place glyph_count t is =
     let whole = passes (nat_lt (length bytes) (place + 20)) _ _ t is in
-    let state = parts (machine_at 4 insertion_at MORX bytes place glyph_count) _ t whole.1 in
-    let one = list_place bytes place 16 in
+    let list = parts (list_at bytes place 16) _ t whole.1 in
+    let state = parts (machine_at 4 insertion_at MORX bytes place glyph_count) _ t list.2 in
+    let one = list.0 in
+    let behind = list_behind bytes place 16 one list.1 in
     let tables : InsertionTables = record { state = state.0; glyphs = glyphs_from bytes one } in
     let same : tables ≡ t = ok_parts tables t state.2 in
     let rules = machine_fits insertion_at 4 MORX bytes place glyph_count state.0 state.1 in
@@ -308,7 +323,7 @@ insertion_bounded bytes place glyph_count t is =
     let there = counted.0 in
     let classes = counted.1 in
     let light : insertion_weight tables + classes_weight bytes place glyph_count ≤ 19 * (length bytes - place) - 1 =
-    omega (arith, rules, glyphs, a, classes, there) in
+    omega (arith, rules, glyphs, a, classes, there, behind) in
     subst (λ (k : InsertionTables). insertion_weight k + classes_weight bytes place glyph_count
     ≤ 19 * (length bytes - place) - 1) same light
 

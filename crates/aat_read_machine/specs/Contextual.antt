@@ -1,5 +1,5 @@
 -- Contextual glyph substitution. Apple's TrueType Reference Manual, "The 'morx' table".
-use Rattle.std.specs.Prelude.{ℕ, ◌+◌, ◌*◌, List, [], ◌∷◌, length, map, None, Some, Result, Ok, Err, if◌then◌else◌, nat_lt, ◌==◌}
+use Rattle.std.specs.Prelude.{ℕ, ◌+◌, ◌*◌, List, [], ◌∷◌, length, map, None, Some, Result, Ok, Err, if◌then◌else◌, nat_lt}
 use Rattle.std.specs.List.{range_with_len}
 use Rattle.aat_bytes.specs.Faults.{after, fault_at}
 use Rattle.aat_bytes.specs.Numbers.{be32}
@@ -20,12 +20,11 @@ abbrev pub each_of : {X : Type 0} → List (Result X Fault) → Result (List X) 
 each_of [] = Ok []
 each_of (r ∷ rs) = after r (λ x. after (each_of rs) (λ xs. Ok (x ∷ xs)))
 
--- the lookup of an index: a list has their offsets of 32 bits, from its own start. One with offset 0 is missing and
--- empty, as HarfBuzz has it
+-- the lookup of an index: a list has their offsets of 32 bits, from its own start. One with offset 0 is the list, as
+-- HarfBuzz has it
 unfoldable pub listed_lookup : List ℕ → ℕ → ℕ → ℕ → Result (List (ℕ × ℕ)) Fault
 listed_lookup bytes list glyph_count i =
     if nat_lt (length bytes) (list + 4 * i + 4) then Err (fault_at MORX PastEnd (list + 4 * i)) else
-    if be32 bytes (list + 4 * i) == 0 then Ok [] else
     lookup_at MORX bytes (list + be32 bytes (list + 4 * i)) glyph_count
 
 -- so many lookups of a list, or the first fault

@@ -2,6 +2,7 @@ pub mod Contextual
 pub mod Entries
 pub mod InTurn
 pub mod Kinds
+pub mod ListExamples
 pub mod Lists
 pub mod Lookups
 pub mod Machine

@@ -1,7 +1,7 @@
 -- The room for the lookups of contextual glyph substitution, so that many offsets to one lookup take no more memory
 -- than the bytes account for. Apple's TrueType Reference Manual, "The 'morx' table", contextual glyph substitution, and
 -- "Font Tables", section on lookup tables.
-use Rattle.std.specs.Prelude.{ℕ, ◌+◌, ◌*◌, ◌-◌, List, length, find, Option, if◌then◌else◌, nat_lt, ◌==◌, sum_by, unwrap_or}
+use Rattle.std.specs.Prelude.{ℕ, ◌+◌, ◌*◌, ◌-◌, List, length, find, Option, Some, None, if◌then◌else◌, nat_lt, ◌==◌, sum_by, unwrap_or}
 use Rattle.std.specs.List.{range_with_len}
 use Rattle.aat_bytes.specs.Numbers.{u16_at, u32_at}
 use Rattle.aat_read_machine.specs.StateArray.{StateArray}
@@ -28,11 +28,12 @@ lookup_size bytes place glyph_count =
     if format == 8 then 6 + 2 * count else
     8 + number_at bytes (place + 2) * number_at bytes (place + 6)
 
--- what the lookup of an index takes of the room: 8 bytes, and its size where it has an offset
+-- what the lookup of an index takes of the room: 8 bytes, and its size where its offset is there
 unfoldable pub lookup_cost : List ℕ → ℕ → ℕ → ℕ → ℕ
-lookup_cost bytes list glyph_count i =
-    let offset = unwrap_or (u32_at bytes (list + 4 * i)) 0 in
-    if offset == 0 then 8 else 8 + lookup_size bytes (list + offset) glyph_count
+lookup_cost bytes list glyph_count i = elim (u32_at bytes (list + 4 * i)) [
+  | None ↦ 8
+  | Some offset ↦ 8 + lookup_size bytes (list + offset) glyph_count
+]
 
 -- what so many lookups take of the room
 abbrev pub lookups_cost : List ℕ → ℕ → ℕ → ℕ → ℕ

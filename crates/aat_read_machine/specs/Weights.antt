@@ -1,5 +1,5 @@
 -- What subtables that are read weigh: the bytes of memory that their machines, lists, classes and lookups take.
-use Rattle.std.specs.Prelude.{ℕ, ◌+◌, ◌*◌, List, length, Ok, Err, if◌then◌else◌, ◌==◌, sum_by, unwrap_or}
+use Rattle.std.specs.Prelude.{ℕ, ◌+◌, ◌*◌, List, length, Some, None, Ok, Err, sum_by}
 use Rattle.std.specs.List.{range_with_len}
 use Rattle.aat_bytes.specs.Numbers.{u32_at}
 use Rattle.aat_bytes.specs.declared.tags.TheConstants.{MORX}
@@ -41,9 +41,10 @@ classes_weight bytes place glyph_count = values_weight bytes (list_place bytes p
 
 -- the values of the lookup of an index of a list
 abbrev pub listed_weight : List ℕ → ℕ → ℕ → ℕ → ℕ
-listed_weight bytes list glyph_count i =
-    let offset = unwrap_or (u32_at bytes (list + 4 * i)) 0 in
-    if offset == 0 then 0 else values_weight bytes (list + offset) glyph_count
+listed_weight bytes list glyph_count i = elim (u32_at bytes (list + 4 * i)) [
+  | None ↦ 0
+  | Some offset ↦ values_weight bytes (list + offset) glyph_count
+]
 
 -- the values of so many lookups of a list
 abbrev pub all_listed_weight : List ℕ → ℕ → ℕ → ℕ → ℕ

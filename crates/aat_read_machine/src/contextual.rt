@@ -33,14 +33,8 @@ fn listed_lookup(
     if bytes.len() < place + 4 {
         return Err(ReadError::Fault(Fault::new(MORX, FaultKind::PastEnd, place)));
     }
-    let offset = be32(bytes, place);
-    if offset != 0 {
-        return read_lookup(alloc, MORX, bytes, list + offset as usize, glyph_count);
-    }
-    match Lookup::new(alloc, &[]) {
-        Ok(empty) => Ok(empty),
-        Err(_) => Err(ReadError::OutOfMemory),
-    }
+    let offset = be32(bytes, place) as usize;
+    read_lookup(alloc, MORX, bytes, list + offset, glyph_count)
 }
 
 /// So many lookups of the list that starts at a place.
@@ -125,10 +119,10 @@ fn contextual_tables(
 /// The first fault in this order, of `morx`, with its place from the start of the table: 1, `PastEnd`, a header of 20
 /// bytes that is not there, at `place`; those of `read_machine`; 1, at the offset of the first lookup that passes the
 /// room; then for each lookup 1, an offset that is not there, at its place, and those of `read_lookup`. A lookup with
-/// offset 0 is empty. `OutOfMemory` may come before any of these is met.
+/// offset 0 is the list itself, as for HarfBuzz. `OutOfMemory` may come before any of these is met.
 ///
-/// The room is the bytes from the state table on. A cell takes 2 bytes of it, a lookup 8, and one with an offset also
-/// its own bytes by its format, so that many offsets to one lookup take no more memory than the bytes account for.
+/// The room is the bytes from the state table on. A cell takes 2 bytes of it, a lookup 8, and one whose offset is there
+/// also its own bytes by its format, so that many offsets to one lookup take no more memory than the bytes account for.
 ///
 /// Apple's TrueType Reference Manual, "The 'morx' table", contextual glyph substitution.
 #[tactic(auto, unfolding(crate::specs::Contextual::contextual_tables_at))]

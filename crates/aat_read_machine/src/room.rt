@@ -69,7 +69,7 @@ fn lookup_cost(bytes: &[u8], list: usize, glyph_count: u16, i: usize) -> usize
     ensures small { result < 2 ^ 36 }
 {
     match u32_at(bytes, list + 4 * i) {
-        None | Some(0) => 8,
+        None => 8,
         Some(offset) => 8 + lookup_size(bytes, list + offset as usize, glyph_count),
     }
 }

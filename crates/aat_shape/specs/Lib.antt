@@ -1,3 +1,3 @@
-pub use Rattle.aat_shaping.specs.RefusedShaping
-pub use Rattle.aat_shaping.specs.ShapedOrder
-pub use Rattle.aat_shaping.specs.Shaping
+pub use Rattle.aat_layout.specs.RefusedShaping
+pub use Rattle.aat_layout.specs.ShapedOrder
+pub use Rattle.aat_layout.specs.Shaping

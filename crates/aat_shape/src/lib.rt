@@ -1,4 +1,4 @@
-//! The one call `shape` of `aat_shaping`, and the worked rows of Apple Advanced Typography: what each shapes, the printing
+//! The one call `shape` of `aat_layout`, and the worked rows of Apple Advanced Typography: what each shapes, the printing
 //! of what comes out, and their fonts, which are described as data ([`described`]). A program takes `aat_shaper` for texts.
 //!
 //! ```
@@ -16,7 +16,7 @@ mod program;
 mod rows;
 mod stop;
 
-pub use aat_shaping::shape;
+pub use aat_layout::shape;
 pub use fonts::font_of_part;
 pub use print::print_chosen;
 pub use program::run;

@@ -16,8 +16,8 @@ use aat_layout::{
     AatError, LIGATURE_SLOTS, MAX_CONTEXT_LENGTH, Turns, hb_aat_layout_position,
     hb_aat_layout_remove_deleted_glyphs, hb_aat_layout_substitute, hb_aat_layout_substitute_with,
     hb_aat_layout_zero_width_deleted_glyphs, hb_aat_map_builder_t, hb_aat_map_t, hb_ot_layout_kern,
+    shape,
 };
-use aat_shaping::shape;
 use std::alloc::{AllocError, Global};
 
 /// A glyph as it is printed: its id, its cluster and its flags.

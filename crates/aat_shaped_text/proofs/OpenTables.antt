@@ -21,7 +21,7 @@ use Rattle.aat_kerning_machines.specs.KerningLaws.{IsKernedFrom}
 use Rattle.aat_kerning_tables.specs.AnchorPoints.{Points}
 use Rattle.aat_kerning_tables.specs.declared.kern.KernSubtable.{KernSubtable}
 use Rattle.aat_kerning_tables.specs.declared.kerx.KerxSubtable.{KerxSubtable}
-use Rattle.aat_shaping.specs.Shaping.{kerned_by_font, placed_by, placing, with_advances}
+use Rattle.aat_layout.specs.Shaping.{kerned_by_font, placed_by, placing, with_advances}
 use Rattle.aat_shaped_text.specs.Breaks.{may_break_by}
 use Rattle.aat_shaped_text.specs.KernedBreaks.{kerning_opens, read_place}
 use Rattle.aat_shaped_text.specs.KernedPlaces.{TellsOpenPlaces}

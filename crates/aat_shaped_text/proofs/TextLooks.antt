@@ -17,7 +17,7 @@ use Rattle.aat_kerning.specs.Cut.{ordered_line, ordered_positions}
 use Rattle.aat_kerning.specs.KerningLawful.{KerningChangesLittle}
 use Rattle.aat_kerning.specs.Positioning.{in_processing_order}
 use Rattle.aat_kerning.specs.Zeroing.{zeroed, zeroed_positions}
-use Rattle.aat_shaping.specs.Shaping.{advanced, with_advances}
+use Rattle.aat_layout.specs.Shaping.{advanced, with_advances}
 use Rattle.aat_placement.specs.TrackingLaws.{PartsAreTrackedApart}
 use Rattle.aat_shaped_text.specs.Parts.{looks}
 use Rattle.aat_shaped_text.specs.ShapedText.{drawn_clusters, drawn_glyphs, text_kerning, tracked_by, tracked_line}

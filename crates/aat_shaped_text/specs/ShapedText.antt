@@ -29,7 +29,7 @@ use Rattle.aat_kerning.specs.Cut.{ordered_line, ordered_positions}
 use Rattle.aat_kerning.specs.Pairs.{is_solid}
 use Rattle.aat_kerning.specs.Positioning.{in_processing_order, kern_positioning, kerx_positioning}
 use Rattle.aat_kerning.specs.Zeroing.{zeroed}
-use Rattle.aat_shaping.specs.Shaping.{with_advances}
+use Rattle.aat_layout.specs.Shaping.{with_advances}
 use Rattle.aat_closing.specs.ClosingChains.{closing_substituted}
 use Rattle.aat_closing.specs.ClosingRuns.{Told}
 use Rattle.aat_placement.specs.TrackedLines.{tracked}

@@ -8,7 +8,7 @@ ghost use Rattle.aat_font.specs.Face.{tables_of};
 ghost use Rattle.aat_kerning_machines.specs.Positions.{IsPlaced};
 ghost use Rattle.aat_shaped_text.specs.TextFeatures.{requests_kerning};
 ghost use Rattle.aat_shaped_text.specs.inside.KernedRuns.{ClosesKerned, Kerns, all_runs, is_attached_behind, runs_of};
-ghost use Rattle.aat_shaping.specs.Shaping.{kerned_by_font};
+ghost use Rattle.aat_layout.specs.Shaping.{kerned_by_font};
 
 use crate::kerned_subtables::{OpenKerning, TextKerning};
 use crate::open_line::turn;

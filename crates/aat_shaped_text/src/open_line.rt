@@ -11,17 +11,16 @@ ghost use Rattle.aat_shaped_text.specs.Breaks.{may_break_by};
 ghost use Rattle.aat_shaped_text.specs.KernedPlaces.{ClosesChained, TellsOpenPlaces};
 ghost use Rattle.aat_shaped_text.specs.TextFeatures.{requests_kerning};
 ghost use Rattle.aat_shaped_text.specs.inside.KernedRuns.{TellsByGlyphs};
-ghost use Rattle.aat_shaping.specs.Shaping.{placing, with_advances};
+ghost use Rattle.aat_layout.specs.Shaping.{placing, with_advances};
 
 use crate::breaks::{BreakRules, may_break_at};
 use crate::kerned_places::kern_openly;
 use crate::kerned_subtables::TextKerning;
 use aat_kerning::hb_aat_layout_zero_width_deleted_glyphs;
-use aat_layout::AatError;
 use aat_layout::buffer::{DELETED_GLYPH, Direction, GlyphPosition, hb_buffer_t, hb_glyph_info_t};
 use aat_layout::font::{hb_font_t, hb_ot_shape_plan_t};
+use aat_layout::{AatError, advance};
 use aat_placement::parent_of;
-use aat_shaping::advance;
 use std::alloc::{AllocError, Allocator};
 
 /// Turns a backward line round, so that one in reading order is in drawing order, and the other way.
@@ -76,7 +75,7 @@ fn places_by_glyphs<A: Allocator + Copy, H: Allocator>(
     Ok(places)
 }
 
-/// Places a line as `place_with_deleted` of `aat_shaping` does: gives each glyph its advance in the font, kerns the line,
+/// Places a line as `place_with_deleted` of `aat_layout` does: gives each glyph its advance in the font, kerns the line,
 /// and has deleted glyphs take no room. It tells besides before which places of the line, in drawing order, it may be
 /// broken by its glyphs as they stand before kerning, and by what kerning leaves open. The line stands in reading order.
 /// What kerning attaches is not asked: [`close_chained`] does that.

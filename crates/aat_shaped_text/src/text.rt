@@ -47,7 +47,7 @@ pub struct TextGlyph {
     pub glyph_id: u16,
     /// The place of its character in the text.
     pub cluster: u32,
-    /// Whether the character is ignorable by default, as Unicode has it (`Default_Ignorable_Code_Point`). Kerning by
+    /// Whether the character is ignorable by default, as `text_of` of `aat_text` has it of each character. Kerning by
     /// pairs then skips its glyph, unless the class of the glyph has the property 0x10: it is the right one of no pair,
     /// and the left one only at the start of the line, or behind a glyph for which kerning is turned off.
     pub is_ignorable: bool,

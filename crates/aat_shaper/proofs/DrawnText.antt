@@ -31,7 +31,7 @@ use Rattle.aat_morx.specs.Substitution.{substituted}
 use Rattle.aat_run.specs.Budget.{has_operations, operations_left}
 use Rattle.aat_run.specs.Outcome.{Outcome}
 use Rattle.aat_run.specs.declared.ranges.range_flags_t.{range_flags_t}
-use Rattle.aat_shaping.specs.Shaping.{advanced, placing, with_advances}
+use Rattle.aat_layout.specs.Shaping.{advanced, placing, with_advances}
 use Rattle.aat_shaped_text.specs.Breaks.{front_of, is_rising, is_unchained, kerns_by_pairs, may_break_at, may_break_by, skips_of, substitutes_evenly}
 use Rattle.aat_shaped_text.specs.ClosingDraws.{ClosingDrawsAlike}
 use Rattle.aat_shaped_text.specs.KernedBreaks.{kerning_opens}

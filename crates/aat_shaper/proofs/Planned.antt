@@ -17,7 +17,7 @@ use Rattle.aat_run.specs.Driven.{IsRefusal}
 use Rattle.aat_run.specs.Outcome.{Outcome}
 use Rattle.aat_run.specs.declared.error.AatError.{AatError}
 use Rattle.aat_run.specs.declared.error.AatError.TheVariants.{AaltValue, TooLong, OutOfMemory, BufferFailed}
-use Rattle.aat_shaping.specs.Shaping.{kerned_by_font, placed_by, placing, with_advances}
+use Rattle.aat_layout.specs.Shaping.{kerned_by_font, placed_by, placing, with_advances}
 use Rattle.aat_shaped_text.specs.ShapedText.{RefusesText, most_text, text_buffer, text_kerning, text_substitution}
 use Rattle.aat_shaped_text.specs.TextFeatures.{requests_kerning}
 use Rattle.aat_shaped_text.specs.declared.text.TextGlyph.{TextGlyph}

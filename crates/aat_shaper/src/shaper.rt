@@ -16,7 +16,7 @@ ghost use Rattle.aat_shaped_text.specs.TextFeatures.{requests_kerning};
 ghost use Rattle.aat_shaper.specs.Named.{has_feature};
 ghost use Rattle.aat_shaper.specs.Shaper.{no_values, value_along, values_at};
 ghost use Rattle.aat_shaper.specs.inside.TextPlan.{IsPlanOf};
-ghost use Rattle.aat_shaping.specs.Shaping.{placing, with_advances};
+ghost use Rattle.aat_layout.specs.Shaping.{placing, with_advances};
 
 use crate::drawn::{Breaks, close_attached, draw};
 use crate::line::{KERNED, LONGEST_TEXT, buffer_of, is_rising};
@@ -25,14 +25,13 @@ use crate::substitution::{substitute, substitutes_evenly};
 use crate::tracking::track_line;
 use aat_layout::buffer::{Direction, hb_buffer_t};
 use aat_layout::font::{Feature, hb_font_t, hb_ot_shape_plan_t, hb_tag_t};
-use aat_layout::{AatError, compiled_map};
+use aat_layout::{AatError, compiled_map, place_with_deleted};
 use aat_placement::Tracking;
 use aat_shaped_text::laws::{closing_draws_alike, texts_are_drawn_in_parts};
 use aat_shaped_text::{
     BreakRules, ShapedGlyph, TextGlyph, kerns_by_pairs, operations_left, place_openly,
     requests_kerning, skips_of, takes_few_operations, turn,
 };
-use aat_shaping::place_with_deleted;
 use bumpalo::Bump;
 use std::alloc::{AllocError, Allocator, Global};
 use std::marker::Model;

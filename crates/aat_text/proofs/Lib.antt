@@ -1,13 +1,7 @@
 pub mod Chars
 pub mod EndsRise
-pub mod HiddenGlyphs
-pub mod HiddenParts
 pub mod Pieces
 pub mod Placed
-pub mod PlacedMarks
 pub mod PlacedPieces
 pub mod Rising
-pub mod Scanned
-pub mod Shown
 pub mod SpacesRise
-pub mod ZeroedMarks

@@ -1,12 +1,9 @@
 -- Worked examples of texts, written out as their characters.
-use Rattle.std.specs.Prelude.{◌≡◌, ℕ, ℤ, pos, negsuc, true, false, List, [], ◌∷◌, map, encode_utf8_all, Some, None}
+use Rattle.std.specs.Prelude.{◌≡◌, ℕ, true, false, List, [], ◌∷◌, map, encode_utf8_all, Some, None}
 use Rattle.aat_face.specs.Faces.{FaceValue}
 use Rattle.aat_glyph.specs.declared.glyph.Direction.TheVariants.{LeftToRight, RightToLeft}
-use Rattle.aat_shaped_text.specs.Parts.{no_shaped_glyph}
-use Rattle.aat_shaped_text.specs.declared.text.ShapedGlyph.{ShapedGlyph}
-use Rattle.aat_text.specs.Ignorables.{drawn_without_ignorables}
+use Rattle.aat_text.specs.IgnorableCharacters.{is_ignorable_character}
 use Rattle.aat_text.specs.LineEnds.{line_ends}
-use Rattle.aat_text.specs.Marks.{zero_marks}
 use Rattle.aat_text.specs.Missing.{missing_characters}
 use Rattle.aat_text.specs.Strong.{first_strong_direction}
 use Rattle.aat_text.specs.TextGlyphs.{text_of}
@@ -37,6 +34,15 @@ abbrev pub JoinersAreIgnorable : Type 0
 JoinersAreIgnorable =
     (face : FaceValue) → (clusters_of face Characters family ≡ 0 ∷ 0 ∷ 0 ∷ 0 ∷ 0 ∷ [])
     × (map (λ g. g.is_ignorable) (text_of face Characters family) ≡ false ∷ true ∷ false ∷ true ∷ false ∷ [])
+
+-- Hangul fillers, the fourth free variation selector of Mongolian and the format controls of shorthand are to be seen,
+-- not as in Unicode; what is beside them in its list is not
+abbrev pub FillersAreSeen : Type 0
+FillersAreSeen =
+    (map is_ignorable_character (0x115F ∷ 0x1160 ∷ 0x180F ∷ 0x3164 ∷ 0xFFA0 ∷ 0x1BCA0 ∷ 0x1BCA3 ∷ [])
+    ≡ false ∷ false ∷ false ∷ false ∷ false ∷ false ∷ false ∷ [])
+    × (map is_ignorable_character (0xAD ∷ 0x17B4 ∷ 0x180E ∷ 0x206F ∷ 0xFEFF ∷ 0x1D173 ∷ 0xE0001 ∷ [])
+    ≡ true ∷ true ∷ true ∷ true ∷ true ∷ true ∷ true ∷ [])
 
 -- a letter, an accent, a grapheme joiner and a variation selector, which are nonspacing but ignorable, and a mark of
 -- Devanagari that takes room
@@ -92,52 +98,3 @@ abbrev pub IdeographsEndLines : Type 0
 IdeographsEndLines =
     line_ends Characters (encode_utf8_all (0x6F22 ∷ 0x5B57 ∷ 0x3002 ∷ 0x6587 ∷ []))
     ≡ may_end 1 ∷ may_end 3 ∷ []
-
--- a glyph that is drawn, with an advance
-abbrev pub drawn : ℕ → ShapedGlyph
-drawn id = record no_shaped_glyph { glyph_id = id; x_advance = pos 500 }
-
--- one of an ignorable character, and one before which the text may be broken
-abbrev pub ignorable : ℕ → ShapedGlyph
-ignorable id = record (drawn id) { is_ignorable = true }
-
-abbrev pub broken_before : ShapedGlyph → ShapedGlyph
-broken_before g = record g { may_break_before = true }
-
--- a glyph that is attached to another one
-abbrev pub attached : ℕ → ShapedGlyph → ShapedGlyph
-attached place g = record g { attached_to = Some place }
-
--- the glyph 9 is ignorable, and is seen where another character has it
-abbrev pub ignorable_glyphs : List ShapedGlyph
-ignorable_glyphs =
-    drawn 5 ∷ broken_before (ignorable 9) ∷ broken_before (drawn 9) ∷ broken_before (attached 2 (drawn 6))
-    ∷ attached 1 (drawn 7) ∷ []
-
--- a glyph that is drawn as a mark, with an offset
-abbrev pub mark : ℤ → ShapedGlyph
-mark offset = record (drawn 8) { is_mark = true; x_offset = offset }
-
--- a mark has no width, and moves by it where marks move; other glyphs stay
-abbrev pub MarksHaveNoWidth : Type 0
-MarksHaveNoWidth =
-    (zero_marks false (drawn 5 ∷ broken_before (attached 0 (mark (pos 20))) ∷ ignorable 9 ∷ [])
-    ≡ drawn 5 ∷ broken_before (attached 0 (record (mark (pos 20)) { x_advance = pos 0 })) ∷ ignorable 9 ∷ [])
-    × (zero_marks true (drawn 5 ∷ mark (pos 20) ∷ [])
-    ≡ drawn 5 ∷ record (mark (negsuc 479)) { x_advance = pos 0 } ∷ [])
-    × (zero_marks true (record (mark (negsuc 2147483647)) { y_advance = negsuc 9 } ∷ [])
-    ≡ record (mark (pos 2147483148)) { x_advance = pos 0; y_offset = pos 10 } ∷ [])
-
--- it is hidden as the space 3 without width
-abbrev pub HiddenGlyphsAreSpaces : Type 0
-HiddenGlyphsAreSpaces =
-    drawn_without_ignorables (Some (record { 0 = 3 })) ignorable_glyphs
-    ≡ drawn 5 ∷ broken_before (record (ignorable 3) { x_advance = pos 0 }) ∷ broken_before (drawn 9)
-    ∷ broken_before (attached 2 (drawn 6)) ∷ attached 1 (drawn 7) ∷ []
-
--- Without a space it goes, and of a break behind it nothing is said: what was attached to a glyph that stays counts those
--- that stay, and what was attached to one that goes is loose.
-abbrev pub HiddenGlyphsGo : Type 0
-HiddenGlyphsGo =
-    drawn_without_ignorables None ignorable_glyphs
-    ≡ drawn 5 ∷ drawn 9 ∷ broken_before (attached 1 (drawn 6)) ∷ drawn 7 ∷ []

@@ -1,7 +1,7 @@
 -- The characters of a text that a font lacks.
 use Rattle.std.specs.Prelude.{ℕ, Bool, not, ◌&&◌, List, filter, is_none, map}
-use Rattle.ucd_derived.specs.Binary.{is_default_ignorable_code_point}
 use Rattle.aat_face.specs.Faces.{FaceValue, glyph_of_character}
+use Rattle.aat_text.specs.IgnorableCharacters.{is_ignorable_character}
 use Rattle.aat_text.specs.Places.{characters}
 use Rattle.aat_text.specs.declared.missing.MissingCharacter.{MissingCharacter}
 use Rattle.aat_text.specs.declared.unit.ClusterUnit.{ClusterUnit}
@@ -9,7 +9,7 @@ use Rattle.aat_text.specs.declared.unit.ClusterUnit.{ClusterUnit}
 -- whether a font lacks a character that is to be seen
 abbrev pub is_missing : FaceValue → ℕ → Bool
 is_missing face character =
-    is_none (glyph_of_character face character) && not (is_default_ignorable_code_point character)
+    is_none (glyph_of_character face character) && not (is_ignorable_character character)
 
 -- the characters of a text that a font lacks, with their places
 abbrev pub missing_characters : FaceValue → ClusterUnit → List ℕ → List MissingCharacter

@@ -22,8 +22,8 @@ FamiliesStayWhole =
     shaped_characters (among []) (Some Scripts.Hebrew) LeftToRight Level.Graphemes Bytes (encode_utf8_all (0x5D0 ∷ 0x1F468 ∷ 0x200D ∷ 0x1F469 ∷ []))
     ≡ at 2 0x1F468 ∷ at 2 0x200D ∷ at 2 0x1F469 ∷ at 0 0x5D0 ∷ []
 
--- a dot below has the class of marks below, a space that the font lacks its width, and a space that is as wide as that of
--- the font is no other one
+-- a dot below has the class of marks below, a space that the font lacks its width, and a space that is as wide as that
+-- of the font is no other one
 abbrev pub KindsAreTold : Type 0
 KindsAreTold =
     map placed_kind

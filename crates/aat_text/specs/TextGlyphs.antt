@@ -6,16 +6,16 @@ use Rattle.std.specs.Str.{chars}
 use Rattle.ucd_category.specs.GeneralCategory.{general_category}
 use Rattle.ucd_category.specs.declared.GeneralCategory.{GeneralCategory}
 use Rattle.ucd_category.specs.declared.GeneralCategory.TheVariants as Category
-use Rattle.ucd_derived.specs.Binary.{is_default_ignorable_code_point}
 use Rattle.aat_face.specs.Faces.{FaceValue, glyph_of_character}
 use Rattle.aat_shaped_text.specs.declared.text.TextGlyph.{TextGlyph}
+use Rattle.aat_text.specs.IgnorableCharacters.{is_ignorable_character}
 use Rattle.aat_text.specs.Kinds.{character_kind}
 use Rattle.aat_text.specs.Places.{clusters}
 use Rattle.aat_text.specs.declared.unit.ClusterUnit.{ClusterUnit}
 
 -- a character of a category is a mark: a nonspacing one that is not ignorable
 abbrev pub is_mark_of : GeneralCategory → ℕ → Bool
-is_mark_of Category.NonspacingMark character = not (is_default_ignorable_code_point character)
+is_mark_of Category.NonspacingMark character = not (is_ignorable_character character)
 is_mark_of _ character = false
 
 -- so is a character
@@ -27,7 +27,7 @@ abbrev pub text_glyph : FaceValue → ℕ → ℕ → TextGlyph
 text_glyph face cluster character = record {
   glyph_id = option_map_or (λ glyph. glyph.0) (glyph_of_character face character) 0;
   cluster = cluster;
-  is_ignorable = is_default_ignorable_code_point character;
+  is_ignorable = is_ignorable_character character;
   is_mark = is_mark_character character;
   kind = character_kind character;
 }

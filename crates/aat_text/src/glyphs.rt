@@ -5,13 +5,13 @@ ghost use Rattle.aat_text.specs.TextGlyphs.{is_mark_character, text_glyph, text_
 ghost use Rattle.aat_text.specs.declared.error.TextError.TheVariants as errors;
 
 use crate::error::TextError;
+use crate::ignorable_characters::is_ignorable_character;
 use crate::kinds::character_kind;
 use crate::unit::ClusterUnit;
 use aat_face::Face;
 use aat_shaped_text::TextGlyph;
 use std::alloc::{AllocError, Allocator};
 use ucd_category::GeneralCategory;
-use ucd_derived::is_default_ignorable_code_point;
 use unicode_segmentation::UnicodeSegmentation;
 
 /// The longest text, in bytes: its places have 32 bits.
@@ -22,7 +22,7 @@ fn is_mark_character(character: char) -> bool
     ensures { result ≡ is_mark_character character }
 {
     match GeneralCategory::for_char(character) {
-        GeneralCategory::NonspacingMark => !is_default_ignorable_code_point(character),
+        GeneralCategory::NonspacingMark => !is_ignorable_character(character),
         _ => false,
     }
 }
@@ -38,7 +38,7 @@ pub(crate) fn text_glyph(face: &Face, cluster: u32, character: char) -> TextGlyp
     TextGlyph {
         glyph_id,
         cluster,
-        is_ignorable: is_default_ignorable_code_point(character),
+        is_ignorable: is_ignorable_character(character),
         is_mark: is_mark_character(character),
         kind: character_kind(character),
     }
@@ -65,10 +65,11 @@ fn put_cluster<A: Allocator>(
 /// extended grapheme cluster of the character begins, as Unicode has it: the number of bytes or of characters of the
 /// text before it, as `unit` says. Clusters never fall along the text.
 ///
-/// The glyph is ignorable (`is_ignorable`) where the character is a `Default_Ignorable_Code_Point`. It is a mark
-/// (`is_mark`) where the character is not ignorable and its `General_Category` is Mn. Its kind is `Mark`, with the class
-/// by which HarfBuzz places marks by their boxes, where the `General_Category` is Mn, Mc or Me, also of an ignorable
-/// character, and else `Other`.
+/// The glyph is ignorable (`is_ignorable`) where the character is a `Default_Ignorable_Code_Point`, but for those that
+/// HarfBuzz 12.3.2 shows: U+115F, U+1160, U+180F, U+3164, U+FFA0, and U+1BCA0 to U+1BCA3. It is a mark (`is_mark`)
+/// where the character is not ignorable and its `General_Category` is Mn. Its kind is `Mark`, with the class by which
+/// HarfBuzz places marks by their boxes, where the `General_Category` is Mn, Mc or Me, also of an ignorable character,
+/// and else `Other`.
 ///
 /// Refused as 1 `TooLong` exactly where the text has more than 4,294,967,295 bytes, and else as 2 `OutOfMemory` where
 /// memory is wanting.

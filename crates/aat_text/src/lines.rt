@@ -43,12 +43,12 @@ fn end_before(before: Option<LineRole>, place: u32, piece: &str) -> Option<LineE
     line_end(place, ending)
 }
 
-/// The places of a text where a line may end, in the order of the text: the number of bytes or of characters before them,
-/// as `unit` says. Each is between two extended grapheme clusters, so that none is 0 or the end of the text.
+/// The places of a text where a line may end, in the order of the text: the number of bytes or of characters before
+/// them, as `unit` says. Each is between two extended grapheme clusters, so that none is 0 or the end of the text.
 ///
-/// The classes of `Line_Break` on both sides decide, as Unicode has them: before the place that of the last character of
-/// its cluster that is no mark (CM or ZWJ), or AL where there is none, and behind it that of the first character. The
-/// first of these rules that is for the two holds:
+/// The classes of `Line_Break` on both sides decide, as Unicode has them: before the place that of the last character
+/// of its cluster that is no mark (CM or ZWJ), or AL where there is none, and behind it that of the first character.
+/// The first of these rules that is for the two holds:
 ///
 /// - A line has to end behind BK, NL, LF, and CR, but not between CR and LF.
 /// - It does not end before these and SP and ZW.

@@ -4,10 +4,10 @@ ghost use Rattle.aat_text.specs.Missing.{is_missing, missing_characters};
 
 use crate::error::TextError;
 use crate::glyphs::LONGEST_TEXT;
+use crate::ignorable_characters::is_ignorable_character;
 use crate::unit::ClusterUnit;
 use aat_face::Face;
 use std::alloc::Allocator;
-use ucd_derived::is_default_ignorable_code_point;
 
 /// A character of a text that has no glyph in the font.
 #[derive(Clone, Copy, PartialEq, Eq, Debug)]
@@ -22,12 +22,12 @@ pub struct MissingCharacter {
 fn is_missing(face: &Face, character: char) -> bool
     ensures { result ≡ is_missing face.now character }
 {
-    face.glyph_of(character).is_none() && !is_default_ignorable_code_point(character)
+    face.glyph_of(character).is_none() && !is_ignorable_character(character)
 }
 
 /// The characters of a text that have no glyph in the font, in the order of the text, each with its own place: the
-/// number of bytes or of characters of the text before it, as `unit` says. Default ignorable ones are left out, since
-/// nothing is to be seen of them. A line feed and other control characters are told where the font lacks them.
+/// number of bytes or of characters of the text before it, as `unit` says. Ignorable ones (`text_of`) are left out,
+/// since nothing is to be seen of them. A line feed and other control characters are told where the font lacks them.
 ///
 /// Refused as 1 `TooLong` exactly where the text has more than 4,294,967,295 bytes, and else as 2 `OutOfMemory` where
 /// memory is wanting.

@@ -90,40 +90,42 @@ fn glyphs_of<A: Allocator>(
     Ok(glyphs)
 }
 
-/// The text that a `Shaper` takes for a text in a face, as HarfBuzz has it for a font whose `morx`, `kerx` or `kern` acts.
+/// The text that a `Shaper` takes for a text in a face, as HarfBuzz has it for a font whose `morx`, `kerx` or `kern`
+/// acts.
 ///
-/// `script` is that of the text, and where there is none the first that its characters have (`text_script`). `direction`
-/// is that of the text, and where there is none that of its script (`natural_direction`). The text is shaped in its
-/// native direction (`native_direction`), which `direction` of the result tells. Where that is another one, the text
-/// is turned: its clusters are taken from last to first.
+/// `script` is that of the text, and where there is none the first that its characters have (`text_script`).
+/// `direction` is that of the text, and where there is none that of its script (`natural_direction`). The text is
+/// shaped in its native direction (`native_direction`), which `direction` of the result tells. Where that is another
+/// one, the text is turned: its clusters are taken from last to first.
 ///
-/// A cluster is one character and those that continue it, as HarfBuzz 12.3.2 forms clusters: marks (`General_Category` Mn,
-/// Mc or Me), modifiers of emoji, zero width joiners, `Extended_Pictographic` behind a zero width joiner, the second of two
-/// regional indicators, tags (U+E0020 to U+E007F), and U+FF9E and U+FF9F. These are not Unicode's extended grapheme
-/// clusters, which `text_of` and `line_ends` take.
+/// A cluster is one character and those that continue it, as HarfBuzz 12.3.2 forms clusters: marks (`General_Category`
+/// Mn, Mc or Me), modifiers of emoji, zero width joiners, `Extended_Pictographic` behind a zero width joiner, the
+/// second of two regional indicators, tags (U+E0020 to U+E007F), and U+FF9E and U+FF9F. These are not Unicode's
+/// extended grapheme clusters, which `text_of` and `line_ends` take.
 ///
 /// - In backward text, so that `direction` is `RightToLeft` or `BottomToTop`, a character with a mirrored one for which
 ///   the font has a glyph becomes that one. In columns a character with a vertical form for which the font has a glyph
 ///   becomes that.
 /// - A character behind which no mark stands stays where the font has it, and else is decomposed into as few characters
 ///   as the font has. A letter with marks is decomposed into as many as the font has. Where the text has a mark behind
-///   another character, its marks are then put in order by the classes of HarfBuzz, at most 32 behind one character, and
-///   a mark is composed with its starter where the font has the composite. A character with marks of which one is a
+///   another character, its marks are then put in order by the classes of HarfBuzz, at most 32 behind one character,
+///   and a mark is composed with its starter where the font has the composite. A character with marks of which one is a
 ///   variation selector is not decomposed.
-/// - Where the font has glyphs neither for U+00A0, U+2000 to U+200A, U+202F, U+205F or U+3000 nor for what it is decomposed
-///   into, and has one for the space U+0020, that stands for it. So does U+2010 for U+2011.
+/// - Where the font has glyphs neither for U+00A0, U+2000 to U+200A, U+202F, U+205F or U+3000 nor for what it is
+///   decomposed into, and has one for the space U+0020, that stands for it. So does U+2010 for U+2011.
 ///
-/// A character is decomposed into the characters of its canonical decomposition, of which the first ones may be composed
-/// again. HarfBuzz also stops at a character that is excluded from composition: it may write U+FB2C as U+FB49 and U+05C1.
+/// A character is decomposed into the characters of its canonical decomposition, of which the first ones may be
+/// composed again. HarfBuzz also stops at a character that is excluded from composition: it may write U+FB2C as U+FB49
+/// and U+05C1.
 ///
 /// A glyph's cluster is the place of its cluster or of its character, as `level` says: the number of bytes or of
-/// characters of the text before it, as `unit` says. In a text that is turned it is that of its cluster. What is made of
-/// several characters has the lesser of their places, and so has what stands between them. HarfBuzz moves a mark right
-/// behind them too, where that one had been moved to the place of the mark that is composed.
+/// characters of the text before it, as `unit` says. In a text that is turned it is that of its cluster. What is made
+/// of several characters has the lesser of their places, and so has what stands between them. HarfBuzz moves a mark
+/// right behind them too, where that one had been moved to the place of the mark that is composed.
 ///
-/// Glyphs, `is_ignorable` and `is_mark` are as `text_of` has them of the characters that are shaped, and so is the kind of
-/// a glyph, but where the space stands for another one: there it is `Space` with the width of that one, or `Other` for
-/// U+00A0, which is as wide as the space.
+/// Glyphs, `is_ignorable` and `is_mark` are as `text_of` has them of the characters that are shaped, and so is the kind
+/// of a glyph, but where the space stands for another one: there it is `Space` with the width of that one, or `Other`
+/// for U+00A0, which is as wide as the space.
 ///
 /// Refused as 1 `TooLong` exactly where the text has more than 4,294,967,295 bytes, and else as 2 `OutOfMemory` where
 /// memory is wanting.

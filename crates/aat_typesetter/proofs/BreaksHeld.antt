@@ -1,5 +1,5 @@
 -- What is drawn may be broken.
-use Rattle.aat_text.specs.HiddenParts.{BreaksHoldAsShown}
+use Rattle.aat_showing.specs.HiddenParts.{BreaksHoldAsShown}
 use Rattle.aat_typesetter.specs.Typeset.{BreaksHoldIn, IsWithinLimits, Setting, drawn_setting, shaped_setting}
 
 -- what is drawn of a text within the limits may be broken before each glyph that says so

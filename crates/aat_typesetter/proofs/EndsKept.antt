@@ -3,7 +3,7 @@ use Rattle.std.proofs.Common.{◌≡◌, ℕ, List, [], ◌∷◌, refl}
 use Rattle.std.specs.Prelude.{fold}
 use Rattle.aat_shaped_text.specs.declared.text.ShapedGlyph.{ShapedGlyph}
 use Rattle.aat_shaper.specs.declared.lines.TextLine.{TextLine}
-use Rattle.aat_text.specs.HiddenParts.{Showing}
+use Rattle.aat_showing.specs.HiddenParts.{Showing}
 use Rattle.aat_typesetter.specs.TypesetLines.{set_lines}
 
 -- where the last line ends, where the one before them ends at a place

@@ -17,7 +17,8 @@ use Rattle.aat_kerning_tables.specs.declared.kern.KernKind.TheVariants.{Machine}
 abbrev pub kern_off : Feature
 kern_off = record { tag = record { 0 = 0x6B65726E }; value = 0; start = 0; end = 0xFFFFFFFF }
 
--- the features with which a text is shaped: where the font has no `kerx`, and the script does not take `kern`, that is off
+-- the features with which a text is shaped: where the font has no `kerx`, and the script does not take `kern`, that is
+-- off
 abbrev pub features_for : hb_font_t → Option ScriptRules → List Feature → List Feature
 features_for font None features = features
 features_for font (Some rules) features =
@@ -57,8 +58,8 @@ marks_for font None direction = None
 marks_for font (Some rules) direction =
     if zeroes_marks font rules then Some (moves_marks font rules direction) else None
 
--- Marks are placed by boxes where the script's shaper does so, as it does where it takes `kern`, and neither `kerx` acts
--- nor `kern` across the line.
+-- Marks are placed by boxes where the script's shaper does so, as it does where it takes `kern`, and neither `kerx`
+-- acts nor `kern` across the line.
 abbrev pub places_marks : hb_font_t → ScriptRules → Bool
 places_marks font rules =
     applies_kern rules && is_none (tables_of font).kerx && not (kerns_across font rules)

@@ -35,7 +35,8 @@ stop_behind space text is_forced place = record {
 abbrev pub stops_at : Option GlyphId → List TextGlyph → List LineEnd → List LineStop
 stops_at space text ends = map (λ end. stop_behind space text end.is_forced (count_before end.place text)) ends
 
--- the stops of a text whose lines may end at these places, and its end; where clusters fall along it that is the only one
+-- the stops of a text whose lines may end at these places, and its end; where clusters fall along it that is the only
+-- one
 abbrev pub stops_for : Option GlyphId → List TextGlyph → List LineEnd → List LineStop
 stops_for space text ends =
     (if is_rising text then stops_at space text ends else []) ++ (stop_behind space text true (length text) ∷ [])

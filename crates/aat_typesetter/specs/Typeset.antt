@@ -3,8 +3,8 @@ use Rattle.std.specs.Prelude.{◌≡◌, ℕ, ℤ, pos, ◌<◌, ◌≤◌, Bool
 use Rattle.aat_characters.specs.declared.script_rules.ScriptRules.{ScriptRules}
 use Rattle.aat_glyph.specs.Directions.{is_vertical}
 use Rattle.aat_glyph.specs.declared.glyph.Direction.{Direction}
-use Rattle.aat_text.specs.Columns.{ColumnMetrics}
-use Rattle.aat_text.specs.FaceMetrics.{column_metrics, mark_placing, space_metrics}
+use Rattle.aat_showing.specs.Columns.{ColumnMetrics}
+use Rattle.aat_showing.specs.FaceMetrics.{column_metrics, mark_placing, space_metrics}
 use Rattle.std.specs.Option.{option_map_or}
 use Rattle.aat_face.specs.Faces.{FaceValue, glyph_of_character}
 use Rattle.aat_font.specs.Face.{tables_of}
@@ -18,7 +18,7 @@ use Rattle.aat_shaped_text.specs.ShapedText.{RefusesText, most_text, shaped_text
 use Rattle.aat_shaped_text.specs.declared.text.ShapedGlyph.{ShapedGlyph}
 use Rattle.aat_shaped_text.specs.declared.text.TextGlyph.{TextGlyph}
 use Rattle.aat_shaper.specs.Shaper.{TrackValues, no_values, value_along, values_at}
-use Rattle.aat_text.specs.HiddenParts.{IsShownInParts, Showing, shown}
+use Rattle.aat_showing.specs.HiddenParts.{IsShownInParts, Showing, shown}
 use Rattle.aat_typesetter.specs.Prepared.{Prepared, glyph_text, no_text, options_for_lines, prepared}
 use Rattle.aat_typesetter.specs.ScriptSettings.{boxes_for, features_for, marks_for}
 use Rattle.aat_typesetter.specs.declared.options.TextOptions.{TextOptions}
@@ -37,7 +37,8 @@ pub record TypesetterValue : Type 0 where
 abbrev pub nothing_set : TypesetterValue → TypesetterValue
 nothing_set t = record t { text = no_text; shaped = []; glyphs = []; is_budget_used_up = false }
 
--- the point size at which texts are tracked: the one that is told, else 12 points, HarfBuzz's, where the file has `STAT`
+-- the point size at which texts are tracked: the one that is told, else 12 points, HarfBuzz's, where the file has
+-- `STAT`
 abbrev pub size_for : FaceValue → Option ℕ → ℕ
 size_for face None = if face.has_stat then 786432 else 0
 size_for face (Some size) = size
@@ -58,7 +59,7 @@ showing_for face font rules direction = record {
   spaces = Some (space_metrics face direction);
   marks = marks_for font rules direction;
   boxes = option_map (mark_placing face direction) (boxes_for font rules direction);
-  ignorables = Some (glyph_of_character face 0x20);
+  ignorables = Some (record { direction = direction; space = glyph_of_character face 0x20 });
 }
 
 -- what is typeset: a text that is ready, with the font, the glyph of the space, the features, the value by which it is

@@ -4,7 +4,7 @@ use Rattle.aat_run.specs.declared.error.AatError.{AatError}
 use Rattle.aat_shaped_text.specs.declared.text.ShapedGlyph.{ShapedGlyph}
 use Rattle.aat_shaper.specs.Lines.{AreLines, Paragraph, RefusesLines, stops_behind}
 use Rattle.aat_shaper.specs.declared.lines.TextLine.{TextLine}
-use Rattle.aat_text.specs.HiddenParts.{Showing, shown}
+use Rattle.aat_showing.specs.HiddenParts.{Showing, shown}
 use Rattle.aat_text.specs.LineEnds.{line_ends}
 use Rattle.aat_text.specs.declared.lines.LineEnd.{LineEnd}
 use Rattle.aat_typesetter.specs.Stops.{stops_for}

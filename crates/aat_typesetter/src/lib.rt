@@ -2,16 +2,24 @@
 //! or in lines of a width.
 //!
 //! ```
-//! let face = Face::read(alloc, &bytes, 0)?;
-//! let mut typesetter = Typesetter::new(alloc, &face);
-//! typesetter.line("fila fa-la", &TextOptions::new())?;
-//! for glyph in typesetter.glyphs() {
-//!     writeln!(out, "{} {}", glyph.glyph_id, glyph.x_advance)?;
+//! use aat_typesetter::{Face, TextOptions, Typesetter};
+//! use anyhow::Result;
+//! use std::fs;
+//!
+//! fn main(rt: HostRuntime) -> Result<()> {
+//!     let bytes = fs::read(&rt, "sample.ttf")?;
+//!     let face = Face::read(rt.alloc(), &bytes, 0)?;
+//!     let mut typesetter = Typesetter::new(rt.alloc(), &face);
+//!     typesetter.line("fila fa-la", &TextOptions::new())?;
+//!     for glyph in typesetter.glyphs() {
+//!         println!(rt; "{} {}", glyph.glyph_id, glyph.x_advance)?;
+//!     }
+//!     Ok(())
 //! }
 //! ```
 //!
 //! [`Typesetter::lines`] breaks a text into lines of a width. A program that makes the text of a shaper itself takes
-//! `aat_text` and `aat_shaper`.
+//! `aat_text`, `aat_shaper` and `aat_showing`.
 #![tactic(auto)]
 
 mod error;

@@ -78,7 +78,8 @@ fn shaped_direction(options: &TextOptions<'_>, text: &str) -> Direction
     native_direction(script, text, told)
 }
 
-/// The options of a text that is broken into lines: it is told the direction in which it is shaped, and so is not turned.
+/// The options of a text that is broken into lines: it is told the direction in which it is shaped, and so is not
+/// turned.
 pub(crate) fn options_for_lines<'o>(options: &TextOptions<'o>, text: &str) -> TextOptions<'o>
     ensures { result ≡ options_for_lines options.now text.now }
 {

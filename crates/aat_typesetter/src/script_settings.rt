@@ -25,8 +25,8 @@ fn kern_off() -> Feature
     }
 }
 
-/// The features with which a text is shaped, given the rules of its script, if it has any: where the font has no `kerx`,
-/// and the script does not take `kern`, that is off.
+/// The features with which a text is shaped, given the rules of its script, if it has any: where the font has no
+/// `kerx`, and the script does not take `kern`, that is off.
 pub(crate) fn features_for<A: Allocator>(
     alloc: A,
     font: &hb_font_t,

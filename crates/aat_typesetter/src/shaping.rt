@@ -20,7 +20,8 @@ use aat_text::LineEnd;
 use std::alloc::{Allocator, Global};
 use std::mem;
 
-/// The point size at which texts are tracked: the one that is told, else HarfBuzz's 12 points where the file has `STAT`.
+/// The point size at which texts are tracked: the one that is told, else HarfBuzz's 12 points where the file has
+/// `STAT`.
 fn size_for(face: &Face<'_>, size: Option<u32>) -> u32
     ensures { result ≡ size_for face.now size }
 {

@@ -1,10 +1,10 @@
 //! How what is drawn is shown.
 ghost use Rattle.std.specs.Prelude.{◌≡◌, IfOk, option_map};
-ghost use Rattle.aat_text.specs.Columns.{in_columns};
-ghost use Rattle.aat_text.specs.FaceMetrics.{mark_placing};
-ghost use Rattle.aat_text.specs.HiddenParts.{asked, positioned, shown};
-ghost use Rattle.aat_text.specs.MarkBoxes.{place_marks};
-ghost use Rattle.aat_text.specs.Marks.{zero_marks};
+ghost use Rattle.aat_showing.specs.Columns.{in_columns};
+ghost use Rattle.aat_showing.specs.FaceMetrics.{mark_placing};
+ghost use Rattle.aat_showing.specs.HiddenParts.{asked, positioned, shown};
+ghost use Rattle.aat_showing.specs.MarkBoxes.{place_marks};
+ghost use Rattle.aat_showing.specs.Marks.{zero_marks};
 ghost use Rattle.aat_typesetter.specs.Typeset.{columns_for, showing_for};
 ghost use Rattle.aat_typesetter.specs.inside.Inside.{showing_by};
 
@@ -15,7 +15,7 @@ use aat_font::hb_font_t;
 use aat_glyph::Direction;
 use aat_lookup::GlyphId;
 use aat_shaped_text::ShapedGlyph;
-use aat_text::{hide_ignorables, place_marks, set_in_columns, widen_spaces, zero_marks};
+use aat_showing::{hide_ignorables, place_marks, set_in_columns, widen_spaces, zero_marks};
 use std::alloc::{AllocError, Allocator};
 
 /// How what is drawn of a text in a face is shown.
@@ -97,5 +97,5 @@ pub(crate) fn show<A: Allocator + Copy>(
 {
     let mut positioned = Vec::from_slice(alloc, glyphs)?;
     position(&mut positioned, face, showing);
-    hide_ignorables(alloc, showing.space, &positioned)
+    hide_ignorables(alloc, showing.direction, showing.space, &positioned)
 }

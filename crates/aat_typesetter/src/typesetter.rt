@@ -15,7 +15,7 @@ use aat_face::Face;
 use aat_glyph::Direction;
 use aat_shaped_text::{ShapedGlyph, TextGlyph};
 use aat_shaper::Shaper;
-use aat_text::laws::breaks_hold_as_shown;
+use aat_showing::laws::breaks_hold_as_shown;
 use aat_text::{LineEnd, line_ends};
 use std::alloc::{Allocator, Global};
 use std::marker::Model;
@@ -186,14 +186,15 @@ impl<'f, A: Allocator + Copy> Typesetter<'f, A> {
     /// The text becomes glyphs as `prepare_text` of `aat_text` has it: turned, mirrored and composed as in HarfBuzz. It
     /// runs in the direction of the options, else in that of its script, and is shaped in the native one, as
     /// `Shaper::shape` of `aat_shaper` does, with the features of the options, and tracked by the normal track of the
-    /// face at their size. Without `kerx`, `kern` is off where the script does not take it. Then glyphs of vertical text
-    /// are set in columns (`set_in_columns` of `aat_text`), spaces that the face lacks get their own width
+    /// face at their size. Without `kerx`, `kern` is off where the script does not take it. Then glyphs of vertical
+    /// text are set in columns (`set_in_columns` of `aat_showing`), spaces that the face lacks get their own width
     /// (`widen_spaces`), where HarfBuzz has it marks lose their width (`zero_marks`) and are placed by boxes
     /// (`place_marks`), and ignorable glyphs are hidden (`hide_ignorables`): they are drawn as the space of the face
     /// without width, and are taken out where it has none.
     ///
     /// The text may be broken before each glyph that says so, at the later one of the two clusters that meet there: its
-    /// glyphs in two parts, shaped and shown alike, look as they do here. A part of its characters may have another script.
+    /// glyphs in two parts, shaped and shown alike, look as they do here. A part of its characters may have another
+    /// script.
     ///
     /// Refused as 1, `TextTooLong`, exactly where the text has more than 4,294,967,295 bytes. Then as 2, `Refused`,
     /// where the shaper refuses its glyphs: as `TooLong` where they are more than 2^24, as `AaltValue` for a value
@@ -222,8 +223,9 @@ impl<'f, A: Allocator + Copy> Typesetter<'f, A> {
         Ok(())
     }
 
-    /// Typesets glyphs with clusters of their own in one line: none is turned, marks keep their width and place, and `kern`
-    /// is not put off. They run from left to right where the options have no direction. Script, unit and level do not count.
+    /// Typesets glyphs with clusters of their own in one line: none is turned, marks keep their width and place, and
+    /// `kern` is not put off. They run from left to right where the options have no direction. Script, unit and level
+    /// do not count.
     ///
     /// Refused as [`Typesetter::line`] refuses a text, but for 1, `TextTooLong`.
     pub fn line_of_glyphs(
@@ -315,10 +317,10 @@ impl<'f, A: Allocator + Copy> Typesetter<'f, A> {
     /// A line may end where `line_ends` of `aat_text` has it, and at the end of the text; it ends where that is forced.
     /// The spaces before its end, glyphs of the face's space, hang over it and count for no width, nor do ignorable
     /// glyphs. It takes in ends as long as the text up to the next one fits, and at least one, as `Shaper::shape_lines`
-    /// of `aat_shaper` does. The text runs in the direction in which it is shaped, whatever the options tell, and glyphs
-    /// count with the advances that they had before they were put in their places. What is drawn of a line looks as its
-    /// glyphs do, shaped and shown by themselves with the rules of the whole text's script. A text without an end, or along which clusters fall, is
-    /// one line, and an empty one has no line.
+    /// of `aat_shaper` does. The text runs in the direction in which it is shaped, whatever the options tell, and
+    /// glyphs count with the advances that they had before they were put in their places. What is drawn of a line looks
+    /// as its glyphs do, shaped and shown by themselves with the rules of the whole text's script. A text without an
+    /// end, or along which clusters fall, is one line, and an empty one has no line.
     ///
     /// [`Typesetter::shaped`] has what is shaped of the text in one line, and [`Typesetter::glyphs`] nothing.
     ///

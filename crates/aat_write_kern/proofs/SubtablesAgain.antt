@@ -55,7 +55,9 @@ end_is :
 unfolding end_at
 end_is bytes place left end size is low sum high true test last =
     let inside : place + 8 ≤ length bytes = omega (arith, low, sum, high) in
-    rw (le-ltb (length bytes) (place + 8) inside) (rw test (ap Ok (last refl)))
+    let within : place + size ≤ length bytes = omega (arith, sum, high) in
+    rw (le-ltb (length bytes) (place + 8) inside)
+    (rw test (rw is (rw (le-ltb size 8 low) (rw (le-ltb (length bytes) (place + size) within) (ap Ok (last refl))))))
 end_is bytes place left end size is low sum high false test last =
     let inside : place + 8 ≤ length bytes = omega (arith, low, sum, high) in
     let within : place + size ≤ length bytes = omega (arith, sum, high) in

@@ -1,8 +1,8 @@
 -- A contextual subtable that is written is read again.
 use Rattle.std.proofs.Common.{◌≡◌, ℕ, zero, suc, ◌+◌, ◌-◌, ◌*◌, ◌<◌, ◌≤◌, max, List, [], ◌∷◌, ◌++◌, length, get_or, map, take, drop, Bool, true, false, cond, Option, Some, None, Result, Ok, Err, All, refl, sym, ap, ◌∙◌, subst, append_assoc, zero-add, arith}
-use Rattle.std.specs.Prelude.{nat_lt, sum_by, unwrap_or}
+use Rattle.std.specs.Prelude.{nat_lt, sum_by}
 use Rattle.std.specs.List.{fold, range_with_len}
-use Rattle.std.proofs.lemmas.Bool.{le-leb, le-ltb, ne_eqb}
+use Rattle.std.proofs.lemmas.Bool.{le-leb, le-ltb}
 use Rattle.std.proofs.lemmas.List.{get_or-take, length-append, length-drop, length-map, length-take-le}
 use Rattle.std.proofs.lemmas.List.FromFn.{length-range_with_len}
 use Rattle.aat_bytes.specs.Faults.{after, fault_at}
@@ -149,27 +149,26 @@ number_inside : (bytes : List ℕ) (place n : ℕ) → place + 2 ≤ length byte
 unfolding u16_at
 number_inside bytes place n within is = rw (le-leb (place + 2) (length bytes) within) is
 
-long_inside : (bytes : List ℕ) (place n : ℕ) → place + 4 ≤ length bytes → be32 bytes place ≡ n → unwrap_or (u32_at bytes place) 0 ≡ n
+long_inside : (bytes : List ℕ) (place n : ℕ) → place + 4 ≤ length bytes → be32 bytes place ≡ n → u32_at bytes place ≡ Some n
 unfolding u32_at
-long_inside bytes place n within is = rw (le-leb (place + 4) (length bytes) within) is
+long_inside bytes place n within is = rw (le-leb (place + 4) (length bytes) within) (ap Some is)
 
 size_by : (bytes : List ℕ) (place glyph_count count : ℕ) → number_at bytes place ≡ 6 → number_at bytes (place + 4) ≡ count → lookup_size bytes place glyph_count ≡ 12 + 4 * count
 unfolding lookup_size
 size_by bytes place glyph_count count format is = rw (format, is) refl
 
-cost_by : (bytes : List ℕ) (list glyph_count i offset size : ℕ) → unwrap_or (u32_at bytes (list + 4 * i)) 0 ≡ offset → 1 ≤ offset → lookup_size bytes (list + offset) glyph_count ≡ size → lookup_cost bytes list glyph_count i ≡ 8 + size
+cost_by : (bytes : List ℕ) (list glyph_count i offset size : ℕ) → u32_at bytes (list + 4 * i) ≡ Some offset → lookup_size bytes (list + offset) glyph_count ≡ size → lookup_cost bytes list glyph_count i ≡ 8 + size
 unfolding lookup_cost
-cost_by bytes list glyph_count i offset size at some is =
-    rw at (rw (ne_eqb offset 0 (λ e. omega (arith, e, some))) (ap (λ n. 8 + n) is))
+cost_by bytes list glyph_count i offset size at is = rw (at, lookup_cost) (ap (λ n. 8 + n) is)
 
 pub listed_by :
     (bytes : List ℕ) (list glyph_count i offset : ℕ) (pairs : List (ℕ × ℕ))
-    → list + 4 * i + 4 ≤ length bytes → be32 bytes (list + 4 * i) ≡ offset → 1 ≤ offset
+    → list + 4 * i + 4 ≤ length bytes → be32 bytes (list + 4 * i) ≡ offset
     → lookup_at MORX bytes (list + offset) glyph_count ≡ Ok pairs
     → listed_lookup bytes list glyph_count i ≡ Ok pairs
 unfolding listed_lookup
-listed_by bytes list glyph_count i offset pairs within at some is =
-    rw (le-ltb (length bytes) (list + 4 * i + 4) within) (rw at (rw (ne_eqb offset 0 (λ e. omega (arith, e, some))) is))
+listed_by bytes list glyph_count i offset pairs within at is =
+    rw (le-ltb (length bytes) (list + 4 * i + 4) within) (rw at is)
 
 -- a front, tables before one, the table, tables behind it, and the rest
 regrouped : (f j t d a : List ℕ) → f ++ ((j ++ (t ++ d)) ++ a) ≡ (f ++ j) ++ (t ++ (d ++ a))
@@ -259,7 +258,7 @@ module _ (law : WrittenLookupsAreRead) (lookups : List (List (ℕ × ℕ))) (tab
   cost_of : (i : ℕ) → i < n → lookup_cost whole list glyph_count i ≡ 8 + length (get_or tables i [])
   cost_of i below =
       cost_by whole list glyph_count i (offset i) (length (get_or tables i []))
-      (long_inside whole (list + 4 * i) (offset i) (omega (arith, whole_long)) (offset_at i below)) (omega arith) (size_is i below)
+      (long_inside whole (list + 4 * i) (offset i) (omega (arith, whole_long)) (offset_at i below)) (size_is i below)
 
   costs_are : (k : ℕ) → k ≤ n → lookups_cost whole list glyph_count k ≡ 8 * k + length (joined (take k tables))
   costs_are k le =
@@ -281,7 +280,7 @@ module _ (law : WrittenLookupsAreRead) (lookups : List (List (ℕ × ℕ))) (tab
       each_is (listed_lookup whole list glyph_count) lookups [] 0 (λ k below.
       let here : k < n = omega (arith, below, are.count) in
       ap (listed_lookup whole list glyph_count) (zero-add k)
-      ∙ listed_by whole list glyph_count k (offset k) (get_or lookups k []) (omega (arith, whole_long, here)) (offset_at k here) (omega (arith, here)) (table_read k here))
+      ∙ listed_by whole list glyph_count k (offset k) (get_or lookups k []) (omega (arith, whole_long, here)) (offset_at k here) (table_read k here))
 
   pub lookups_are_read : (room : ℕ) → 8 * n + length (joined tables) ≤ room → lookups_within whole list glyph_count room (length lookups) ≡ Ok lookups
   unfolding lookups_within

@@ -1,17 +1,19 @@
 -- Subtables of insertion and of ligatures that are written are read again.
 use Rattle.std.proofs.Common.{◌≡◌, ℕ, ◌+◌, ◌*◌, ◌<◌, ◌≤◌, List, [], ◌∷◌, ◌++◌, length, Bool, true, false, ◌||◌, cond, Result, Ok, Err, All, refl, sym, ap, ◌∙◌, subst, append_assoc, arith}
-use Rattle.std.proofs.lemmas.Bool.{le-ltb, ltb-false}
+use Rattle.std.proofs.lemmas.Bool.{cond-false, le-ltb, ltb-false, ne_eqb}
+use Rattle.std.specs.Prelude.{nat_eq}
 use Rattle.std.proofs.lemmas.List.{length-append}
-use Rattle.aat_bytes.specs.Faults.{after}
-use Rattle.aat_bytes.specs.Numbers.{be16}
+use Rattle.aat_bytes.specs.Faults.{after, fault_at}
+use Rattle.aat_bytes.specs.Numbers.{be16, be32}
 use Rattle.aat_bytes.specs.declared.error.Fault.{Fault}
+use Rattle.aat_bytes.specs.declared.error.FaultKind.TheVariants.{PastEnd}
 use Rattle.aat_bytes.specs.declared.tags.TheConstants.{MORX}
 use Rattle.aat_machine_tables.specs.Subtables.{InsertionTables, LigatureTables}
 use Rattle.aat_machine_tables.specs.Table.{TableValue}
 use Rattle.aat_machine_tables.specs.declared.entries.InsertionEntryData.{InsertionEntryData}
 use Rattle.aat_machine_tables.specs.declared.state_table.GenericStateEntry.{GenericStateEntry}
 use Rattle.aat_read_machine.specs.Entries.{insertion_at}
-use Rattle.aat_read_machine.specs.Kinds.{insertion_tables_at, ligature_at, list_place}
+use Rattle.aat_read_machine.specs.Kinds.{insertion_tables_at, ligature_at, list_at, list_place}
 use Rattle.aat_read_machine.specs.Lists.{glyphs_from, numbers16, numbers32}
 use Rattle.aat_read_machine.specs.Machine.{machine_at}
 use Rattle.aat_write_lookup.specs.Words.{long_bytes, word_bytes}
@@ -51,20 +53,28 @@ moved : (P : List ℕ → ℕ → Type 0) {whole parts : List ℕ} {found place 
 moved P {whole = whole} {parts = parts} {found = found} {place = place} split at here =
     subst (λ (n : ℕ). P whole n) (sym at) (subst (λ (xs : List ℕ). P xs place) (sym split) here)
 
+-- a list that has an offset starts there
+has_list : (bytes : List ℕ) (place at : ℕ) → 1 ≤ be32 bytes (place + at) → list_at bytes place at ≡ Ok (list_place bytes place at)
+has_list bytes place at some =
+    cond-false (nat_eq (be32 bytes (place + at)) 0) (Err (fault_at MORX PastEnd (place + at))) (Ok (list_place bytes place at))
+    (ne_eqb (be32 bytes (place + at)) 0 (λ e. omega (arith, e, some)))
+
 -- tables whose parts are read
 insertion_by :
     (bytes : List ℕ) (place glyph_count : ℕ) (state : TableValue (GenericStateEntry InsertionEntryData))
-    → place + 20 ≤ length bytes
+    → place + 20 ≤ length bytes → 1 ≤ be32 bytes (place + 16)
     → machine_at 4 insertion_at MORX bytes place glyph_count ≡ Ok state
     → insertion_tables_at bytes place glyph_count ≡ Ok (record { state = state; glyphs = glyphs_from bytes (list_place bytes place 16) })
 unfolding insertion_tables_at
-insertion_by bytes place glyph_count state inside read =
+insertion_by bytes place glyph_count state inside some read =
     rw (le-ltb (length bytes) (place + 20) inside)
-    (ap (λ (r : Result (TableValue (GenericStateEntry InsertionEntryData)) Fault). after r (λ s. Ok (record { state = s; glyphs = glyphs_from bytes (list_place bytes place 16) }))) read)
+    (ap (λ (r : Result ℕ Fault). after r (λ list. after (machine_at 4 insertion_at MORX bytes place glyph_count) (λ s. Ok (record { state = s; glyphs = glyphs_from bytes list })))) (has_list bytes place 16 some)
+    ∙ ap (λ (r : Result (TableValue (GenericStateEntry InsertionEntryData)) Fault). after r (λ s. Ok (record { state = s; glyphs = glyphs_from bytes (list_place bytes place 16) }))) read)
 
 ligature_by :
     (bytes : List ℕ) (place glyph_count : ℕ) (state : TableValue (GenericStateEntry ℕ))
     → place + 28 ≤ length bytes
+    → 1 ≤ be32 bytes (place + 16) → 1 ≤ be32 bytes (place + 20) → 1 ≤ be32 bytes (place + 24)
     → machine_at 2 be16 MORX bytes place glyph_count ≡ Ok state
     → ligature_at bytes place glyph_count ≡ Ok (record {
       state = state;
@@ -73,9 +83,21 @@ ligature_by :
       ligatures = glyphs_from bytes (list_place bytes place 24);
     })
 unfolding ligature_at
-ligature_by bytes place glyph_count state inside read =
+ligature_by bytes place glyph_count state inside first second third read =
+    let with_third : ℕ → ℕ → ℕ → Result LigatureTables Fault =
+    λ one two three. after (machine_at 2 be16 MORX bytes place glyph_count) (λ s. Ok (record {
+      state = s;
+      actions = numbers32 bytes one;
+      components = numbers16 bytes two;
+      ligatures = glyphs_from bytes three;
+    })) in
+    let one : ℕ = list_place bytes place 16 in
+    let two : ℕ = list_place bytes place 20 in
     rw (le-ltb (length bytes) (place + 28) inside)
-    (ap (λ (r : Result (TableValue (GenericStateEntry ℕ)) Fault). after r (λ s. Ok (record {
+    (ap (λ (r : Result ℕ Fault). after r (λ a. after (list_at bytes place 20) (λ b. after (list_at bytes place 24) (with_third a b)))) (has_list bytes place 16 first)
+    ∙ ap (λ (r : Result ℕ Fault). after r (λ b. after (list_at bytes place 24) (with_third one b))) (has_list bytes place 20 second)
+    ∙ ap (λ (r : Result ℕ Fault). after r (with_third one two)) (has_list bytes place 24 third)
+    ∙ ap (λ (r : Result (TableValue (GenericStateEntry ℕ)) Fault). after r (λ s. Ok (record {
       state = s;
       actions = numbers32 bytes (list_place bytes place 16);
       components = numbers16 bytes (list_place bytes place 20);
@@ -102,9 +124,10 @@ insertion_read law t before after glyph_count small classes table =
     glyphs_begin t.glyphs has.front after (place + end) small.1 has.front_long in
     let there : BeginsWith (glyphs_from whole (list_place whole place 16)) t.glyphs =
     moved (λ bytes n. BeginsWith (glyphs_from bytes n) t.glyphs) has.split at here in
-    let inside : place + 20 ≤ length whole = omega (arith, has.long) in (
+    let inside : place + 20 ≤ length whole = omega (arith, has.long) in
+    let some : 1 ≤ be32 whole (place + 16) = omega (arith, at) in (
       record { state = t.state; glyphs = glyphs_from whole (list_place whole place 16) },
-      insertion_by whole place glyph_count t.state inside has.read,
+      insertion_by whole place glyph_count t.state inside some has.read,
       (refl, there),
     )
 
@@ -164,14 +187,17 @@ ligature_read law t before after glyph_count small classes table short =
     let ligatures_read : BeginsWith (glyphs_from whole (list_place whole place 24)) t.ligatures =
     moved (λ bytes n. BeginsWith (glyphs_from bytes n) t.ligatures) split_ligatures at_ligatures
     (glyphs_begin t.ligatures ((has.front ++ actions) ++ components) after (place + for_ligatures) small.3 long_ligatures) in
-    let inside : place + 28 ≤ length whole = omega (arith, has.long) in (
+    let inside : place + 28 ≤ length whole = omega (arith, has.long) in
+    let first : 1 ≤ be32 whole (place + 16) = omega (arith, at_actions) in
+    let second : 1 ≤ be32 whole (place + 20) = omega (arith, at_components) in
+    let third : 1 ≤ be32 whole (place + 24) = omega (arith, at_ligatures) in (
       record {
         state = t.state;
         actions = numbers32 whole (list_place whole place 16);
         components = numbers16 whole (list_place whole place 20);
         ligatures = glyphs_from whole (list_place whole place 24);
       },
-      ligature_by whole place glyph_count t.state inside has.read,
+      ligature_by whole place glyph_count t.state inside first second third has.read,
       (refl, actions_read, components_read, ligatures_read),
     )
 

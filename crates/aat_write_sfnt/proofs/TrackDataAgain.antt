@@ -19,7 +19,7 @@ use Rattle.aat_placement.specs.Tracks.{TrackTable, no_track, track_at}
 use Rattle.aat_placement.specs.declared.error.TrackingError.{TrackingError}
 use Rattle.aat_placement.specs.declared.error.TrackingError.TheVariants.{TooManyTracks, TooManySizes, ValueCount}
 use Rattle.aat_placement.specs.declared.track_data.Track.{Track}
-use Rattle.aat_read_trak.specs.Trak as reader
+use Rattle.aat_read_metrics.specs.Trak as reader
 use Rattle.aat_write_lookup.specs.Words.{word_bytes}
 use Rattle.aat_write_lookup.specs.facts.WordPlaces.{AreWords, length_words, long_again, word_at, words_joined}
 use Rattle.aat_write_sfnt.specs.TrakBytes.{are_too_many, data_words, entries, entry_of, first_far, fixed_words, place_of_sizes, place_of_values, value_word}

@@ -11,7 +11,7 @@ use Rattle.aat_bytes.specs.declared.error.Fault.{Fault}
 use Rattle.aat_bytes.specs.declared.error.FaultKind.TheVariants.{UnknownFormat}
 use Rattle.aat_bytes.specs.declared.tags.TheConstants.{TRAK}
 use Rattle.aat_placement.specs.Tracks.{TrackTable, TrackingTable}
-use Rattle.aat_read_trak.specs.Trak as reader
+use Rattle.aat_read_metrics.specs.Trak as reader
 use Rattle.aat_write_lookup.specs.Words.{word_bytes}
 use Rattle.aat_write_lookup.specs.facts.WordPlaces.{AreWords, length_words, word_at}
 use Rattle.aat_write_sfnt.specs.declared.trak.error.TrakWriteError.{TrakWriteError}

@@ -1,7 +1,7 @@
 -- Worked examples of the tracking table as bytes. Apple's TrueType Reference Manual, "The 'trak' table".
 use Rattle.std.specs.Prelude.{◌≡◌, ℕ, List, [], ◌∷◌, ◌++◌, pos, negsuc, Some, None, Ok}
 use Rattle.aat_placement.specs.Tracks.{TrackTable}
-use Rattle.aat_read_trak.specs.TrakExamples as reader
+use Rattle.aat_read_metrics.specs.TrakExamples as reader
 use Rattle.aat_write_sfnt.specs.TrakBytes.{first_far, trak_written}
 
 -- two tracks with two sizes, those of the reader's example

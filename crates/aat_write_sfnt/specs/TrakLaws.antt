@@ -3,7 +3,7 @@ use Rattle.std.specs.Prelude.{◌≡◌, ℕ, ◌<◌, List, All, FitsSigned, Op
 use Rattle.std.specs.Int.{w16, w32}
 use Rattle.aat_placement.specs.Tracks.{TrackTable, TrackingTable, fault_of}
 use Rattle.aat_placement.specs.declared.track_data.Track.{Track}
-use Rattle.aat_read_trak.specs.Trak.{trak_of}
+use Rattle.aat_read_metrics.specs.Trak.{trak_of}
 use Rattle.aat_write_sfnt.specs.TrakBytes.{trak_written}
 
 -- a track value has 32 bits, and a name 16

@@ -1,5 +1,6 @@
 //! Writers of a font file: its directory, and the tables of characters, metrics, classes, names, named features and
-//! tracks. `aat_read_sfnt` reads each of them again, but `aat_read_lookup` the features, and `aat_read_trak` the tracks.
+//! tracks. `aat_read_sfnt` reads each of them again, but `aat_read_lookup` the features, and `aat_read_metrics` the
+//! tracks.
 //!
 //! ```
 //! let file = write_font(alloc, &[FontTable { tag: MORX, bytes: &morx }])?;

@@ -3,8 +3,8 @@ use Rattle.std.specs.Prelude.{◌≡◌, ◌&&◌, List, [], None, Some, option_
 use Rattle.aat_face.specs.Faces.{FaceValue, glyph_of_character}
 use Rattle.aat_font.specs.declared.plan.Feature.{Feature}
 use Rattle.aat_shaper.specs.Shaper.{ShaperValue, no_values, value_along}
-use Rattle.aat_text.specs.FaceMetrics.{mark_placing, space_metrics}
-use Rattle.aat_text.specs.HiddenParts.{Showing}
+use Rattle.aat_showing.specs.FaceMetrics.{mark_placing, space_metrics}
+use Rattle.aat_showing.specs.HiddenParts.{Showing}
 use Rattle.aat_typesetter.specs.Prepared.{Prepared}
 use Rattle.aat_typesetter.specs.ScriptSettings.{features_for}
 use Rattle.aat_typesetter.specs.Typeset.{Setting, TypesetterValue, columns_for, showing_for}
@@ -44,5 +44,5 @@ showing_by face s = record {
   spaces = Some (space_metrics face s.direction);
   marks = s.marks;
   boxes = option_map (mark_placing face s.direction) s.boxes;
-  ignorables = Some s.space;
+  ignorables = Some (record { direction = s.direction; space = s.space });
 }

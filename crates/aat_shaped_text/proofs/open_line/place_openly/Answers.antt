@@ -2,9 +2,9 @@ use Rattle.std.proofs.Common.{◌≡◌, ◌∙◌, ◌++◌, List, Bool, ap, dr
 use Rattle.std.proofs.Math.Seq.{take-append_seam}
 use Rattle.aat_buffer.specs.Buffer.{Buffer}
 use Rattle.aat_font.specs.Face.{advance_of}
-use Rattle.aat_shaping.proofs.Shaped.{placed_by_test, settings_of_shaped, standing_of_shaped}
-use Rattle.aat_shaping.proofs.ShapedLines.{length_of_shaped, order_of_placed, small_marked}
-use Rattle.aat_shaping.specs.Shaping.{kerned_by_font, with_advances}
+use Rattle.aat_layout.proofs.Shaped.{placed_by_test, settings_of_shaped, standing_of_shaped}
+use Rattle.aat_layout.proofs.ShapedLines.{length_of_shaped, order_of_placed, small_marked}
+use Rattle.aat_layout.specs.Shaping.{kerned_by_font, with_advances}
 use Rattle.aat_shaped_text.specs.KernedPlaces.{TellsOpenPlaces}
 use Rattle.aat_shaped_text.specs.inside.KernedRuns.{ClosesKerned, TellsByGlyphs}
 use Rattle.aat_shaped_text.proofs.OpenTables.{font_changes_little, placing_so, told_so}

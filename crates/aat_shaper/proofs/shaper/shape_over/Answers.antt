@@ -14,7 +14,7 @@ use Rattle.aat_run.specs.Budget.{operations_left}
 use Rattle.aat_shaped_text.specs.KernedPlaces.{TellsOpenPlaces}
 use Rattle.aat_shaped_text.specs.ShapedText.{tracked_line}
 use Rattle.aat_shaped_text.specs.declared.breaks.BreakRules.{BreakRules}
-use Rattle.aat_shaping.specs.Shaping.{with_advances}
+use Rattle.aat_layout.specs.Shaping.{with_advances}
 use Rattle.aat_shaper.specs.declared.drawn.Breaks.{Breaks}
 use Rattle.aat_shaper.proofs.DrawnText.{as_long, behind_text, closed_lent, drawn_so, drawn_text_so, few_so, left_so, made_is, small_ordered, substituted_is, tells_is, text_direction, text_merges, used_so}
 use Rattle.aat_shaper.proofs.Ordered.{IsTurnedLine, drawn_glyphs_ordered, drawn_kept, drawn_line}

@@ -6,5 +6,4 @@ use Rattle.aat_text.proofs.clusters.exchange.Given as goal
 -- the characters before this one are done, and those from it on are still to be
 abbrev pub invariant-loop-i : goal.invariant-loop-i
 invariant-loop-i l =
-    take l.i l.characters ++ map (exchanged_at (has_glyph l.face) l.direction) (drop l.i l.characters)
-    ≡ map (exchanged_at (has_glyph l.face) l.direction) l.initial.characters
+    l.characters ≡ map (exchanged_at (has_glyph l.face) l.direction) (take l.i l.initial.characters) ++ drop l.i l.initial.characters

@@ -6,7 +6,7 @@ use Rattle.aat_glyph.specs.declared.glyph.Direction.{Direction}
 use Rattle.aat_shaped_text.specs.ShapedText.{shaped_text}
 use Rattle.aat_shaped_text.specs.declared.text.TextGlyph.{TextGlyph}
 use Rattle.aat_shaper.specs.Shaper.{value_along}
-use Rattle.aat_text.specs.HiddenParts.{Showing, shown}
+use Rattle.aat_showing.specs.HiddenParts.{Showing, shown}
 use Rattle.aat_typesetter.specs.Prepared.{Prepared}
 use Rattle.aat_typesetter.specs.ScriptSettings.{features_for}
 use Rattle.aat_typesetter.specs.Typeset.{drawn_setting, shaped_setting, showing_for}

@@ -1,4 +1,0 @@
-pub mod Trak
-pub mod TrakExamples
-pub mod TrakLaws
-pub mod inside

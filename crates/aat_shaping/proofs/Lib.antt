@@ -1,4 +1,0 @@
-pub mod Advancing
-pub mod Shaped
-pub mod ShapedLines
-pub mod ShapingRowsHold

@@ -1,4 +1,0 @@
-pub mod RefusedShaping
-pub mod ShapedOrder
-pub mod Shaping
-pub mod ShapingRows

@@ -1,0 +1,5 @@
+pub mod HiddenGlyphs
+pub mod HiddenParts
+pub mod PlacedMarks
+pub mod Scanned
+pub mod Shown

@@ -1,0 +1,10 @@
+pub mod Columns
+pub mod FaceMetrics
+pub mod HiddenExamples
+pub mod HiddenParts
+pub mod Ignorables
+pub mod MarkBoxes
+pub mod Marks
+pub mod PlacedExamples
+pub mod Spaces
+pub mod inside

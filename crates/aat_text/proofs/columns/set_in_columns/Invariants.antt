@@ -1,9 +1,0 @@
-use Rattle.std.proofs.Common.{◌≡◌, ◌++◌, drop, take}
-use Rattle.aat_text.specs.Columns.{in_columns}
-use Rattle.aat_text.specs.FaceMetrics.{column_metrics}
-use Rattle.aat_text.proofs.columns.set_in_columns.Given as goal
-
--- the glyphs before this one are done, and those from it on are still to be
-abbrev pub invariant-loop-i : goal.invariant-loop-i
-invariant-loop-i l =
-    take l.i l.glyphs ++ in_columns (column_metrics l.face) (drop l.i l.glyphs) ≡ in_columns (column_metrics l.face) l.initial.glyphs
