@@ -1,6 +1,6 @@
 //! Twenty thousand requests, which compile in time, and ranges of clusters of a caller's types.
 
-use aat_features::feature;
+use aat_layout::feature;
 use aat_layout::font::{
     Chain, ChainFeature, FaceTables, Feat, Feature, FeatureName, Morx, hb_font_t, hb_tag_t,
 };

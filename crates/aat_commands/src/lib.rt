@@ -15,6 +15,7 @@ mod example;
 mod faults;
 mod fonts;
 mod glyph_list;
+mod hidden_commands;
 mod inspect;
 mod line;
 mod make;
@@ -29,6 +30,5 @@ mod session;
 mod settled;
 mod shape;
 mod source;
-mod words;
 
 pub use command_line::{Answer, run};

@@ -77,7 +77,7 @@ fn first_word(alloc: Global, text: &str) -> Result<(String, &str)> {
 /// The words of a request, behind the name of the program. Spaces part them. A word may be in double quotes, and then
 /// `\"`, `\\` and `\u{HEX}` are a quote, a backslash and the character of a number.
 ///
-/// An error tells what is wrong with a quote.
+/// An error tells what is wrong with a quote, or that memory is wanting.
 pub(crate) fn words_of(alloc: Global, line: &str) -> Result<Vec<String>> {
     let mut words = Vec::new(alloc);
     words.push(String::from_str(alloc, "aat")?)?;

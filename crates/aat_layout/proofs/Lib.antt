@@ -1,7 +1,11 @@
 pub mod Advancing
+pub mod Decimals
+pub mod FeatureExamples
 pub mod Isolating
 pub mod Refusing
 pub mod Requesting
+pub mod Runs
 pub mod Shaped
 pub mod ShapedLines
 pub mod ShapingRowsHold
+pub mod TagLaws

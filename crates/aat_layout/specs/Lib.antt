@@ -50,3 +50,4 @@ pub mod Refusals
 pub mod ShapedOrder
 pub mod Shaping
 pub mod ShapingRows
+pub mod features

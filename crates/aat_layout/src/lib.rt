@@ -1,14 +1,16 @@
 //! Apple Advanced Typography: extended glyph substitution and kerning over a shaping buffer, the calls one by one, and
-//! `shape`, which makes them with advances and removal of deleted glyphs. It hands on what a caller needs of the crates
-//! below. A program takes `aat_shaper` for texts; it and `aat_shape` stand on this crate.
+//! `shape`, which makes them with advances and removal of deleted glyphs. It reads features from text, and hands on what
+//! a caller needs of the crates below. A program takes `aat_shaper` for texts; it and `aat_shape` stand on this crate.
 //!
 //! ```
 //! let turns = hb_aat_layout_substitute(alloc, &plan, &font, &mut buffer)?;
 //! let turns = shape(alloc, &plan, &font, &mut buffer)?;
+//! let feature = parse_feature("aalt[3:5]=2")?;
 //! ```
 #![tactic(auto)]
 
 mod aat_layout;
+mod features;
 mod shaping;
 mod shaping_rows;
 
@@ -59,11 +61,13 @@ pub use aat_run::{
     AatError, drive, driver_context_t, ends_at_last, hb_aat_apply_context_t, range_flags_t,
     range_of,
 };
+pub use features::{FeatureError, feature, parse_feature, parse_tag, tag_text};
 pub use shaping::{advance, place_with_deleted, shape, shape_with_deleted};
 
 /// The laws of the definitions as theorems.
 #[doc(hidden)]
 pub mod laws {
+    pub use crate::features::laws::tags_are_read_again;
     pub use aat_kerning::laws::{
         alike_parts_are_kerned_apart, drivers_are_lawful, kerning_changes_little,
         kerning_is_bounded, pairs_change_the_advances, parts_are_kerned_apart, staying_is_paid,
@@ -82,6 +86,7 @@ pub mod laws {
 /// The worked rows as theorems.
 #[doc(hidden)]
 pub mod worked {
+    pub use crate::features::worked::feature_examples;
     pub use crate::shaping_rows::shaping_rows;
     pub use aat_kerning::worked::{kerning_examples, kerning_rows};
     pub use aat_map::worked::{alternate_rows, mappings_rise, range_rows, small_capital_rows};

@@ -7,7 +7,7 @@ use Rattle.aat_shaped_text.specs.Breaks.{is_rising}
 use Rattle.aat_shaped_text.specs.Parts.{cut_before, shaped_at}
 use Rattle.aat_shaped_text.specs.declared.text.ShapedGlyph.{ShapedGlyph}
 use Rattle.aat_shaped_text.specs.declared.text.TextGlyph.{TextGlyph}
-use Rattle.aat_shaper.proofs.Rising.{rising_end, rising_step}
+use Rattle.aat_drawn_text.proofs.Rising.{rising_end, rising_step}
 use Rattle.aat_shaper.specs.inside.Filling.{IsOpen, IsParted}
 
 module _ (text : List TextGlyph) (d : TextGlyph) (rises : is_rising text ≡ true) where

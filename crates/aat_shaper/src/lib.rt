@@ -10,14 +10,9 @@
 //! [`Shaper::shape_lines`] breaks a text into lines of a width.
 #![tactic(auto)]
 
-mod drawn;
-mod kinds;
-mod line;
 mod lines;
 mod names;
 mod shaper;
-mod substitution;
-mod tracking;
 /// Worked examples of whether a font has a feature, as a theorem.
 #[doc(hidden)]
 pub mod worked;

@@ -2,8 +2,8 @@
 use Rattle.std.proofs.Common.{◌≡◌, ℕ, ◌+◌, ◌<◌, List, [], ◌∷◌, ◌++◌, length, get_or, drop, map, refl, sym, ap, ◌∙◌, append_assoc}
 use Rattle.std.specs.Prelude.{Result, Ok, Err}
 use Rattle.std.proofs.lemmas.List.{drop_more}
-use Rattle.aat_features.specs.Reading.{feature_of}
-use Rattle.aat_features.specs.declared.error.FeatureError.{FeatureError}
+use Rattle.aat_layout.specs.features.Reading.{feature_of}
+use Rattle.aat_layout.specs.declared.features.error.FeatureError.{FeatureError}
 use Rattle.aat_font.specs.declared.plan.Feature.{Feature}
 use Rattle.aat_typesetter.specs.FeatureLists.{features_from, with_feature}
 use Rattle.aat_typesetter.specs.declared.error.FeatureListError.{FeatureListError}

@@ -1,8 +1,8 @@
 -- The features of a list, parted by commas.
 use Rattle.std.specs.Prelude.{◌≡◌, ℕ, ◌+◌, ◌==◌, List, [], ◌∷◌, Result, Ok, Err}
 use Rattle.std.specs.List.{slice_split}
-use Rattle.aat_features.specs.Reading.{feature_of}
-use Rattle.aat_features.specs.declared.error.FeatureError.{FeatureError}
+use Rattle.aat_layout.specs.features.Reading.{feature_of}
+use Rattle.aat_layout.specs.declared.features.error.FeatureError.{FeatureError}
 use Rattle.aat_font.specs.declared.plan.Feature.{Feature}
 use Rattle.aat_typesetter.specs.declared.error.FeatureListError.{FeatureListError}
 use Rattle.aat_typesetter.specs.declared.error.FeatureListError.TheVariants.{NoFeature, OutOfMemory}

@@ -3,7 +3,7 @@ ghost use Rattle.std.specs.Prelude.{◌≡◌};
 ghost use Rattle.aat_typesetter.specs.FeatureLists.{number_of_list_error};
 ghost use Rattle.aat_typesetter.specs.TypesetErrors.{number_of_typeset_error};
 
-use aat_features::FeatureError;
+use aat_layout::FeatureError;
 use aat_run::AatError;
 use aat_text::TextError;
 use std::alloc::{AllocError, AllocFailed};

@@ -3,7 +3,7 @@ ghost use Rattle.std.specs.Prelude.{◌≡◌, map, IfErr, IfOk, Ok};
 ghost use Rattle.aat_typesetter.specs.FeatureLists.{RefusesList, features_of, texts_of};
 
 use crate::error::FeatureListError;
-use aat_features::parse_feature;
+use aat_layout::parse_feature;
 use aat_font::Feature;
 use std::alloc::{AllocError, Allocator};
 
@@ -14,7 +14,7 @@ fn texts_of<A: Allocator>(alloc: A, list: &str) -> Result<Vec<&str, A>, AllocErr
     list.split(',').collect(alloc)
 }
 
-/// The features of a list, whose texts are parted by commas, each as `parse_feature` of `aat_features` reads it:
+/// The features of a list, whose texts are parted by commas, each as `parse_feature` of `aat_layout` reads it:
 /// `smcp,-liga`, `kern=0, aalt[3:5]=2`. An empty text is no feature.
 ///
 /// Refused as 1, `NoFeature`, for the first text that is no feature, or as 2, `OutOfMemory`, where memory is wanting.

@@ -36,7 +36,7 @@ pub mod worked;
 
 pub use aat_characters::Script;
 pub use aat_face::Face;
-pub use aat_features::FeatureError;
+pub use aat_layout::FeatureError;
 pub use aat_font::Feature;
 pub use aat_glyph::Direction;
 pub use aat_run::AatError;

@@ -3,7 +3,7 @@ use Rattle.std.proofs.Common.{◌≡◌, ℕ, zero, suc, ◌+◌, ◌*◌, ◌<�
 use Rattle.std.specs.List.{flat_map}
 use Rattle.std.proofs.Math.ListN.{get_or-append}
 use Rattle.std.proofs.lemmas.List.{get_or-append-add, length-append}
-use Rattle.aat_write_lookup.specs.facts.WordPlaces.{AreWords, words_joined}
+use Rattle.aat_write_machine.specs.facts.WordPlaces.{AreWords, words_joined}
 
 module _ {X : Type 0} (f : X → List ℕ) (size : ℕ) (sized : (x : X) → length (f x) ≡ size) where
   -- the words of elements, each at its place

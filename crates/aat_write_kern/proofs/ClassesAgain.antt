@@ -12,8 +12,8 @@ use Rattle.aat_bytes.specs.Numbers.{be16, signed16}
 use Rattle.aat_bytes.specs.declared.error.Fault.{Fault}
 use Rattle.aat_kerning_tables.specs.Classes.{ClassValues}
 use Rattle.aat_read_pairs.specs.KernClasses.{array_place, checked_table_at, classes_of, columns_of, grid_at, grid_value, grid_values, kern_classes_at, value_count}
-use Rattle.aat_write_lookup.specs.Words.{word_bytes}
-use Rattle.aat_write_lookup.specs.facts.WordPlaces.{AreWords, length_words, word_at, words_joined}
+use Rattle.aat_write_machine.specs.Words.{word_bytes}
+use Rattle.aat_write_machine.specs.facts.WordPlaces.{AreWords, length_words, word_at, words_joined}
 use Rattle.aat_write_kern.specs.ClassBytes.{array_offset, class_words, classes_words, grid_words, left_limit, left_word, right_offset, right_word, value_from}
 use Rattle.aat_write_kern.specs.DenseClasses.{first_glyph}
 use Rattle.aat_write_kern.specs.KernLaws.{AreByClasses, IsValue}

@@ -8,9 +8,9 @@ use Rattle.aat_bytes.specs.declared.error.Fault.{Fault}
 use Rattle.std.specs.List.{filter_map}
 use Rattle.aat_kerning_tables.specs.declared.kern.KernSubtable.{KernSubtable}
 use Rattle.aat_read_kern.specs.Kern.{as_kerning, kern_value, kerning_of, left_out_of, list_of, value_of_subtables}
-use Rattle.aat_write_lookup.specs.Words.{long_bytes, word_bytes}
-use Rattle.aat_write_lookup.specs.facts.LongPlaces.{length_longs, long_at}
-use Rattle.aat_write_lookup.specs.facts.WordPlaces.{AreWords, length_words, word_at}
+use Rattle.aat_write_machine.specs.Words.{long_bytes, word_bytes}
+use Rattle.aat_write_machine.specs.facts.LongPlaces.{length_longs, long_at}
+use Rattle.aat_write_machine.specs.facts.WordPlaces.{AreWords, length_words, word_at}
 use Rattle.aat_write_kern.specs.KernBytes.{subtables_written}
 use Rattle.aat_write_kern.specs.KernLaws.{WrittenKernIsRead}
 use Rattle.aat_write_kern.proofs.Opened.{parts, same_ok}

@@ -12,8 +12,8 @@ use Rattle.aat_kerning_tables.specs.KerningTables.{KernMachineTables}
 use Rattle.aat_read_kern.specs.KernMachines.{kern_machine_at}
 use Rattle.aat_read_pairs.specs.KernClasses.{kern_classes_at}
 use Rattle.aat_read_pairs.specs.ListedPairs.{kern_pairs_at}
-use Rattle.aat_write_lookup.specs.Words.{word_bytes}
-use Rattle.aat_write_lookup.specs.facts.WordPlaces.{length_words}
+use Rattle.aat_write_machine.specs.Words.{word_bytes}
+use Rattle.aat_write_machine.specs.facts.WordPlaces.{length_words}
 use Rattle.aat_write_kern.specs.ClassBytes.{classes_refusal, classes_words, classes_written}
 use Rattle.aat_write_kern.specs.KernBytes.{format_number, kind_written}
 use Rattle.aat_write_kern.specs.KernLaws.{AreByClasses, ArePairs, IsKernMachine, IsKind}

@@ -16,8 +16,8 @@ use Rattle.aat_machine_tables.specs.declared.state_table.GenericStateEntry.{Gene
 use Rattle.aat_read_kern.specs.ByteMachines.{byte_machine_at, cell_count, entry_place, state_named}
 use Rattle.aat_read_kern.specs.ByteStates.{entry_of_cell, rows_of, rule_of, rules_of, value_named, whole_rows}
 use Rattle.aat_read_kern.specs.KernMachines.{byte_classes_at, classes_of, kern_machine_at, tables_of, values_of}
-use Rattle.aat_write_lookup.specs.Words.{word_bytes}
-use Rattle.aat_write_lookup.specs.facts.WordPlaces.{AreWords, length_words, word_at, words_joined}
+use Rattle.aat_write_machine.specs.Words.{word_bytes}
+use Rattle.aat_write_machine.specs.facts.WordPlaces.{AreWords, length_words, word_at, words_joined}
 use Rattle.aat_write_kern.specs.DenseClasses.{first_glyph}
 use Rattle.aat_write_kern.specs.KernLaws.{IsKernMachine}
 use Rattle.aat_write_kern.specs.MachineBytes.{KernRule, entry_offset, entry_words, flags_word, header_words, machine_bytes, row_offset, value_offset}

@@ -12,8 +12,8 @@ use Rattle.aat_lookup.specs.Keys.{first_fall}
 use Rattle.aat_read_pairs.specs.KerningValues.{no_tuples}
 use Rattle.aat_read_pairs.specs.ListedPairs.{kern_pairs_at, listed_pairs, pair_at, pair_place, pairs_at}
 use Rattle.aat_read_pairs.proofs.RisingPairs.{rising_pairs_are_all}
-use Rattle.aat_write_lookup.specs.Words.{word_bytes}
-use Rattle.aat_write_lookup.specs.facts.WordPlaces.{AreWords, length_words, word_at}
+use Rattle.aat_write_machine.specs.Words.{word_bytes}
+use Rattle.aat_write_machine.specs.facts.WordPlaces.{AreWords, length_words, word_at}
 use Rattle.aat_write_kern.specs.KernLaws.{ArePairs}
 use Rattle.aat_write_kern.specs.PairBytes.{pair_words, pairs_words}
 use Rattle.aat_write_kern.proofs.Chunks.{chunk, chunks_are_words, chunks_long}

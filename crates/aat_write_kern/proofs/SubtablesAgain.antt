@@ -13,8 +13,8 @@ use Rattle.aat_kerning_tables.specs.declared.kern.KernKind.TheVariants.{Classes,
 use Rattle.aat_kerning_tables.specs.declared.kern.KernSubtable.{KernSubtable}
 use Rattle.aat_read_kern.specs.Kern.{KernStart, as_kerning, coverage_at, end_at, format_at, is_read, is_variable, kern_kind_at, read_and_next, read_up_to, subtable_at, subtable_of, unread_place, with_coverage}
 use Rattle.aat_read_machine.specs.InTurn.{in_turn}
-use Rattle.aat_write_lookup.specs.Words.{long_bytes}
-use Rattle.aat_write_lookup.specs.facts.LongPlaces.{length_longs, long_at}
+use Rattle.aat_write_machine.specs.Words.{long_bytes}
+use Rattle.aat_write_machine.specs.facts.LongPlaces.{length_longs, long_at}
 use Rattle.aat_write_kern.specs.KernBytes.{bit, coverage_number, format_number, header_bytes, kind_written, subtable_written, subtables_written}
 use Rattle.aat_write_kern.specs.KernLaws.{IsKernSubtable}
 use Rattle.aat_write_kern.specs.KernWriteErrors.{after_written}

@@ -6,7 +6,7 @@ use Rattle.std.proofs.lemmas.Int.{to_z-of_z}
 use Rattle.aat_bytes.specs.Numbers.{signed16}
 use Rattle.aat_write_kern.specs.KernLaws.{IsValue}
 use Rattle.aat_write_kern.specs.PairBytes.{value_word}
-use Rattle.aat_write_lookup.specs.facts.WordPlaces.{AreWords}
+use Rattle.aat_write_machine.specs.facts.WordPlaces.{AreWords}
 
 -- a value has a word
 pub value_is_word : (value : ℤ) → IsValue value → value_word value < 65536

@@ -2,7 +2,7 @@
 use Rattle.std.specs.Prelude.{ℕ, ℤ, ◌+◌, ◌*◌, ◌-◌, ◌/◌, ◌^◌, List, [], ◌∷◌, ◌++◌, length, map, take, drop, Option, Some, None, option_map, Result, if◌then◌else◌, nat_lt, nat_le, ◌==◌, ◌||◌}
 use Rattle.std.specs.Option.{option_or}
 use Rattle.aat_kerning_tables.specs.Classes.{ClassValues}
-use Rattle.aat_write_lookup.specs.Words.{word_bytes}
+use Rattle.aat_write_machine.specs.Words.{word_bytes}
 use Rattle.aat_write_kern.specs.DenseClasses.{class_gap, first_glyph}
 use Rattle.aat_write_kern.specs.KernWriteErrors.{unless_refused}
 use Rattle.aat_write_kern.specs.PairBytes.{value_word}

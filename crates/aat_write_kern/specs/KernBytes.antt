@@ -3,7 +3,7 @@ use Rattle.std.specs.Prelude.{ℕ, ◌+◌, List, [], ◌∷◌, ◌++◌, lengt
 use Rattle.aat_kerning_tables.specs.declared.kern.KernKind.{KernKind}
 use Rattle.aat_kerning_tables.specs.declared.kern.KernKind.TheVariants.{Classes, Machine, Pairs}
 use Rattle.aat_kerning_tables.specs.declared.kern.KernSubtable.{KernSubtable}
-use Rattle.aat_write_lookup.specs.Words.{long_bytes, word_bytes}
+use Rattle.aat_write_machine.specs.Words.{long_bytes, word_bytes}
 use Rattle.aat_write_kern.specs.ClassBytes.{classes_written}
 use Rattle.aat_write_kern.specs.KernWriteErrors.{after_written}
 use Rattle.aat_write_kern.specs.MachineBytes.{machine_written}

@@ -10,7 +10,7 @@ use Rattle.aat_kerning_tables.specs.declared.kern.KernKind.{KernKind}
 use Rattle.aat_kerning_tables.specs.declared.kern.KernKind.TheVariants.{Classes, Machine, Pairs}
 use Rattle.aat_kerning_tables.specs.declared.kern.KernSubtable.{KernSubtable}
 use Rattle.aat_read_kern.specs.Kern.{kern_of}
-use Rattle.aat_write_lookup.specs.LookupLaws.{IsPair}
+use Rattle.aat_write_machine.specs.LookupLaws.{IsPair}
 use Rattle.aat_write_kern.specs.KernBytes.{kern_written}
 use Rattle.aat_write_kern.specs.MachineBytes.{KernRule}
 

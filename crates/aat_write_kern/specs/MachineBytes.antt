@@ -6,7 +6,7 @@ use Rattle.aat_kerning_tables.specs.KerningTables.{KernMachineTables}
 use Rattle.aat_machine_tables.specs.Table.{Rule, rule_key}
 use Rattle.aat_machine_tables.specs.declared.entries.KernEntryData.{KernEntryData}
 use Rattle.aat_machine_tables.specs.declared.state_table.GenericStateEntry.{GenericStateEntry}
-use Rattle.aat_write_lookup.specs.Words.{word_bytes}
+use Rattle.aat_write_machine.specs.Words.{word_bytes}
 use Rattle.aat_write_kern.specs.DenseClasses.{class_gap, first_glyph}
 use Rattle.aat_write_kern.specs.KernWriteErrors.{unless_refused}
 use Rattle.aat_write_kern.specs.PairBytes.{value_word}

@@ -1,7 +1,7 @@
 //! Pairs by classes to bytes.
 ghost use Rattle.std.specs.Prelude.{◌≡◌, ◌++◌, ◌+◌, ◌*◌, ◌<◌, ◌≤◌, [], ◌∷◌, length, All, IfOk, OnOk, None};
 ghost use Rattle.aat_kerning_tables.specs.Classes.{ClassValues};
-ghost use Rattle.aat_write_lookup.specs.Words.{word_bytes};
+ghost use Rattle.aat_write_machine.specs.Words.{word_bytes};
 ghost use Rattle.aat_write_kern.specs.ClassBytes.{class_words, classes_refusal, classes_words, classes_written, left_limit, left_word, lists_refusal, right_offset, right_word, wrong_value};
 ghost use Rattle.aat_write_kern.specs.DenseClasses.{first_glyph};
 ghost use Rattle.aat_write_kern.specs.KernWriteErrors.{Writes};
@@ -10,7 +10,7 @@ use crate::dense::{class_gap, first_glyph};
 use crate::error::KernWriteError;
 use crate::pairs::append_values;
 use aat_kerning_tables::ClassPairs;
-use aat_write_lookup::append_words;
+use aat_write_machine::append_words;
 use std::alloc::{AllocError, Global};
 
 /// How many values a subtable has room for.

@@ -8,7 +8,7 @@ use crate::error::KernWriteError;
 use crate::machine::write_machine;
 use crate::pairs::write_pairs;
 use aat_kerning_tables::{Kern, KernKind, KernSubtable};
-use aat_write_lookup::{append_longs, append_words};
+use aat_write_machine::{append_longs, append_words};
 use std::alloc::{AllocError, Global};
 
 /// The number of a format.

@@ -2,7 +2,7 @@
 ghost use Rattle.std.specs.Prelude.{◌≡◌, ◌++◌, ◌+◌, ◌*◌, ◌<◌, ◌≤◌, All, length, map, true, IfOk, OnOk, None};
 ghost use Rattle.std.specs.List.{flat_map, range_with_len};
 ghost use Rattle.aat_machine_tables.specs.Table.{table_value};
-ghost use Rattle.aat_write_lookup.specs.Words.{word_bytes};
+ghost use Rattle.aat_write_machine.specs.Words.{word_bytes};
 ghost use Rattle.aat_write_kern.specs.KernWriteErrors.{Writes};
 ghost use Rattle.aat_write_kern.specs.MachineBytes.{KernRule, entry_words, fits_flags, flags_word, machine_bytes, machine_written, rules_refusal};
 
@@ -12,7 +12,7 @@ use crate::pairs::append_values;
 use crate::rules::{KernRule, NO_VALUE, rules_refusal};
 use aat_kerning_tables::KernMachine;
 use aat_machine_tables::{GenericStateEntry, KernEntryData};
-use aat_write_lookup::append_words;
+use aat_write_machine::append_words;
 use std::alloc::{AllocError, Global};
 
 /// Where the parts of a machine start.

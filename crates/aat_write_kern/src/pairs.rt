@@ -1,12 +1,12 @@
 //! Pairs to bytes, and values of kerning.
 ghost use Rattle.std.specs.Prelude.{◌≡◌, ◌++◌, ◌+◌, map, OnOk};
 ghost use Rattle.std.specs.List.{flat_map};
-ghost use Rattle.aat_write_lookup.specs.Words.{word_bytes};
+ghost use Rattle.aat_write_machine.specs.Words.{word_bytes};
 ghost use Rattle.aat_write_kern.specs.KernWriteErrors.{Writes};
 ghost use Rattle.aat_write_kern.specs.PairBytes.{pair_words, pairs_written, value_word};
 
 use crate::error::KernWriteError;
-use aat_write_lookup::append_words;
+use aat_write_machine::append_words;
 use std::alloc::{AllocError, Global};
 
 /// Appends values.

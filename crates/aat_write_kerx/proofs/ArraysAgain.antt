@@ -9,11 +9,11 @@ use Rattle.aat_kerning_tables.specs.Classes.{ClassValues}
 use Rattle.aat_kerning_tables.specs.declared.kerx.KerxFormat.TheVariants.{Format6Classes}
 use Rattle.aat_read_kerx.specs.Formats.{arrays_format_at, as_format}
 use Rattle.aat_read_pairs.specs.KerxClasses.{grid_pairs, kerx_arrays_at}
-use Rattle.aat_write_lookup.specs.LookupLaws.{WrittenLookupsAreRead}
-use Rattle.aat_write_lookup.specs.Lookups.{lookup_written}
-use Rattle.aat_write_lookup.specs.Words.{long_bytes, word_bytes}
-use Rattle.aat_write_lookup.specs.facts.LongPlaces.{length_longs, long_at}
-use Rattle.aat_write_lookup.specs.facts.WordPlaces.{length_words, word_at}
+use Rattle.aat_write_machine.specs.LookupLaws.{WrittenLookupsAreRead}
+use Rattle.aat_write_machine.specs.Lookups.{lookup_written}
+use Rattle.aat_write_machine.specs.Words.{long_bytes, word_bytes}
+use Rattle.aat_write_machine.specs.facts.LongPlaces.{length_longs, long_at}
+use Rattle.aat_write_machine.specs.facts.WordPlaces.{length_words, word_at}
 use Rattle.aat_write_machine.proofs.ClassTables.{lookup_is_short}
 use Rattle.aat_write_kerx.specs.KerxLaws.{IsByClasses}
 use Rattle.aat_write_kerx.specs.KerxWriteErrors.{of_pairs}

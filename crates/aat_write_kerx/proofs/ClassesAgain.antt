@@ -14,11 +14,11 @@ use Rattle.aat_kerning_tables.specs.Classes.{ClassValues}
 use Rattle.aat_read_lookup.specs.Lookups.{lookup_at}
 use Rattle.aat_read_lookup.specs.Rows.{in_row}
 use Rattle.aat_read_pairs.specs.KerxClasses.{array_grid_at, class_grid_at, grid_pairs, kerx_classes_at}
-use Rattle.aat_write_lookup.specs.LookupLaws.{IsPair, WrittenLookupsAreRead}
-use Rattle.aat_write_lookup.specs.Lookups.{lookup_written}
-use Rattle.aat_write_lookup.specs.Words.{word_bytes}
-use Rattle.aat_write_lookup.specs.facts.LongPlaces.{length_longs, long_at}
-use Rattle.aat_write_lookup.specs.facts.WordPlaces.{AreWords}
+use Rattle.aat_write_machine.specs.LookupLaws.{IsPair, WrittenLookupsAreRead}
+use Rattle.aat_write_machine.specs.Lookups.{lookup_written}
+use Rattle.aat_write_machine.specs.Words.{word_bytes}
+use Rattle.aat_write_machine.specs.facts.LongPlaces.{length_longs, long_at}
+use Rattle.aat_write_machine.specs.facts.WordPlaces.{AreWords}
 use Rattle.aat_write_machine.proofs.ClassTables.{lookup_is_short}
 use Rattle.aat_write_kerx.specs.AnkrBytes.{unsigned16}
 use Rattle.aat_write_kerx.specs.AnkrLaws.{IsSigned}

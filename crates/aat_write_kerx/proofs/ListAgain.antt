@@ -6,8 +6,8 @@ use Rattle.std.proofs.lemmas.Grind.{flat_map-append}
 use Rattle.std.proofs.lemmas.List.{length-append}
 use Rattle.std.proofs.lemmas.List.FromFn.{fill_by_all}
 use Rattle.aat_bytes.specs.Numbers.{be16}
-use Rattle.aat_write_lookup.specs.Words.{word_bytes}
-use Rattle.aat_write_lookup.specs.facts.WordPlaces.{AreWords, length_words, word_at}
+use Rattle.aat_write_machine.specs.Words.{word_bytes}
+use Rattle.aat_write_machine.specs.facts.WordPlaces.{AreWords, length_words, word_at}
 
 module _ {X : Type 0} (words_of : X → List ℕ) (stride : ℕ) (read : List ℕ → ℕ → X) (IsSmall : X → Type 0) (d : X)
     (wide : (x : X) → 2 * length (words_of x) ≡ stride)

@@ -9,12 +9,12 @@ use Rattle.aat_lookup.specs.Keys.{first_fall}
 use Rattle.aat_kerning_tables.specs.Pairs.{key_of_pair}
 use Rattle.aat_read_pairs.specs.ListedPairs.{kerx_pairs_at, listed_pairs, pairs_at}
 use Rattle.aat_read_pairs.proofs.RisingPairs.{rising_pairs_are_all}
-use Rattle.aat_write_lookup.specs.Words.{long_bytes, word_bytes}
-use Rattle.aat_write_lookup.specs.WriteErrors.{unless_refused}
-use Rattle.aat_write_lookup.specs.declared.error.WriteError.{WriteError}
-use Rattle.aat_write_lookup.specs.facts.LongPlaces.{length_longs, long_at}
-use Rattle.aat_write_lookup.specs.facts.WordPlaces.{AreWords}
-use Rattle.aat_write_lookup.specs.facts.Written.{written_is}
+use Rattle.aat_write_machine.specs.Words.{long_bytes, word_bytes}
+use Rattle.aat_write_machine.specs.WriteErrors.{unless_refused}
+use Rattle.aat_write_machine.specs.declared.write_error.WriteError.{WriteError}
+use Rattle.aat_write_machine.specs.facts.LongPlaces.{length_longs, long_at}
+use Rattle.aat_write_machine.specs.facts.WordPlaces.{AreWords}
+use Rattle.aat_write_machine.specs.facts.Written.{written_is}
 use Rattle.aat_write_kerx.specs.KerxLaws.{IsKerning}
 use Rattle.aat_write_kerx.specs.KerxWriteErrors.{of_pairs}
 use Rattle.aat_write_kerx.specs.PairBytes.{kerning_words, pairs_bytes, pairs_written}

@@ -9,10 +9,10 @@ use Rattle.aat_bytes.specs.Numbers.{be16}
 use Rattle.aat_machine_tables.specs.Table.{Rule, rule_key}
 use Rattle.aat_machine_tables.specs.declared.entries.EntryData.{EntryData}
 use Rattle.aat_machine_tables.specs.declared.state_table.GenericStateEntry.{GenericStateEntry}
-use Rattle.aat_write_lookup.specs.Lookups.{lookup_written}
-use Rattle.aat_write_lookup.specs.Words.{long_bytes, word_bytes}
-use Rattle.aat_write_lookup.specs.facts.LongPlaces.{length_longs}
-use Rattle.aat_write_lookup.specs.facts.WordPlaces.{length_words}
+use Rattle.aat_write_machine.specs.Lookups.{lookup_written}
+use Rattle.aat_write_machine.specs.Words.{long_bytes, word_bytes}
+use Rattle.aat_write_machine.specs.facts.LongPlaces.{length_longs}
+use Rattle.aat_write_machine.specs.facts.WordPlaces.{length_words}
 use Rattle.aat_write_machine.specs.EntryWords.{one_word, rule_words}
 use Rattle.aat_write_machine.specs.Kinds.{machine_end}
 use Rattle.aat_write_machine.specs.MachineRefusals.{cell_key, highest_from, highest_named, is_cut, misplaced_from, no_row, not_named, out_of_place, rules_refusal}

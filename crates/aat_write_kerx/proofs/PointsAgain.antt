@@ -12,12 +12,12 @@ use Rattle.aat_kerning_tables.specs.AnchorPoints.{Points}
 use Rattle.aat_kerning_tables.specs.declared.ankr.Point.{Point}
 use Rattle.aat_read_lookup.specs.Lookups.{lookup_at}
 use Rattle.aat_read_kerx.specs.Anchors.{ankr_of, point_at, points_at, points_within, row_size, rows_within}
-use Rattle.aat_write_lookup.specs.LookupLaws.{IsPair, WrittenLookupsAreRead}
-use Rattle.aat_write_lookup.specs.Lookups.{lookup_written}
-use Rattle.aat_write_lookup.specs.Words.{long_bytes, word_bytes}
-use Rattle.aat_write_lookup.specs.declared.error.WriteError.{WriteError}
-use Rattle.aat_write_lookup.specs.facts.LongPlaces.{length_longs, long_at}
-use Rattle.aat_write_lookup.specs.facts.WordPlaces.{AreWords}
+use Rattle.aat_write_machine.specs.LookupLaws.{IsPair, WrittenLookupsAreRead}
+use Rattle.aat_write_machine.specs.Lookups.{lookup_written}
+use Rattle.aat_write_machine.specs.Words.{long_bytes, word_bytes}
+use Rattle.aat_write_machine.specs.declared.write_error.WriteError.{WriteError}
+use Rattle.aat_write_machine.specs.facts.LongPlaces.{length_longs, long_at}
+use Rattle.aat_write_machine.specs.facts.WordPlaces.{AreWords}
 use Rattle.aat_write_machine.proofs.ClassTables.{lookup_is_short}
 use Rattle.aat_write_kerx.specs.AnkrBytes.{HasFewPoints, ankr_bytes, offsets_from, point_words, points_bytes, points_size, refusal_from, with_lookup}
 use Rattle.aat_write_kerx.specs.AnkrLaws.{IsPoint, IsRow, WrittenPointsAreRead}

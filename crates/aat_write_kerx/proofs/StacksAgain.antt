@@ -19,10 +19,10 @@ use Rattle.aat_read_machine.specs.Machine.{machine_at}
 use Rattle.aat_read_kerx.specs.Formats.{anchor_format_at, as_format}
 use Rattle.aat_read_kerx.specs.Machines.{action_type, pairs_place, point_pairs_from, stack_tables_at, values_from}
 use Rattle.aat_kerning_tables.specs.declared.kerx.KerxFormat.TheVariants.{Format4}
-use Rattle.aat_write_lookup.specs.LookupLaws.{IsPair, WrittenLookupsAreRead}
-use Rattle.aat_write_lookup.specs.Lookups.{pair_words}
-use Rattle.aat_write_lookup.specs.Words.{word_bytes}
-use Rattle.aat_write_lookup.specs.facts.WordPlaces.{AreWords}
+use Rattle.aat_write_machine.specs.LookupLaws.{IsPair, WrittenLookupsAreRead}
+use Rattle.aat_write_machine.specs.Lookups.{pair_words}
+use Rattle.aat_write_machine.specs.Words.{word_bytes}
+use Rattle.aat_write_machine.specs.facts.WordPlaces.{AreWords}
 use Rattle.aat_write_machine.specs.EntryLaws.{HasSize, ReadsAgain}
 use Rattle.aat_write_machine.specs.EntryWords.{rule_words}
 use Rattle.aat_write_machine.specs.Kinds.{machine_end}

@@ -16,8 +16,8 @@ use Rattle.aat_read_kerx.specs.Formats.{as_format, format_at}
 use Rattle.aat_read_kerx.specs.KerxSubtables.{KerxStart, end_at, format_of, format_up_to, has_coverage, is_variable, read_and_next, subtable_at, subtable_of, subtable_read, tuple_count_of, used_bytes}
 use Rattle.aat_read_kerx.specs.KerxTables.{KerxValue, kerning_of, kerx_of, kerx_value, left_out_of}
 use Rattle.aat_read_pairs.specs.declared.left_out.LeftOutSubtable.{LeftOutSubtable}
-use Rattle.aat_write_lookup.specs.Words.{long_bytes, word_bytes}
-use Rattle.aat_write_lookup.specs.facts.LongPlaces.{length_longs, long_at}
+use Rattle.aat_write_machine.specs.Words.{long_bytes, word_bytes}
+use Rattle.aat_write_machine.specs.facts.LongPlaces.{length_longs, long_at}
 use Rattle.aat_write_kerx.specs.KerxBytes.{SubtableContent, contents_from, coverage_number, format_number, format_written, subtable_bytes, subtable_content, subtable_size, table_bytes, table_size, table_written}
 use Rattle.aat_write_kerx.specs.KerxLaws.{IsTypedSubtable, WrittenFormatsAreRead, WrittenKerxIsRead}
 use Rattle.aat_write_kerx.specs.KerxWriteErrors.{after_written, of_subtable}

@@ -4,9 +4,9 @@ use Rattle.std.specs.Int.{w16, cast_unsigned}
 use Rattle.std.specs.List.{flat_map}
 use Rattle.aat_kerning_tables.specs.AnchorPoints.{Points}
 use Rattle.aat_kerning_tables.specs.declared.ankr.Point.{Point}
-use Rattle.aat_write_lookup.specs.Lookups.{lookup_written}
-use Rattle.aat_write_lookup.specs.Words.{long_bytes, word_bytes}
-use Rattle.aat_write_lookup.specs.declared.error.WriteError.{WriteError}
+use Rattle.aat_write_machine.specs.Lookups.{lookup_written}
+use Rattle.aat_write_machine.specs.Words.{long_bytes, word_bytes}
+use Rattle.aat_write_machine.specs.declared.write_error.WriteError.{WriteError}
 use Rattle.aat_write_kerx.specs.AnkrWriteErrors.{error_of_lookup}
 use Rattle.aat_write_kerx.specs.declared.ankr_error.AnkrWriteError.{AnkrWriteError}
 use Rattle.aat_write_kerx.specs.declared.ankr_error.AnkrWriteError.TheVariants.{TooFar, TooManyPoints}

@@ -1,8 +1,8 @@
 -- Why a table of anchor points is not written.
 use Rattle.std.specs.Prelude.{◌≡◌, ℕ, List, Result, Ok, Err}
 use Rattle.std.specs.declared.vec.Vec.{Vec}
-use Rattle.aat_write_lookup.specs.declared.error.WriteError.{WriteError}
-use Rattle.aat_write_lookup.specs.declared.error.WriteError.TheVariants as lookup_errors
+use Rattle.aat_write_machine.specs.declared.write_error.WriteError.{WriteError}
+use Rattle.aat_write_machine.specs.declared.write_error.WriteError.TheVariants as lookup_errors
 use Rattle.aat_write_kerx.specs.declared.ankr_error.AnkrWriteError.{AnkrWriteError}
 use Rattle.aat_write_kerx.specs.declared.ankr_error.AnkrWriteError.TheVariants.{TooFar, TooManyPoints, Lookup, OutOfMemory}
 

@@ -4,7 +4,7 @@ use Rattle.std.specs.List.{flat_map}
 use Rattle.aat_kerning_tables.specs.declared.kerx.KerxFormat.{KerxFormat}
 use Rattle.aat_kerning_tables.specs.declared.kerx.KerxFormat.TheVariants.{Format0, Format1, Format2, Format2Classes, Format4, Format6, Format6Classes}
 use Rattle.aat_kerning_tables.specs.declared.kerx.KerxSubtable.{KerxSubtable}
-use Rattle.aat_write_lookup.specs.Words.{long_bytes, word_bytes}
+use Rattle.aat_write_machine.specs.Words.{long_bytes, word_bytes}
 use Rattle.aat_write_kerx.specs.KerxWriteErrors.{after_written, of_subtable}
 use Rattle.aat_write_kerx.specs.MachineBytes.{anchor_written, stack_written}
 use Rattle.aat_write_kerx.specs.PairBytes.{arrays_written, classes_written, pairs_written}

@@ -6,7 +6,7 @@ use Rattle.aat_kerning_tables.specs.declared.kerx.KerxFormat.TheVariants.{Format
 use Rattle.aat_kerning_tables.specs.declared.kerx.KerxSubtable.{KerxSubtable}
 use Rattle.aat_read_kerx.specs.Formats.{as_format, format_at}
 use Rattle.aat_read_kerx.specs.KerxTables.{kerx_of}
-use Rattle.aat_write_lookup.specs.LookupLaws.{IsPair}
+use Rattle.aat_write_machine.specs.LookupLaws.{IsPair}
 use Rattle.aat_write_machine.specs.MachineLaws.{IsLong, IsMachine, IsWord}
 use Rattle.aat_write_kerx.specs.AnkrLaws.{IsSigned}
 use Rattle.aat_write_kerx.specs.KerxBytes.{format_number, format_written, kerx_written}

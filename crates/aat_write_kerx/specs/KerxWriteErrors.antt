@@ -1,8 +1,8 @@
 -- Why an extended kerning table is not written.
 use Rattle.std.specs.Prelude.{◌≡◌, ℕ, List, Result, Ok, Err}
 use Rattle.std.specs.declared.vec.Vec.{Vec}
-use Rattle.aat_write_lookup.specs.declared.error.WriteError.{WriteError}
-use Rattle.aat_write_lookup.specs.declared.error.WriteError.TheVariants as pair_errors
+use Rattle.aat_write_machine.specs.declared.write_error.WriteError.{WriteError}
+use Rattle.aat_write_machine.specs.declared.write_error.WriteError.TheVariants as pair_errors
 use Rattle.aat_write_machine.specs.declared.error.MorxWriteError.{MorxWriteError}
 use Rattle.aat_write_machine.specs.declared.error.MorxWriteError.TheVariants as machine_errors
 use Rattle.aat_write_kerx.specs.declared.kerx_error.KerxWriteError.{KerxWriteError}

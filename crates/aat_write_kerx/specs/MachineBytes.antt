@@ -6,8 +6,8 @@ use Rattle.aat_kerning_tables.specs.KerningTables.{KerxAnchorTables, KerxStackTa
 use Rattle.aat_machine_tables.specs.Table.{Rule, TableValue}
 use Rattle.aat_machine_tables.specs.declared.entries.EntryData.{EntryData}
 use Rattle.aat_machine_tables.specs.declared.state_table.GenericStateEntry.{GenericStateEntry}
-use Rattle.aat_write_lookup.specs.Lookups.{pair_words}
-use Rattle.aat_write_lookup.specs.Words.{word_bytes}
+use Rattle.aat_write_machine.specs.Lookups.{pair_words}
+use Rattle.aat_write_machine.specs.Words.{word_bytes}
 use Rattle.aat_write_machine.specs.Kinds.{machine_end}
 use Rattle.aat_write_machine.specs.Machines.{class_table_written, machine_bytes}
 use Rattle.aat_write_kerx.specs.KerxWriteErrors.{after_written, of_machine}

@@ -5,9 +5,9 @@ use Rattle.std.specs.List.{flat_map}
 use Rattle.aat_kerning_tables.specs.Classes.{ClassValues}
 use Rattle.aat_lookup.specs.Keys.{first_fall}
 use Rattle.aat_kerning_tables.specs.Pairs.{key_of_pair}
-use Rattle.aat_write_lookup.specs.Lookups.{lookup_written}
-use Rattle.aat_write_lookup.specs.Words.{long_bytes, word_bytes}
-use Rattle.aat_write_lookup.specs.WriteErrors.{unless_refused}
+use Rattle.aat_write_machine.specs.Lookups.{lookup_written}
+use Rattle.aat_write_machine.specs.Words.{long_bytes, word_bytes}
+use Rattle.aat_write_machine.specs.WriteErrors.{unless_refused}
 use Rattle.aat_write_kerx.specs.AnkrBytes.{unsigned16}
 use Rattle.aat_write_kerx.specs.KerxWriteErrors.{after_written, of_pairs}
 use Rattle.aat_write_kerx.specs.declared.subtable_error.SubtableWriteError.{SubtableWriteError}

@@ -2,15 +2,15 @@
 ghost use Rattle.std.specs.Prelude.{◌≡◌, ◌++◌, ◌<◌, ◌≤◌, ◌^◌, length, All, IfOk, OnOk, None};
 ghost use Rattle.std.specs.List.{flat_map};
 ghost use Rattle.aat_kerning_tables.specs.AnchorPoints.{points_in_rows};
-ghost use Rattle.aat_write_lookup.specs.Lookups.{lookup_written};
-ghost use Rattle.aat_write_lookup.specs.WriteErrors.{Writes};
-ghost use Rattle.aat_write_lookup.specs.Words.{word_bytes};
+ghost use Rattle.aat_write_machine.specs.Lookups.{lookup_written};
+ghost use Rattle.aat_write_machine.specs.WriteErrors.{Writes};
+ghost use Rattle.aat_write_machine.specs.Words.{word_bytes};
 ghost use Rattle.aat_write_kerx.specs.AnkrBytes.{HasFewPoints, ankr_bytes, ankr_written, offsets_from, point_words, points_bytes, points_size, refusal_from};
 ghost use Rattle.aat_write_kerx.specs.AnkrWriteErrors.{WritesWithin};
 
 use crate::ankr_error::AnkrWriteError;
 use aat_kerning_tables::{Ankr, Point};
-use aat_write_lookup::{WriteError, append_longs, append_words, write_lookup};
+use aat_write_machine::{WriteError, append_longs, append_words, write_lookup};
 use std::alloc::{AllocError, Global};
 
 /// How many bytes the points of a glyph take.

@@ -2,7 +2,7 @@
 ghost use Rattle.std.specs.Prelude.{◌≡◌};
 ghost use Rattle.aat_write_kerx.specs.AnkrWriteErrors.{error_of_lookup, number_of_ankr_error};
 
-use aat_write_lookup::WriteError;
+use aat_write_machine::WriteError;
 use std::alloc::{AllocError, AllocFailed};
 use thiserror::Error;
 

@@ -1,6 +1,6 @@
 //! Pairs by classes to bytes.
 ghost use Rattle.std.specs.Prelude.{◌≡◌, ◌*◌, ◌++◌, ◌<◌, ◌^◌, length, map, IfOk, OnOk, None};
-ghost use Rattle.aat_write_lookup.specs.Lookups.{lookup_written};
+ghost use Rattle.aat_write_machine.specs.Lookups.{lookup_written};
 ghost use Rattle.aat_write_kerx.specs.KerxWriteErrors.{Writes, of_pairs};
 ghost use Rattle.aat_write_kerx.specs.PairBytes.{arrays_header, arrays_written, classes_header, classes_written, first_far, grid_bytes, left_written, row_count, with_offset};
 
@@ -8,7 +8,7 @@ use crate::subtable_error::SubtableWriteError;
 use crate::values::append_values;
 use aat_kerning_tables::ClassPairs;
 use aat_lookup::Lookup;
-use aat_write_lookup::{append_longs, append_words, write_lookup};
+use aat_write_machine::{append_longs, append_words, write_lookup};
 use std::alloc::{AllocError, Global};
 
 /// The bytes of pairs as a lookup.

@@ -7,7 +7,7 @@ ghost use Rattle.aat_write_kerx.specs.KerxWriteErrors.{TableRefusesWithin, Write
 use crate::kerx_error::{KerxWriteError, error_of_subtable};
 use crate::subtable::{SubtableBytes, subtable_content};
 use aat_kerning_tables::{Kerx, KerxSubtable};
-use aat_write_lookup::{append_longs, append_words};
+use aat_write_machine::{append_longs, append_words};
 use std::alloc::{AllocError, Global};
 
 /// The least number that a length cannot say.

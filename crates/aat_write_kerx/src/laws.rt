@@ -2,7 +2,7 @@
 ghost use Rattle.aat_write_kerx.specs.AnkrLaws.{WrittenPointsAreRead};
 ghost use Rattle.aat_write_kerx.specs.KerxLaws.{WrittenFormatsAreRead, WrittenKerxIsRead};
 
-use aat_write_lookup::laws::written_lookups_are_read;
+use aat_write_machine::laws::written_lookups_are_read;
 
 /// A table of anchor points that is written is read again.
 pub fn written_points_are_read()

@@ -1,8 +1,8 @@
 //! The machines of the extended kerning table to bytes.
 ghost use Rattle.std.specs.Prelude.{◌≡◌, ◌+◌, ◌*◌, ◌++◌, ◌<◌, ◌≤◌, ◌^◌, length, map, position, IfErr, IfOk, OnOk, None};
 ghost use Rattle.std.specs.List.{flat_map};
-ghost use Rattle.aat_write_lookup.specs.Lookups.{pair_words};
-ghost use Rattle.aat_write_lookup.specs.Words.{word_bytes};
+ghost use Rattle.aat_write_machine.specs.Lookups.{pair_words};
+ghost use Rattle.aat_write_machine.specs.Words.{word_bytes};
 ghost use Rattle.aat_write_kerx.specs.KerxWriteErrors.{RefusesWithin, Writes};
 ghost use Rattle.aat_write_kerx.specs.MachineBytes.{action_number, anchor_written, is_far, machine_written, stack_written, table_written};
 ghost use Rattle.aat_write_kerx.specs.inside.Plain.{IsPlain, numbered, numbered_rule, with_number};
@@ -11,8 +11,7 @@ use crate::subtable_error::SubtableWriteError;
 use crate::values::append_values;
 use aat_kerning_tables::{Subtable1, Subtable4};
 use aat_machine_tables::{EntryData, ExtendedStateTable, GenericStateEntry};
-use aat_write_lookup::{append_longs, append_words};
-use aat_write_machine::write_machine;
+use aat_write_machine::{append_longs, append_words, write_machine};
 use std::alloc::{AllocError, Global};
 
 /// A rule of a machine of `kerx`.

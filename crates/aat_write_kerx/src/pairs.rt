@@ -1,14 +1,14 @@
 //! Listed pairs to bytes.
 ghost use Rattle.std.specs.Prelude.{◌≡◌, ◌++◌, ◌≤◌, length, IfOk, OnOk};
 ghost use Rattle.std.specs.List.{flat_map};
-ghost use Rattle.aat_write_lookup.specs.Words.{word_bytes};
+ghost use Rattle.aat_write_machine.specs.Words.{word_bytes};
 ghost use Rattle.aat_write_kerx.specs.KerxWriteErrors.{Writes};
 ghost use Rattle.aat_write_kerx.specs.PairBytes.{kerning_words, pairs_bytes, pairs_written};
 
 use crate::subtable_error::SubtableWriteError;
 use aat_kerning_tables::Pairs;
 use aat_lookup::keys::first_fall;
-use aat_write_lookup::{WriteError, append_longs, append_words};
+use aat_write_machine::{WriteError, append_longs, append_words};
 use std::alloc::{AllocError, Global};
 
 /// How many pairs a subtable may have.

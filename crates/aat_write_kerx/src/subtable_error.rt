@@ -2,8 +2,7 @@
 ghost use Rattle.std.specs.Prelude.{◌≡◌};
 ghost use Rattle.aat_write_kerx.specs.KerxWriteErrors.{error_of_machine, error_of_pairs, number_of_subtable_error};
 
-use aat_write_lookup::WriteError;
-use aat_write_machine::MorxWriteError;
+use aat_write_machine::{MorxWriteError, WriteError};
 use std::alloc::{AllocError, AllocFailed};
 use thiserror::Error;
 

@@ -2,7 +2,7 @@
 ghost use Rattle.std.specs.Prelude.{◌≡◌, ◌++◌, OnOk};
 ghost use Rattle.aat_write_kerx.specs.PairBytes.{value_bytes};
 
-use aat_write_lookup::append_words;
+use aat_write_machine::append_words;
 use std::alloc::AllocError;
 
 /// Appends values.

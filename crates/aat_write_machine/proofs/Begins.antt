@@ -6,12 +6,12 @@ use Rattle.std.proofs.lemmas.List.FromFn.{fill_by_all}
 use Rattle.aat_bytes.specs.Numbers.{be16, be32}
 use Rattle.aat_lookup.specs.declared.glyph_id.GlyphId.{GlyphId}
 use Rattle.aat_read_machine.specs.Lists.{count_from, glyphs_from, numbers16, numbers32}
-use Rattle.aat_write_lookup.specs.Words.{long_bytes, word_bytes}
+use Rattle.aat_write_machine.specs.Words.{long_bytes, word_bytes}
 use Rattle.aat_write_machine.specs.KindLaws.{BeginsWith, IsGlyph}
 use Rattle.aat_write_machine.specs.Kinds.{glyph_words}
 use Rattle.aat_write_machine.specs.MachineLaws.{IsLong, IsWord}
-use Rattle.aat_write_lookup.specs.facts.LongPlaces.{length_longs, long_at}
-use Rattle.aat_write_lookup.specs.facts.WordPlaces.{length_words}
+use Rattle.aat_write_machine.specs.facts.LongPlaces.{length_longs, long_at}
+use Rattle.aat_write_machine.specs.facts.WordPlaces.{length_words}
 use Rattle.aat_write_machine.proofs.Places.{word_at}
 
 first_of_more : {X : Type 0} (f : ℕ → X) (a n m : ℕ) → n ≤ m → take n (map f (range_with_len a m)) ≡ map f (range_with_len a n)

@@ -7,15 +7,15 @@ use Rattle.std.proofs.lemmas.List.{length-append}
 use Rattle.aat_lookup.specs.Keys.{first, first_fall}
 use Rattle.aat_machine_tables.specs.Table.{TableValue}
 use Rattle.aat_machine_tables.specs.declared.state_table.GenericStateEntry.{GenericStateEntry}
-use Rattle.aat_write_lookup.specs.Lookups.{lookup_words, lookup_written, pair_words}
-use Rattle.aat_write_lookup.specs.Words.{word_bytes}
-use Rattle.aat_write_lookup.specs.WriteErrors as lookups
-use Rattle.aat_write_lookup.specs.declared.error.WriteError.{WriteError}
+use Rattle.aat_write_machine.specs.Lookups.{lookup_words, lookup_written, pair_words}
+use Rattle.aat_write_machine.specs.Words.{word_bytes}
+use Rattle.aat_write_machine.specs.WriteErrors as lookups
+use Rattle.aat_write_machine.specs.declared.write_error.WriteError.{WriteError}
 use Rattle.aat_write_machine.specs.MachineRefusals.{rules_refusal}
 use Rattle.aat_write_machine.specs.Machines.{class_table_written, machine_bytes, machine_written}
 use Rattle.aat_write_machine.specs.MorxWriteErrors.{after_written, of_lookup, unless_refused}
 use Rattle.aat_write_machine.specs.declared.error.MorxWriteError.{MorxWriteError}
-use Rattle.aat_write_lookup.specs.facts.WordPlaces.{length_words}
+use Rattle.aat_write_machine.specs.facts.WordPlaces.{length_words}
 
 length_pairs : (pairs : List (ℕ × ℕ)) → length (flat_map pair_words pairs) ≡ 2 * length pairs
 length_pairs [] = refl

@@ -25,9 +25,9 @@ use Rattle.aat_read_machine.specs.Lookups.{lookup_count, lookups_to}
 use Rattle.aat_read_machine.specs.Machine.{machine_at, with_classes}
 use Rattle.aat_read_machine.specs.Room.{lookup_cost, lookup_past_room, lookup_size, lookups_cost, number_at, room_left}
 use Rattle.aat_read_machine.specs.StateArray.{StateArray, cells_of, class_place, entry_place, header_at, rule_of, rules_of, state_array_at}
-use Rattle.aat_write_lookup.specs.LookupLaws.{WrittenLookupsAreRead}
-use Rattle.aat_write_lookup.specs.Lookups.{lookup_words, lookup_written}
-use Rattle.aat_write_lookup.specs.Words.{long_bytes, word_bytes}
+use Rattle.aat_write_machine.specs.LookupLaws.{WrittenLookupsAreRead}
+use Rattle.aat_write_machine.specs.Lookups.{lookup_words, lookup_written}
+use Rattle.aat_write_machine.specs.Words.{long_bytes, word_bytes}
 use Rattle.aat_write_machine.specs.Contextual.{contextual_bytes, joined, lookups_asked, lookups_named, starts_from, substitution_bytes, substitutions_written}
 use Rattle.aat_write_machine.specs.EntryWords.{contextual_words}
 use Rattle.aat_write_machine.specs.Kinds.{machine_end}
@@ -40,7 +40,7 @@ use Rattle.aat_write_machine.specs.facts.Entries as facts
 use Rattle.aat_write_machine.proofs.ClassTables.{class_table_is, lookup_has_length, lookup_made}
 use Rattle.aat_write_machine.proofs.MachineAgain.{one_more_long}
 use Rattle.aat_write_machine.proofs.MachineParts.{HasMachine, end_is_near, has_machine}
-use Rattle.aat_write_lookup.specs.facts.LongPlaces.{length_longs, long_at}
+use Rattle.aat_write_machine.specs.facts.LongPlaces.{length_longs, long_at}
 use Rattle.aat_write_machine.proofs.Places.{word_alone}
 use Rattle.aat_write_machine.proofs.RowFacts.{are_rows}
 use Rattle.aat_write_machine.proofs.TablePlaces.{AreSubstitutions, AreTables, are_substitutions, cost_is, each_is, first_le, length_starts, start_is, starts_are_longs, table_between, written_parts}

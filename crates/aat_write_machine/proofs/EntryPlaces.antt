@@ -8,11 +8,11 @@ use Rattle.aat_bytes.specs.Numbers.{be16}
 use Rattle.aat_machine_tables.specs.Table.{Rule}
 use Rattle.aat_machine_tables.specs.declared.state_table.GenericStateEntry.{GenericStateEntry}
 use Rattle.aat_read_machine.specs.Entries.{entry_at}
-use Rattle.aat_write_lookup.specs.Words.{word_bytes}
+use Rattle.aat_write_machine.specs.Words.{word_bytes}
 use Rattle.aat_write_machine.specs.EntryLaws.{HasSize, ReadsAgain}
 use Rattle.aat_write_machine.specs.EntryWords.{rule_words}
 use Rattle.aat_write_machine.specs.MachineLaws.{IsRule}
-use Rattle.aat_write_lookup.specs.facts.WordPlaces.{length_words}
+use Rattle.aat_write_machine.specs.facts.WordPlaces.{length_words}
 use Rattle.aat_write_machine.proofs.Places.{word_at}
 
 module _ {T : Type 0} (size : ℕ) (extra_at : List ℕ → ℕ → T) (words_of : T → List ℕ)

@@ -6,10 +6,10 @@ use Rattle.std.proofs.lemmas.Bool.{lt-ltb}
 use Rattle.std.proofs.lemmas.List.{length-append, map-append}
 use Rattle.std.proofs.lemmas.List.Concat.{flat_map-append}
 use Rattle.aat_write_machine.specs.Contextual.{are_too_long, byte_lists, joined, lookups_written, starts_from}
-use Rattle.aat_write_lookup.specs.Words.{long_bytes}
+use Rattle.aat_write_machine.specs.Words.{long_bytes}
 use Rattle.aat_write_machine.specs.MorxWriteErrors.{after_written, of_lookup}
 use Rattle.aat_write_machine.specs.declared.error.MorxWriteError.{MorxWriteError}
-use Rattle.aat_write_lookup.specs.Lookups.{lookup_written}
+use Rattle.aat_write_machine.specs.Lookups.{lookup_written}
 
 -- the first elements and one more
 taken_more : {X : Type 0} (xs : List X) (i : ℕ) (x : X) → i < length xs → x ≡ get_or xs i x → take (suc i) xs ≡ take i xs ++ x ∷ []

@@ -11,8 +11,8 @@ use Rattle.aat_read_machine.specs.Contextual.{contextual_tables_at}
 use Rattle.aat_read_machine.specs.Kinds.{insertion_tables_at, ligature_at}
 use Rattle.aat_read_machine.specs.Machine.{machine_at}
 use Rattle.aat_read_machine.specs.SubtableKinds.{as_kind, subtable_kind_at}
-use Rattle.aat_write_lookup.specs.LookupLaws.{WrittenLookupsAreRead}
-use Rattle.aat_write_lookup.specs.Lookups.{lookup_written}
+use Rattle.aat_write_machine.specs.LookupLaws.{WrittenLookupsAreRead}
+use Rattle.aat_write_machine.specs.Lookups.{lookup_written}
 use Rattle.aat_write_machine.specs.EntryWords.{no_words}
 use Rattle.aat_write_machine.specs.KindLaws.{InsertionsAreRead, LigaturesAreRead}
 use Rattle.aat_write_machine.specs.MachineLaws.{IsLong, MachinesAreRead}

@@ -16,7 +16,7 @@ use Rattle.aat_read_machine.specs.Entries.{insertion_at}
 use Rattle.aat_read_machine.specs.Kinds.{insertion_tables_at, ligature_at, list_at, list_place}
 use Rattle.aat_read_machine.specs.Lists.{glyphs_from, numbers16, numbers32}
 use Rattle.aat_read_machine.specs.Machine.{machine_at}
-use Rattle.aat_write_lookup.specs.Words.{long_bytes, word_bytes}
+use Rattle.aat_write_machine.specs.Words.{long_bytes, word_bytes}
 use Rattle.aat_write_machine.specs.EntryWords.{insertion_words, one_word}
 use Rattle.aat_write_machine.specs.KindLaws.{BeginsWith, InsertionsAreRead, IsInsertion, IsLigature, IsSameInsertion, IsSameLigature, LigaturesAreRead, ReadsSame}
 use Rattle.aat_write_machine.specs.Kinds.{glyph_words, has_long_list, insertion_bytes, is_too_long, ligature_bytes, machine_end}
@@ -29,8 +29,8 @@ use Rattle.aat_write_machine.specs.facts.Entries as facts
 use Rattle.aat_write_machine.proofs.Begins.{glyphs_begin, longs_begin, words_begin}
 use Rattle.aat_write_machine.proofs.MachineAgain.{one_more_long}
 use Rattle.aat_write_machine.proofs.MachineParts.{HasMachine, end_is_near, has_machine}
-use Rattle.aat_write_lookup.specs.facts.LongPlaces.{length_longs}
-use Rattle.aat_write_lookup.specs.facts.WordPlaces.{length_words}
+use Rattle.aat_write_machine.specs.facts.LongPlaces.{length_longs}
+use Rattle.aat_write_machine.specs.facts.WordPlaces.{length_words}
 
 -- what is known where something was written of a class table, unless it was too long
 pub made_of :

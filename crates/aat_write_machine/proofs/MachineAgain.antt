@@ -15,9 +15,9 @@ use Rattle.aat_read_lookup.specs.Lookups.{lookup_at}
 use Rattle.aat_read_machine.specs.Entries.{entry_at}
 use Rattle.aat_read_machine.specs.Machine.{machine_at, with_classes}
 use Rattle.aat_read_machine.specs.StateArray.{StateArray, cells_of, class_place, entry_place, header_at, rule_of, rules_of, state_array_at}
-use Rattle.aat_write_lookup.specs.LookupLaws.{WrittenLookupsAreRead}
-use Rattle.aat_write_lookup.specs.Lookups.{lookup_written}
-use Rattle.aat_write_lookup.specs.Words.{long_bytes, word_bytes}
+use Rattle.aat_write_machine.specs.LookupLaws.{WrittenLookupsAreRead}
+use Rattle.aat_write_machine.specs.Lookups.{lookup_written}
+use Rattle.aat_write_machine.specs.Words.{long_bytes, word_bytes}
 use Rattle.aat_write_machine.specs.EntryLaws.{HasSize, ReadsAgain}
 use Rattle.aat_write_machine.specs.EntryWords.{rule_words}
 use Rattle.aat_write_machine.specs.MachineLaws.{IsLong, IsMachine, IsWord, MachinesAreRead}
@@ -25,8 +25,8 @@ use Rattle.aat_write_machine.specs.Machines.{class_offset, entry_offset, header_
 use Rattle.aat_write_machine.proofs.ClassTables.{HasLength, is_made, lookup_has_length}
 use Rattle.aat_write_machine.proofs.Counted.{HasCells, cells_are, place_is}
 use Rattle.aat_write_machine.proofs.EntryPlaces.{entry_bytes, entry_stands, length_entries}
-use Rattle.aat_write_lookup.specs.facts.LongPlaces.{length_longs, long_at}
-use Rattle.aat_write_lookup.specs.facts.WordPlaces.{length_words}
+use Rattle.aat_write_machine.specs.facts.LongPlaces.{length_longs, long_at}
+use Rattle.aat_write_machine.specs.facts.WordPlaces.{length_words}
 use Rattle.aat_write_machine.proofs.Places.{word_at}
 use Rattle.aat_write_machine.proofs.RowFacts.{AreRows, are_rows}
 

@@ -8,7 +8,7 @@ use Rattle.aat_bytes.specs.Numbers.{be32}
 use Rattle.aat_bytes.specs.declared.tags.TheConstants.{MORX}
 use Rattle.aat_machine_tables.specs.Table.{TableValue}
 use Rattle.aat_machine_tables.specs.declared.state_table.GenericStateEntry.{GenericStateEntry}
-use Rattle.aat_write_lookup.specs.Words.{long_bytes, word_bytes}
+use Rattle.aat_write_machine.specs.Words.{long_bytes, word_bytes}
 use Rattle.aat_write_machine.specs.EntryLaws.{HasSize, ReadsAgain}
 use Rattle.aat_write_machine.specs.EntryWords.{rule_words}
 use Rattle.aat_write_machine.specs.Kinds.{machine_end}
@@ -20,8 +20,8 @@ use Rattle.aat_write_machine.specs.declared.error.MorxWriteError.{MorxWriteError
 use Rattle.aat_write_machine.proofs.ClassTables.{HasLength, class_table_is, lookup_has_length}
 use Rattle.aat_write_machine.proofs.EntryPlaces.{length_entries}
 use Rattle.aat_write_machine.proofs.MachineAgain.{header_are_longs}
-use Rattle.aat_write_lookup.specs.facts.LongPlaces.{length_longs, long_at}
-use Rattle.aat_write_lookup.specs.facts.WordPlaces.{length_words}
+use Rattle.aat_write_machine.specs.facts.LongPlaces.{length_longs, long_at}
+use Rattle.aat_write_machine.specs.facts.WordPlaces.{length_words}
 use Rattle.aat_write_machine.proofs.RowFacts.{AreRows, are_rows}
 
 module _ {T : Type 0} (size : ℕ) (extra_at : List ℕ → ℕ → T) (words_of : T → List ℕ)

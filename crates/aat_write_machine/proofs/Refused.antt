@@ -7,7 +7,7 @@ use Rattle.aat_write_machine.specs.Machines.{class_table_written}
 use Rattle.aat_write_machine.specs.MorxWriteErrors.{RefusesWithin, of_lookup, unless_refused}
 use Rattle.aat_write_machine.specs.declared.error.MorxWriteError.{MorxWriteError}
 use Rattle.aat_write_machine.specs.declared.error.MorxWriteError.TheVariants.{FewClasses, TooManyRules, OutOfPlace, NoRow, NotNamed, NotRising, TooManyPairs, LookupCount, TooManyLookups, TooLong, OutOfMemory}
-use Rattle.aat_write_lookup.specs.Lookups.{lookup_written}
+use Rattle.aat_write_machine.specs.Lookups.{lookup_written}
 
 -- an error refuses what has it
 pub refuses : {X : Type 0} (written : Result X MorxWriteError) (e : MorxWriteError) → written ≡ Err e → RefusesWithin written e

@@ -8,7 +8,7 @@ use Rattle.std.proofs.Math.Seq.{take-add}
 use Rattle.aat_bytes.specs.facts.Ranges.{range_more}
 use Rattle.aat_machine_tables.specs.Table.{Rule}
 use Rattle.aat_machine_tables.specs.declared.state_table.GenericStateEntry.{GenericStateEntry}
-use Rattle.aat_write_lookup.specs.Words.{word_bytes}
+use Rattle.aat_write_machine.specs.Words.{word_bytes}
 use Rattle.aat_write_machine.specs.MachineRefusals.{highest_from, highest_named}
 
 -- the index of one cell more

@@ -10,7 +10,7 @@ use Rattle.aat_bytes.specs.Faults.{after}
 use Rattle.aat_bytes.specs.declared.error.Fault.{Fault}
 use Rattle.aat_machine_tables.specs.Subtables.{ContextualTables}
 use Rattle.aat_read_machine.specs.Contextual.{each_of}
-use Rattle.aat_write_lookup.specs.Lookups.{lookup_written}
+use Rattle.aat_write_machine.specs.Lookups.{lookup_written}
 use Rattle.aat_write_machine.specs.Contextual.{are_too_long, joined, lookups_asked, lookups_written, starts_from, substitutions_written}
 use Rattle.aat_write_machine.specs.MachineLaws.{IsLong}
 use Rattle.aat_write_machine.specs.MorxWriteErrors.{after_written, of_lookup}

@@ -7,10 +7,10 @@ use Rattle.aat_machine_tables.specs.Table.{Rule}
 use Rattle.aat_machine_tables.specs.declared.entries.ContextualEntryData.{ContextualEntryData}
 use Rattle.aat_machine_tables.specs.declared.state_table.GenericStateEntry.{GenericStateEntry}
 use Rattle.aat_read_machine.specs.Lookups.{lookups_to}
-use Rattle.aat_write_lookup.specs.Lookups.{lookup_written}
+use Rattle.aat_write_machine.specs.Lookups.{lookup_written}
 use Rattle.aat_write_machine.specs.EntryWords.{contextual_words}
 use Rattle.aat_write_machine.specs.Kinds.{machine_end}
-use Rattle.aat_write_lookup.specs.Words.{long_bytes}
+use Rattle.aat_write_machine.specs.Words.{long_bytes}
 use Rattle.aat_write_machine.specs.Machines.{class_table_written, machine_bytes}
 use Rattle.aat_write_machine.specs.MorxWriteErrors.{after_written, of_lookup}
 use Rattle.aat_write_machine.specs.declared.error.MorxWriteError.{MorxWriteError}

@@ -2,7 +2,7 @@
 use Rattle.std.specs.Prelude.{ℕ, ◌+◌, ◌*◌, List, [], ◌∷◌, ◌++◌, length, map, Bool, Result, Ok, Err, if◌then◌else◌, nat_lt, ◌||◌}
 use Rattle.aat_machine_tables.specs.Subtables.{InsertionTables, LigatureTables}
 use Rattle.aat_lookup.specs.declared.glyph_id.GlyphId.{GlyphId}
-use Rattle.aat_write_lookup.specs.Words.{long_bytes, word_bytes}
+use Rattle.aat_write_machine.specs.Words.{long_bytes, word_bytes}
 use Rattle.aat_write_machine.specs.EntryWords.{insertion_words, one_word}
 use Rattle.aat_write_machine.specs.Machines.{class_table_written, machine_bytes}
 use Rattle.aat_write_machine.specs.MorxWriteErrors.{after_written}

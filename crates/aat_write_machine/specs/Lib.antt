@@ -1,8 +1,12 @@
 pub mod Contextual
 pub mod EntryLaws
 pub mod EntryWords
+pub mod FeatLaws
+pub mod Features
 pub mod KindLaws
 pub mod Kinds
+pub mod LookupLaws
+pub mod Lookups
 pub mod MachineExamples
 pub mod MachineLaws
 pub mod MachineRefusals
@@ -10,4 +14,6 @@ pub mod Machines
 pub mod MorxWriteErrors
 pub mod SubtableKindLaws
 pub mod SubtableKinds
+pub mod Words
+pub mod WriteErrors
 pub mod facts

@@ -4,7 +4,7 @@ use Rattle.aat_bytes.specs.declared.tag.Tag.{Tag}
 use Rattle.aat_machine_tables.specs.Table.{Rule, TableValue}
 use Rattle.aat_machine_tables.specs.declared.state_table.GenericStateEntry.{GenericStateEntry}
 use Rattle.aat_read_machine.specs.Machine.{machine_at}
-use Rattle.aat_write_lookup.specs.LookupLaws.{IsPair}
+use Rattle.aat_write_machine.specs.LookupLaws.{IsPair}
 use Rattle.aat_write_machine.specs.EntryWords.{rule_words}
 use Rattle.aat_write_machine.specs.Machines.{machine_written}
 

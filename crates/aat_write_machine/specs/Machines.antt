@@ -3,8 +3,8 @@ use Rattle.std.specs.Prelude.{ℕ, ◌+◌, ◌*◌, List, ◌∷◌, ◌++◌, 
 use Rattle.std.specs.List.{flat_map, range_with_len}
 use Rattle.aat_machine_tables.specs.Table.{Rule, TableValue}
 use Rattle.aat_machine_tables.specs.declared.state_table.GenericStateEntry.{GenericStateEntry}
-use Rattle.aat_write_lookup.specs.Lookups.{lookup_written}
-use Rattle.aat_write_lookup.specs.Words.{long_bytes, word_bytes}
+use Rattle.aat_write_machine.specs.Lookups.{lookup_written}
+use Rattle.aat_write_machine.specs.Words.{long_bytes, word_bytes}
 use Rattle.aat_write_machine.specs.EntryWords.{rule_words}
 use Rattle.aat_write_machine.specs.MachineRefusals.{rules_refusal}
 use Rattle.aat_write_machine.specs.MorxWriteErrors.{after_written, of_lookup, unless_refused}

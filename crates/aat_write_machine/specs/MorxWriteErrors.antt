@@ -1,8 +1,8 @@
 -- Why a part of `morx` is not written.
 use Rattle.std.specs.Prelude.{◌≡◌, ℕ, List, Option, Some, None, Result, Ok, Err}
 use Rattle.std.specs.declared.vec.Vec.{Vec}
-use Rattle.aat_write_lookup.specs.declared.error.WriteError.{WriteError}
-use Rattle.aat_write_lookup.specs.declared.error.WriteError.TheVariants as lookup_errors
+use Rattle.aat_write_machine.specs.declared.write_error.WriteError.{WriteError}
+use Rattle.aat_write_machine.specs.declared.write_error.WriteError.TheVariants as lookup_errors
 use Rattle.aat_write_machine.specs.declared.error.MorxWriteError.{MorxWriteError}
 use Rattle.aat_write_machine.specs.declared.error.MorxWriteError.TheVariants.{FewClasses, TooManyRules, OutOfPlace, NoRow, NotNamed, NotRising, TooManyPairs, LookupCount, TooManyLookups, TooLong, OutOfMemory}
 

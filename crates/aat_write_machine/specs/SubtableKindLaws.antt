@@ -5,7 +5,7 @@ use Rattle.aat_machine_tables.specs.declared.morx.SubtableKind.{SubtableKind}
 use Rattle.aat_machine_tables.specs.declared.morx.SubtableKind.TheVariants.{Rearrangement, Contextual, Ligature, NonContextual, Insertion}
 use Rattle.aat_read_machine.specs.Contextual.{contextual_tables_at}
 use Rattle.aat_read_machine.specs.SubtableKinds.{subtable_kind_at}
-use Rattle.aat_write_lookup.specs.LookupLaws.{IsPair}
+use Rattle.aat_write_machine.specs.LookupLaws.{IsPair}
 use Rattle.aat_write_machine.specs.Contextual.{contextual_written}
 use Rattle.aat_write_machine.specs.EntryWords.{contextual_words, no_words}
 use Rattle.aat_write_machine.specs.KindLaws.{IsInsertion, IsLigature, IsSameInsertion, IsSameLigature, ReadsSame}

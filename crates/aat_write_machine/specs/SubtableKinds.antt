@@ -2,7 +2,7 @@
 use Rattle.std.specs.Prelude.{ℕ, List, [], Result}
 use Rattle.aat_machine_tables.specs.declared.morx.SubtableKind.{SubtableKind}
 use Rattle.aat_machine_tables.specs.declared.morx.SubtableKind.TheVariants.{Rearrangement, Contextual, Ligature, NonContextual, Insertion}
-use Rattle.aat_write_lookup.specs.Lookups.{lookup_written}
+use Rattle.aat_write_machine.specs.Lookups.{lookup_written}
 use Rattle.aat_write_machine.specs.Contextual.{contextual_written}
 use Rattle.aat_write_machine.specs.EntryWords.{no_words}
 use Rattle.aat_write_machine.specs.Kinds.{insertion_written, ligature_written}

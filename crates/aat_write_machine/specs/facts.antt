@@ -1,1 +1,4 @@
 pub mod Entries
+pub mod LongPlaces
+pub mod WordPlaces
+pub mod Written

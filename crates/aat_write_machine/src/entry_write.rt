@@ -1,14 +1,14 @@
 //! What entries of state tables hold beside a state and flags, written to bytes.
 
+use crate::words::append_words;
 use aat_machine_tables::{ContextualEntryData, InsertionEntryData};
 use aat_read_machine::EntryRead;
-use aat_write_lookup::append_words;
 use std::alloc::{AllocError, Allocator};
 
 /// What an entry holds beside a state and flags, as it is written behind them and read again.
 pub trait EntryWrite: EntryRead {
     ghost use Rattle.std.specs.Prelude.{◌≡◌, ◌++◌, ℕ, List, OnOk};
-    ghost use Rattle.aat_write_lookup.specs.Words.{word_bytes};
+    ghost use Rattle.aat_write_machine.specs.Words.{word_bytes};
     ghost use Rattle.aat_write_machine.specs.EntryLaws.{HasSize, ReadsAgain};
 
     /// Its numbers of 16 bits.

@@ -2,7 +2,7 @@
 ghost use Rattle.std.specs.Prelude.{◌≡◌};
 ghost use Rattle.aat_write_machine.specs.MorxWriteErrors.{error_of_lookup, number_of_morx_error};
 
-use aat_write_lookup::WriteError;
+use crate::write_error::WriteError;
 use std::alloc::{AllocError, AllocFailed};
 use thiserror::Error;
 

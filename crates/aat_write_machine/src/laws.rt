@@ -1,11 +1,22 @@
 //! Laws of writing as theorems. These calls do nothing: what is proved is their contracts.
+ghost use Rattle.aat_write_machine.specs.FeatLaws.{WrittenFeatsAreRead};
 ghost use Rattle.aat_write_machine.specs.KindLaws.{InsertionsAreRead, LigaturesAreRead};
+ghost use Rattle.aat_write_machine.specs.LookupLaws.{WrittenLookupsAreRead};
 ghost use Rattle.aat_write_machine.specs.SubtableKindLaws.{ContextualsAreRead, SubtableKindsAreRead};
 ghost use Rattle.aat_write_machine.specs.MachineLaws.{MachinesAreRead};
 
 use crate::entry_write::EntryWrite;
 use aat_machine_tables::{ContextualEntryData, InsertionEntryData};
-use aat_write_lookup::laws::written_lookups_are_read;
+
+/// A lookup that is written is read again, at any place of a table.
+pub fn written_lookups_are_read()
+    ensures { WrittenLookupsAreRead }
+{}
+
+/// A feature name table that is written is read again.
+pub fn written_feats_are_read()
+    ensures { WrittenFeatsAreRead }
+{}
 
 /// A machine that is written is read again, at any place of a table.
 pub fn machines_are_read<T: EntryWrite>()

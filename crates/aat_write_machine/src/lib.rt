@@ -1,6 +1,8 @@
-//! Writers of state tables and of the kinds of subtables of `morx`, which the readers read again.
+//! Writers of lookups, of the table of features, of state tables and of the kinds of subtables of `morx`, which the
+//! readers read again, and of words.
 //!
 //! ```
+//! let lookup = write_lookup(alloc, &[(4, 1), (7, 2)])?;
 //! let bytes = write_subtable_kind(alloc, &subtable.kind)?;
 //! ```
 #![tactic(auto)]
@@ -8,21 +10,29 @@
 mod contextual;
 mod entry_write;
 mod error;
+mod feat;
 #[doc(hidden)]
 pub mod laws;
 mod lists;
-mod lookups;
+mod lookup;
+mod lookup_bytes;
 mod machine;
 mod numbers;
 mod refusals;
 mod subtable_kind;
 mod tables;
+mod words;
 #[doc(hidden)]
 pub mod worked;
+mod write_error;
 
 pub use contextual::write_contextual;
 pub use entry_write::EntryWrite;
 pub use error::MorxWriteError;
+pub use feat::{feature_flags, write_feat};
 pub use lists::{write_insertion, write_ligature};
+pub use lookup::{append_lookup, write_lookup};
 pub use machine::write_machine;
 pub use subtable_kind::{kind_number, write_noncontextual, write_subtable_kind};
+pub use words::{append_longs, append_words};
+pub use write_error::WriteError;

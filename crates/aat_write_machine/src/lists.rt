@@ -6,8 +6,8 @@ ghost use Rattle.aat_write_machine.specs.MorxWriteErrors.{Writes};
 use crate::error::MorxWriteError;
 use crate::machine::{class_table, machine_bytes};
 use crate::numbers::append_glyphs;
+use crate::words::{append_longs, append_words};
 use aat_machine_tables::{InsertionSubtable, LigatureSubtable};
-use aat_write_lookup::{append_longs, append_words};
 use std::alloc::{AllocError, Global};
 
 /// How many elements a list may have.

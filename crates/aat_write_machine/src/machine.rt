@@ -1,8 +1,8 @@
 //! State tables to bytes.
 ghost use Rattle.std.specs.Prelude.{[], ◌∷◌, ◌≡◌, ◌++◌, ◌<◌, ◌≤◌, ◌^◌, length, IfOk, OnOk};
 ghost use Rattle.std.specs.List.{flat_map, range_with_len};
-ghost use Rattle.aat_write_lookup.specs.Lookups.{lookup_written};
-ghost use Rattle.aat_write_lookup.specs.Words.{long_bytes, word_bytes};
+ghost use Rattle.aat_write_machine.specs.Lookups.{lookup_written};
+ghost use Rattle.aat_write_machine.specs.Words.{long_bytes, word_bytes};
 ghost use Rattle.aat_write_machine.specs.EntryWords.{rule_words};
 ghost use Rattle.aat_write_machine.specs.MachineRefusals.{rules_refusal};
 ghost use Rattle.aat_write_machine.specs.Machines.{class_table_written, header_longs, machine_bytes, machine_written};
@@ -10,10 +10,10 @@ ghost use Rattle.aat_write_machine.specs.MorxWriteErrors.{Writes};
 
 use crate::entry_write::EntryWrite;
 use crate::error::MorxWriteError;
-use crate::lookups::lookup_bytes;
+use crate::lookup_bytes::lookup_bytes;
 use crate::refusals::rules_refusal;
+use crate::words::{append_longs, append_words};
 use aat_machine_tables::{Acting, ExtendedStateTable, GenericStateEntry};
-use aat_write_lookup::{append_longs, append_words};
 use std::alloc::{AllocError, Allocator};
 
 /// Appends the header of a state table, with further offsets, for a class table of so many bytes and so many cells.

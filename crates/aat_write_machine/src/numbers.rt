@@ -1,10 +1,10 @@
 //! Glyphs, one behind the other.
 ghost use Rattle.std.specs.Prelude.{◌≡◌, ◌++◌, OnOk};
-ghost use Rattle.aat_write_lookup.specs.Words.{word_bytes};
+ghost use Rattle.aat_write_machine.specs.Words.{word_bytes};
 ghost use Rattle.aat_write_machine.specs.Kinds.{glyph_words};
 
+use crate::words::append_words;
 use aat_lookup::GlyphId;
-use aat_write_lookup::append_words;
 use std::alloc::{AllocError, Allocator};
 
 /// Appends glyphs.

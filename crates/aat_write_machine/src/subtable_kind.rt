@@ -1,13 +1,13 @@
 //! What a subtable of `morx` does, to bytes.
 ghost use Rattle.std.specs.Prelude.{◌≡◌};
-ghost use Rattle.aat_write_lookup.specs.Lookups.{lookup_written};
+ghost use Rattle.aat_write_machine.specs.Lookups.{lookup_written};
 ghost use Rattle.aat_write_machine.specs.MorxWriteErrors.{Writes, of_lookup};
 ghost use Rattle.aat_write_machine.specs.SubtableKinds.{kind_number, kind_written};
 
 use crate::contextual::write_contextual;
 use crate::error::MorxWriteError;
 use crate::lists::{write_insertion, write_ligature};
-use crate::lookups::lookup_bytes;
+use crate::lookup_bytes::lookup_bytes;
 use crate::machine::write_machine;
 use aat_lookup::Lookup;
 use aat_machine_tables::SubtableKind;

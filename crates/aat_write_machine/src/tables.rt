@@ -1,14 +1,14 @@
 //! Tables that stand one behind the other.
 ghost use Rattle.std.specs.Prelude.{◌≡◌, ◌+◌, ◌*◌, ◌++◌, ◌<◌, ◌≤◌, ◌^◌, length, false, IfOk, MatchResult, Ok, OnOk};
 ghost use Rattle.aat_write_machine.specs.Contextual.{are_too_long, byte_lists, joined, lookups_written, starts_from, substitution_bytes};
-ghost use Rattle.aat_write_lookup.specs.Words.{long_bytes};
+ghost use Rattle.aat_write_machine.specs.Words.{long_bytes};
 ghost use Rattle.aat_write_machine.specs.MorxWriteErrors.{RefusesWithin};
 
 use crate::error::MorxWriteError;
 use crate::lists::MOST;
-use crate::lookups::lookup_bytes;
+use crate::lookup_bytes::lookup_bytes;
+use crate::words::append_longs;
 use aat_lookup::Lookup;
-use aat_write_lookup::append_longs;
 use std::alloc::{AllocError, Global};
 
 /// The bytes of each lookup.

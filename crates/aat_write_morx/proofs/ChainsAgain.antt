@@ -18,10 +18,10 @@ use Rattle.aat_read_morx.specs.Reaches.{allowance}
 use Rattle.aat_write_morx.specs.ChainBytes.{ChainContent, chain_bytes, chain_header, chain_size, count_subtables, feature_bytes, subtable_bytes, subtable_size}
 use Rattle.aat_write_machine.specs.MachineLaws.{IsLong}
 use Rattle.aat_write_morx.specs.ChainLaws.{DoesAsRead, IsChain, IsReadable, IsSameChain, IsSameSubtable}
-use Rattle.aat_write_lookup.specs.Words.{long_bytes}
+use Rattle.aat_write_machine.specs.Words.{long_bytes}
 use Rattle.aat_write_morx.proofs.Appended.{each_takes}
 use Rattle.aat_write_morx.proofs.FeaturesAgain.{features_are_read, features_long}
-use Rattle.aat_write_lookup.specs.facts.LongPlaces.{length_longs, long_at}
+use Rattle.aat_write_machine.specs.facts.LongPlaces.{length_longs, long_at}
 use Rattle.aat_write_morx.proofs.SubtablesAgain.{cut, end_is, in_turn_more, subtables_are_read, subtables_long}
 
 four_longs : (a b c e : ℕ) → IsLong a → IsLong b → IsLong c → IsLong e → All IsLong (a ∷ b ∷ c ∷ e ∷ [])

@@ -7,12 +7,12 @@ use Rattle.std.proofs.lemmas.List.FromFn.{fill_by_all}
 use Rattle.aat_bytes.specs.Numbers.{be16, be32}
 use Rattle.aat_machine_tables.specs.declared.morx.ChainFeature.{ChainFeature}
 use Rattle.aat_read_morx.specs.ChainFeatures.{feature_at, features_at, whole_features}
-use Rattle.aat_write_lookup.specs.Words.{long_bytes, word_bytes}
-use Rattle.aat_write_lookup.specs.facts.WordPlaces.{AreWords, length_words, word_at}
+use Rattle.aat_write_machine.specs.Words.{long_bytes, word_bytes}
+use Rattle.aat_write_machine.specs.facts.WordPlaces.{AreWords, length_words, word_at}
 use Rattle.aat_write_morx.specs.ChainBytes.{feature_bytes}
 use Rattle.aat_write_machine.specs.MachineLaws.{IsLong}
 use Rattle.aat_write_morx.specs.ChainLaws.{IsFeature}
-use Rattle.aat_write_lookup.specs.facts.LongPlaces.{length_longs, long_at}
+use Rattle.aat_write_machine.specs.facts.LongPlaces.{length_longs, long_at}
 
 -- a feature, where there is none
 abbrev no_feature : ChainFeature

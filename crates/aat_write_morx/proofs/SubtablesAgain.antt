@@ -19,8 +19,8 @@ use Rattle.aat_read_morx.specs.InTurn.{end_at}
 use Rattle.aat_write_morx.specs.ChainBytes.{SubtableContent, coverage_number, subtable_bytes, subtable_header, subtable_size}
 use Rattle.aat_write_machine.specs.MachineLaws.{IsLong}
 use Rattle.aat_write_morx.specs.ChainLaws.{DoesAsRead, IsReadable, IsSameSubtable, IsSubtable}
-use Rattle.aat_write_lookup.specs.Words.{long_bytes}
-use Rattle.aat_write_lookup.specs.facts.LongPlaces.{length_longs, long_at}
+use Rattle.aat_write_machine.specs.Words.{long_bytes}
+use Rattle.aat_write_machine.specs.facts.LongPlaces.{length_longs, long_at}
 
 -- a record whose length stands in it ends behind it
 pub end_is :

@@ -7,15 +7,15 @@ use Rattle.std.proofs.lemmas.List.{append-nil, length-append}
 use Rattle.aat_bytes.specs.Numbers.{be16, be32}
 use Rattle.aat_read_morx.specs.Chains.{ChainValue, chain_at, first_chain, morx_of}
 use Rattle.aat_read_machine.specs.InTurn.{in_turn}
-use Rattle.aat_write_lookup.specs.Words.{long_bytes, word_bytes}
-use Rattle.aat_write_lookup.specs.facts.WordPlaces.{AreWords, length_words, word_at}
+use Rattle.aat_write_machine.specs.Words.{long_bytes, word_bytes}
+use Rattle.aat_write_machine.specs.facts.WordPlaces.{AreWords, length_words, word_at}
 use Rattle.aat_write_morx.specs.ChainBytes.{ChainContent, chain_bytes, chain_size, count_subtables, table_bytes, table_size}
 use Rattle.aat_write_machine.specs.MachineLaws.{IsLong}
 use Rattle.aat_write_morx.specs.ChainLaws.{DoesAsRead, IsChain, IsReadable, IsSameChain, WrittenChainsAreRead}
 use Rattle.aat_write_morx.specs.declared.error.ChainWriteError.TheVariants.{TooLong, TooManySubtables}
 use Rattle.aat_write_morx.proofs.Appended.{each_takes}
 use Rattle.aat_write_morx.proofs.ChainsAgain.{chains_are_read}
-use Rattle.aat_write_lookup.specs.facts.LongPlaces.{length_longs, long_at}
+use Rattle.aat_write_machine.specs.facts.LongPlaces.{length_longs, long_at}
 
 -- what is known where chains are written
 made_of :

@@ -3,7 +3,7 @@ use Rattle.std.specs.Prelude.{ℕ, ◌+◌, ◌*◌, ◌^◌, List, [], ◌∷�
 use Rattle.std.specs.List.{flat_map}
 use Rattle.aat_machine_tables.specs.declared.morx.ChainFeature.{ChainFeature}
 use Rattle.aat_machine_tables.specs.declared.morx.Coverage.{Coverage}
-use Rattle.aat_write_lookup.specs.Words.{long_bytes, word_bytes}
+use Rattle.aat_write_machine.specs.Words.{long_bytes, word_bytes}
 use Rattle.aat_write_morx.specs.declared.error.ChainWriteError.{ChainWriteError}
 use Rattle.aat_write_morx.specs.declared.error.ChainWriteError.TheVariants.{TooLong, TooManySubtables}
 

@@ -9,7 +9,7 @@ use crate::error::ChainWriteError;
 use crate::sizes::{LIMIT, MOST_SUBTABLES, chain_size, count_subtables, table_size};
 use crate::subtable::SubtableBytes;
 use aat_machine_tables::ChainFeature;
-use aat_write_lookup::{append_longs, append_words};
+use aat_write_machine::{append_longs, append_words};
 use bitflags::Flags;
 use std::alloc::{AllocError, Global};
 

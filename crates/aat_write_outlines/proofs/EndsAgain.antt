@@ -8,7 +8,7 @@ use Rattle.aat_bytes.specs.Numbers.{be16}
 use Rattle.aat_bytes.specs.facts.Ranges.{none_found}
 use Rattle.aat_read_outlines.specs.Outlines.{Divides}
 use Rattle.aat_read_outlines.specs.SimpleGlyphs.{end_of, ends_of, falling_end}
-use Rattle.aat_write_lookup.specs.facts.WordPlaces.{AreWords, words_joined}
+use Rattle.aat_write_machine.specs.facts.WordPlaces.{AreWords, words_joined}
 use Rattle.aat_write_outlines.specs.GlyphData.{last_points}
 use Rattle.aat_write_outlines.proofs.Ends.{end_between, end_few, end_some}
 

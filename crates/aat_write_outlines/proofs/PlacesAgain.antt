@@ -15,7 +15,7 @@ use Rattle.aat_bytes.specs.declared.tags.TheConstants.{LOCA}
 use Rattle.aat_read_outlines.specs.Glyphs.{GlyphBytes}
 use Rattle.aat_read_outlines.specs.Offsets.{OutlineTables, bytes_between, entry_fault, entry_place, glyph_bytes, offset_at}
 use Rattle.aat_read_outlines.specs.Outlines.{PointLists}
-use Rattle.aat_write_lookup.specs.facts.LongPlaces.{length_longs, long_at}
+use Rattle.aat_write_machine.specs.facts.LongPlaces.{length_longs, long_at}
 use Rattle.aat_write_outlines.specs.GlyphData.{glyph_data}
 use Rattle.aat_write_outlines.specs.OutlineLaws.{tables_over}
 use Rattle.aat_write_outlines.specs.Tables.{Written, glyf_bytes, loca_bytes, offset_of}

@@ -9,7 +9,7 @@ use Rattle.aat_bytes.specs.Numbers.{be16, signed16}
 use Rattle.aat_read_outlines.specs.Flags.{has}
 use Rattle.aat_read_outlines.specs.Points.{moved, point_at, points_from, step_at, x_size, y_size}
 use Rattle.aat_read_outlines.specs.declared.outline.OutlinePoint.{OutlinePoint}
-use Rattle.aat_write_lookup.specs.facts.WordPlaces.{AreWords}
+use Rattle.aat_write_machine.specs.facts.WordPlaces.{AreWords}
 use Rattle.aat_write_outlines.specs.GlyphData.{are_short_steps, flag_of, is_short, is_short_step, word_of, x_words, y_words}
 use Rattle.aat_write_outlines.proofs.Readers.{Pen}
 

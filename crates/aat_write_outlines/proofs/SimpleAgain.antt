@@ -15,8 +15,8 @@ use Rattle.aat_read_outlines.specs.Outlines.{IsOutline, PointLists}
 use Rattle.aat_read_outlines.specs.Points.{pen_of, points_from, points_of, x_size, y_size}
 use Rattle.aat_read_outlines.specs.SimpleGlyphs.{end_of, ends_fault, ends_of, falling_end, flags_of, flags_place, simple_outline}
 use Rattle.aat_read_outlines.specs.declared.outline.OutlinePoint.{OutlinePoint}
-use Rattle.aat_write_lookup.specs.Words.{word_bytes}
-use Rattle.aat_write_lookup.specs.facts.WordPlaces.{length_words, word_at}
+use Rattle.aat_write_machine.specs.Words.{word_bytes}
+use Rattle.aat_write_machine.specs.facts.WordPlaces.{length_words, word_at}
 use Rattle.aat_write_outlines.specs.GlyphData.{are_short_steps, bounds_of, bounds_words, flag_of, last_points, origin, simple_bytes, x_words, y_words}
 use Rattle.aat_write_outlines.proofs.EndsAgain.{end_again, ends_again, instructions_at, last_end, last_point_at, last_points_small, none_falls}
 use Rattle.aat_write_outlines.proofs.FlagsAgain.{flag_there, flags_again}

@@ -4,7 +4,7 @@ use Rattle.std.specs.Prelude.{◌&&◌, ◌-ℤ◌}
 use Rattle.std.specs.Int.{to_be_bytes, w16}
 use Rattle.std.proofs.lemmas.List.Concat.{flat_map-append}
 use Rattle.aat_read_outlines.specs.declared.outline.OutlinePoint.{OutlinePoint}
-use Rattle.aat_write_lookup.specs.Words.{word_bytes}
+use Rattle.aat_write_machine.specs.Words.{word_bytes}
 use Rattle.aat_write_outlines.specs.GlyphData.{are_short_steps, is_short, is_short_step, word_of, x_words, y_words}
 
 both : (b c : Bool) → (b && c) ≡ true → (b ≡ true) × (c ≡ true)

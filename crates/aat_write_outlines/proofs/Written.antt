@@ -6,7 +6,7 @@ use Rattle.std.specs.Option.{option_or}
 use Rattle.std.proofs.lemmas.Bool.Decides.{nat_tests}
 use Rattle.std.proofs.lemmas.List.{take_all}
 use Rattle.aat_read_outlines.specs.Outlines.{PointLists}
-use Rattle.aat_write_lookup.specs.Words.{long_bytes}
+use Rattle.aat_write_machine.specs.Words.{long_bytes}
 use Rattle.aat_write_outlines.specs.GlyphData.{glyph_data}
 use Rattle.aat_write_outlines.specs.OutlineWriteErrors.{Refuses}
 use Rattle.aat_write_outlines.specs.Tables.{Written, error_in, error_of, first_error, glyf_bytes, has_far_point, has_far_step, has_many_contours, loca_bytes, offset_of, outlines_written}

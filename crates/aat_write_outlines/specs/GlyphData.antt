@@ -3,7 +3,7 @@ use Rattle.std.specs.Prelude.{ℕ, ℤ, pos, negsuc, ◌-◌, ◌%◌, ◌-ℤ�
 use Rattle.std.specs.Int.{cast_unsigned, w16, int_max, int_min}
 use Rattle.aat_read_outlines.specs.Outlines.{PointLists}
 use Rattle.aat_read_outlines.specs.declared.outline.OutlinePoint.{OutlinePoint}
-use Rattle.aat_write_lookup.specs.Words.{word_bytes}
+use Rattle.aat_write_machine.specs.Words.{word_bytes}
 use Rattle.aat_write_outlines.specs.declared.bounds.Bounds.{Bounds}
 use Rattle.aat_write_outlines.specs.declared.bounds.Range.{Range}
 

@@ -3,7 +3,7 @@ use Rattle.std.specs.Prelude.{ℕ, ◌+◌, List, [], ◌∷◌, length, map, ta
 use Rattle.std.specs.List.{flat_map, list_all, range_with_len}
 use Rattle.std.specs.Option.{option_or}
 use Rattle.aat_read_outlines.specs.Outlines.{PointLists}
-use Rattle.aat_write_lookup.specs.Words.{long_bytes}
+use Rattle.aat_write_machine.specs.Words.{long_bytes}
 use Rattle.aat_write_outlines.specs.GlyphData.{are_short_steps, glyph_data, is_near, origin}
 use Rattle.aat_write_outlines.specs.declared.error.OutlineWriteError.{OutlineWriteError}
 use Rattle.aat_write_outlines.specs.declared.error.OutlineWriteError.TheVariants.{TooMany, TooManyContours, FarPoint, FarStep, TooLong}

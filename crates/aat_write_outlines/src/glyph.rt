@@ -3,11 +3,11 @@ ghost use Rattle.std.specs.Prelude.{◌≡◌, ◌+◌, ◌<◌, ◌≤◌, ◌+
 ghost use Rattle.std.specs.List.{list_all};
 ghost use Rattle.aat_write_outlines.specs.GlyphData.{are_short_steps, bounds_words, flag_of, glyph_data, is_near, is_short, is_short_step, last_points, origin, padding, simple_bytes, word_of, x_words, y_words};
 ghost use Rattle.aat_write_outlines.specs.inside.Near.{AreShort, IsShortRange};
-ghost use Rattle.aat_write_lookup.specs.Words.{word_bytes};
+ghost use Rattle.aat_write_machine.specs.Words.{word_bytes};
 
 use crate::bounds::{Bounds, ORIGIN, Range, bounds_of};
 use aat_read_outlines::{Outline, OutlinePoint};
-use aat_write_lookup::append_words;
+use aat_write_machine::append_words;
 use std::alloc::{AllocError, Allocator};
 
 /// How far one coordinate is from another.

@@ -8,7 +8,7 @@ ghost use Rattle.aat_write_outlines.specs.Tables.{error_in, error_of, has_far_po
 use crate::error::OutlineWriteError;
 use crate::glyph::{append_glyph, are_short_steps, is_near};
 use aat_read_outlines::{Outline, OutlinePoint};
-use aat_write_lookup::append_longs;
+use aat_write_machine::append_longs;
 use std::alloc::{Allocator, Global};
 use std::marker::Model;
 

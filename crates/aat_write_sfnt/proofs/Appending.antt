@@ -10,7 +10,7 @@ use Rattle.std.specs.Int.{w16, to_be_bytes}
 use Rattle.aat_write_sfnt.specs.Fonts.{SfntTable, file_end, padded, table_bytes}
 use Rattle.aat_write_sfnt.specs.NameTables.{SfntName, text_bytes, text_of_name}
 use Rattle.aat_write_sfnt.specs.Records.{records}
-use Rattle.aat_write_lookup.specs.Words.{word_bytes}
+use Rattle.aat_write_machine.specs.Words.{word_bytes}
 
 module _ {X : Type 0} (part : X → List ℕ) (record_of : ℕ → X → List ℕ) where
   -- a record that is appended is the first of those that remain

@@ -24,11 +24,11 @@ use Rattle.aat_write_sfnt.specs.CharacterMaps.{character_of, cmap_words, group_w
 use Rattle.aat_write_sfnt.specs.declared.cmap.Mapping.{Mapping}
 use Rattle.aat_write_sfnt.proofs.RisingRows.{rising_rows}
 use Rattle.aat_write_sfnt.proofs.TablesAgain.{word_of}
-use Rattle.aat_write_lookup.specs.Words.{word_bytes}
+use Rattle.aat_write_machine.specs.Words.{word_bytes}
 use Rattle.aat_bytes.specs.facts.Longs.{long_is}
 use Rattle.aat_bytes.specs.declared.tags.TheConstants.{CMAP}
-use Rattle.aat_write_lookup.specs.facts.WordPlaces.{AreWords, length_words, long_again}
-use Rattle.aat_write_lookup.specs.facts.Written.{written_is}
+use Rattle.aat_write_machine.specs.facts.WordPlaces.{AreWords, length_words, long_again}
+use Rattle.aat_write_machine.specs.facts.Written.{written_is}
 
 -- the record of all of Unicode is there, none of symbols is, and its subtable has no fault
 first_is :

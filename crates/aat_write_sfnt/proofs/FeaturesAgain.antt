@@ -26,11 +26,11 @@ use Rattle.aat_write_sfnt.specs.declared.feat.NamedSetting.{NamedSetting}
 use Rattle.aat_write_sfnt.proofs.FontAgain.{neither}
 use Rattle.aat_write_sfnt.proofs.RecordPlaces.{index_6, part_at, part_within, place_of, record_word, records_long}
 use Rattle.aat_write_sfnt.proofs.SettingCounts.{four_each, two_each}
-use Rattle.aat_write_lookup.specs.Features.{feature_flags}
-use Rattle.aat_write_lookup.specs.Words.{word_bytes}
-use Rattle.aat_write_lookup.specs.facts.WordPlaces.{AreWords, length_words, long_again, word_at, words_joined}
-use Rattle.aat_write_lookup.specs.facts.Written.{written_is}
-use Rattle.aat_write_lookup.proofs.FeatAgain.{counted, flags_read, flags_small}
+use Rattle.aat_write_machine.specs.Features.{feature_flags}
+use Rattle.aat_write_machine.specs.Words.{word_bytes}
+use Rattle.aat_write_machine.specs.facts.WordPlaces.{AreWords, length_words, long_again, word_at, words_joined}
+use Rattle.aat_write_machine.specs.facts.Written.{written_is}
+use Rattle.aat_write_machine.proofs.FeatAgain.{counted, flags_read, flags_small}
 
 -- a search over the places of a list leads to the same as one over its elements
 module _ {X Y : Type 0} (p : X → Bool) (q : ℕ → Bool) (F : ℕ → Option Y) (G : X → Option Y) where

@@ -18,10 +18,10 @@ use Rattle.aat_write_sfnt.specs.FontLaws.{HasTag, WrittenTablesAreFound, whole_f
 use Rattle.aat_write_sfnt.specs.Fonts.{SfntTable, directory_words, file_end, padded, padding, record_words, table_bytes, tag_number}
 use Rattle.aat_write_sfnt.specs.Records.{records}
 use Rattle.aat_write_sfnt.proofs.RecordPlaces.{index_8, part_at, part_within, place_of, record_word, records_long, slice_is}
-use Rattle.aat_write_lookup.specs.Words.{word_bytes}
+use Rattle.aat_write_machine.specs.Words.{word_bytes}
 use Rattle.aat_bytes.specs.facts.Longs.{long_is}
-use Rattle.aat_write_lookup.specs.facts.WordPlaces.{AreWords, length_words, long_again, word_at, words_joined}
-use Rattle.aat_write_lookup.specs.facts.Written.{written_is}
+use Rattle.aat_write_machine.specs.facts.WordPlaces.{AreWords, length_words, long_again, word_at, words_joined}
+use Rattle.aat_write_machine.specs.facts.Written.{written_is}
 
 -- the directory of a file that has its records
 directory_is :

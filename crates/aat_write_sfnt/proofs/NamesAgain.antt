@@ -15,9 +15,9 @@ use Rattle.aat_write_sfnt.specs.NameTables.{SfntName, name_record_words, name_wo
 use Rattle.aat_write_sfnt.specs.Records.{records}
 use Rattle.aat_write_sfnt.proofs.FontAgain.{neither}
 use Rattle.aat_write_sfnt.proofs.RecordPlaces.{index_6, part_at, part_within, place_of, place_shift, record_word, records_long, slice_is}
-use Rattle.aat_write_lookup.specs.Words.{word_bytes}
-use Rattle.aat_write_lookup.specs.facts.WordPlaces.{AreWords, length_words, word_at, words_joined}
-use Rattle.aat_write_lookup.specs.facts.Written.{written_is}
+use Rattle.aat_write_machine.specs.Words.{word_bytes}
+use Rattle.aat_write_machine.specs.facts.WordPlaces.{AreWords, length_words, word_at, words_joined}
+use Rattle.aat_write_machine.specs.facts.Written.{written_is}
 
 -- a table that has its records
 names_are :

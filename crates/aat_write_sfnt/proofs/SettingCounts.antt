@@ -6,7 +6,7 @@ use Rattle.std.proofs.lemmas.List.{length-append}
 use Rattle.std.proofs.lemmas.List.Sums.{get_or-le-sum_by, sum_by-cons, sum_by-drop_more}
 use Rattle.aat_write_sfnt.specs.NamedFeatures.{FeatFeature, all_setting_bytes, setting_bytes, setting_count, setting_words}
 use Rattle.aat_write_sfnt.specs.declared.feat.NamedSetting.{NamedSetting}
-use Rattle.aat_write_lookup.specs.facts.WordPlaces.{length_words}
+use Rattle.aat_write_machine.specs.facts.WordPlaces.{length_words}
 
 -- two words for each setting
 pub two_each : (settings : List NamedSetting) → length (flat_map setting_words settings) ≡ 2 * length settings

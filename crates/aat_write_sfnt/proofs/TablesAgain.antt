@@ -16,9 +16,9 @@ use Rattle.aat_read_sfnt.specs.declared.class_definition.ClassDefinition.TheVari
 use Rattle.aat_write_sfnt.specs.GlyphClasses.{gdef_words}
 use Rattle.aat_write_sfnt.specs.LongMetrics.{metric_words}
 use Rattle.aat_write_sfnt.specs.TableLaws.{IsWord, WrittenAdvancesAreRead, WrittenClassesAreRead, WrittenCountsAreRead, WrittenHeadersAreRead, WrittenProfilesAreRead}
-use Rattle.aat_write_lookup.specs.Words.{word_bytes}
-use Rattle.aat_write_lookup.specs.facts.WordPlaces.{AreWords, length_words, word_at}
-use Rattle.aat_write_lookup.specs.facts.Written.{written_is}
+use Rattle.aat_write_machine.specs.Words.{word_bytes}
+use Rattle.aat_write_machine.specs.facts.WordPlaces.{AreWords, length_words, word_at}
+use Rattle.aat_write_machine.specs.facts.Written.{written_is}
 
 pub profiles_are_read : WrittenProfilesAreRead
 unfolding glyph_count

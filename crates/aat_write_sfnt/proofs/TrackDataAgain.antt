@@ -20,8 +20,8 @@ use Rattle.aat_placement.specs.declared.error.TrackingError.{TrackingError}
 use Rattle.aat_placement.specs.declared.error.TrackingError.TheVariants.{TooManyTracks, TooManySizes, ValueCount}
 use Rattle.aat_placement.specs.declared.track_data.Track.{Track}
 use Rattle.aat_read_metrics.specs.Trak as reader
-use Rattle.aat_write_lookup.specs.Words.{word_bytes}
-use Rattle.aat_write_lookup.specs.facts.WordPlaces.{AreWords, length_words, long_again, word_at, words_joined}
+use Rattle.aat_write_machine.specs.Words.{word_bytes}
+use Rattle.aat_write_machine.specs.facts.WordPlaces.{AreWords, length_words, long_again, word_at, words_joined}
 use Rattle.aat_write_sfnt.specs.TrakBytes.{are_too_many, data_words, entries, entry_of, first_far, fixed_words, place_of_sizes, place_of_values, value_word}
 use Rattle.aat_write_sfnt.specs.TrakLaws.{IsData, IsTrack}
 use Rattle.aat_write_sfnt.proofs.TrackEntries.{near_each}

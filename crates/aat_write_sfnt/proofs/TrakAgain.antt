@@ -12,8 +12,8 @@ use Rattle.aat_bytes.specs.declared.error.FaultKind.TheVariants.{UnknownFormat}
 use Rattle.aat_bytes.specs.declared.tags.TheConstants.{TRAK}
 use Rattle.aat_placement.specs.Tracks.{TrackTable, TrackingTable}
 use Rattle.aat_read_metrics.specs.Trak as reader
-use Rattle.aat_write_lookup.specs.Words.{word_bytes}
-use Rattle.aat_write_lookup.specs.facts.WordPlaces.{AreWords, length_words, word_at}
+use Rattle.aat_write_machine.specs.Words.{word_bytes}
+use Rattle.aat_write_machine.specs.facts.WordPlaces.{AreWords, length_words, word_at}
 use Rattle.aat_write_sfnt.specs.declared.trak.error.TrakWriteError.{TrakWriteError}
 use Rattle.aat_write_sfnt.specs.declared.trak.error.TrakWriteError.TheVariants.{TooMany, RowValues, ColumnsTooFar, ColumnValues}
 use Rattle.aat_write_sfnt.specs.TrakBytes.{columns_offset, data_words, offset_of, part_bytes, part_far, part_size, part_too_many, rows_offset, trak_bytes, trak_header}

@@ -3,9 +3,9 @@ use Rattle.std.specs.Prelude.{ℕ, ◌+◌, ◌*◌, List, [], ◌∷◌, ◌++�
 use Rattle.std.specs.List.{flat_map}
 use Rattle.aat_lookup.specs.Keys.{first_fall}
 use Rattle.aat_write_sfnt.specs.declared.cmap.Mapping.{Mapping}
-use Rattle.aat_write_lookup.specs.Words.{long, word_bytes}
-use Rattle.aat_write_lookup.specs.WriteErrors.{unless_refused}
-use Rattle.aat_write_lookup.specs.declared.error.WriteError.{WriteError}
+use Rattle.aat_write_machine.specs.Words.{long, word_bytes}
+use Rattle.aat_write_machine.specs.WriteErrors.{unless_refused}
+use Rattle.aat_write_machine.specs.declared.write_error.WriteError.{WriteError}
 
 -- mappings rise by their characters
 abbrev pub character_of : Mapping → ℕ

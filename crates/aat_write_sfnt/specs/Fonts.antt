@@ -4,9 +4,9 @@ use Rattle.std.specs.List.{flat_map}
 use Rattle.aat_bytes.specs.declared.tag.Tag.{Tag}
 use Rattle.aat_lookup.specs.Keys.{first_fall}
 use Rattle.aat_write_sfnt.specs.Records.{records}
-use Rattle.aat_write_lookup.specs.Words.{long, word_bytes}
-use Rattle.aat_write_lookup.specs.WriteErrors.{unless_refused}
-use Rattle.aat_write_lookup.specs.declared.error.WriteError.{WriteError}
+use Rattle.aat_write_machine.specs.Words.{long, word_bytes}
+use Rattle.aat_write_machine.specs.WriteErrors.{unless_refused}
+use Rattle.aat_write_machine.specs.declared.write_error.WriteError.{WriteError}
 
 -- a table: its tag and its bytes
 pub record SfntTable : Type 0 where

@@ -1,8 +1,8 @@
 -- The glyph definition table as words.
 use Rattle.std.specs.Prelude.{ℕ, List, [], ◌∷◌, ◌++◌, length, None, Result, nat_lt}
-use Rattle.aat_write_lookup.specs.Words.{word_bytes}
-use Rattle.aat_write_lookup.specs.WriteErrors.{unless_refused}
-use Rattle.aat_write_lookup.specs.declared.error.WriteError.{WriteError}
+use Rattle.aat_write_machine.specs.Words.{word_bytes}
+use Rattle.aat_write_machine.specs.WriteErrors.{unless_refused}
+use Rattle.aat_write_machine.specs.declared.write_error.WriteError.{WriteError}
 
 -- version 1.0, the offset 12 of the classes, and three that are missing; format 1, the first glyph 0, and the classes
 abbrev pub gdef_words : List ℕ → List ℕ

@@ -1,9 +1,9 @@
 -- Horizontal metrics as words. Apple's TrueType Reference Manual, "The 'hhea' table" and "The 'hmtx' table".
 use Rattle.std.specs.Prelude.{ℕ, List, [], ◌∷◌, ◌++◌, length, None, Result, nat_lt, replicate}
 use Rattle.std.specs.List.{flat_map}
-use Rattle.aat_write_lookup.specs.Words.{word_bytes}
-use Rattle.aat_write_lookup.specs.WriteErrors.{unless_refused}
-use Rattle.aat_write_lookup.specs.declared.error.WriteError.{WriteError}
+use Rattle.aat_write_machine.specs.Words.{word_bytes}
+use Rattle.aat_write_machine.specs.WriteErrors.{unless_refused}
+use Rattle.aat_write_machine.specs.declared.write_error.WriteError.{WriteError}
 
 -- version 1.0, 15 words that are 0, and the number of long metrics
 abbrev pub hhea_words : ℕ → List ℕ

@@ -3,9 +3,9 @@ use Rattle.std.specs.Prelude.{ℕ, ◌+◌, ◌*◌, List, [], ◌∷◌, ◌++�
 use Rattle.std.specs.List.{flat_map}
 use Rattle.aat_lookup.specs.Keys.{first_fall}
 use Rattle.aat_write_sfnt.specs.Records.{records}
-use Rattle.aat_write_lookup.specs.Words.{word_bytes}
-use Rattle.aat_write_lookup.specs.WriteErrors.{unless_refused}
-use Rattle.aat_write_lookup.specs.declared.error.WriteError.{WriteError}
+use Rattle.aat_write_machine.specs.Words.{word_bytes}
+use Rattle.aat_write_machine.specs.WriteErrors.{unless_refused}
+use Rattle.aat_write_machine.specs.declared.write_error.WriteError.{WriteError}
 
 -- a name: its number and the bytes of its text
 pub record SfntName : Type 0 where

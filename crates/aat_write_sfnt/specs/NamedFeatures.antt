@@ -4,10 +4,10 @@ use Rattle.std.specs.List.{flat_map}
 use Rattle.aat_lookup.specs.Keys.{first_fall}
 use Rattle.aat_write_sfnt.specs.Records.{records}
 use Rattle.aat_write_sfnt.specs.declared.feat.NamedSetting.{NamedSetting}
-use Rattle.aat_write_lookup.specs.Features.{feature_flags}
-use Rattle.aat_write_lookup.specs.Words.{word_bytes}
-use Rattle.aat_write_lookup.specs.WriteErrors.{unless_refused}
-use Rattle.aat_write_lookup.specs.declared.error.WriteError.{WriteError}
+use Rattle.aat_write_machine.specs.Features.{feature_flags}
+use Rattle.aat_write_machine.specs.Words.{word_bytes}
+use Rattle.aat_write_machine.specs.WriteErrors.{unless_refused}
+use Rattle.aat_write_machine.specs.declared.write_error.WriteError.{WriteError}
 
 -- a feature: its type, whether its settings exclude one another, the number of its name, and its settings
 pub record FeatFeature : Type 0 where

@@ -8,7 +8,7 @@ use Rattle.aat_read_sfnt.specs.declared.class_definition.ClassDefinition.TheVari
 use Rattle.aat_write_sfnt.specs.GlyphClasses.{gdef_written}
 use Rattle.aat_write_sfnt.specs.Headers.{head_words, maxp_words}
 use Rattle.aat_write_sfnt.specs.LongMetrics.{hhea_words, hmtx_written}
-use Rattle.aat_write_lookup.specs.Words.{word_bytes}
+use Rattle.aat_write_machine.specs.Words.{word_bytes}
 
 -- a number of 16 bits
 abbrev pub IsWord : ℕ → Type 0

@@ -2,12 +2,12 @@
 ghost use Rattle.std.specs.Prelude.{◌≡◌, ◌++◌, OnOk};
 ghost use Rattle.std.specs.List.{flat_map};
 ghost use Rattle.aat_write_sfnt.specs.CharacterMaps.{cmap_written, group_words};
-ghost use Rattle.aat_write_lookup.specs.Words.{long, word_bytes};
-ghost use Rattle.aat_write_lookup.specs.WriteErrors.{Writes};
+ghost use Rattle.aat_write_machine.specs.Words.{long, word_bytes};
+ghost use Rattle.aat_write_machine.specs.WriteErrors.{Writes};
 
 use crate::longs::append_long;
 use aat_lookup::keys::{Keyed, first_fall};
-use aat_write_lookup::{WriteError, append_words};
+use aat_write_machine::{WriteError, append_words};
 use std::alloc::{AllocError, Allocator};
 
 /// A character and its glyph. Glyph 0 stands for none.

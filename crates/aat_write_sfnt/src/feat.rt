@@ -3,11 +3,11 @@ ghost use Rattle.std.specs.Prelude.{◌≡◌, ◌++◌, ◌*◌, ◌≤◌, OnO
 ghost use Rattle.std.specs.List.{flat_map};
 ghost use Rattle.aat_write_sfnt.specs.NamedFeatures.{all_setting_bytes, feature_record_words, named_feat_written, setting_bytes, setting_count, setting_words};
 ghost use Rattle.aat_write_sfnt.specs.Records.{records};
-ghost use Rattle.aat_write_lookup.specs.Words.{word_bytes};
-ghost use Rattle.aat_write_lookup.specs.WriteErrors.{Writes};
+ghost use Rattle.aat_write_machine.specs.Words.{word_bytes};
+ghost use Rattle.aat_write_machine.specs.WriteErrors.{Writes};
 
 use aat_lookup::keys::{Keyed, first_fall};
-use aat_write_lookup::{WriteError, append_words, feature_flags};
+use aat_write_machine::{WriteError, append_words, feature_flags};
 use std::alloc::{AllocError, Allocator};
 use std::marker::Model;
 

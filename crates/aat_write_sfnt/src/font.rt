@@ -3,13 +3,13 @@ ghost use Rattle.std.specs.Prelude.{◌≡◌, ◌++◌, ◌+◌, ◌<◌, ◌�
 ghost use Rattle.std.specs.List.{flat_map};
 ghost use Rattle.aat_write_sfnt.specs.Fonts.{file_end, font_written, padded, padding, record_words, table_bytes};
 ghost use Rattle.aat_write_sfnt.specs.Records.{records};
-ghost use Rattle.aat_write_lookup.specs.Words.{long, word_bytes};
-ghost use Rattle.aat_write_lookup.specs.WriteErrors.{Writes};
+ghost use Rattle.aat_write_machine.specs.Words.{long, word_bytes};
+ghost use Rattle.aat_write_machine.specs.WriteErrors.{Writes};
 
 use crate::longs::append_long;
 use aat_bytes::Tag;
 use aat_lookup::keys::{Keyed, first_fall};
-use aat_write_lookup::{WriteError, append_words};
+use aat_write_machine::{WriteError, append_words};
 use std::alloc::{AllocError, Allocator};
 use std::marker::Model;
 

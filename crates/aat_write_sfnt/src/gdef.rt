@@ -1,8 +1,8 @@
 //! Classes of glyphs to bytes.
 ghost use Rattle.aat_write_sfnt.specs.GlyphClasses.{gdef_written};
-ghost use Rattle.aat_write_lookup.specs.WriteErrors.{Writes};
+ghost use Rattle.aat_write_machine.specs.WriteErrors.{Writes};
 
-use aat_write_lookup::{WriteError, append_words};
+use aat_write_machine::{WriteError, append_words};
 use std::alloc::Allocator;
 
 /// Writes the classes of glyphs, from glyph 0 on, as a table of version 1.0 with classes of format 1. It has no classes

@@ -1,9 +1,9 @@
 //! The maximum profile and the font header to bytes.
 ghost use Rattle.std.specs.Prelude.{◌≡◌, IfOk};
 ghost use Rattle.aat_write_sfnt.specs.Headers.{head_words, maxp_words};
-ghost use Rattle.aat_write_lookup.specs.Words.{word_bytes};
+ghost use Rattle.aat_write_machine.specs.Words.{word_bytes};
 
-use aat_write_lookup::append_words;
+use aat_write_machine::append_words;
 use std::alloc::{AllocError, Allocator};
 
 /// Writes the number of glyphs as a table of version 0.5, which has nothing else. It fails only where memory is

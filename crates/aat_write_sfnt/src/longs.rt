@@ -1,8 +1,8 @@
 //! Numbers of 32 bits.
 ghost use Rattle.std.specs.Prelude.{◌≡◌, ◌++◌, OnOk};
-ghost use Rattle.aat_write_lookup.specs.Words.{long, word_bytes};
+ghost use Rattle.aat_write_machine.specs.Words.{long, word_bytes};
 
-use aat_write_lookup::append_words;
+use aat_write_machine::append_words;
 use std::alloc::{AllocError, Allocator};
 
 /// Appends a number of 32 bits, big-endian.

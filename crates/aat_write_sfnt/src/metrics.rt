@@ -2,10 +2,10 @@
 ghost use Rattle.std.specs.Prelude.{◌≡◌, ◌++◌, IfOk, OnOk};
 ghost use Rattle.std.specs.List.{flat_map};
 ghost use Rattle.aat_write_sfnt.specs.LongMetrics.{hhea_words, hmtx_written, metric_words};
-ghost use Rattle.aat_write_lookup.specs.Words.{word_bytes};
-ghost use Rattle.aat_write_lookup.specs.WriteErrors.{Writes};
+ghost use Rattle.aat_write_machine.specs.Words.{word_bytes};
+ghost use Rattle.aat_write_machine.specs.WriteErrors.{Writes};
 
-use aat_write_lookup::{WriteError, append_words};
+use aat_write_machine::{WriteError, append_words};
 use std::alloc::{AllocError, Allocator};
 
 /// Writes the number of long metrics as a table of version 1. The other fields are 0. It fails only where memory is

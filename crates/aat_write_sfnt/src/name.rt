@@ -2,11 +2,11 @@
 ghost use Rattle.std.specs.Prelude.{◌≡◌, ◌++◌, ◌+◌, ◌<◌, ◌≤◌, OnOk, length, nat_le};
 ghost use Rattle.std.specs.List.{flat_map};
 ghost use Rattle.aat_write_sfnt.specs.NameTables.{name_record_words, name_records, name_written, text_bytes, text_of_name};
-ghost use Rattle.aat_write_lookup.specs.Words.{word_bytes};
-ghost use Rattle.aat_write_lookup.specs.WriteErrors.{Writes};
+ghost use Rattle.aat_write_machine.specs.Words.{word_bytes};
+ghost use Rattle.aat_write_machine.specs.WriteErrors.{Writes};
 
 use aat_lookup::keys::{Keyed, first_fall};
-use aat_write_lookup::{WriteError, append_words};
+use aat_write_machine::{WriteError, append_words};
 use std::alloc::{AllocError, Allocator};
 use std::marker::Model;
 

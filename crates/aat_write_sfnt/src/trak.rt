@@ -4,7 +4,7 @@ ghost use Rattle.std.specs.List.{flat_map};
 ghost use Rattle.aat_placement.specs.Tracks.{track_at};
 ghost use Rattle.aat_write_sfnt.specs.TrakBytes.{are_too_many, data_words, entries, entry_words, first_far, fixed_words, part_bytes, part_far, part_too_many, trak_written, value_word};
 ghost use Rattle.aat_write_sfnt.specs.TrakWriteErrors.{Writes};
-ghost use Rattle.aat_write_lookup.specs.Words.{word_bytes};
+ghost use Rattle.aat_write_machine.specs.Words.{word_bytes};
 
 pub(crate) mod error;
 mod places;
@@ -15,7 +15,7 @@ use self::places::{
     size_count, track_count,
 };
 use aat_placement::{Track, TrackData, Tracking};
-use aat_write_lookup::append_words;
+use aat_write_machine::append_words;
 use std::alloc::{AllocError, Allocator};
 
 /// Appends a number of 32 bits in two's complement.

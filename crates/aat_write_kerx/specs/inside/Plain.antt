@@ -3,7 +3,7 @@ use Rattle.std.specs.Prelude.{◌≡◌, ℕ, ◌+◌, ◌-◌, ◌*◌, List, [
 use Rattle.aat_machine_tables.specs.Table.{Rule, TableValue}
 use Rattle.aat_machine_tables.specs.declared.entries.EntryData.{EntryData}
 use Rattle.aat_machine_tables.specs.declared.state_table.GenericStateEntry.{GenericStateEntry}
-use Rattle.aat_write_lookup.specs.Words.{long_bytes}
+use Rattle.aat_write_machine.specs.Words.{long_bytes}
 use Rattle.aat_write_machine.specs.EntryWords.{one_word}
 use Rattle.aat_write_machine.specs.Machines as plain
 use Rattle.aat_write_kerx.specs.MachineBytes.{KerxMachine, action_number, is_far}

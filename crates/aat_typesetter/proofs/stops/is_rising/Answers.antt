@@ -1,5 +1,5 @@
 use Rattle.std.proofs.Common.{◌∙◌, ◌-◌, ◌≤◌, arith, length, suc, sym}
-use Rattle.aat_shaper.proofs.Rising.{rising_end}
+use Rattle.aat_drawn_text.proofs.Rising.{rising_end}
 use Rattle.aat_typesetter.proofs.stops.is_rising.Goals as goal
 
 pub returns : goal.returns

@@ -1,6 +1,6 @@
 use Rattle.std.proofs.Common.{◌≡◌, ◌++◌, take}
 use Rattle.std.specs.List.{flat_map}
-use Rattle.aat_write_lookup.specs.Words.{word_bytes}
+use Rattle.aat_write_machine.specs.Words.{word_bytes}
 use Rattle.aat_write_machine.specs.EntryWords.{rule_words}
 use Rattle.aat_write_machine.proofs.machine.append_entries.Given as goal
 

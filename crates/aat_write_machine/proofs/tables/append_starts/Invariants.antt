@@ -1,6 +1,6 @@
 use Rattle.std.proofs.Common.{◌≡◌, ◌+◌, ◌++◌, length, take}
 use Rattle.aat_write_machine.specs.Contextual.{byte_lists, joined, starts_from}
-use Rattle.aat_write_lookup.specs.Words.{long_bytes}
+use Rattle.aat_write_machine.specs.Words.{long_bytes}
 use Rattle.aat_write_machine.proofs.tables.append_starts.Given as goal
 
 abbrev pub invariant-loop-table : goal.invariant-loop-table

@@ -1,5 +1,5 @@
 use Rattle.std.proofs.Common.{◌++◌}
-use Rattle.aat_write_lookup.specs.Words.{word_bytes}
+use Rattle.aat_write_machine.specs.Words.{word_bytes}
 use Rattle.aat_write_outlines.specs.GlyphData.{origin, x_words}
 use Rattle.aat_write_outlines.proofs.Steps.{short_behind, x_pushed, x_short}
 use Rattle.aat_write_outlines.proofs.glyph.append_x.Goals as goal

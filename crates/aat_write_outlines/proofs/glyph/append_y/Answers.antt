@@ -1,5 +1,5 @@
 use Rattle.std.proofs.Common.{◌++◌}
-use Rattle.aat_write_lookup.specs.Words.{word_bytes}
+use Rattle.aat_write_machine.specs.Words.{word_bytes}
 use Rattle.aat_write_outlines.specs.GlyphData.{origin, y_words}
 use Rattle.aat_write_outlines.proofs.Steps.{short_behind, y_pushed, y_short}
 use Rattle.aat_write_outlines.proofs.glyph.append_y.Goals as goal

@@ -1,6 +1,6 @@
 use Rattle.std.proofs.Common.{◌≡◌, ◌++◌, drop, true}
 use Rattle.aat_write_outlines.specs.GlyphData.{are_short_steps, origin, y_words}
-use Rattle.aat_write_lookup.specs.Words.{word_bytes}
+use Rattle.aat_write_machine.specs.Words.{word_bytes}
 use Rattle.aat_write_outlines.proofs.glyph.append_y.Given as goal
 
 abbrev pub invariant-loop-point : goal.invariant-loop-point

@@ -1,5 +1,5 @@
 use Rattle.std.proofs.Common.{◌≡◌, ◌∙◌, ◌++◌, [], ◌∷◌, ap, arith, length, sym}
-use Rattle.aat_write_lookup.specs.Words.{long_bytes}
+use Rattle.aat_write_machine.specs.Words.{long_bytes}
 use Rattle.aat_write_outlines.proofs.Errors.{each_fine}
 use Rattle.aat_write_outlines.proofs.Offsets.{data_more, offset_more}
 use Rattle.aat_write_outlines.proofs.Written.{all_written, no_error, refuses, too_long}

@@ -1,6 +1,6 @@
 use Rattle.std.proofs.Common.{◌≡◌, ◌≤◌, length, map, take}
 use Rattle.std.specs.List.{range_with_len}
-use Rattle.aat_write_lookup.specs.Words.{long_bytes}
+use Rattle.aat_write_machine.specs.Words.{long_bytes}
 use Rattle.aat_write_outlines.specs.Tables.{glyf_bytes, offset_of}
 use Rattle.aat_write_outlines.proofs.tables.write_outlines.Given as goal
 

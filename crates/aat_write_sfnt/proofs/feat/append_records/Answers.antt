@@ -1,7 +1,7 @@
 use Rattle.std.proofs.Common.{◌∙◌, sym, ap, ℕ, ◌+◌, ◌++◌, drop, arith}
 use Rattle.aat_write_sfnt.specs.NamedFeatures.{feature_record_words, setting_bytes}
 use Rattle.aat_write_sfnt.specs.Records.{records}
-use Rattle.aat_write_lookup.specs.Words.{word_bytes}
+use Rattle.aat_write_machine.specs.Words.{word_bytes}
 use Rattle.aat_write_sfnt.proofs.Appending.{record_appended}
 use Rattle.aat_write_sfnt.proofs.SettingCounts.{count_few, count_remains, four_each}
 use Rattle.aat_write_sfnt.proofs.feat.append_records.Goals as goal

@@ -2,7 +2,7 @@ use Rattle.std.proofs.Common.{◌≡◌, ◌+◌, ◌*◌, ◌++◌, drop}
 use Rattle.std.specs.Prelude.{sum_by}
 use Rattle.aat_write_sfnt.specs.NamedFeatures.{feature_record_words, setting_bytes, setting_count}
 use Rattle.aat_write_sfnt.specs.Records.{records}
-use Rattle.aat_write_lookup.specs.Words.{word_bytes}
+use Rattle.aat_write_machine.specs.Words.{word_bytes}
 use Rattle.aat_write_sfnt.proofs.feat.append_records.Given as goal
 
 abbrev pub invariant-loop-feature : goal.invariant-loop-feature

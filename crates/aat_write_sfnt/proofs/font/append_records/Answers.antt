@@ -1,7 +1,7 @@
 use Rattle.std.proofs.Common.{◌∙◌, sym, ap, ℕ, ◌+◌, ◌++◌, drop, arith}
 use Rattle.aat_write_sfnt.specs.Fonts.{padded, record_words}
 use Rattle.aat_write_sfnt.specs.Records.{records}
-use Rattle.aat_write_lookup.specs.Words.{word_bytes}
+use Rattle.aat_write_machine.specs.Words.{word_bytes}
 use Rattle.aat_write_sfnt.proofs.Appending.{part_remains, record_appended}
 use Rattle.aat_write_sfnt.proofs.font.append_records.Goals as goal
 

@@ -1,7 +1,7 @@
 use Rattle.std.proofs.Common.{◌≡◌, ◌+◌, ◌++◌, drop, length}
 use Rattle.aat_write_sfnt.specs.Fonts.{padded, record_words, table_bytes}
 use Rattle.aat_write_sfnt.specs.Records.{records}
-use Rattle.aat_write_lookup.specs.Words.{word_bytes}
+use Rattle.aat_write_machine.specs.Words.{word_bytes}
 use Rattle.aat_write_sfnt.proofs.font.append_records.Given as goal
 
 abbrev pub invariant-loop-table : goal.invariant-loop-table

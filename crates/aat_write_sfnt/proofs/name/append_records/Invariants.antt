@@ -1,7 +1,7 @@
 use Rattle.std.proofs.Common.{◌≡◌, ◌+◌, ◌++◌, drop, length}
 use Rattle.aat_write_sfnt.specs.NameTables.{name_record_words, text_bytes, text_of_name}
 use Rattle.aat_write_sfnt.specs.Records.{records}
-use Rattle.aat_write_lookup.specs.Words.{word_bytes}
+use Rattle.aat_write_machine.specs.Words.{word_bytes}
 use Rattle.aat_write_sfnt.proofs.name.append_records.Given as goal
 
 abbrev pub invariant-loop-name : goal.invariant-loop-name

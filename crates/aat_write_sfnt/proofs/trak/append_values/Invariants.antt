@@ -1,6 +1,6 @@
 use Rattle.std.proofs.Common.{◌≡◌, ◌++◌, map, take}
 use Rattle.aat_write_sfnt.specs.TrakBytes.{value_word}
-use Rattle.aat_write_lookup.specs.Words.{word_bytes}
+use Rattle.aat_write_machine.specs.Words.{word_bytes}
 use Rattle.aat_write_sfnt.proofs.trak.append_values.Given as goal
 
 abbrev pub invariant-loop-value : goal.invariant-loop-value

@@ -9,7 +9,7 @@ use Rattle.aat_shaped_text.specs.Parts.{BreaksHold}
 use Rattle.aat_shaped_text.specs.ShapedText.{drawn_text, may_break_text, most_text, shaped_text, uses_up_budget}
 use Rattle.aat_shaped_text.specs.declared.text.ShapedGlyph.{ShapedGlyph}
 use Rattle.aat_shaper.specs.Shaper.{ShaperValue, value_along}
-use Rattle.aat_shaper.proofs.Kept.{all_undeleted}
+use Rattle.aat_drawn_text.proofs.Kept.{all_undeleted}
 use Rattle.aat_shaper.proofs.shaper.Shaper.shape.Goals as goal
 
 pub returns-clause-shaped : goal.returns-clause-shaped
@@ -19,7 +19,7 @@ returns-clause-shaped g c =
     let given = c.take_features.new.plan.user_features.items in
     let z = c.tracking_along-value.result in
     let fits : FitsSigned w32 z = search rules in
-    (rw c.in-Ok.is at c.shape_over-shaped.ensures.ok)
+    (rw c.in-Ok.is at c.draw_text-shaped.ensures.ok)
     ∙ (ap (λ (v : ShaperValue). shaped_text (to_z w32 (of_z w32 z)) v.font d given text) c.self.view_is
     ∙ (ap (λ (n : ℤ). shaped_text n c.args.self.now.font d given text) (to_z-of_z w32 z fits ∙ c.tracking_along-value.ensures)
     ∙ ap (λ (fs : List Feature). shaped_text (value_along c.args.self.now.values d) c.args.self.now.font d fs text)
@@ -27,7 +27,7 @@ returns-clause-shaped g c =
 
 pub returns-clause-budget : goal.returns-clause-budget
 returns-clause-budget g c =
-    (rw c.in-Ok.is at c.shape_over-shaped.ensures.used)
+    (rw c.in-Ok.is at c.draw_text-shaped.ensures.used)
     ∙ (ap (λ (v : ShaperValue).
     uses_up_budget v.font c.args.direction c.take_features.new.plan.user_features.items c.args.text.now) c.self.view_is
     ∙ ap (λ (fs : List Feature). uses_up_budget c.args.self.now.font c.args.direction fs c.args.text.now)

@@ -1,0 +1,13 @@
+pub mod ClosedLines
+pub mod DrawnPlaces
+pub mod DrawnText
+pub mod EvenlyMapped
+pub mod Kept
+pub mod LineMade
+pub mod Ordered
+pub mod Planned
+pub mod Rising
+pub mod ShownChains
+pub mod Taken
+pub mod Unattached
+pub mod Undeleted

@@ -1,4 +1,0 @@
-pub mod Decimals
-pub mod FeatureExamples
-pub mod Runs
-pub mod TagLaws

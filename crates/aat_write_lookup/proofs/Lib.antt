@@ -1,3 +1,0 @@
-pub mod FeatAgain
-pub mod NoFall
-pub mod ReadAgain

@@ -1,5 +1,0 @@
-use Rattle.aat_write_lookup.proofs.FeatAgain.{written_feats_are_read}
-use Rattle.aat_write_lookup.proofs.laws.written_feats_are_read.Goals as goal
-
-pub returns : goal.returns
-returns c = written_feats_are_read

@@ -1,5 +1,0 @@
-use Rattle.aat_write_lookup.proofs.ReadAgain.{written_lookups_are_read}
-use Rattle.aat_write_lookup.proofs.laws.written_lookups_are_read.Goals as goal
-
-pub returns : goal.returns
-returns c = written_lookups_are_read

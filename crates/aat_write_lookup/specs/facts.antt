@@ -1,3 +1,0 @@
-pub mod LongPlaces
-pub mod WordPlaces
-pub mod Written
