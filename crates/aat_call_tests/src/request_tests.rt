@@ -1,10 +1,9 @@
 //! Twenty thousand requests, which compile in time, and ranges of clusters of a caller's types.
 
-use aat_layout::feature;
 use aat_layout::font::{
     Chain, ChainFeature, FaceTables, Feat, Feature, FeatureName, Morx, hb_font_t, hb_tag_t,
 };
-use aat_layout::{AatError, hb_aat_map_builder_t, hb_aat_map_t};
+use aat_layout::{AatError, feature, hb_aat_map_builder_t, hb_aat_map_t};
 use aat_shape::described::drop_font;
 use std::alloc::Global;
 use std::process::Abort;

@@ -3,8 +3,8 @@ ghost use Rattle.std.specs.Prelude.{◌≡◌, map, IfErr, IfOk, Ok};
 ghost use Rattle.aat_typesetter.specs.FeatureLists.{RefusesList, features_of, texts_of};
 
 use crate::error::FeatureListError;
-use aat_layout::parse_feature;
 use aat_font::Feature;
+use aat_layout::parse_feature;
 use std::alloc::{AllocError, Allocator};
 
 /// The texts of a list, which commas part.

@@ -36,9 +36,9 @@ pub mod worked;
 
 pub use aat_characters::Script;
 pub use aat_face::Face;
-pub use aat_layout::FeatureError;
 pub use aat_font::Feature;
 pub use aat_glyph::Direction;
+pub use aat_layout::FeatureError;
 pub use aat_run::AatError;
 pub use aat_shaped_text::{ShapedGlyph, TextGlyph};
 pub use aat_text::{ClusterLevel, ClusterUnit};
