@@ -5,11 +5,14 @@
 
 Each workload is a font, NAME.ttf, and so many characters of a line. The folder gets the fonts, the texts LENGTH.txt,
 and `requests`, which has the words of `aat bench` for each workload and length, a line each. HarfBuzz reads the same
-files: `hb-shape NAME.ttf --text-file LENGTH.txt --no-glyph-names` draws the same glyphs at the same places.
+files: `hb-shape NAME.ttf --text-file LENGTH.txt --no-glyph-names` draws the same glyphs at the same places, but that
+12.3.2 looks up the classes of ligatures and of inserted glyphs.
 
 - Glyph g is the character U+4E00 + g, an ideograph, which no shaper changes before substitution. It is g + 500 units
-  wide. The classes of GDEF name no glyph, so that no shaper makes classes up.
+  wide. The classes of GDEF name no glyph, so that no shaper makes classes up. NAME-classes.ttf is the same font with
+  classes: most glyphs are bases, some ligatures and marks.
 - A line has glyphs 1 to 200 in an order that has no rule in it, and each line another one.
+- The worst machines take the whole line at each turn, and the worst tables have more subtables or chains than a font.
 - A subtable of morx is on unless a feature switches it off: liga, dlig, clig and hlig do.
 - Lookups and classes that name most glyphs are arrays (format 8), those of a few glyphs lists (format 6).
 """
@@ -36,6 +39,13 @@ ONE_AT_MARK = 0x0001
 
 # The lengths of lines, with the place, the distance and the span of requests over them, and how many lines a text has.
 LINES = {8: (185, 2, 1, 2_500), 20: (185, 2, 1, 1_000), 2_000: (185, 10, 5, 10), 200_000: (185, 1_000, 500, 1)}
+
+# The lengths of lines of the worst workloads, whose time grows with the square of a line.
+SHORT_LINES = (20, 2_000)
+
+# The numbers of a step of a generator of 64 bits, of which the upper half is taken: a low bit comes back after few steps.
+FACTOR = 6364136223846793005
+ADDEND = 1442695040888963407
 
 
 def words(*numbers):
@@ -69,11 +79,11 @@ def glyph_of(number):
 
 def line_of(length, number):
     """The glyphs of a line of a text."""
-    state = number * 40503 + 1 & 0xFFFF
+    state = number
     glyphs = []
     for _place in range(length):
-        state = state * 25173 + 13849 & 0xFFFF
-        glyphs.append(glyph_of(state // 8))
+        state = state * FACTOR + ADDEND & 0xFFFF_FFFF_FFFF_FFFF
+        glyphs.append(glyph_of(state >> 32))
     return glyphs
 
 
@@ -99,8 +109,10 @@ def units(pairs):
 
 
 def multiples(factor):
-    """A lookup of all glyphs, in which the value of each is the glyph for a multiple of it."""
-    return array(1, [glyph_of(glyph * factor & 0xFFFF) for glyph in range(1, LAST + 1)])
+    """A lookup of all glyphs, in which the value of each is the glyph for a multiple of it. One has itself."""
+    values = [glyph_of(glyph * factor & 0xFFFF) for glyph in range(1, LAST + 1)]
+    values[factor] = factor + 1
+    return array(1, values)
 
 
 def themselves(glyphs):
@@ -141,6 +153,19 @@ def sparse_machine(glyphs, entry, lists=()):
     """A machine that waits in one state, in which some glyphs have a class of their own."""
     class_table = units([(glyph, GIVEN_CLASSES) for glyph in glyphs])
     return machine(GIVEN_CLASSES + 1, class_table, 2, lambda _state, column: entry(column), lists)
+
+
+def far_machine(first, others, lists=()):
+    """A machine in which all glyphs have one class: the first glyph of a line has one entry, all others another one."""
+    class_table = array(1, [GIVEN_CLASSES] * LAST)
+    idle = bytes(len(first))
+
+    def entry(state, column):
+        if column < GIVEN_CLASSES:
+            return idle[:4] + words(*(NONE for _ in range(len(first) // 2 - 2)))
+        return others if state == 2 else first
+
+    return machine(GIVEN_CLASSES + 1, class_table, 3, entry, lists)
 
 
 def number_of(state, column):
@@ -192,11 +217,15 @@ def noncontextual():
     return [(4, multiples(factor)) for factor in (7, 9, 11, 13, 17, 19, 21, 23)]
 
 
-def ligatures():
+def ligature_lists():
     """Two actions make a ligature of two glyphs, whose components add up to less than 16."""
     components = words(*(glyph % 8 for glyph in range(256)))
     joined = words(*(glyph_of(place * 12) for place in range(16)))
-    return [(2, dense_machine(16, 24, joining, [longs(0, 0x8000_0000), components, joined]))]
+    return [longs(0, 0x8000_0000), components, joined]
+
+
+def ligatures():
+    return [(2, dense_machine(16, 24, joining, ligature_lists()))]
 
 
 def lookup_list(lookups):
@@ -221,6 +250,10 @@ def insertion():
     return [(5, dense_machine(20, 4, inserting, [words(5, 17, 29, 101)]))]
 
 
+# All kinds, as they take turns.
+KINDS = (2, 1, 4, 0, 5)
+
+
 def sleeper(kind, glyphs):
     """A subtable of a kind that acts at some glyphs alone, and changes nothing there."""
     if kind == 0:
@@ -238,7 +271,7 @@ def mixed(glyphs_of):
     """Twenty subtables of all kinds, each of which acts at a few glyphs alone, as most subtables of a font do."""
     made = []
     for number in range(20):
-        kind = (2, 1, 4, 0, 5)[number % 5]
+        kind = KINDS[number % 5]
         glyphs = [glyph_of(glyph) for glyph in glyphs_of(number)] + [STRANGERS + number]
         made.append((kind, sleeper(kind, glyphs)))
     return made
@@ -248,10 +281,43 @@ def five_of_two(number):
     return [number * 7 + place * 2 for place in range(5)] if number in (3, 12) else []
 
 
+# The worst.
+
+
+def far_replacement():
+    """Marks the first glyph, and replaces it at each other one."""
+    lists = [lookup_list([multiples(7)])]
+    return [(1, far_machine(words(2, MARK, NONE, NONE), words(2, 0, 0, NONE), lists))]
+
+
+def far_ligature():
+    """Joins each glyph to the first."""
+    return [(2, far_machine(words(2, MARK, NONE), words(2, JOIN, 0), ligature_lists()))]
+
+
+def far_insertion():
+    """Marks the first glyph, and inserts one behind it at each other one."""
+    return [(5, far_machine(words(2, MARK, NONE, NONE), words(2, ONE_AT_MARK, NONE, 0), [words(5)]))]
+
+
+def sleepers(count):
+    """So many subtables of all kinds, none of which acts at a glyph of a line."""
+    return [(kind, sleeper(kind, [STRANGERS + number % 20])) for number in range(count) for kind in [KINDS[number % 5]]]
+
+
+def wakers(count):
+    """So many subtables of all kinds, each of which acts at one glyph of the lines."""
+    made = []
+    for number in range(count):
+        kind = KINDS[number % 5]
+        made.append((kind, sleeper(kind, [glyph_of(number * 7), STRANGERS])))
+    return made
+
+
 # Tables.
 
 
-def morx(subtables):
+def chain(subtables):
     """A chain of subtables for all text, which each setting switches on or off."""
     settings = b""
     for on in (2, 4, 18, 20):
@@ -260,8 +326,12 @@ def morx(subtables):
     for kind, content in subtables:
         content = padded(content)
         body += longs(12 + len(content), 0x2000_0000 | kind, 1) + content
-    chain = longs(1, 16 + len(settings) + len(body), 8, len(subtables)) + settings + body
-    return words(2, 0) + longs(1) + chain
+    return longs(1, 16 + len(settings) + len(body), 8, len(subtables)) + settings + body
+
+
+def morx(chains):
+    """Chains of subtables, one behind the other."""
+    return words(2, 0) + longs(len(chains)) + b"".join(chain(subtables) for subtables in chains)
 
 
 def feat():
@@ -270,9 +340,14 @@ def feat():
     return longs(0x0001_0000) + words(1, 0) + longs(0) + words(1, 8) + longs(24) + words(0, 256) + names
 
 
-def substituted(subtables):
+def substituted(*chains):
     """The tables of a font that substitutes."""
-    return {"morx": morx(subtables), "feat": feat()}
+    return {"morx": morx(chains), "feat": feat()}
+
+
+def in_chains(subtables):
+    """The tables of a font that substitutes, with a chain for each subtable."""
+    return substituted(*([subtable] for subtable in subtables))
 
 
 def kern(number, content):
@@ -386,6 +461,12 @@ def cmap():
     return words(0, 1, 3, 10) + longs(12) + words(12, 0) + longs(28, 0, 1) + group
 
 
+def glyph_classes():
+    """GDEF with the classes of glyphs: of twenty, two are ligatures, one is a mark, and the others are bases."""
+    classes = [{7: 2, 17: 2, 13: 3}.get(glyph % 20, 1) for glyph in range(1, GLYPHS)]
+    return longs(0x0001_0000) + words(12, 0, 0, 0) + words(1, 1, len(classes), *classes)
+
+
 def plain_tables():
     """The tables that each font has."""
     return {
@@ -430,6 +511,15 @@ FONTS = {
     "kerx-anchors": lambda: {"kerx": kerx(4, anchored_machine()), "ankr": ankr()},
 }
 
+WORST_FONTS = {
+    "far-replacement": lambda: substituted(far_replacement()),
+    "far-ligature": lambda: substituted(far_ligature()),
+    "far-insertion": lambda: substituted(far_insertion()),
+    "256-chains-asleep": lambda: in_chains(sleepers(256)),
+    "2048-asleep": lambda: substituted(sleepers(2_048)),
+    "130-chains-awake": lambda: in_chains(wakers(130)),
+}
+
 
 # Requests.
 
@@ -447,7 +537,11 @@ def feature_list(count, places, stride, span):
 def requests():
     """The words of each request: a font, the length of a line, and what is asked besides."""
     for name in FONTS:
-        for length in LINES:
+        for variant in (name, f"{name}-classes"):
+            for length in LINES:
+                yield variant, length, []
+    for name in WORST_FONTS:
+        for length in SHORT_LINES:
             yield name, length, []
     for name in ("noncontextual", "ligatures"):
         for length, (places, stride, span, _lines) in LINES.items():
@@ -470,6 +564,9 @@ def main():
     folder = sys.argv[1]
     os.makedirs(folder, exist_ok=True)
     for name, tables in FONTS.items():
+        write(folder, f"{name}.ttf", font(tables()))
+        write(folder, f"{name}-classes.ttf", font({**tables(), "GDEF": glyph_classes()}))
+    for name, tables in WORST_FONTS.items():
         write(folder, f"{name}.ttf", font(tables()))
     for length, (_places, _stride, _span, lines) in LINES.items():
         write(folder, f"{length}.txt", text_of(length, lines).encode())

@@ -11,11 +11,11 @@ use crate::bench::lines::lines_of;
 use crate::bench::outcome::write_outcomes;
 use crate::bench::timing::write_times;
 pub use crate::bench::work::BenchFont;
-use crate::bench::work::{Work, plan_of};
+use crate::bench::work::{KERNED, Work};
 use aat_layout::buffer::Direction;
-use aat_layout::font::Feature;
+use aat_layout::font::{Feature, hb_ot_shape_plan_t};
 use aat_shaper::Shaper;
-use aat_text::ClusterUnit;
+use aat_text::{ClusterLevel, ClusterUnit, Script};
 use anyhow::Result;
 use std::io::Write;
 
@@ -29,10 +29,20 @@ pub struct BenchText<'t> {
     pub characters: &'t str,
     /// How many characters a line has, where the lines of the text are cut.
     pub length: Option<u32>,
-    /// The direction of all lines; without one each runs as its first strong character does.
+    /// The direction of all lines; without one each runs as its script does.
     pub direction: Option<Direction>,
+    /// The script of all lines; without one each has that of its characters.
+    pub script: Option<Script>,
     /// What clusters count.
     pub unit: ClusterUnit,
+    /// What has a cluster of its own.
+    pub level: ClusterLevel,
+}
+
+/// A typesetter, whose time is taken too.
+pub trait TypesetsLine {
+    /// Typesets a line of a text.
+    fn typeset(&mut self, characters: &str) -> Result<()>;
 }
 
 /// Shapes a text in a font, and writes what comes out of each step: how many glyphs in how many turns, and a checksum.
@@ -40,25 +50,30 @@ pub struct BenchText<'t> {
 /// byte of the font, character or feature.
 ///
 /// An error is that of a step, of the output or of the clock. A part of the output may be written then.
-pub fn measure<W: Write>(
+pub fn measure<W: Write, T: TypesetsLine>(
     rt: &HostRuntime,
     out: &mut W,
     font: BenchFont<'_, '_>,
-    features: Vec<Feature>,
+    features: &[Feature],
     text: BenchText<'_>,
+    typesetter: &mut T,
     rounds: u32,
 ) -> Result<()> {
     let alloc = rt.alloc();
     let work = Work {
         font,
-        unit: text.unit,
+        text,
         lines: lines_of(alloc, font.face, text)?,
-        plan: plan_of(features),
+        plan: hb_ot_shape_plan_t {
+            requested_kerning: true,
+            kern_mask: KERNED,
+            ..hb_ot_shape_plan_t::new(features.to_vec(alloc)?)
+        },
     };
     let mut shaper = Shaper::new(alloc, font.face.font());
     write_outcomes(alloc, out, &work, &mut shaper)?;
     if rounds > 0 {
-        write_times(rt, out, &work, &mut shaper, rounds)?;
+        write_times(rt, out, &work, &mut shaper, typesetter, rounds)?;
     }
     Ok(())
 }

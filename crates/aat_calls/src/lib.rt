@@ -12,7 +12,7 @@ mod line;
 mod names;
 mod trace;
 
-pub use bench::{BenchFont, BenchText, measure};
+pub use bench::{BenchFont, BenchText, TypesetsLine, measure};
 pub use face::read_face;
 pub use names::subtable_names;
 pub use trace::{trace_of, write_trace};

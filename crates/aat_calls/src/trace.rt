@@ -7,15 +7,8 @@ use aat_layout::font::{Feature, hb_font_t, hb_ot_shape_plan_t};
 use aat_shaper::TextGlyph;
 use aat_trace::{Trace, TracedAct, TracedSubtable, trace_substitution};
 use anyhow::Result;
-use std::alloc::{AllocError, Global};
+use std::alloc::Global;
 use std::io::{self, Write};
-
-/// The features in a list of their own.
-fn copy_of(alloc: Global, features: &[Feature]) -> Result<Vec<Feature>, AllocError> {
-    let mut copy = Vec::new(alloc);
-    copy.extend_from_slice(features)?;
-    Ok(copy)
-}
 
 /// Traces what the substitution of a text does.
 pub fn trace_of(
@@ -26,7 +19,7 @@ pub fn trace_of(
     features: &[Feature],
 ) -> Result<Trace> {
     let mut buffer = buffer_of(alloc, font, direction, text, 0)?;
-    let plan = hb_ot_shape_plan_t::new(copy_of(alloc, features)?);
+    let plan = hb_ot_shape_plan_t::new(features.to_vec(alloc)?);
     Ok(trace_substitution(alloc, &plan, font, &mut buffer)?)
 }
 

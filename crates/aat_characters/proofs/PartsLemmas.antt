@@ -83,7 +83,7 @@ module _ {X : Type 0} (done : List (List X)) (part : List X) where
   one_more : length (done ++ part ∷ []) - 1 ≡ length done
   one_more = let n : length (done ++ part ∷ []) ≡ length done + 1 = length-append done (part ∷ []) in omega arith
 
-  last_is : last_part (done ++ part ∷ []) ≡ part
+  pub last_is : last_part (done ++ part ∷ []) ≡ part
   last_is = ap (λ n. get_or (done ++ part ∷ []) n []) one_more ∙ last_at done
     where
       last_at : (ps : List (List X)) → get_or (ps ++ part ∷ []) (length ps) [] ≡ part

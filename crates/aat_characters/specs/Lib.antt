@@ -1,3 +1,4 @@
+pub mod Apart
 pub mod ClusterExamples
 pub mod Clusters
 pub mod Composed

@@ -17,7 +17,7 @@ fn is_joiner(character: char) -> bool
 
 /// Whether a character continues each cluster: a mark, a modifier of emoji, a zero width joiner, a halfwidth voiced
 /// sound mark of Katakana, and a tag.
-fn extends(character: char) -> bool
+pub fn extends(character: char) -> bool
     ensures { result ≡ extends character }
 {
     let code = character as u32;

@@ -142,7 +142,8 @@ fn put_written<A: Allocator>(
     Ok(())
 }
 
-/// Puts a character behind others, as the font can write it.
+/// Puts a character behind others, as the font can write it. One that it has is the shortest way to write it.
+#[tactic(auto, using(crate::proofs::Apart::kept_character))]
 fn put_character<A: Allocator>(
     face: &Face,
     shortest: bool,
@@ -152,6 +153,10 @@ fn put_character<A: Allocator>(
     ensures { OnOk result (out.new.items
         ≡ out.old.items ++ decomposed_character (has_glyph face.now) shortest character) }
 {
+    if shortest && has_glyph(face, character.character) {
+        out.push(character)?;
+        return Ok(());
+    }
     let mut room = ['\0'; 3];
     let parts = decomposition(character.character, Form::Nfd, &mut room);
     match chosen_way(face, shortest, character.character, parts) {

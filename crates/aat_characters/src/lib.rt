@@ -20,13 +20,13 @@ mod vertical_rows;
 #[doc(hidden)]
 pub mod worked;
 
-pub use clusters::{merged_clusters, turned_clusters};
+pub use clusters::{extends, merged_clusters, turned_clusters};
 pub use composed::normalized;
 pub use decomposed::has_glyph;
 pub use exchanges::{mirrored, vertical_form};
 pub use mark::box_class;
 pub use mark_places::{beside, minus, over, plus, with_mark};
-pub use native::{native_direction, natural_direction, told_script};
+pub use native::{is_regional_indicator, native_direction, natural_direction, told_script};
 pub use placed_character::PlacedCharacter;
 pub use script::{Script, script_direction, text_script};
 pub use script_rules::{MarkWidths, ScriptRules};

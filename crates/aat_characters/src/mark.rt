@@ -62,6 +62,8 @@ pub(crate) fn is_mark(character: char) -> bool
 }
 
 /// The class by which a mark is ordered behind its letter, as HarfBuzz has it, and 0 of a character that is not moved.
+/// No row of another class is looked for where there is none.
+#[tactic(auto, using(crate::proofs::RowsRise::unmoved_class))]
 pub(crate) fn mark_class(character: char) -> u8
     ensures { result ≡ mark_class character }
 {
@@ -70,7 +72,10 @@ pub(crate) fn mark_class(character: char) -> u8
         '\u{1A60}' | '\u{FC6}' => 254,
         // Tibetan tsa-phru
         '\u{F39}' => 127,
-        character => shaping_class(canonical_combining_class(character)),
+        character => match canonical_combining_class(character) {
+            0 => 0,
+            class => shaping_class(class),
+        },
     }
 }
 

@@ -53,7 +53,7 @@ fn is_digit(character: char) -> bool
 }
 
 /// Whether a character is a regional indicator, two of which are a flag.
-pub(crate) fn is_regional_indicator(character: char) -> bool
+pub fn is_regional_indicator(character: char) -> bool
     ensures { result ≡ is_regional_indicator character }
 {
     let code = character as u32;
@@ -74,11 +74,12 @@ fn has_letter(text: &str) -> bool
     text.chars().any(|character| is_letter(character))
 }
 
-/// Whether a text has a decimal digit or a regional indicator, and no letter.
+/// Whether a text has a decimal digit or a regional indicator, and no letter. Most texts have a letter among their first
+/// characters, and numbers further on, if any.
 fn is_numeric(text: &str) -> bool
     ensures { result ≡ is_numeric text.now }
 {
-    has_number(text) && !has_letter(text)
+    !has_letter(text) && has_number(text)
 }
 
 /// The direction in which HarfBuzz shapes a text of a script that runs in `direction`. In rows it is that in which the

@@ -1,10 +1,9 @@
 //! The command `aat batch`: requests are answered, a line each.
 
 use crate::command_line::run_command;
-use crate::hidden_commands::command;
 use crate::output::OUTPUT;
-use crate::request_words::words_of;
 use crate::session::{Session, Speaker};
+use aat_words::{command, words_of};
 use anyhow::{Context, Result};
 use clap::Error;
 use std::io::{BufRead, BufReader, Write};

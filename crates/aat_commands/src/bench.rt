@@ -3,10 +3,24 @@
 use crate::request::Request;
 use crate::session::Session;
 use crate::source::{FontSource, text_of_file};
-use aat_calls::{BenchFont, BenchText, measure};
+use aat_calls::{BenchFont, BenchText, TypesetsLine, measure};
+use aat_typesetter::{TextOptions, Typesetter};
 use anyhow::{Context, Result};
 use clap::ArgMatches;
 use std::io::Write;
+
+/// A typesetter with the options of a command line.
+#[derive(Drop)]
+struct OptionsTypesetter<'o, 'f> {
+    typesetter: Typesetter<'f>,
+    options: TextOptions<'o>,
+}
+
+impl TypesetsLine for OptionsTypesetter<'_, '_> {
+    fn typeset(&mut self, characters: &str) -> Result<()> {
+        Ok(self.typesetter.line(characters, &self.options)?)
+    }
+}
 
 /// Tells what shaping the text of a file leaves, and how long it takes.
 pub(crate) fn bench<W: Write>(
@@ -30,8 +44,22 @@ pub(crate) fn bench<W: Write>(
         characters: text.as_str(),
         length: matches.get_one::<u32>("length"),
         direction: request.direction,
+        script: request.script,
         unit: request.unit,
+        level: request.level,
+    };
+    let mut typesetter = OptionsTypesetter {
+        typesetter: Typesetter::new(rt.alloc(), font.face),
+        options: request.options(),
     };
     let rounds = matches.get_one::<u32>("rounds").unwrap_or(0);
-    measure(rt, out, bench_font, request.features, bench_text, rounds)
+    measure(
+        rt,
+        out,
+        bench_font,
+        &request.features,
+        bench_text,
+        &mut typesetter,
+        rounds,
+    )
 }

@@ -1,14 +1,14 @@
 //! What is told of a line that is typeset is put together.
 
-use crate::request::{Output, Request};
+use crate::request::Request;
 use crate::session::Speaker;
 use aat_calls::trace_of;
-use aat_drawing::{DrawnGlyph, DrawnLine, LineBreak, drawn_changes};
+use aat_drawing::{DrawnLine, drawn_changes, drawn_glyphs};
 use aat_text::LineEnd;
 use aat_trace::Trace;
 use aat_typesetter::{Direction, Face, ShapedGlyph, TextGlyph};
 use anyhow::Result;
-use std::alloc::{AllocError, Global};
+use std::alloc::Global;
 
 /// What the lines of a text have in common.
 #[derive(Drop)]
@@ -23,77 +23,9 @@ pub(crate) struct Context<'a, 'f> {
     pub(crate) speaker: Speaker,
 }
 
-/// A line that was shaped.
-#[derive(Drop)]
-pub(crate) struct ShapedLine {
-    /// What is drawn of it.
-    pub(crate) drawn: DrawnLine,
-    /// What each subtable changed, where that is asked or shown.
-    pub(crate) trace: Option<Trace>,
-}
-
-/// Whether the text may be broken between two glyphs that are drawn one behind the other: where a line may end at the
-/// later one of their clusters.
-fn break_between(ends: &[LineEnd], before: &ShapedGlyph, glyph: &ShapedGlyph) -> LineBreak {
-    let place = before.cluster.max(glyph.cluster);
-    let index = ends.partition_point(|end| end.place < place);
-    let is_end = ends.get(index).is_some_and(|end| end.place == place);
-    if !is_end || before.cluster == glyph.cluster {
-        LineBreak::Never
-    } else if glyph.may_break_before {
-        LineBreak::AsDrawn
-    } else {
-        LineBreak::ShapedAnew
-    }
-}
-
-/// The glyphs of a line, with what changed them, and where it may be broken: `ends` are the places of the text where a
-/// line may end.
-fn drawn_glyphs(
-    alloc: Global,
-    ends: &[LineEnd],
-    glyphs: &[ShapedGlyph],
-    changes: &[Option<usize>],
-) -> Result<Vec<DrawnGlyph>, AllocError> {
-    let mut drawn = Vec::new(alloc);
-    let mut before = None;
-    for (place, glyph) in glyphs.iter().enumerate() {
-        let break_before = match before {
-            None => LineBreak::Never,
-            Some(before) => break_between(ends, before, glyph),
-        };
-        drawn.push(DrawnGlyph {
-            glyph: *glyph,
-            changed_by: changes.get(place).copied().flatten(),
-            break_before,
-        })?;
-        before = Some(glyph);
-    }
-    Ok(drawn)
-}
-
-/// The changes of the glyphs that are drawn, none without a trace.
-fn changes_of(
-    alloc: Global,
-    trace: &Option<Trace>,
-    direction: Direction,
-    shaped: &[ShapedGlyph],
-    drawn: &[ShapedGlyph],
-) -> Result<Vec<Option<usize>>, AllocError> {
-    match trace {
-        None => Ok(Vec::new(alloc)),
-        Some(trace) => drawn_changes(alloc, trace, direction, shaped, drawn),
-    }
-}
-
-/// The most glyphs of a line that is traced for the colours of a picture. A trace takes a time that grows with the square
-/// of the line.
+/// The most glyphs of a line that is traced for the colours of a picture. Where glyphs go in, their time grows with the
+/// square of the line.
 const MOST_COLOURED: usize = 1_000;
-
-/// Whether what each subtable changed is told of a line, or shown.
-fn is_traced(output: Output, text: &[TextGlyph]) -> bool {
-    output == Output::Trace || output.is_picture() && text.len() <= MOST_COLOURED
-}
 
 /// A line that is typeset, with the text that it is a part of.
 #[derive(Clone, Copy)]
@@ -110,22 +42,44 @@ pub(crate) struct SetLine<'t> {
     pub(crate) glyphs: &'t [ShapedGlyph],
 }
 
-/// Tells of a line that is typeset what changed it, and where it may be broken.
-pub(crate) fn shaped_line(
+/// What each subtable changed of a line that is typeset.
+pub(crate) fn line_trace(
     alloc: Global,
     context: &Context<'_, '_>,
     line: SetLine<'_>,
-) -> Result<ShapedLine> {
+) -> Result<Trace> {
     let features = context.request.features.as_slice();
-    let direction = line.direction;
-    let trace = if is_traced(context.request.output, line.text) {
-        let font = context.face.font();
-        Some(trace_of(alloc, font, direction, line.text, features)?)
-    } else {
-        None
-    };
-    let changes = changes_of(alloc, &trace, direction, line.shaped, line.glyphs)?;
-    let glyphs = drawn_glyphs(alloc, line.ends, line.glyphs, &changes)?;
-    let drawn = DrawnLine { direction, glyphs };
-    Ok(ShapedLine { drawn, trace })
+    trace_of(
+        alloc,
+        context.face.font(),
+        line.direction,
+        line.text,
+        features,
+    )
+}
+
+/// The subtable that changed each glyph that is drawn of a line, where a picture shows it.
+fn changes_of(
+    alloc: Global,
+    context: &Context<'_, '_>,
+    line: SetLine<'_>,
+) -> Result<Vec<Option<usize>>> {
+    if !context.request.output.is_picture() || line.text.len() > MOST_COLOURED {
+        return Ok(Vec::new(alloc));
+    }
+    let trace = line_trace(alloc, context, line)?;
+    Ok(drawn_changes(alloc, &trace, line.direction, line.shaped, line.glyphs)?)
+}
+
+/// A line that is typeset with what changed its glyphs, and where it may be broken.
+pub(crate) fn drawn_line(
+    alloc: Global,
+    context: &Context<'_, '_>,
+    line: SetLine<'_>,
+) -> Result<DrawnLine> {
+    let changes = changes_of(alloc, context, line)?;
+    Ok(DrawnLine {
+        direction: line.direction,
+        glyphs: drawn_glyphs(alloc, line.ends, line.glyphs, &changes)?,
+    })
 }

@@ -1,6 +1,6 @@
 //! Lines are shown in the form that is asked.
 
-use crate::line::{Context, ShapedLine};
+use crate::line::{Context, SetLine, drawn_line, line_trace};
 use crate::request::Output;
 use aat_calls::write_trace;
 use aat_drawing::{
@@ -9,6 +9,7 @@ use aat_drawing::{
 };
 use aat_read_outlines::Outlines;
 use aat_read_sfnt::FontFile;
+use aat_typesetter::ShapedGlyph;
 use anyhow::{Context as _, Result, anyhow, bail};
 use std::alloc::Global;
 use std::io::{self, Write};
@@ -20,29 +21,35 @@ pub(crate) const OUTPUT: &str = "the output";
 fn write_plain<W: Write>(
     out: &mut W,
     context: &Context<'_, '_>,
-    line: &DrawnLine,
+    glyphs: &[ShapedGlyph],
 ) -> io::Result<()> {
     if context.request.shows_flags {
-        write_flagged_glyphs(out, line)
+        write_flagged_glyphs(out, glyphs)
     } else {
-        write_glyphs(out, line)
+        write_glyphs(out, glyphs)
     }
 }
 
-/// Writes a line in a form that shows each line by itself.
-pub(crate) fn write_line<W: Write>(
+/// Writes a line that is typeset in the form that is asked, or keeps it for a picture.
+pub(crate) fn show_line<W: Write>(
     alloc: Global,
     out: &mut W,
     context: &Context<'_, '_>,
-    line: &ShapedLine,
-) -> io::Result<()> {
-    match (context.request.output, &line.trace) {
-        (Output::Json, _) => write_json(alloc, out, &line.drawn),
-        (Output::Trace, Some(trace)) => {
-            write_trace(out, context.face.font(), trace)?;
-            write_plain(out, context, &line.drawn)
+    line: SetLine<'_>,
+    kept: &mut Vec<DrawnLine>,
+) -> Result<()> {
+    match context.request.output {
+        Output::Glyphs => write_plain(out, context, line.glyphs).context(OUTPUT),
+        Output::Trace => {
+            let trace = line_trace(alloc, context, line)?;
+            write_trace(out, context.face.font(), &trace).context(OUTPUT)?;
+            write_plain(out, context, line.glyphs).context(OUTPUT)
         }
-        _ => write_plain(out, context, &line.drawn),
+        Output::Json => {
+            let drawn = drawn_line(alloc, context, line)?;
+            write_json(alloc, out, &drawn).context(OUTPUT)
+        }
+        Output::Svg | Output::Boxes => Ok(kept.push(drawn_line(alloc, context, line)?)?),
     }
 }
 

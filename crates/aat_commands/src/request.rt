@@ -30,6 +30,11 @@ impl Output {
         self == Output::Svg || self == Output::Boxes
     }
 
+    /// Whether it is told where the text may be broken, and by which subtable a glyph was changed.
+    pub(crate) fn tells_of_glyphs(self) -> bool {
+        self == Output::Json || self.is_picture()
+    }
+
     /// Whether glyphs may be shown with their flags.
     fn has_flags(self) -> bool {
         self == Output::Glyphs || self == Output::Trace

@@ -2,9 +2,9 @@
 
 use crate::fonts::Font;
 use crate::glyph_list::glyphs_of;
-use crate::line::{Context, SetLine, ShapedLine, shaped_line};
+use crate::line::{Context, SetLine};
 use crate::missing::tell_missing;
-use crate::output::{OUTPUT, write_line, write_picture};
+use crate::output::{show_line, write_picture};
 use crate::progress::Progress;
 use crate::request::Request;
 use crate::session::Session;
@@ -17,23 +17,6 @@ use anyhow::{Context as _, Result, anyhow};
 use clap::ArgMatches;
 use std::alloc::Global;
 use std::io::Write;
-
-/// Writes a line, or keeps it for a picture.
-fn show_line<W: Write>(
-    alloc: Global,
-    out: &mut W,
-    context: &Context<'_, '_>,
-    line: SetLine<'_>,
-    kept: &mut Vec<DrawnLine>,
-) -> Result<()> {
-    let shaped = shaped_line(alloc, context, line)?;
-    if context.request.output.is_picture() {
-        kept.push(shaped.drawn)?;
-        Ok(())
-    } else {
-        write_line(alloc, out, context, &shaped).context(OUTPUT)
-    }
-}
 
 /// Writes the line that was typeset last, or keeps it for a picture.
 fn show_whole<W: Write>(
@@ -98,7 +81,11 @@ fn shape_text_line<W: Write>(
     kept: &mut Vec<DrawnLine>,
 ) -> Result<()> {
     let options = context.request.options();
-    let ends = line_ends(alloc, options.unit, text)?;
+    let ends = if context.request.output.tells_of_glyphs() {
+        line_ends(alloc, options.unit, text)?
+    } else {
+        Vec::new(alloc)
+    };
     if let Some(width) = context.request.width
         && !text.is_empty()
     {
@@ -119,9 +106,11 @@ fn shape_told_line<W: Write>(
     (number, line): (usize, &str),
     kept: &mut Vec<DrawnLine>,
 ) -> Result<()> {
-    tell_missing(rt, progress, context, number, line)?;
     let shaped = shape_text_line(rt.alloc(), out, context, typesetter, line, kept);
     shaped.with_context(|| anyhow!("line {number}"))?;
+    if typesetter.text().iter().any(|glyph| glyph.glyph_id == 0) {
+        tell_missing(rt, progress, context, number, line)?;
+    }
     progress.add(rt, line.len())?;
     Ok(())
 }

@@ -10,7 +10,8 @@ use anyhow::{Context, Error, Result, anyhow, ensure};
 use bumpalo::Bump;
 use clap::ArgMatches;
 use std::alloc::{AllocError, Global};
-use std::{fs, io};
+use std::fs::{self, File, OpenFile};
+use std::io::{self, Read};
 
 /// What names a font: its path, its index in the file, and the changes of the file's bytes.
 #[derive(Clone, Copy)]
@@ -52,7 +53,7 @@ impl<'a> FontSource<'a> {
     /// The bytes of the file, with their changes.
     pub(crate) fn bytes(&self, rt: &HostRuntime) -> Result<Vec<u8>> {
         let path = self.path;
-        let mut bytes = fs::read(rt, path).with_context(|| anyhow!("{path}"))?;
+        let mut bytes = bytes_of_file(rt, path).with_context(|| anyhow!("{path}"))?;
         if !self.changes.is_empty() {
             let changed = change_bytes(rt.alloc(), &mut bytes, self.changes);
             changed.with_context(|| anyhow!("{path}"))?;
@@ -88,6 +89,16 @@ impl<'a> FontSource<'a> {
             Err(fault) => Err(self.fault(fault)),
         }
     }
+}
+
+/// The bytes of a file. Room for all of them is taken at once, so that none is copied for room, and for one more, at which
+/// the end is seen.
+fn bytes_of_file(rt: &HostRuntime, path: &str) -> io::Result<Vec<u8>> {
+    let mut file = File::open(rt, path)?;
+    let size = usize::try_from(file.metadata()?.len()).unwrap_or(0);
+    let mut bytes = Vec::with_capacity(rt.alloc(), size.saturating_add(1))?;
+    file.read_to_end(&mut bytes)?;
+    Ok(bytes)
 }
 
 /// The text of a file, or of the standard input where the path is `-` and that has no requests.

@@ -1,59 +1,145 @@
 //! Glyphs in the form of `hb-shape`.
+ghost use Rattle.std.specs.Prelude.{◌≡◌, ◌+◌, ◌<◌, ◌≤◌};
 
-use crate::line::DrawnLine;
 use aat_shaper::ShapedGlyph;
+use itoa::write_digits;
 use std::io::{self, Write};
 
 /// What stands between two glyphs.
-const BEHIND: &str = "|";
+const BEHIND: u8 = b'|';
 
-/// Writes a glyph: its number and its cluster, its offset unless that is 0, and its advance.
-fn write_glyph<W: Write>(out: &mut W, glyph: &ShapedGlyph) -> io::Result<()> {
-    write!(out, "{}={}", glyph.glyph_id, glyph.cluster)?;
-    if (glyph.x_offset, glyph.y_offset) != (0, 0) {
-        write!(out, "@{},{}", glyph.x_offset, glyph.y_offset)?;
-    }
-    write!(out, "+{}", glyph.x_advance)?;
-    if glyph.y_advance != 0 {
-        write!(out, ",{}", glyph.y_advance)?;
-    }
-    Ok(())
+/// A glyph has at most 66 bytes with what stands before it: two numbers without a sign, of 5 and 10 digits, four with
+/// one, of 11 bytes each, and seven bytes between them.
+const LONGEST: usize = 72;
+
+/// Room for a glyph, which is put together from its end to its start: the digits of a number come in that order.
+type GlyphText = [u8; LONGEST];
+
+/// Puts a byte before a place, and answers where it stands.
+fn byte_before(text: &mut GlyphText, end: usize, byte: u8) -> usize
+    requires room { 0 < end }
+    requires inside { end ≤ 72 }
+    ensures { result + 1 ≡ end }
+{
+    text[end - 1] = byte;
+    end - 1
 }
 
-/// Whether the flag of a glyph is written, which stands behind such a text.
-fn has_flag(shows_flags: bool, before: &str, glyph: &ShapedGlyph) -> bool {
-    shows_flags && before == BEHIND && !glyph.may_break_before
+/// Puts a number before a place, and answers where it begins.
+fn number_before(text: &mut GlyphText, end: usize, number: u32) -> usize
+    requires room { 10 ≤ end }
+    requires inside { end ≤ 72 }
+    ensures before { result ≤ end }
+    ensures short { end ≤ result + 10 }
+{
+    write_digits(u64::from(number), text, end)
+}
+
+/// Puts a number with its sign before a place, and answers where it begins.
+fn signed_before(text: &mut GlyphText, end: usize, number: i32) -> usize
+    requires room { 11 ≤ end }
+    requires inside { end ≤ 72 }
+    ensures before { result ≤ end }
+    ensures short { end ≤ result + 11 }
+{
+    let start = number_before(text, end, number.unsigned_abs());
+    if number < 0 {
+        byte_before(text, start, b'-')
+    } else {
+        start
+    }
+}
+
+/// Puts two numbers with a comma between them before a place, and answers where they begin.
+fn pair_before(text: &mut GlyphText, end: usize, x: i32, y: i32) -> usize
+    requires room { 23 ≤ end }
+    requires inside { end ≤ 72 }
+    ensures before { result ≤ end }
+    ensures short { end ≤ result + 23 }
+{
+    let end = signed_before(text, end, y);
+    let end = byte_before(text, end, b',');
+    signed_before(text, end, x)
+}
+
+/// Puts an advance before a place, and answers where it begins. One of 0 along y is left out.
+fn advance_before(text: &mut GlyphText, end: usize, x: i32, y: i32) -> usize
+    requires room { 24 ≤ end }
+    requires inside { end ≤ 72 }
+    ensures before { result ≤ end }
+    ensures short { end ≤ result + 24 }
+{
+    if y == 0 {
+        let start = signed_before(text, end, x);
+        return byte_before(text, start, b'+');
+    }
+    let start = pair_before(text, end, x, y);
+    byte_before(text, start, b'+')
+}
+
+/// Puts an offset before a place, unless it is 0, and answers where it begins.
+fn offset_before(text: &mut GlyphText, end: usize, x: i32, y: i32) -> usize
+    requires room { 24 ≤ end }
+    requires inside { end ≤ 72 }
+    ensures before { result ≤ end }
+    ensures short { end ≤ result + 24 }
+{
+    if (x, y) == (0, 0) {
+        return end;
+    }
+    let start = pair_before(text, end, x, y);
+    byte_before(text, start, b'@')
+}
+
+/// Puts a glyph at the end of its room: its number and its cluster, its offset unless that is 0, and its advance.
+/// Answers where it begins.
+fn glyph_text(text: &mut GlyphText, glyph: &ShapedGlyph) -> usize
+    ensures before { 0 < result }
+    ensures inside { result ≤ 72 }
+{
+    let end = advance_before(text, LONGEST, glyph.x_advance, glyph.y_advance);
+    let end = offset_before(text, end, glyph.x_offset, glyph.y_offset);
+    let end = number_before(text, end, glyph.cluster);
+    let end = byte_before(text, end, b'=');
+    number_before(text, end, u32::from(glyph.glyph_id))
+}
+
+/// Writes a glyph behind the byte that stands before it.
+fn write_glyph<W: Write>(out: &mut W, before: u8, glyph: &ShapedGlyph) -> io::Result<()> {
+    let mut text = [0u8; LONGEST];
+    let start = glyph_text(&mut text, glyph);
+    let start = byte_before(&mut text, start, before);
+    out.write_all(&text[start..])
 }
 
 /// Writes the glyphs of a line, with their flags where these are asked, and the end of the line.
-fn write_line<W: Write>(out: &mut W, line: &DrawnLine, shows_flags: bool) -> io::Result<()> {
-    let mut before = "[";
-    for drawn in &line.glyphs {
-        out.write_all(before.as_bytes())?;
-        write_glyph(out, &drawn.glyph)?;
-        if has_flag(shows_flags, before, &drawn.glyph) {
+fn write_line<W: Write>(out: &mut W, glyphs: &[ShapedGlyph], shows_flags: bool) -> io::Result<()> {
+    let mut before = b'[';
+    for glyph in glyphs {
+        write_glyph(out, before, glyph)?;
+        if shows_flags && before == BEHIND && !glyph.may_break_before {
             out.write_all(b"#1")?;
         }
         before = BEHIND;
     }
-    if line.glyphs.is_empty() {
+    if glyphs.is_empty() {
         out.write_all(b"[")?;
     }
-    writeln!(out, "]")
+    out.write_all(b"]\n")
 }
 
 /// Writes the glyphs of a line as `hb-shape --no-glyph-names` does, and the end of the line:
 /// `[NUMBER=CLUSTER@X,Y+ADVANCE|..]`, in drawing order. An offset of 0 is left out, and so is a vertical advance of 0.
 ///
 /// An error is that of the writer. A part of the text may be written then.
-pub fn write_glyphs<W: Write>(out: &mut W, line: &DrawnLine) -> io::Result<()> {
-    write_line(out, line, false)
+pub fn write_glyphs<W: Write>(out: &mut W, glyphs: &[ShapedGlyph]) -> io::Result<()> {
+    write_line(out, glyphs, false)
 }
 
 /// Writes the glyphs of a line as [`write_glyphs`] does, and `#1` behind each but the first one before which the text may
 /// not be broken, as `hb-shape --show-flags` does.
 ///
 /// An error is that of the writer. A part of the text may be written then.
-pub fn write_flagged_glyphs<W: Write>(out: &mut W, line: &DrawnLine) -> io::Result<()> {
-    write_line(out, line, true)
+pub fn write_flagged_glyphs<W: Write>(out: &mut W, glyphs: &[ShapedGlyph]) -> io::Result<()> {
+    write_line(out, glyphs, true)
 }

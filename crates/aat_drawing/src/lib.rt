@@ -2,10 +2,11 @@
 //! a picture in SVG.
 //!
 //! ```
-//! write_glyphs(&mut out, &line)?;
+//! write_glyphs(&mut out, typesetter.glyphs())?;
 //! ```
 #![tactic(auto)]
 
+mod breaks;
 mod changes;
 mod error;
 mod extent;
@@ -18,6 +19,7 @@ mod metrics;
 mod paths;
 mod picture;
 
+pub use breaks::drawn_glyphs;
 pub use changes::drawn_changes;
 pub use error::DrawError;
 pub use forms::{write_flagged_glyphs, write_glyphs};

@@ -1,9 +1,10 @@
 -- What is drawn of a text, from what the calls leave.
-use Rattle.std.proofs.Common.{◌≡◌, ◌∙◌, ap, refl, ℕ, zero, suc, ◌+◌, ◌-◌, ◌<◌, ◌&&◌, ◌≢◌, Bool, true, false, cond, get_or, length, map, not, List, ◌∷◌, ◌++◌, drop, take, subst, sym, true≢false, nat_lt, arith, if◌then◌else◌}
+use Rattle.std.proofs.Common.{◌≡◌, ◌∙◌, ap, refl, ℕ, zero, suc, ◌+◌, ◌-◌, ◌<◌, ◌&&◌, ◌≢◌, Bool, true, false, cond, get_or, length, map, not, List, [], ◌∷◌, ◌++◌, drop, take, subst, sym, true≢false, nat_lt, arith, if◌then◌else◌}
 use Rattle.std.proofs.Math.Seq.{take-append_seam}
 use Rattle.std.proofs.lemmas.Bool.{and_parts}
 use Rattle.std.proofs.lemmas.List.{get_or-reverse, length-map, length-reverse}
 use Rattle.std.specs.List.{range_with_len}
+use Rattle.std.specs.Borrow.{Bor}
 use Rattle.std.specs.Prelude.{ℤ, Option, filter}
 use Rattle.aat_buffer.specs.Buffer.{Buffer, glyph_at, position_list, reversed, with_positions}
 use Rattle.aat_buffer.specs.Clusters.{IsSmall}
@@ -32,7 +33,7 @@ use Rattle.aat_run.specs.Budget.{has_operations, operations_left}
 use Rattle.aat_run.specs.Outcome.{Outcome}
 use Rattle.aat_run.specs.declared.ranges.range_flags_t.{range_flags_t}
 use Rattle.aat_layout.specs.Shaping.{advanced, placing, with_advances}
-use Rattle.aat_shaped_text.specs.Breaks.{front_of, is_rising, is_unchained, kerns_by_pairs, may_break_at, may_break_by, skips_of, substitutes_evenly}
+use Rattle.aat_shaped_text.specs.Breaks.{front_of, is_rising, is_unchained, kerns_apart, kerns_by_pairs, may_break_at, may_break_by, skips_of, substitutes_evenly}
 use Rattle.aat_shaped_text.specs.ClosingDraws.{ClosingDrawsAlike}
 use Rattle.aat_shaped_text.specs.KernedBreaks.{kerning_opens}
 use Rattle.aat_shaped_text.specs.KernedPlaces.{ClosesChained, TellsOpenPlaces}
@@ -41,14 +42,22 @@ use Rattle.aat_shaped_text.specs.declared.breaks.BreakRules.{BreakRules}
 use Rattle.aat_shaped_text.specs.declared.text.ShapedGlyph.{ShapedGlyph}
 use Rattle.aat_shaped_text.specs.declared.text.TextGlyph.{TextGlyph}
 use Rattle.aat_kerning.proofs.KerningLawsHold.{kerning_changes_little}
+use Rattle.aat_placement.specs.Attachments.{IsUnattached}
+use Rattle.aat_shaped_text.proofs.KernedApart.{Plain}
 use Rattle.aat_shaped_text.proofs.KernedText.{text_changes_little}
+use Rattle.aat_shaped_text.proofs.LineRuns.{text_plain}
 use Rattle.aat_shaped_text.proofs.Looks.{plain}
+use Rattle.aat_shaped_text.proofs.Unkerned.{left_unkerned, opens_each, unchained_unkerned, unpaired}
+use Rattle.aat_shaped_text.specs.Unkerned.{is_unkerned}
 use Rattle.aat_shaped_text.proofs.Fronts.{front_most, front_plain}
 use Rattle.aat_shaped_text.proofs.Texts.{map-turned, marked_plain, ordered_line_is, turned}
 use Rattle.aat_drawn_text.proofs.Planned.{planned_chains, planned_placing}
-use Rattle.aat_drawn_text.proofs.ShownChains.{unchained_shown}
+use Rattle.aat_drawn_text.proofs.ShownChains.{unattached_shown, unchained_shown}
 use Rattle.aat_drawn_text.specs.declared.drawn.Breaks.{Breaks}
 use Rattle.aat_drawn_text.specs.inside.Drawing.{may_break, may_cut}
+use Rattle.aat_drawn_text.specs.inside.Kerned.{is_open, is_told_by_glyphs, kerned_by, open_places}
+use Rattle.aat_drawn_text.specs.declared.kerned.KernedBy.TheVariants.{Nothing, Others, Pairs}
+use Rattle.aat_drawn_text.specs.declared.kerned.OpenPlaces.{OpenPlaces}
 use Rattle.aat_drawn_text.specs.inside.TextLine.{substituted_so, tells_so}
 use Rattle.aat_drawn_text.specs.TextPlan.{IsPlanOf}
 
@@ -113,6 +122,16 @@ placed_kerned face features b =
     from.text.positions
     ∙ (length-map b.line _
     ∙ (sym (length-map before.line plain) ∙ (ap length (sym (marked_plain before.line kerned.line from.line)) ∙ length-map kerned.line plain)))
+
+-- advances attach nothing
+advances_plain : (h : Bool) (f : hb_glyph_info_t → ℕ) (gs : List hb_glyph_info_t) → Plain (map (λ g. advanced h (f g)) gs)
+advances_plain h f [] = tt
+advances_plain true f (g ∷ gs) = (refl, advances_plain true f gs)
+advances_plain false f (g ∷ gs) = (refl, advances_plain false f gs)
+
+both_too : (t : Bool) → t ≡ ((t && true) && true)
+both_too true = refl
+both_too false = refl
 
 -- kerning leaves the glyphs, but for masks
 kerned_plain : (face : hb_font_t) (features : List Feature) (b : Buffer)
@@ -198,6 +217,18 @@ module _ (v : ℤ) (face : hb_font_t) (d : Direction) (features : List Feature) 
   drawn_text_so closes left tracked turned is wider after =
       after ∙ ap in_processing_order (wider ∙ ap (tracked_line v) is)
 
+  -- where pairs along the line alone kern the text nothing of it is attached
+  pub attached_none :
+      (closes : Bool) (b : Buffer) → kerns_apart face d ≡ true → (behind_text closes).direction ≡ d
+      → b ≡ in_processing_order (tracked_line v (zeroed (kerned_behind closes))) → IsUnattached b.direction (position_list b)
+  attached_none closes b apart way is =
+      let behind : Buffer = behind_text closes in
+      let plain =
+      (text_plain face d features apart (with_advances (advance_of face) behind) way).plain
+      (advances_plain (is_horizontal behind.direction) (λ g. advance_of face g.glyph_id) behind.line) in
+      subst (λ (c : Buffer). IsUnattached c.direction (position_list c)) (sym is)
+      (unattached_shown v (kerned_behind closes) (placed_kerned face features behind) plain)
+
   -- what is known of the breaks of a text: whether it closes what its machines look at, whether they tell, and take few
   -- operations, by what it may be broken, and the places that are open before and behind what is attached
   pub record Allowed (rules : BreakRules) (breaks : Breaks) (told : List Bool) (b : Buffer) : Type 0 where
@@ -209,15 +240,17 @@ module _ (v : ℤ) (face : hb_font_t) (d : Direction) (features : List Feature) 
     pub few_is : few ≡ nat_lt (most_operations (length text)) (operations_left (kerned_behind closes).max_ops + 16384)
     pub allowed : breaks.is_allowed ≡ (tells && few)
     pub rules_are : breaks.rules ≡ rules
-    pub skips : breaks.skips ≡ skips_of face
     pub evenly : rules.is_even ≡ substitutes_evenly face d rules.features.now
     pub asked : rules.features.now ≡ features
-    pub marks : breaks.by_marks ≡ kerns_by_pairs face d
+    pub places : Bor (List Bool)
+    pub left_open : breaks.left_open ≡ open_places face (kerned_by face d) places
     pub way : (behind_text closes).direction ≡ d
-    pub opens : tells ≡ true → breaks.by_marks ≡ false → TellsOpenPlaces face rules (with_advances (advance_of face) (behind_text closes)) told
+    pub opens :
+        tells ≡ true → is_told_by_glyphs (kerned_by face d) ≡ false
+        → TellsOpenPlaces face rules (with_advances (advance_of face) (behind_text closes)) told
     pub drawn_is : b ≡ in_processing_order (tracked_line v (zeroed (kerned_behind closes)))
     pub long : length b.line ≡ length (behind_text closes).line
-    pub chained : length told ≡ length b.line → ClosesChained b.direction (position_list b) told breaks.places.now
+    pub chained : length told ≡ length b.line → ClosesChained b.direction (position_list b) told places.now
 
   module _ (alike : ClosingDrawsAlike) (rules : BreakRules) (breaks : Breaks) (told : List Bool) (b : Buffer) (a : Allowed rules breaks told b) where
     abbrev closed : Buffer
@@ -233,20 +266,36 @@ module _ (v : ℤ) (face : hb_font_t) (d : Direction) (features : List Feature) 
 
     -- where it closes, tells and takes few operations
     module _ (closes_is : a.closes ≡ true) (tells_it : a.tells ≡ true) (shown_is : b ≡ shown) where
-      by_marks : (i : ℕ) → (is_solid breaks.skips (glyph_at b.line i) && may_break_by breaks.rules b.line i) ≡ is_open_by_marks face d features text i
-      by_marks i =
-          ap (λ (n : ℕ). is_solid n (glyph_at b.line i) && may_break_by breaks.rules b.line i) a.skips
-          ∙ (ap (λ (r : BreakRules). is_solid (skips_of face) (glyph_at b.line i) && may_break_by r b.line i) a.rules_are
+      by_pairs : (i : ℕ) → (is_solid (skips_of face) (glyph_at b.line i) && may_break_by breaks.rules b.line i) ≡ is_open_by_marks face d features text i
+      by_pairs i =
+          ap (λ (r : BreakRules). is_solid (skips_of face) (glyph_at b.line i) && may_break_by r b.line i) a.rules_are
           ∙ (ap (λ (t : Bool). is_solid (skips_of face) (glyph_at b.line i) && t) (by_rules b.line i)
           ∙ (ap (λ (c : Buffer). is_solid (skips_of face) (glyph_at c.line i) && may_break_line face d features c.line i) shown_is
-          ∙ ap (λ (line : List hb_glyph_info_t). is_solid (skips_of face) (glyph_at line i) && may_break_line face d features line i) (drawn_line_is v (kerned_closed face d features text)))))
+          ∙ ap (λ (line : List hb_glyph_info_t). is_solid (skips_of face) (glyph_at line i) && may_break_line face d features line i) (drawn_line_is v (kerned_closed face d features text))))
 
-      by_kerning : kerns_by_pairs face d ≡ false → (i : ℕ) → i < length b.line → get_or breaks.places.now i false ≡ is_open_by_kerning face d features text i
-      by_kerning apart i low =
-          let opens : TellsOpenPlaces face rules (with_advances (advance_of face) closed) told = subst (λ (t : Bool). TellsOpenPlaces face rules (with_advances (advance_of face) (behind_text t)) told) closes_is (a.opens tells_it (a.marks ∙ apart)) in
+      closed_way : closed.direction ≡ d
+      closed_way = ap (λ (t : Bool). (behind_text t).direction) (sym closes_is) ∙ a.way
+
+      -- nothing kerns it
+      by_nothing : is_unkerned face d ≡ true → (i : ℕ) → may_break_by breaks.rules b.line i ≡ is_open_by_kerning face d features text i
+      by_nothing unkerned i =
+          let before : Buffer = advanced_closed face d features text in
+          let may = may_break_line face d features (ordered_line before) i in
+          ap (λ (r : BreakRules). may_break_by r b.line i) a.rules_are
+          ∙ (by_rules b.line i
+          ∙ (ap (λ (c : Buffer). may_break_line face d features c.line i) shown_is
+          ∙ (ap (λ (line : List hb_glyph_info_t). may_break_line face d features line i) (drawn_line_is v (kerned_closed face d features text))
+          ∙ (ap (λ (c : Buffer). may_break_line face d features (ordered_line c) i) (left_unkerned face d features unkerned before closed_way)
+          ∙ (both_too may
+          ∙ (ap (λ (t : Bool). (may && t) && true) (sym (opens_each face d features unkerned before i))
+          ∙ ap (λ (t : Bool). (may && kerning_opens face d features before i) && t) (sym (unchained_unkerned face d features unkerned closed i closed_way))))))))
+
+      by_kerning : is_told_by_glyphs (kerned_by face d) ≡ false → (i : ℕ) → i < length b.line → get_or a.places.now i false ≡ is_open_by_kerning face d features text i
+      by_kerning others i low =
+          let opens : TellsOpenPlaces face rules (with_advances (advance_of face) closed) told = subst (λ (t : Bool). TellsOpenPlaces face rules (with_advances (advance_of face) (behind_text t)) told) closes_is (a.opens tells_it others) in
           let long : length b.line ≡ length closed.line = a.long ∙ ap (λ (t : Bool). length (behind_text t).line) closes_is in
           let ps = map (λ (g : hb_glyph_info_t). advanced (is_horizontal closed.direction) (advance_of face g.glyph_id)) closed.line in
-          let way : closed.direction ≡ d = ap (λ (t : Bool). (behind_text t).direction) (sym closes_is) ∙ a.way in
+          let way : closed.direction ≡ d = closed_way in
           let kerned : Buffer = kerned_closed face d features text in
           let kerned_way : kerned.direction ≡ d = (text_changes_little face features (with_advances (advance_of face) closed) kerning_changes_little).text.settings.direction ∙ way in
           let shut = a.chained (opens.long ∙ sym long) in
@@ -262,22 +311,29 @@ module _ (v : ℤ) (face : hb_font_t) (d : Direction) (features : List Feature) 
           ∙ ap (λ (e : Direction). is_unchained e (ordered_positions kerned) i) kerned_way))))))
 
       open_as : (i : ℕ) → i < length b.line
-          → (if breaks.by_marks then is_solid breaks.skips (glyph_at b.line i) && may_break_by breaks.rules b.line i else get_or breaks.places.now i false)
+          → is_open breaks.left_open breaks.rules b.line i
           ≡ (if kerns_by_pairs face d then is_open_by_marks face d features text i else is_open_by_kerning face d features text i)
-      open_as i low = ap (λ (t : Bool). if t then is_solid breaks.skips (glyph_at b.line i) && may_break_by breaks.rules b.line i else get_or breaks.places.now i false) a.marks ∙ by (kerns_by_pairs face d) refl
+      open_as i low =
+          ap (λ (o : OpenPlaces). is_open o breaks.rules b.line i) a.left_open
+          ∙ by (is_unkerned face d) (kerns_by_pairs face d) refl refl
         where
-          by : (t : Bool) → kerns_by_pairs face d ≡ t
-              → (if t then is_solid breaks.skips (glyph_at b.line i) && may_break_by breaks.rules b.line i else get_or breaks.places.now i false)
-              ≡ (if t then is_open_by_marks face d features text i else is_open_by_kerning face d features text i)
-          by true apart = by_marks i
-          by false apart = by_kerning apart i low
+          by : (t u : Bool) → is_unkerned face d ≡ t → kerns_by_pairs face d ≡ u
+              → is_open (open_places face (cond t Nothing (cond u Pairs Others)) a.places) breaks.rules b.line i
+              ≡ (if u then is_open_by_marks face d features text i else is_open_by_kerning face d features text i)
+          by true true none pairs = absurd (true≢false (sym pairs ∙ unpaired face d features none))
+          by true false none pairs = by_nothing none i
+          by false true some pairs = by_pairs i
+          by false false some others =
+              by_kerning
+              (ap (λ (t : Bool). is_told_by_glyphs (cond t Nothing (cond (kerns_by_pairs face d) Pairs Others))) some
+              ∙ ap (λ (u : Bool). is_told_by_glyphs (cond u Pairs Others)) others) i low
 
     -- what is drawn of it
     pub drawn_so : (glyphs : List ShapedGlyph) → glyphs ≡ drawn_glyphs (may_break breaks b.line) b → glyphs ≡ shaped_text v face d features text
     drawn_so glyphs put = put ∙ by_closing a.closes refl
       where
         open_is : Bool → ℕ → Bool
-        open_is t i = t && (if breaks.by_marks then is_solid breaks.skips (glyph_at b.line i) && may_break_by breaks.rules b.line i else get_or breaks.places.now i false)
+        open_is t i = t && is_open breaks.left_open breaks.rules b.line i
 
         open_of : ℕ → Bool
         open_of i = if kerns_by_pairs face d then is_open_by_marks face d features text i else is_open_by_kerning face d features text i

@@ -10,6 +10,7 @@ ghost use Rattle.aat_shaped_text.specs.KernedPlaces.{ClosesChained};
 ghost use Rattle.aat_drawn_text.specs.inside.Drawing.{IsDrawn, clusters_of, may_break};
 ghost use Rattle.aat_shaped_text.specs.ShapedText.{drawn_glyph, drawn_glyphs, drawn_position, is_ignorable, is_mark, kept_place, kept_places, kind_of, with_clusters_of};
 
+use crate::kerned::OpenPlaces;
 use crate::kinds::kind_of_number;
 use crate::line::{KIND, MARK};
 use aat_layout::buffer::{GlyphPosition, hb_buffer_t, hb_glyph_info_t};
@@ -25,21 +26,22 @@ use std::alloc::{AllocError, Allocator};
 pub(crate) struct Breaks<'f> {
     /// Whether the text and its machines allow it anywhere.
     pub(crate) is_allowed: bool,
-    /// The glyph properties that kerning by pairs skips, where its marks decide.
-    pub(crate) skips: u16,
-    /// What is asked of the glyphs, where the marks of kerning decide.
+    /// What is asked of the glyphs, where they decide.
     pub(crate) rules: BreakRules<'f>,
-    /// Whether the marks of kerning decide, or else the places that are open.
-    pub(crate) by_marks: bool,
-    /// Which places are open, where they decide.
-    pub(crate) places: &'f [bool],
+    /// Which places kerning leaves open.
+    pub(crate) left_open: OpenPlaces<'f>,
 }
 
-/// Whether no glyph of a line has an attach type, so that none is attached to another.
-fn is_unattached<H: Allocator + Copy>(buffer: &hb_buffer_t<H>) -> bool
+/// Whether no glyph of a line has an attach type, so that none is attached to another. Where kerning is known to attach
+/// nothing no glyph is asked.
+fn is_unattached<H: Allocator + Copy>(attaches_none: bool, buffer: &hb_buffer_t<H>) -> bool
     requires placed { IsPlaced buffer.now }
+    requires none { attaches_none ≡ true → IsUnattached buffer.now.direction (position_list buffer.now) }
     ensures { result ≡ true → IsUnattached buffer.now.direction (position_list buffer.now) }
 {
+    if attaches_none {
+        return true;
+    }
     for i in 0..buffer.len() {
         if buffer.pos(i).attach_type != 0 {
             return false;
@@ -82,20 +84,23 @@ fn positions_of<H: Allocator + Copy>(
 }
 
 /// Closes each place of a line in drawing order over which a glyph is attached, where each place of it is told of.
-/// Answers the positions of the line, where some glyph of it may be attached to another.
+/// Answers the positions of the line, where some glyph of it may be attached to another, given whether kerning is known to
+/// attach none.
 pub(crate) fn close_attached<H: Allocator + Copy>(
     alloc: H,
+    attaches_none: bool,
     buffer: &hb_buffer_t<H>,
     places: &mut [bool],
 ) -> Result<Option<Vec<GlyphPosition, H>>, AllocError>
     requires placed { IsPlaced buffer.now }
+    requires none { attaches_none ≡ true → IsUnattached buffer.now.direction (position_list buffer.now) }
     ensures closed { length places.old ≡ length buffer.now.line → OnOk result
         (ClosesChained buffer.now.direction (position_list buffer.now) places.old places.new) }
     ensures attached { IfOk result (λ found. MatchOption found
         (IsUnattached buffer.now.direction (position_list buffer.now))
         (λ positions. positions.items ≡ position_list buffer.now)) }
 {
-    if is_unattached(buffer) {
+    if is_unattached(attaches_none, buffer) {
         return Ok(None);
     }
     let positions = positions_of(alloc, buffer)?;
@@ -180,11 +185,13 @@ fn may_break(breaks: Breaks, line: &[hb_glyph_info_t], kept: usize, i: usize) ->
         return false;
     }
     let front = front_of(line, i);
-    if breaks.by_marks {
-        return is_solid(&line[front], breaks.skips)
-            && may_break_at(breaks.rules, line, kept, front);
+    match breaks.left_open {
+        OpenPlaces::Each => may_break_at(breaks.rules, line, kept, front),
+        OpenPlaces::Solid(skips) => {
+            is_solid(&line[front], skips) && may_break_at(breaks.rules, line, kept, front)
+        }
+        OpenPlaces::Told(places) => front < places.len() && places[front],
     }
-    front < breaks.places.len() && breaks.places[front]
 }
 
 /// Of what an ignorable character has on a line, the bit that the layer leaves as it is.
@@ -246,7 +253,7 @@ fn drawn_glyph<H: Allocator + Copy>(
     }
 }
 
-/// Puts the glyphs of a line that are kept behind others.
+/// Puts the glyphs of a line that are kept into a vector, which gets room for the whole line at once.
 fn put_glyphs<H: Allocator + Copy, A: Allocator>(
     breaks: Breaks,
     buffer: &hb_buffer_t<H>,
@@ -264,18 +271,19 @@ fn put_glyphs<H: Allocator + Copy, A: Allocator>(
         ≡ map (drawn_glyph (may_break breaks.entry buffer.now.line) buffer.now) (kept_places buffer.now.line)) }
     ensures memory { IfErr result (λ error. error ≡ AatError.OutOfMemory) }
 {
+    glyphs.reserve(line.len())?;
     let mut kept = 0;
     for i in 0..line.len() {
         if is_kept(&line[i]) {
-            glyphs.push(drawn_glyph(breaks, buffer, line, attached, kept, i))?;
+            glyphs.push_reserved(drawn_glyph(breaks, buffer, line, attached, kept, i));
             kept += 1;
         }
     }
     Ok(())
 }
 
-/// Puts the glyphs of a line that are kept behind others, with what they are attached to, by its positions where some
-/// may be attached.
+/// Puts the glyphs of a line that are kept into a vector, with what they are attached to, by its positions where some may be
+/// attached.
 fn put_drawn_glyphs<H: Allocator + Copy, A: Allocator>(
     alloc: H,
     breaks: Breaks,

@@ -4,6 +4,7 @@
 #![tactic(auto)]
 
 mod drawn;
+mod kerned;
 mod kinds;
 mod line;
 mod substitution;

@@ -1,16 +1,19 @@
 //! The line of a text.
-ghost use Rattle.std.specs.Prelude.{◌≡◌, ◌≤◌, IfErr, IfOk, length, pos};
+ghost use Rattle.std.specs.Prelude.{◌≡◌, ◌≤◌, All, IfErr, IfOk, length, map, pos};
+ghost use Rattle.std.specs.List.{list_any};
+ghost use Rattle.aat_buffer.specs.Buffer.{Is16Bit};
 ghost use Rattle.aat_buffer.specs.Clusters.{IsSmall};
 ghost use Rattle.aat_font.specs.Face.{has_classes};
 ghost use Rattle.aat_shaped_text.specs.Breaks.{is_rising};
+ghost use Rattle.aat_shaped_text.specs.TextFeatures.{is_kern, is_kerned_at};
 ghost use Rattle.aat_shaped_text.specs.ShapedText.{line_glyph, most_glyphs, most_operations, most_text, text_buffer, text_props, text_unicode_props};
 
 use crate::kinds::number_of_kind;
 use aat_layout::AatError;
 use aat_layout::buffer::{Direction, hb_buffer_t, hb_glyph_info_t, hb_mask_t};
 use aat_layout::font::{Feature, GlyphId, hb_font_t};
-use aat_shaped_text::{TextGlyph, is_kerned_at};
-use std::alloc::Allocator;
+use aat_shaped_text::{TextGlyph, asks_kern, is_kerned_at};
+use std::alloc::{AllocError, Allocator};
 
 /// The longest text.
 pub const LONGEST_TEXT: usize = 1 << 24;
@@ -87,18 +90,33 @@ fn text_unicode_props(glyph: &TextGlyph) -> u16
     number_of_kind(glyph.kind) * KIND + ignorable
 }
 
-/// A glyph of a text as one of a line, given whether the font has classes of glyphs.
+/// Whether kerning is on at a cluster, given whether some feature is `kern`: without one it is on everywhere.
+#[tactic(auto, using(crate::proofs::LineMade::kerned_unasked))]
+fn is_kerned(asks_kern: bool, features: &[Feature], cluster: u32) -> bool
+    requires { asks_kern ≡ list_any is_kern features.now }
+    ensures { result ≡ is_kerned_at features.now cluster }
+{
+    if asks_kern {
+        is_kerned_at(features, cluster)
+    } else {
+        true
+    }
+}
+
+/// A glyph of a text as one of a line, given whether the font has classes of glyphs, and whether some feature is `kern`.
 fn line_glyph(
     face: &hb_font_t,
     is_classed: bool,
+    asks_kern: bool,
     features: &[Feature],
     glyph: &TextGlyph,
 ) -> hb_glyph_info_t
-    requires { is_classed ≡ has_classes face.now }
+    requires classed { is_classed ≡ has_classes face.now }
+    requires asked { asks_kern ≡ list_any is_kern features.now }
     ensures value { result ≡ line_glyph face.now features.now glyph.now }
     ensures small { result.glyph_id ≤ 0xFFFF }
 {
-    let is_kerned = is_kerned_at(features, glyph.cluster);
+    let is_kerned = is_kerned(asks_kern, features, glyph.cluster);
     hb_glyph_info_t {
         glyph_id: u32::from(glyph.glyph_id),
         mask: if is_kerned { KERNED } else { 0 },
@@ -106,6 +124,25 @@ fn line_glyph(
         glyph_props: text_props(face, is_classed, glyph),
         unicode_props: text_unicode_props(glyph),
     }
+}
+
+/// The glyphs of a text as those of a line, which gets room for all of them at once.
+fn line_of<H: Allocator>(
+    alloc: H,
+    face: &hb_font_t,
+    features: &[Feature],
+    text: &[TextGlyph],
+) -> Result<Vec<hb_glyph_info_t, H>, AllocError>
+    ensures made { IfOk result (λ line. line.items ≡ map (line_glyph face.now features.now) text.now) }
+    ensures ids { IfOk result (λ line. All Is16Bit line.items) }
+{
+    let is_classed = face.has_glyph_classes();
+    let asks_kern = asks_kern(features);
+    let mut line = Vec::with_capacity(alloc, text.len())?;
+    for glyph in text {
+        line.push_reserved(line_glyph(face, is_classed, asks_kern, features, glyph));
+    }
+    Ok(line)
 }
 
 /// The buffer of a text.
@@ -122,12 +159,11 @@ pub(crate) fn buffer_of<H: Allocator + Copy>(
     ensures memory { IfErr result (λ error. error ≡ AatError.OutOfMemory) }
 {
     let most = most_glyphs(text.len());
+    let line = line_of(alloc, face, features, text)?;
     let mut buffer = hb_buffer_t::new(alloc, most, most_operations(text.len()));
     buffer.set_direction(direction);
-    let is_classed = face.has_glyph_classes();
-    for glyph in text {
-        buffer.add(line_glyph(face, is_classed, features, glyph))?;
-    }
+    buffer.insert_glyphs(&line)?;
+    buffer.sync();
     Ok(buffer)
 }
 

@@ -15,6 +15,7 @@ ghost use Rattle.aat_drawn_text.specs.TextPlan.{IsPlanOf};
 ghost use Rattle.aat_layout.specs.Shaping.{placing, with_advances};
 
 use crate::drawn::{Breaks, close_attached, draw};
+use crate::kerned::{is_told_by_glyphs, kerned_by, open_places};
 use crate::line::{buffer_of, is_rising};
 use crate::substitution::{substitute, substitutes_evenly};
 use crate::tracking::track_line;
@@ -23,7 +24,7 @@ use aat_layout::font::{hb_font_t, hb_ot_shape_plan_t};
 use aat_layout::{AatError, compiled_map, place_with_deleted};
 use aat_shaped_text::laws::closing_draws_alike;
 use aat_shaped_text::{
-    BreakRules, ShapedGlyph, TextGlyph, kerns_by_pairs, operations_left, place_openly, skips_of,
+    BreakRules, ShapedGlyph, TextGlyph, kerns_apart, operations_left, place_openly,
     takes_few_operations, turn,
 };
 use std::alloc::Allocator;
@@ -43,14 +44,14 @@ fn tells_breaks<H: Allocator + Copy>(is_told: bool, before: u64, buffer: &hb_buf
 }
 
 /// Gives the glyphs of a text their advances, kerns them, and has deleted ones take no room. Where machines tell what is
-/// open and marks do not decide, it tells before which places of the line it may be broken by its glyphs and by what kerning
-/// leaves open; else of no place.
+/// open and the glyphs alone do not decide, it tells before which places of the line it may be broken by its glyphs and by
+/// what kerning leaves open; else of no place.
 fn place<H: Allocator + Copy>(
     workspace: H,
     plan: &hb_ot_shape_plan_t,
     face: &hb_font_t,
     is_told: bool,
-    by_marks: bool,
+    by_glyphs: bool,
     rules: BreakRules,
     buffer: &mut hb_buffer_t<H>,
 ) -> Result<Vec<bool, H>, AatError>
@@ -60,7 +61,7 @@ fn place<H: Allocator + Copy>(
     ensures failed { IsErrOf result AatError.BufferFailed ↔ (buffer.old.successful ≡ false) }
     ensures reason { IfErr result (λ error. (error ≡ AatError.BufferFailed) ⊎ (error ≡ AatError.OutOfMemory)) }
     ensures placing { OnOk result (buffer.new ≡ (placing plan.now face.now buffer.old).buffer) }
-    ensures told { is_told ≡ true → by_marks ≡ false → IfOk result (λ places.
+    ensures told { is_told ≡ true → by_glyphs ≡ false → IfOk result (λ places.
         TellsOpenPlaces face.now rules.entry (with_advances (advance_of face.now) buffer.old) places.items) }
     ensures ids { OnOk result (IsSmall buffer.new) }
     ensures number { OnOk result (length buffer.new.line ≡ length buffer.old.line) }
@@ -69,7 +70,7 @@ fn place<H: Allocator + Copy>(
     ensures settings { OnOk result (SameSettings (with_scratch_flags buffer.old buffer.new.scratch_flags) buffer.new) }
     ensures order { OnOk result (KeepsOrder buffer.old.line buffer.new.line) }
 {
-    if is_told && !by_marks {
+    if is_told && !by_glyphs {
         return place_openly(workspace, plan, face, rules, buffer);
     }
     place_with_deleted(plan, face, buffer)?;
@@ -112,21 +113,31 @@ pub fn draw_text<H: Allocator + Copy, A: Allocator>(
         is_even: substitutes_evenly(face, direction, features, lists),
         features,
     };
-    let by_marks = kerns_by_pairs(face, direction);
+    let kerned = kerned_by(face, direction);
+    let by_glyphs = is_told_by_glyphs(kerned);
+    // pairs along the line attach nothing
+    let attaches_none = kerns_apart(face, direction);
     let operations = operations_left(&buffer);
     let is_told = substitute(face, lists, is_rising(text), &mut buffer)?;
-    let mut places = place(workspace, plan, face, is_told, by_marks, rules, &mut buffer)?;
+    let mut places = place(
+        workspace,
+        plan,
+        face,
+        is_told,
+        by_glyphs,
+        rules,
+        &mut buffer,
+    )?;
     let is_allowed = tells_breaks(is_told, operations, &buffer);
     let is_used_up = uses_up(&buffer);
     track_line(workspace, value, &mut buffer)?;
     turn(&mut buffer);
-    let attached = close_attached(workspace, &buffer, &mut places)?;
+    let attached = close_attached(workspace, attaches_none, &buffer, &mut places)?;
+    let left_open = open_places(face, kerned, &places);
     let breaks = Breaks {
         is_allowed,
-        skips: skips_of(face),
         rules,
-        by_marks,
-        places: &places,
+        left_open,
     };
     draw(workspace, breaks, &mut buffer, attached, glyphs)?;
     Ok(is_used_up)

@@ -53,4 +53,5 @@ pub mod TextParted
 pub mod TextParts
 pub mod Texts
 pub mod Tracked
+pub mod Unkerned
 pub mod Unsafe

@@ -8,4 +8,5 @@ pub mod OpenExamples
 pub mod Parts
 pub mod ShapedText
 pub mod TextFeatures
+pub mod Unkerned
 pub mod inside

@@ -1,5 +1,6 @@
 //! What the features of a text ask at its characters.
 ghost use Rattle.std.specs.Prelude.{◌≡◌};
+ghost use Rattle.std.specs.List.{list_any};
 ghost use Rattle.aat_shaped_text.specs.TextFeatures.{ask_alike, ask_alike_through, holds, is_everywhere, is_kern, is_kerned_at, requests_kerning};
 
 use aat_layout::font::Feature;
@@ -26,6 +27,13 @@ fn is_kern(feature: &Feature) -> bool
     ensures { result ≡ is_kern feature.now }
 {
     feature.tag.0 == KERN
+}
+
+/// Whether some feature is `kern`. Where none is, kerning is on at each cluster.
+pub fn asks_kern(features: &[Feature]) -> bool
+    ensures { result ≡ list_any is_kern features.now }
+{
+    features.iter().any(|feature| is_kern(feature))
 }
 
 /// Whether kerning is on at a cluster: as the last feature `kern` says that holds it.

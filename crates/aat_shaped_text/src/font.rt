@@ -4,6 +4,7 @@ ghost use Rattle.std.specs.List.{list_all, list_any};
 ghost use Rattle.aat_font.specs.Face.{kern_in, kerx_in, tables_of};
 ghost use Rattle.aat_kerning.specs.Positioning.{is_for_direction, is_kern_pairs, is_kerx_pairs, kerning_of_kern_subtable, kerning_of_kerx_subtable};
 ghost use Rattle.aat_closing.specs.ClosingCuts.{is_noncontextual};
+ghost use Rattle.aat_shaped_text.specs.Unkerned.{is_unkerned};
 ghost use Rattle.aat_shaped_text.specs.Breaks.{keeps_apart, kernings_of, kerns_apart, kerns_by_pairs, kerns_pairs_along, possible_flags, skips_of, substitutes_apart};
 
 use aat_layout::buffer::{Direction, hb_mask_t};
@@ -138,8 +139,9 @@ fn kern_apart(face: &hb_font_t, direction: Direction) -> bool
         .all(|subtable| kern_pairs_along(direction, subtable))
 }
 
-/// Whether each subtable of the kerning table that is in use does so.
-fn kerns_apart(face: &hb_font_t, direction: Direction) -> bool
+/// Whether each subtable of the kerning table that is in use is not for texts of a direction, or kerns pairs along the
+/// line. Such kerning attaches nothing.
+pub fn kerns_apart(face: &hb_font_t, direction: Direction) -> bool
     ensures { result ≡ kerns_apart face.now direction }
 {
     if face.tables().kerx.is_some() {
@@ -186,6 +188,14 @@ pub fn kerns_by_pairs(face: &hb_font_t, direction: Direction) -> bool
     ensures { result ≡ kerns_by_pairs face.now direction }
 {
     kerns_some(face, direction) && kerns_apart(face, direction)
+}
+
+/// Whether nothing kerns texts of a direction: the font has no extended kerning table, and no subtable of its kerning table
+/// is for them.
+pub fn is_unkerned(face: &hb_font_t, direction: Direction) -> bool
+    ensures { result ≡ is_unkerned face.now direction }
+{
+    face.tables().kerx.is_none() && !kern_some(face, direction)
 }
 
 /// The glyph properties that the kerning table in use skips.

@@ -22,7 +22,7 @@ mod text;
 pub mod worked;
 
 pub use breaks::{BreakRules, front_of, may_break_at, operations_left, takes_few_operations};
-pub use features::{is_kerned_at, requests_kerning};
-pub use font::{kerns_by_pairs, skips_of, substitutes_apart};
+pub use features::{asks_kern, is_kerned_at, requests_kerning};
+pub use font::{is_unkerned, kerns_apart, kerns_by_pairs, skips_of, substitutes_apart};
 pub use open_line::{close_chained, is_kept, place_openly, turn};
 pub use text::{CharacterKind, ShapedGlyph, SpaceWidth, TextGlyph};

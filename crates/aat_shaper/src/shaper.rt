@@ -282,6 +282,7 @@ impl<'f, A: Allocator + Copy> Shaper<'f, A> {
         }
         take_features(&mut self.plan, features)?;
         make_room(self.alloc, &mut self.workspace, room_of(text, features))?;
+        let room = self.workspace.allocated_bytes();
         let font = self.font;
         let shaped = draw_text(
             &self.workspace,
@@ -300,8 +301,7 @@ impl<'f, A: Allocator + Copy> Shaper<'f, A> {
             }
         }
         texts_are_drawn_in_parts();
-        let used = self.workspace.allocated_bytes();
-        let _kept = make_room(self.alloc, &mut self.workspace, used);
+        keep_room(self.alloc, &mut self.workspace, room);
         Ok(())
     }
 }
@@ -335,4 +335,13 @@ fn make_room<A: Allocator + Copy>(
         *workspace = Bump::try_with_capacity(alloc, room)?;
     }
     Ok(())
+}
+
+/// Lets a workspace that took more chunks than the one of so many bytes have as much in one from now on. Where memory is
+/// wanting the next text asks for it.
+fn keep_room<A: Allocator + Copy>(alloc: A, workspace: &mut Bump<A>, room: usize) {
+    let used = workspace.allocated_bytes();
+    if used > room {
+        let _kept = make_room(alloc, workspace, used);
+    }
 }

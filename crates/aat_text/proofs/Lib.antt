@@ -1,7 +1,12 @@
 pub mod Chars
+pub mod ClusterStarts
 pub mod EndsRise
+pub mod KnownGlyphs
+pub mod LoneTexts
+pub mod Passed
 pub mod Pieces
 pub mod Placed
 pub mod PlacedPieces
+pub mod PlainCharacters
 pub mod Rising
 pub mod SpacesRise

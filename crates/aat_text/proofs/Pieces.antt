@@ -30,7 +30,7 @@ some-prepend c [] h = (omega arith, tt)
 some-prepend c (piece ∷ pieces) h = (omega arith, h.1)
 
 -- what is cut makes up the characters, and no piece is empty
-concat-cut : (rule : Rule) (before cs after : List ℕ) → concat (cut rule before cs after) ≡ cs
+pub concat-cut : (rule : Rule) (before cs after : List ℕ) → concat (cut rule before cs after) ≡ cs
 unfolding cut
 concat-cut rule before [] after = refl
 concat-cut rule before (c ∷ cs) after =

@@ -10,3 +10,4 @@ pub mod Strong
 pub mod TextErrors
 pub mod TextGlyphs
 pub mod TextLaws
+pub mod inside

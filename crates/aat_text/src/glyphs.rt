@@ -1,18 +1,22 @@
 //! The glyphs of a text.
-ghost use Rattle.std.specs.Prelude.{◌≡◌, ◌<◌, ◌≤◌, ◌^◌, ◌++◌, ◌↔◌, length, map, IfErr, IfOk, IsErrOf, OnOk};
-ghost use Rattle.std.specs.Str.{chars};
+ghost use Rattle.std.specs.Prelude.{◌≡◌, ◌<◌, ◌≤◌, ◌^◌, ◌↔◌, length, if◌then◌else◌, IfErr, IfOk, IsErrOf};
+ghost use Rattle.aat_text.specs.Prepared.{placed_glyph};
+ghost use Rattle.aat_text.specs.inside.KnownGlyphs.{AreKnown};
 ghost use Rattle.aat_text.specs.TextGlyphs.{is_mark_character, text_glyph, text_of};
 ghost use Rattle.aat_text.specs.declared.error.TextError.TheVariants as errors;
 
+use crate::cluster_starts::TextBefore;
 use crate::error::TextError;
 use crate::ignorable_characters::is_ignorable_character;
-use crate::kinds::character_kind;
+use crate::kinds::{character_kind, placed_kind};
+use crate::known_glyphs::KnownGlyphs;
+use crate::plain::is_plain;
 use crate::unit::ClusterUnit;
+use aat_characters::PlacedCharacter;
 use aat_face::Face;
 use aat_shaped_text::TextGlyph;
-use std::alloc::{AllocError, Allocator};
+use std::alloc::Allocator;
 use ucd_category::GeneralCategory;
-use unicode_segmentation::UnicodeSegmentation;
 
 /// The longest text, in bytes: its places have 32 bits.
 pub(crate) const LONGEST_TEXT: usize = 0xFFFF_FFFF;
@@ -28,13 +32,21 @@ fn is_mark_character(character: char) -> bool
 }
 
 /// A character of a cluster as a glyph.
-pub(crate) fn text_glyph(face: &Face, cluster: u32, character: char) -> TextGlyph
-    ensures { result ≡ text_glyph face.now cluster character }
+#[tactic(auto, using(crate::proofs::PlainCharacters::plain_glyph))]
+pub(crate) fn text_glyph(
+    face: &Face,
+    known: &mut KnownGlyphs,
+    cluster: u32,
+    character: char,
+) -> TextGlyph
+    requires { AreKnown face.now known.now }
+    ensures glyph { result ≡ text_glyph face.now cluster character }
+    ensures known { AreKnown face.now known.new }
 {
-    let glyph_id = match face.glyph_of(character) {
-        Some(glyph) => glyph.0,
-        None => 0,
-    };
+    let glyph_id = known.glyph_id(face, character);
+    if is_plain(character) {
+        return TextGlyph::new(glyph_id, cluster);
+    }
     TextGlyph {
         glyph_id,
         cluster,
@@ -44,19 +56,27 @@ pub(crate) fn text_glyph(face: &Face, cluster: u32, character: char) -> TextGlyp
     }
 }
 
-/// Puts the glyphs of a cluster behind others.
-fn put_cluster<A: Allocator>(
+/// A character at its place as a glyph.
+pub(crate) fn placed_glyph(
     face: &Face,
-    cluster: u32,
-    piece: &str,
-    glyphs: &mut Vec<TextGlyph, A>,
-) -> Result<(), AllocError>
-    ensures { OnOk result (glyphs.new.items ≡ glyphs.old.items ++ map (text_glyph face.now cluster) (chars piece.now)) }
+    known: &mut KnownGlyphs,
+    character: PlacedCharacter,
+) -> TextGlyph
+    requires { AreKnown face.now known.now }
+    ensures glyph { result ≡ placed_glyph face.now character }
+    ensures known { AreKnown face.now known.new }
 {
-    for character in piece.chars() {
-        glyphs.push(text_glyph(face, cluster, character))?;
+    TextGlyph {
+        kind: placed_kind(character),
+        ..text_glyph(face, known, character.place, character.character)
     }
-    Ok(())
+}
+
+/// The place of the cluster of a character: its own where a cluster begins there, and else that of the one before it.
+fn cluster_start(begins: bool, place: usize, cluster: usize) -> usize
+    ensures { result ≡ if begins then place else cluster }
+{
+    if begins { place } else { cluster }
 }
 
 /// The text that a `Shaper` takes for a text in a face: one glyph for each character, in the order of the text.
@@ -86,10 +106,14 @@ pub fn text_of<A: Allocator>(
         return Err(TextError::TooLong);
     }
     let mut glyphs = Vec::new(alloc);
+    let mut known = KnownGlyphs::none();
+    let mut before = TextBefore::nothing();
+    let mut cluster = 0;
     let mut place = 0;
-    for piece in text.graphemes(true) {
-        put_cluster(face, place as u32, piece, &mut glyphs)?;
-        place += unit.count_of(piece);
+    for character in text.chars() {
+        cluster = cluster_start(before.pass(character), place, cluster);
+        glyphs.push(text_glyph(face, &mut known, cluster as u32, character))?;
+        place += unit.width_of(character);
     }
     Ok(glyphs)
 }

@@ -7,17 +7,21 @@
 //! ```
 #![tactic(auto)]
 
+mod cluster_starts;
 mod clusters;
 mod direction;
 mod error;
 mod glyphs;
 mod ignorable_characters;
 mod kinds;
+mod known_glyphs;
 /// The laws of texts, as theorems.
 #[doc(hidden)]
 pub mod laws;
 mod lines;
+mod lone;
 mod missing;
+mod plain;
 mod prepared;
 mod role;
 mod unit;

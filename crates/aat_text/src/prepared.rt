@@ -2,12 +2,14 @@
 ghost use Rattle.std.specs.Prelude.{◌≡◌, ◌<◌, ◌≤◌, ◌^◌, ◌↔◌, length, map, IfOk, IsErrOf};
 ghost use Rattle.aat_characters.specs.Native.{native_direction, told_script};
 ghost use Rattle.aat_characters.specs.Decomposed.{has_glyph};
-ghost use Rattle.aat_text.specs.Prepared.{is_turned, placed_glyph, prepared_glyphs, shaped_characters, told_direction};
+ghost use Rattle.aat_text.specs.Prepared.{is_turned, placed_glyph, prepared_glyphs, told_direction};
+ghost use Rattle.aat_text.specs.inside.Turning.{characters_when, is_plainly_forward, is_turned_to};
 
 use crate::clusters::{ClusterLevel, placed_text, turned_text};
 use crate::error::TextError;
-use crate::glyphs::{LONGEST_TEXT, text_glyph};
-use crate::kinds::placed_kind;
+use crate::glyphs::{LONGEST_TEXT, placed_glyph};
+use crate::known_glyphs::KnownGlyphs;
+use crate::lone::{lone_glyphs, stand_apart};
 use crate::unit::ClusterUnit;
 use aat_characters::{
     PlacedCharacter, Script, native_direction, natural_direction, normalized, told_script,
@@ -30,11 +32,10 @@ pub struct PreparedText<A: Allocator> {
     pub is_turned: bool,
 }
 
-/// Whether a text of a script that runs in a direction is shaped in the other one.
-fn is_turned(script: Option<Script>, direction: Direction, text: &str) -> bool
-    ensures { result ≡ is_turned script direction text.now }
+/// Whether a text that runs in a direction is shaped in the other one, where `native` is the direction of its glyphs.
+fn is_turned(direction: Direction, native: Direction) -> bool
+    ensures { result ≡ is_turned_to direction native }
 {
-    let native = native_direction(script, text, direction);
     if direction.is_forward() {
         native.is_backward()
     } else {
@@ -48,30 +49,20 @@ fn shaped_characters<A: Allocator + Copy>(
     face: &Face,
     unit: ClusterUnit,
     level: ClusterLevel,
-    script: Option<Script>,
+    is_turned: bool,
     direction: Direction,
     text: &str,
 ) -> Result<Vec<PlacedCharacter, A>, AllocError>
     requires { length text.now < 2 ^ 32 }
     ensures { IfOk result (λ out. out.items
-        ≡ shaped_characters (has_glyph face.now) script direction level unit text.now) }
+        ≡ characters_when (has_glyph face.now) is_turned direction level unit text.now) }
 {
-    if is_turned(script, direction, text) {
+    if is_turned {
         let characters = turned_text(alloc, face, direction, unit, text)?;
         normalized(alloc, face, &characters)
     } else {
         let characters = placed_text(alloc, face, direction, level, unit, text)?;
         normalized(alloc, face, &characters)
-    }
-}
-
-/// A character as a glyph.
-fn placed_glyph(face: &Face, character: PlacedCharacter) -> TextGlyph
-    ensures { result ≡ placed_glyph face.now character }
-{
-    TextGlyph {
-        kind: placed_kind(character),
-        ..text_glyph(face, character.place, character.character)
     }
 }
 
@@ -84,10 +75,43 @@ fn glyphs_of<A: Allocator>(
     ensures { IfOk result (λ glyphs. glyphs.items ≡ map (placed_glyph face.now) characters.now) }
 {
     let mut glyphs = Vec::with_capacity(alloc, characters.len())?;
+    let mut known = KnownGlyphs::none();
     for character in characters {
-        glyphs.push(placed_glyph(face, *character))?;
+        glyphs.push(placed_glyph(face, &mut known, *character))?;
     }
     Ok(glyphs)
+}
+
+/// Whether a text runs to the right and is shaped so.
+fn is_plainly_forward(is_turned: bool, direction: Direction) -> bool
+    ensures { result ≡ is_plainly_forward is_turned direction }
+{
+    match direction {
+        Direction::LeftToRight => !is_turned,
+        _ => false,
+    }
+}
+
+/// The glyphs of a text that runs in a direction.
+#[tactic(auto, using(crate::proofs::LoneTexts::lone_text))]
+fn prepared_glyphs<A: Allocator + Copy>(
+    alloc: A,
+    face: &Face,
+    unit: ClusterUnit,
+    level: ClusterLevel,
+    is_turned: bool,
+    direction: Direction,
+    text: &str,
+) -> Result<Vec<TextGlyph, A>, AllocError>
+    requires { length text.now < 2 ^ 32 }
+    ensures { IfOk result (λ glyphs. glyphs.items
+        ≡ map (placed_glyph face.now) (characters_when (has_glyph face.now) is_turned direction level unit text.now)) }
+{
+    if is_plainly_forward(is_turned, direction) && stand_apart(text) {
+        return lone_glyphs(alloc, face, unit, text);
+    }
+    let characters = shaped_characters(alloc, face, unit, level, is_turned, direction, text)?;
+    glyphs_of(alloc, face, &characters)
 }
 
 /// The text that a `Shaper` takes for a text in a face, as HarfBuzz has it for a font whose `morx`, `kerx` or `kern`
@@ -152,11 +176,12 @@ pub fn prepare_text<A: Allocator + Copy>(
     }
     let script = told_script(script, text);
     let direction = direction.unwrap_or(natural_direction(script));
-    let characters = shaped_characters(alloc, face, unit, level, script, direction, text)?;
+    let native = native_direction(script, text, direction);
+    let is_turned = is_turned(direction, native);
     Ok(PreparedText {
-        glyphs: glyphs_of(alloc, face, &characters)?,
+        glyphs: prepared_glyphs(alloc, face, unit, level, is_turned, direction, text)?,
         script,
-        direction: native_direction(script, text, direction),
-        is_turned: is_turned(script, direction, text),
+        direction: native,
+        is_turned,
     })
 }

@@ -1,1 +1,2 @@
+pub mod SplitActs
 pub mod ToldMore

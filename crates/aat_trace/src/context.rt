@@ -2,7 +2,9 @@
 ghost use Rattle.std.specs.Prelude.{◌≡◌};
 
 use crate::log::Log;
+use crate::reach::{Reach, Transition};
 use aat_buffer::hb_buffer_t;
+use aat_machine_tables::entry_bits::insertion::MARKED_INSERT_COUNT;
 use aat_machine_tables::{Acting, GenericStateEntry};
 use aat_run::{AatError, driver_context_t};
 use std::alloc::Allocator;
@@ -26,15 +28,16 @@ impl<'a, C> Model for Traced<'a, C> {
 }
 
 impl<'a, C> Traced<'a, C> {
-    /// A context whose acts on the line of a buffer are noted.
+    /// A context whose acts on the line of a buffer are noted, which change such glyphs.
     pub(crate) fn new<A: Allocator + Copy>(
         inner: C,
+        reach: Reach,
         log: &'a mut Log,
         buffer: &hb_buffer_t<A>,
     ) -> Traced<'a, C>
         ensures { result ≡ inner }
     {
-        log.begin(buffer);
+        log.begin(reach, buffer);
         Traced { inner, log }
     }
 }
@@ -84,15 +87,19 @@ impl<'a, T: Acting, C: driver_context_t<T>> driver_context_t<T> for Traced<'a, C
         self.inner.is_actionable(entry, buffer)
     }
 
-    /// Does what the entry says, and notes what that changed, in as many steps more as the line is long.
+    /// Does what the entry says, and notes what that changed.
     fn transition<A: Allocator + Copy>(
         &mut self,
         entry: &GenericStateEntry<T>,
         buffer: &mut hb_buffer_t<A>,
     ) -> Result<(), AatError> {
-        let cursor = buffer.backtrack_len();
+        let transition = Transition {
+            cursor: buffer.backtrack_len(),
+            has_mark: entry.has_mark(),
+            is_at_mark: entry.flags & MARKED_INSERT_COUNT != 0,
+        };
         self.inner.transition(entry, buffer)?;
-        self.log.note(cursor, buffer);
+        self.log.note(transition, buffer);
         Ok(())
     }
 

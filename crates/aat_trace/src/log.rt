@@ -1,6 +1,8 @@
 //! What the acts of a run changed so far.
-ghost use Rattle.std.specs.Prelude.{◌+◌, ◌≤◌, length};
+ghost use Rattle.std.specs.Prelude.{◌≤◌, length};
 
+use crate::reach::{Change, Marks, Reach, Transition};
+use crate::split_line::SplitLine;
 use crate::traced::TracedAct;
 use aat_buffer::hb_buffer_t;
 use std::alloc::{AllocError, Allocator, Global};
@@ -10,7 +12,9 @@ use std::alloc::{AllocError, Allocator, Global};
 #[derive(Drop)]
 pub(crate) struct Log {
     alloc: Global,
-    line: Vec<u32>,
+    line: SplitLine,
+    reach: Reach,
+    marks: Marks,
     acts: Vec<TracedAct>,
     transitions: u64,
     is_incomplete: bool,
@@ -21,25 +25,32 @@ impl Log {
     pub(crate) fn new(alloc: Global) -> Log {
         Log {
             alloc,
-            line: Vec::new(alloc),
+            line: SplitLine::new(alloc, Vec::new(alloc)),
+            reach: Reach::Mark,
+            marks: Marks::new(alloc),
             acts: Vec::new(alloc),
             transitions: 0,
             is_incomplete: false,
         }
     }
 
-    /// Takes the line that a run finds.
-    pub(crate) fn begin<A: Allocator + Copy>(&mut self, buffer: &hb_buffer_t<A>) {
+    /// Takes the line that a run finds, whose acts change such glyphs.
+    pub(crate) fn begin<A: Allocator + Copy>(&mut self, reach: Reach, buffer: &hb_buffer_t<A>) {
+        self.reach = reach;
         match ids_between(self.alloc, buffer, 0, buffer.len()) {
-            Ok(line) => self.line = line,
+            Ok(line) => self.line = SplitLine::new(self.alloc, line),
             Err(_) => self.is_incomplete = true,
         }
     }
 
-    /// Notes a transition from a cursor, with what it changed, if it did.
-    pub(crate) fn note<A: Allocator + Copy>(&mut self, cursor: usize, buffer: &hb_buffer_t<A>) {
+    /// Notes a transition, with what it changed, if it did.
+    pub(crate) fn note<A: Allocator + Copy>(
+        &mut self,
+        transition: Transition,
+        buffer: &hb_buffer_t<A>,
+    ) {
         self.transitions = self.transitions.saturating_add(1);
-        let noted = self.note_change(cursor, buffer);
+        let noted = self.note_change(transition, buffer);
         if noted.is_err() {
             self.is_incomplete = true;
         }
@@ -65,82 +76,72 @@ impl Log {
         }
     }
 
-    /// Notes what a transition changed, if it did: the span between what is alike in front and behind.
+    /// Notes what a transition changed, if it did, and what it marked.
     fn note_change<A: Allocator + Copy>(
         &mut self,
-        cursor: usize,
+        transition: Transition,
         buffer: &hb_buffer_t<A>,
     ) -> Result<(), AllocError> {
-        let front = alike_in_front(&self.line, buffer);
-        if front == self.line.len() && front == buffer.len() {
-            return Ok(());
+        let change = self
+            .marks
+            .change(self.reach, transition, &self.line, buffer);
+        if transition.has_mark {
+            self.marks.push(transition.cursor)?;
         }
-        let behind = alike_behind(&self.line, buffer, front);
-        let taken = Vec::from_slice(self.alloc, &self.line[front..self.line.len() - behind])?;
-        let put = ids_between(self.alloc, buffer, front, buffer.len() - behind)?;
-        self.line = ids_between(self.alloc, buffer, 0, buffer.len())?;
-        self.push(cursor, front, taken, put)
+        match change {
+            Some(change) => self.note_act(transition.cursor, change, buffer),
+            None => Ok(()),
+        }
+    }
+
+    /// Notes an act that changed a span of the line.
+    fn note_act<A: Allocator + Copy>(
+        &mut self,
+        cursor: usize,
+        change: Change,
+        buffer: &hb_buffer_t<A>,
+    ) -> Result<(), AllocError> {
+        let mut taken = Vec::new(self.alloc);
+        for place in change.start..change.old_end {
+            taken.push(self.line.get(place).unwrap_or(0))?;
+        }
+        let end = change.new_end.min(buffer.len());
+        let put = ids_between(self.alloc, buffer, change.start.min(end), end)?;
+        let act = TracedAct {
+            transition: self.transitions,
+            cursor,
+            place: change.start,
+            taken,
+            put,
+        };
+        if self.reach == Reach::Components {
+            self.marks.drop_deleted(&act);
+        }
+        if !self.line.act(&act)? {
+            self.is_incomplete = true;
+        }
+        self.acts.push(act)?;
+        Ok(())
     }
 
     /// Notes that the glyph at a place has another id now, if it has.
     fn note_at(&mut self, place: usize, id: u32) -> Result<(), AllocError> {
         match self.line.get(place) {
-            Some(known) if *known != id => {
-                let taken = vec![in self.alloc; *known]?;
+            Some(known) if known != id => {
+                let taken = vec![in self.alloc; known]?;
                 let put = vec![in self.alloc; id]?;
-                self.push(place, place, taken, put)
+                self.acts.push(TracedAct {
+                    transition: self.transitions,
+                    cursor: place,
+                    place,
+                    taken,
+                    put,
+                })?;
+                Ok(())
             }
             _ => Ok(()),
         }
     }
-
-    /// Adds an act.
-    fn push(
-        &mut self,
-        cursor: usize,
-        place: usize,
-        taken: Vec<u32>,
-        put: Vec<u32>,
-    ) -> Result<(), AllocError> {
-        self.acts.push(TracedAct {
-            transition: self.transitions,
-            cursor,
-            place,
-            taken,
-            put,
-        })?;
-        Ok(())
-    }
-}
-
-/// How many glyphs from the front have these ids.
-fn alike_in_front<A: Allocator + Copy>(ids: &[u32], buffer: &hb_buffer_t<A>) -> usize
-    ensures known { result ≤ length ids.now }
-    ensures present { result ≤ length buffer.now.line }
-{
-    let most = ids.len().min(buffer.len());
-    for i in 0..most {
-        if ids[i] != buffer.info(i).glyph_id {
-            return i;
-        }
-    }
-    most
-}
-
-/// How many glyphs from the end, but for so many in front, have these ids.
-fn alike_behind<A: Allocator + Copy>(ids: &[u32], buffer: &hb_buffer_t<A>, front: usize) -> usize
-    requires known { front ≤ length ids.now }
-    requires present { front ≤ length buffer.now.line }
-    ensures known { front + result ≤ length ids.now }
-    ensures present { front + result ≤ length buffer.now.line }
-{
-    let most = ids.len().min(buffer.len()) - front;
-    for i in 0..most {
-        if ids[ids.len() - 1 - i] != buffer.info(buffer.len() - 1 - i).glyph_id {
-            return i;
-        }
-    }
-    most
 }
 
 /// The ids of the glyphs from one place up to another.

@@ -10,6 +10,7 @@ ghost use Rattle.aat_run.specs.Ranges.{IsGapless, is_whole_list};
 
 use crate::context::Traced;
 use crate::log::Log;
+use crate::reach::Reach;
 use aat_buffer::hb_buffer_t;
 use aat_kinds::{
     ContextualCtx, InsertionCtx, LigatureCtx, RearrangementCtx, SubtableRun, run_kind,
@@ -35,7 +36,7 @@ fn run_rearrangement<const LONGEST: usize, A: Allocator + Copy>(
     ensures served { IsOk result }
 {
     let inner: RearrangementCtx<LONGEST> = RearrangementCtx::with_longest();
-    let mut context = Traced::new(inner, log, buffer);
+    let mut context = Traced::new(inner, Reach::Span(LONGEST), log, buffer);
     run_machine(
         table,
         None,
@@ -61,7 +62,7 @@ fn run_contextual<A: Allocator + Copy>(
     ensures served { IsOk result }
 {
     let inner = ContextualCtx::new(run.face, subtable);
-    let mut context = Traced::new(inner, log, buffer);
+    let mut context = Traced::new(inner, Reach::Mark, log, buffer);
     run_machine(
         &subtable.state,
         None,
@@ -89,7 +90,7 @@ fn run_ligature<const SLOTS: usize, A: Allocator + Copy>(
     ensures served { IsOk result }
 {
     let inner: LigatureCtx<SLOTS> = LigatureCtx::with_slots(subtable);
-    let mut context = Traced::new(inner, log, buffer);
+    let mut context = Traced::new(inner, Reach::Components, log, buffer);
     run_machine(
         &subtable.state,
         None,
@@ -117,7 +118,7 @@ fn run_insertion<A: Allocator + Copy>(
     ensures refused { OnErr result (IsRefused buffer.old buffer.new) }
 {
     let inner = InsertionCtx::new(&subtable.glyphs);
-    let mut context = Traced::new(inner, log, buffer);
+    let mut context = Traced::new(inner, Reach::Insertion, log, buffer);
     run_machine(
         &subtable.state,
         None,
@@ -148,7 +149,7 @@ fn run_noncontextual<const SLOTS: usize, const LONGEST: usize, A: Allocator + Co
         (kind_run (sizes_of SLOTS LONGEST run.now.face.now) (is_on_in run.now) kind.now buffer.old).buffer) }
     ensures refused { OnErr result (IsRefused buffer.old buffer.new) }
 {
-    log.begin(buffer);
+    log.begin(Reach::Mark, buffer);
     let asleep_nowhere = SubtableRun {
         wakers: None,
         ..*run

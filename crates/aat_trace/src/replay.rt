@@ -1,8 +1,9 @@
 //! Acts on a line once more.
-ghost use Rattle.std.specs.Prelude.{◌≡◌, IfOk, MatchOption, None, Some, true};
+ghost use Rattle.std.specs.Prelude.{◌≡◌, IfOk, Some, true};
 ghost use Rattle.aat_buffer.specs.Clusters.{ids};
-ghost use Rattle.aat_trace.specs.Replay.{changed_by, in_run_order, replayed};
+ghost use Rattle.aat_trace.specs.Replay.{in_run_order, replayed};
 
+use crate::split_line::SplitLine;
 use crate::traced::TracedAct;
 use aat_buffer::hb_glyph_info_t;
 use std::alloc::{AllocError, Global};
@@ -22,25 +23,6 @@ pub(crate) fn ids_of(
     Ok(ids)
 }
 
-/// The ids behind an act on a line, none where the line has not at its place what the act takes.
-fn line_behind(alloc: Global, act: &TracedAct, line: &[u32]) -> Result<Option<Vec<u32>>, AllocError>
-    ensures { IfOk result (λ answer. MatchOption answer (changed_by act.now line.now ≡ None)
-        (λ v. changed_by act.now line.now ≡ Some v.items)) }
-{
-    if act.place > line.len() {
-        return Ok(None);
-    }
-    match line[act.place..].strip_prefix(act.taken.as_slice()) {
-        Some(rest) => {
-            let mut behind = Vec::from_slice(alloc, &line[..act.place])?;
-            behind.extend_from_slice(&act.put)?;
-            behind.extend_from_slice(rest)?;
-            Ok(Some(behind))
-        }
-        None => Ok(None),
-    }
-}
-
 /// Whether acts, one behind another, lead from the ids of a line to those of another one.
 pub(crate) fn leads(
     alloc: Global,
@@ -50,12 +32,11 @@ pub(crate) fn leads(
 ) -> Result<bool, AllocError>
     ensures { IfOk result (λ answer. answer ≡ true → replayed acts.now first.items ≡ Some last.now) }
 {
-    let mut line = first;
+    let mut line = SplitLine::new(alloc, first);
     for act in acts {
-        match line_behind(alloc, act, &line)? {
-            Some(behind) => line = behind,
-            None => return Ok(false),
+        if !line.act(act)? {
+            return Ok(false);
         }
     }
-    Ok(line.as_slice() == last)
+    Ok(line.into_ids()?.as_slice() == last)
 }

@@ -50,8 +50,9 @@ use std::alloc::{Allocator, Global};
 /// where it leaves a longer line than it found, and that one was shorter than `max_len`. In the middle of a run the
 /// buffer fails; else it is unchanged. Nothing is told then.
 ///
-/// Besides the steps of the run, each transition of a machine takes as many as the line is long, and so does each act
-/// once more. A subtable takes memory for four lines and its acts.
+/// Besides the steps of the run, a transition of a machine takes at most 66, and an act as many as ids that it takes and
+/// puts, and as its place is away from that of the act before it. Where glyphs go in at a mark, it takes as many as that
+/// is away from the cursor. A subtable takes memory for four lines, its acts and its marks.
 ///
 /// Apple's TrueType Reference Manual, "The 'morx' table".
 pub fn trace_substitution<A: Allocator + Copy>(

@@ -4,3 +4,4 @@ pub mod EndsKept
 pub mod FeaturesRead
 pub mod Hanging
 pub mod Refusals
+pub mod Unhidden

@@ -75,7 +75,7 @@ fn set_line<A: Allocator + Copy>(
     Ok(TypesetLine {
         text_end,
         shaped: Vec::from_slice(alloc, shaped)?,
-        glyphs: show(alloc, face, showing, shaped)?,
+        glyphs: show(alloc, Vec::new(alloc), face, showing, shaped)?,
     })
 }
 

@@ -51,10 +51,11 @@ pub(crate) fn track_at<'f, A: Allocator + Copy>(
     }
 }
 
-/// Shapes a text, and answers what is drawn of it.
+/// Shapes a text, and answers what is drawn of it, in the memory of a vector whose own glyphs are dropped.
 #[tactic(auto, unfolding(crate::specs::Typeset::shaped_setting, crate::specs::Typeset::drawn_setting, crate::specs::Typeset::uses_up, crate::specs::Typeset::RefusesSetting))]
 pub(crate) fn draw<A: Allocator + Copy>(
     alloc: A,
+    room: Vec<ShapedGlyph, A>,
     face: &Face<'_>,
     shaper: &mut Shaper<'_, A>,
     features: &[Feature],
@@ -76,7 +77,7 @@ pub(crate) fn draw<A: Allocator + Copy>(
     let asked = features_for(alloc, font, text.rules, features)?;
     shaper.shape(text.direction, &text.glyphs, &asked)?;
     let showing = shown_for(face, font, text.rules, text.direction);
-    let glyphs = show(alloc, face, showing, shaper.glyphs())?;
+    let glyphs = show(alloc, room, face, showing, shaper.glyphs())?;
     Ok(glyphs)
 }
 

@@ -1,7 +1,9 @@
 //! How what is drawn is shown.
 ghost use Rattle.std.specs.Prelude.{◌≡◌, IfOk, option_map};
+ghost use Rattle.std.specs.List.{list_any};
 ghost use Rattle.aat_showing.specs.Columns.{in_columns};
 ghost use Rattle.aat_showing.specs.FaceMetrics.{mark_placing};
+ghost use Rattle.aat_showing.specs.Ignorables.{drawn_without_ignorables};
 ghost use Rattle.aat_showing.specs.HiddenParts.{asked, positioned, shown};
 ghost use Rattle.aat_showing.specs.MarkBoxes.{place_marks};
 ghost use Rattle.aat_showing.specs.Marks.{zero_marks};
@@ -86,16 +88,43 @@ fn position(glyphs: &mut [ShapedGlyph], face: &Face<'_>, showing: Shown)
     set_marks(glyphs, face, showing.direction, showing.boxes);
 }
 
-/// Glyphs as they are shown.
+/// Whether some glyph is ignorable.
+fn has_ignorables(glyphs: &[ShapedGlyph]) -> bool
+    ensures { result ≡ list_any (λ g. g.is_ignorable) glyphs.now }
+{
+    glyphs.iter().any(|glyph| glyph.is_ignorable)
+}
+
+/// Hides the ignorable ones of some glyphs. Where the font has a space, and none of them is ignorable, they are as they
+/// were, without another copy.
+#[tactic(auto, using(crate::proofs::Unhidden::unhidden))]
+fn hide<A: Allocator + Copy>(
+    alloc: A,
+    direction: Direction,
+    space: Option<GlyphId>,
+    glyphs: Vec<ShapedGlyph, A>,
+) -> Result<Vec<ShapedGlyph, A>, AllocError>
+    ensures { IfOk result (λ out. out.items ≡ drawn_without_ignorables direction space glyphs.items) }
+{
+    if space.is_some() && !has_ignorables(&glyphs) {
+        return Ok(glyphs);
+    }
+    hide_ignorables(alloc, direction, space, &glyphs)
+}
+
+/// Glyphs as they are shown, in the memory of a vector whose own glyphs are dropped.
 pub(crate) fn show<A: Allocator + Copy>(
     alloc: A,
+    room: Vec<ShapedGlyph, A>,
     face: &Face<'_>,
     showing: Shown,
     glyphs: &[ShapedGlyph],
 ) -> Result<Vec<ShapedGlyph, A>, AllocError>
     ensures { IfOk result (λ out. out.items ≡ shown (showing_by face.now showing) glyphs.now) }
 {
-    let mut positioned = Vec::from_slice(alloc, glyphs)?;
+    let mut positioned = room;
+    positioned.clear();
+    positioned.extend_from_slice(glyphs)?;
     position(&mut positioned, face, showing);
-    hide_ignorables(alloc, showing.direction, showing.space, &positioned)
+    hide(alloc, showing.direction, showing.space, positioned)
 }

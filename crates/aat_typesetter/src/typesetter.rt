@@ -19,6 +19,7 @@ use aat_showing::laws::breaks_hold_as_shown;
 use aat_text::{LineEnd, line_ends};
 use std::alloc::{Allocator, Global};
 use std::marker::Model;
+use std::mem;
 
 /// A typesetter of texts of a face. It is made once for a face, typesets many texts, and keeps its memory between them.
 /// A contract sees it as the record `TypesetterValue`.
@@ -167,7 +168,8 @@ impl<'f, A: Allocator + Copy> Typesetter<'f, A> {
             options.size,
             &mut self.shaper,
         );
-        match draw(self.alloc, face, &mut self.shaper, features, &text) {
+        let room = mem::replace(&mut self.glyphs, Vec::new(self.alloc));
+        match draw(self.alloc, room, face, &mut self.shaper, features, &text) {
             Ok(glyphs) => {
                 self.glyphs = glyphs;
                 self.text = text;

@@ -313,7 +313,7 @@ fn length_argument<'a>(alloc: Global) -> Arg<'a> {
         .long("glyphs-per-line")
         .value_name("N")
         .value_parser(value_parser!(u32))
-        .help("Cuts each line of the text into lines of N characters, of which each is a glyph")
+        .help("Cuts each line of the text into lines of N characters")
 }
 
 /// The file of a text that is timed.
@@ -342,15 +342,15 @@ fn bench_command<'a>(alloc: Global) -> Result<Command<'a>, AllocError> {
 }
 
 /// Adds a command that may be refused memory, and is refused then.
-pub fn add_command<'a>(
+pub(crate) fn add_command<'a>(
     command: Command<'a>,
     other: Result<Command<'a>, AllocError>,
 ) -> Result<Command<'a>, AllocError> {
     command.subcommand(other?)
 }
 
-/// The program's command, with those that it takes and their options. It errs only where memory is wanting.
-pub fn command<'a>(alloc: Global) -> Result<Command<'a>, AllocError> {
+/// The program's command, with the commands that help shows.
+pub(crate) fn shown_command<'a>(alloc: Global) -> Result<Command<'a>, AllocError> {
     let command = Command::new(alloc, "aat")
         .about("Shapes text by Apple Advanced Typography, and inspects its fonts")
         .subcommand_required(true);

@@ -4,7 +4,7 @@ use crate::bench::BenchText;
 use aat_face::Face;
 use aat_layout::buffer::Direction;
 use aat_shaper::TextGlyph;
-use aat_text::{first_strong_direction, text_of};
+use aat_text::{PreparedText, TextError, prepare_text};
 use anyhow::Result;
 use std::alloc::{AllocError, Global};
 
@@ -13,9 +13,9 @@ use std::alloc::{AllocError, Global};
 pub(crate) struct TextLine<'t> {
     /// Its characters.
     pub(crate) characters: &'t str,
-    /// Its direction.
+    /// The direction in which it is shaped.
     pub(crate) direction: Direction,
-    /// Its glyphs, one for each character.
+    /// Its glyphs, in the order in which they are shaped.
     pub(crate) glyphs: Vec<TextGlyph>,
 }
 
@@ -52,6 +52,24 @@ fn pieces_of<'t>(
     Ok(pieces)
 }
 
+/// A line of a text, as a typesetter of the font shapes it.
+pub(crate) fn prepared(
+    alloc: Global,
+    face: &Face<'_>,
+    text: BenchText<'_>,
+    characters: &str,
+) -> Result<PreparedText<Global>, TextError> {
+    prepare_text(
+        alloc,
+        face,
+        text.unit,
+        text.level,
+        text.script,
+        text.direction,
+        characters,
+    )
+}
+
 /// The lines of a text, as they are shaped in a font.
 pub(crate) fn lines_of<'t>(
     alloc: Global,
@@ -60,15 +78,11 @@ pub(crate) fn lines_of<'t>(
 ) -> Result<Vec<TextLine<'t>>> {
     let mut lines = Vec::new(alloc);
     for characters in pieces_of(alloc, text.characters, text.length)? {
-        let direction = text
-            .direction
-            .or(first_strong_direction(characters))
-            .unwrap_or(Direction::LeftToRight);
-        let glyphs = text_of(alloc, face, text.unit, characters)?;
+        let ready = prepared(alloc, face, text, characters)?;
         lines.push(TextLine {
             characters,
-            direction,
-            glyphs,
+            direction: ready.direction,
+            glyphs: ready.glyphs,
         })?;
     }
     Ok(lines)

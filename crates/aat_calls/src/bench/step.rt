@@ -24,16 +24,19 @@ pub(crate) enum Step {
     Kerning,
     /// The glyphs of each line are shaped by a shaper that is kept.
     Shaping,
+    /// Each line is typeset by a typesetter that is kept.
+    Typesetting,
 }
 
 /// The steps in the order in which they are told.
-pub(crate) static STEPS: [Step; 6] = [
+pub(crate) static STEPS: [Step; 7] = [
     Step::Reading,
     Step::Text,
     Step::Compiling,
     Step::Substitution,
     Step::Kerning,
     Step::Shaping,
+    Step::Typesetting,
 ];
 
 impl Step {
@@ -46,27 +49,19 @@ impl Step {
             Step::Substitution => SUBSTITUTION,
             Step::Kerning => KERNING,
             Step::Shaping => SHAPING,
+            Step::Typesetting => "typesetting",
         }
     }
 
-    /// Of what its time is told.
-    pub(crate) fn unit(self) -> &'static str {
+    /// How many there are in a round of what its time is told of, and what that is.
+    pub(crate) fn count(self, work: &Work<'_, '_, '_>) -> (usize, &'static str) {
         match self {
-            Step::Reading => "byte of the font",
-            Step::Compiling => "feature",
-            Step::Text | Step::Substitution | Step::Kerning | Step::Shaping => "character",
-        }
-    }
-
-    /// How many of these a round has.
-    pub(crate) fn count(self, work: &Work<'_, '_, '_>) -> usize {
-        match self {
-            Step::Reading => work.font.bytes.len(),
+            Step::Reading => (work.font.bytes.len(), "byte of the font"),
             Step::Compiling => {
                 let features = work.plan.user_features.len();
-                work.lines.len().saturating_mul(features)
+                (work.lines.len().saturating_mul(features), "feature")
             }
-            Step::Text | Step::Substitution | Step::Kerning | Step::Shaping => work.characters(),
+            _ => (work.characters(), "character"),
         }
     }
 }

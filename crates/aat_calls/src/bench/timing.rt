@@ -1,16 +1,15 @@
 //! The time that steps take.
 
-use crate::bench::OUTPUT;
-use crate::bench::lines::TextLine;
+use crate::bench::lines::{TextLine, prepared};
 use crate::bench::step::{STEPS, Step};
 use crate::bench::work::{
     BenchFont, LeftLine, PlacedLine, ReadyLine, Work, compile, kern, placed, ready, substitute,
 };
+use crate::bench::{OUTPUT, TypesetsLine};
 use aat_bytes::ReadError;
 use aat_face::Face;
 use aat_layout::AatError;
 use aat_shaper::Shaper;
-use aat_text::text_of;
 use anyhow::{Context, Result, bail};
 use std::alloc::Global;
 use std::io::{self, Write};
@@ -32,7 +31,7 @@ fn read_and_drop(alloc: Global, font: BenchFont<'_, '_>) -> Result<()> {
 /// Makes the glyphs of all lines of their characters.
 fn make_texts(alloc: Global, work: &Work<'_, '_, '_>) -> Result<()> {
     for line in &work.lines {
-        drop(text_of(alloc, work.font.face, work.unit, line.characters)?);
+        drop(prepared(alloc, work.font.face, work.text, line.characters)?);
     }
     Ok(())
 }
@@ -49,6 +48,14 @@ fn compile_all(alloc: Global, work: &Work<'_, '_, '_>) -> Result<()> {
 fn shape_all(work: &Work<'_, '_, '_>, shaper: &mut Shaper<'_>) -> Result<()> {
     for line in &work.lines {
         shaper.shape(line.direction, &line.glyphs, &work.plan.user_features)?;
+    }
+    Ok(())
+}
+
+/// Typesets all lines.
+fn typeset_all<T: TypesetsLine>(work: &Work<'_, '_, '_>, typesetter: &mut T) -> Result<()> {
+    for line in &work.lines {
+        typesetter.typeset(line.characters)?;
     }
     Ok(())
 }
@@ -151,10 +158,11 @@ fn time_kerning(rt: &HostRuntime, work: &Work<'_, '_, '_>) -> Result<Duration> {
 }
 
 /// The time of a round of a step.
-fn round(
+fn round<T: TypesetsLine>(
     rt: &HostRuntime,
     work: &Work<'_, '_, '_>,
     shaper: &mut Shaper<'_>,
+    typesetter: &mut T,
     step: Step,
 ) -> Result<Duration> {
     let start = Instant::now(rt)?;
@@ -165,21 +173,23 @@ fn round(
         Step::Substitution => return time_substitution(rt, work),
         Step::Kerning => return time_kerning(rt, work),
         Step::Shaping => shape_all(work, shaper)?,
+        Step::Typesetting => typeset_all(work, typesetter)?,
     }
     Ok(start.elapsed(rt)?)
 }
 
 /// The times of so many rounds of a step, in nanoseconds, from the least one on.
-fn times_of(
+fn times_of<T: TypesetsLine>(
     rt: &HostRuntime,
     work: &Work<'_, '_, '_>,
     shaper: &mut Shaper<'_>,
+    typesetter: &mut T,
     step: Step,
     rounds: u32,
 ) -> Result<Vec<u128>> {
     let mut times = Vec::new(rt.alloc());
     for _round in 0..rounds {
-        times.push(round(rt, work, shaper, step)?.as_nanos())?;
+        times.push(round(rt, work, shaper, typesetter, step)?.as_nanos())?;
     }
     times.sort_unstable();
     Ok(times)
@@ -199,22 +209,23 @@ fn write_times_of<W: Write>(
     step: Step,
     times: &[u128],
 ) -> io::Result<()> {
-    let count = step.count(work);
+    let (count, unit) = step.count(work);
     let least = times.first().copied().unwrap_or(0);
     let median = times.get(times.len() / 2).copied().unwrap_or(0);
     write!(out, "{:<12}", step.name())?;
     write_each(out, least, count)?;
     write_each(out, median, count)?;
-    writeln!(out, "  {}", step.unit())
+    writeln!(out, "  {unit}")
 }
 
 /// Times the steps in so many rounds, at least one, and writes the least time of each and the median one, for each
 /// byte, character or feature. The features are compiled by themselves only where there are any.
-pub(crate) fn write_times<W: Write>(
+pub(crate) fn write_times<W: Write, T: TypesetsLine>(
     rt: &HostRuntime,
     out: &mut W,
     work: &Work<'_, '_, '_>,
     shaper: &mut Shaper<'_>,
+    typesetter: &mut T,
     rounds: u32,
 ) -> Result<()> {
     writeln!(out, "nanoseconds    least    median  for each").context(OUTPUT)?;
@@ -222,7 +233,7 @@ pub(crate) fn write_times<W: Write>(
         if step == Step::Compiling && work.plan.user_features.is_empty() {
             continue;
         }
-        let times = times_of(rt, work, shaper, step, rounds)?;
+        let times = times_of(rt, work, shaper, typesetter, step, rounds)?;
         write_times_of(out, work, step, &times).context(OUTPUT)?;
     }
     Ok(())

@@ -2,21 +2,21 @@
 ghost use Rattle.std.specs.Prelude.{IsSome};
 ghost use Rattle.aat_layout.specs.Clusters.{IsSmall};
 
+use crate::bench::BenchText;
 use crate::bench::lines::TextLine;
 use crate::line::buffer_of;
 use aat_face::Face;
 use aat_layout::buffer::{hb_buffer_t, hb_mask_t};
-use aat_layout::font::{Feature, hb_font_t, hb_ot_shape_plan_t};
+use aat_layout::font::{hb_font_t, hb_ot_shape_plan_t};
 use aat_layout::{
     AatError, Turns, hb_aat_layout_position, hb_aat_layout_substitute, hb_aat_map_builder_t,
     hb_aat_map_t, hb_ot_layout_kern,
 };
-use aat_text::ClusterUnit;
 use anyhow::{Result, bail};
 use std::alloc::Global;
 
 /// The bit of a mask by which a glyph asks for kerning, as `Shaper::shape` has it.
-const KERNED: hb_mask_t = 8;
+pub(crate) const KERNED: hb_mask_t = 8;
 
 /// A font that is measured.
 #[derive(Clone, Copy)]
@@ -34,8 +34,8 @@ pub struct BenchFont<'f, 'b> {
 pub(crate) struct Work<'f, 'b, 't> {
     /// The font.
     pub(crate) font: BenchFont<'f, 'b>,
-    /// What clusters count.
-    pub(crate) unit: ClusterUnit,
+    /// The text.
+    pub(crate) text: BenchText<'t>,
     /// The features, with kerning of all glyphs.
     pub(crate) plan: hb_ot_shape_plan_t,
     /// The lines.
@@ -47,18 +47,9 @@ impl Work<'_, '_, '_> {
     pub(crate) fn characters(&self) -> usize {
         let mut count = 0usize;
         for line in &self.lines {
-            count = count.saturating_add(line.glyphs.len());
+            count = count.saturating_add(line.characters.chars().count());
         }
         count
-    }
-}
-
-/// A plan of features that kerns all glyphs.
-pub(crate) fn plan_of(features: Vec<Feature>) -> hb_ot_shape_plan_t {
-    hb_ot_shape_plan_t {
-        requested_kerning: true,
-        kern_mask: KERNED,
-        ..hb_ot_shape_plan_t::new(features)
     }
 }
 

@@ -1,5 +1,5 @@
-use Rattle.std.proofs.Common.{◌≡◌, map, not}
-use Rattle.std.specs.Prelude.{filter}
+use Rattle.std.proofs.Common.{◌≡◌, ◌≤◌, length, map, not}
+use Rattle.std.specs.Prelude.{filter, vec_capacity, vec_len}
 use Rattle.std.specs.List.{range_with_len}
 use Rattle.aat_buffer.specs.Buffer.{glyph_at}
 use Rattle.aat_buffer.specs.Removal.{is_deleted}
@@ -16,4 +16,6 @@ invariant-loop-i g l =
           ≡ map (drawn_glyph (may_break l.fn.breaks b.line) b)
           (filter (λ i. not (is_deleted (glyph_at b.line i))) (range_with_len 0 l.i));
       counted : l.kept ≡ kept_before b.line l.i;
+      few : vec_len l.glyphs ≤ l.i;
+      room : length b.line ≤ vec_capacity l.glyphs;
     }

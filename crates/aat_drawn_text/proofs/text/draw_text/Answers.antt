@@ -16,10 +16,12 @@ use Rattle.aat_shaped_text.specs.ShapedText.{tracked_line}
 use Rattle.aat_shaped_text.specs.declared.breaks.BreakRules.{BreakRules}
 use Rattle.aat_layout.specs.Shaping.{with_advances}
 use Rattle.aat_drawn_text.specs.declared.drawn.Breaks.{Breaks}
-use Rattle.aat_drawn_text.proofs.DrawnText.{as_long, behind_text, closed_lent, drawn_so, drawn_text_so, few_so, left_so, made_is, small_ordered, substituted_is, tells_is, text_direction, text_merges, used_so}
+use Rattle.aat_drawn_text.specs.declared.kerned.KernedBy.{KernedBy}
+use Rattle.aat_drawn_text.proofs.DrawnText.{as_long, attached_none, behind_text, closed_lent, drawn_so, drawn_text_so, few_so, left_so, made_is, small_ordered, substituted_is, tells_is, text_direction, text_merges, used_so}
 use Rattle.aat_drawn_text.proofs.Ordered.{IsTurnedLine, drawn_glyphs_ordered, drawn_kept, drawn_line}
 use Rattle.aat_shaped_text.proofs.RisingText.{rising_line}
 use Rattle.aat_drawn_text.proofs.Planned.{run_refusal}
+use Rattle.aat_drawn_text.specs.inside.Kerned.{is_told_by_glyphs, open_places}
 use Rattle.aat_drawn_text.specs.inside.TextLine.{substituted_so}
 use Rattle.aat_drawn_text.proofs.text.draw_text.Goals as goal
 
@@ -50,10 +52,8 @@ returns-clause-ok g c =
     let rules : BreakRules = record { is_even = c.substitutes_evenly.result; features = c.as_slice-features.result } in
     let breaks : Breaks = record {
       is_allowed = c.tells_breaks-is_allowed.result;
-      skips = c.skips_of.result;
       rules = rules;
-      by_marks = c.kerns_by_pairs-by_marks.result;
-      places = c.deref.result;
+      left_open = c.open_places-left_open.result;
     } in
     drawn_so v face d features text c.closing_draws_alike.ensures rules breaks told c.turn.new.buffer
     (record {
@@ -66,12 +66,14 @@ returns-clause-ok g c =
           c.operations_left-operations.ensures.value (made_is v face d features text plan c.requires.planned lists compiled asked made c.as_slice-features.ensures.value c.in_ok-buffer.ensures.ok) is;
       allowed = c.tells_breaks-is_allowed.ensures;
       rules_are = refl;
-      skips = c.skips_of.ensures;
       evenly = c.substitutes_evenly.ensures;
       asked = c.as_slice-features.ensures.value;
-      marks = c.kerns_by_pairs-by_marks.ensures;
+      places = c.deref.result;
+      left_open = c.open_places-left_open.ensures ∙ ap (λ (k : KernedBy). open_places face k c.deref.result) c.kerned_by-kerned.ensures;
       way = sym (ap (λ (b : Buffer). b.direction) before) ∙ text_direction v face d features text asked made behind c.in_ok-buffer.ensures.ok c.in_ok-is_told.ensures.settings.direction;
-      opens = λ tells_it apart. subst (λ (b : Buffer). TellsOpenPlaces face rules (with_advances (advance_of face) b) told) before (c.in_ok-places.ensures.told tells_it apart);
+      opens = λ tells_it others.
+          subst (λ (b : Buffer). TellsOpenPlaces face rules (with_advances (advance_of face) b) told) before
+          (c.in_ok-places.ensures.told tells_it (c.is_told_by_glyphs-by_glyphs.ensures ∙ (ap is_told_by_glyphs c.kerned_by-kerned.ensures ∙ others)));
       drawn_is = drawn_text_so v face d features text closes left c.track_line.new.buffer c.turn.new.buffer is wider c.turn.ensures.after;
       long = c.turn.ensures.count ∙ (ap (λ (b : Buffer). length b.line) wider ∙ (c.in_ok-places.ensures.number ∙ ap (λ (b : Buffer). length b.line) before));
       chained = λ long.
@@ -155,3 +157,30 @@ draw-requires-clause-ids g c =
     let wider : c.track_line.new.buffer ≡ tracked_line v left =
     c.in_ok-track_line.ensures.ok ∙ ap (λ n. tracked_line n left) (to_z-of_z w32 v c.ranges.value) in
     rw c.turn.ensures.after (rw wider (small_ordered (tracked_line v left) c.in_ok-places.ensures.ids))
+
+pub close_attached-requires-clause-none : goal.close_attached-requires-clause-none
+close_attached-requires-clause-none g c = λ apart.
+    let v = c.args.value in
+    let face = c.args.face.now in
+    let d = c.args.direction in
+    let plan = c.args.plan.now in
+    let features = plan.user_features.items in
+    let text = c.args.text.now in
+    let asked = c.as_slice-features.result.now in
+    let made = c.in_ok-buffer.buffer in
+    let closes = c.is_rising.result in
+    let behind = c.substitute.new.buffer in
+    let left = c.place.new.buffer in
+    let lists = option_copied c.as_ref-lists.result in
+    let compiled : switched_by (chains_in (tables_of c.args.face.now).morx) (lists_for (option_copied c.as_ref-lists.result) (chains_in (tables_of c.args.face.now).morx))
+    ≡ switched c.args.plan.now.apply_morx (plan_requests c.args.plan.now c.args.face.now) (chains_in (tables_of c.args.face.now).morx) =
+    rw c.as_ref-lists.ensures.value c.in_ok-map.ensures.ok in
+    let wider : c.track_line.new.buffer ≡ tracked_line v left =
+    c.in_ok-track_line.ensures.ok ∙ ap (λ n. tracked_line n left) (to_z-of_z w32 v c.ranges.value) in
+    let is = left_so v face d features text plan c.requires.planned lists compiled asked made c.as_slice-features.ensures.value c.in_ok-buffer.ensures.ok
+    closes behind left c.in_ok-is_told.ensures.left c.in_ok-places.ensures.placing in
+    let before : behind ≡ behind_text v face d features text closes =
+    c.in_ok-is_told.ensures.left ∙ substituted_is v face d features text plan c.requires.planned lists compiled asked made c.as_slice-features.ensures.value c.in_ok-buffer.ensures.ok closes in
+    attached_none v face d features text closes c.turn.new.buffer (sym c.kerns_apart-attaches_none.ensures ∙ apart)
+    (sym (ap (λ (b : Buffer). b.direction) before) ∙ text_direction v face d features text asked made behind c.in_ok-buffer.ensures.ok c.in_ok-is_told.ensures.settings.direction)
+    (drawn_text_so v face d features text closes left c.track_line.new.buffer c.turn.new.buffer is wider c.turn.ensures.after)

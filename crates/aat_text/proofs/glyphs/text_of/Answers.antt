@@ -1,26 +1,61 @@
-use Rattle.std.proofs.Common.{◌+◌, ap, ◌∙◌}
-use Rattle.aat_text.proofs.Placed.{glyphs_all, glyphs_more, room_at_start, room_more}
+use Rattle.std.proofs.Common.{◌≡◌, ◌+◌, ◌++◌, ◌∷◌, [], length, subst, sym, ap, ap₂, ◌∙◌, arith}
+use Rattle.std.proofs.lemmas.Str.{IsUtf8-past_char}
+use Rattle.std.specs.Prelude.{if◌then◌else◌}
+use Rattle.std.specs.Str.{chars, IsUtf8}
+use Rattle.std.specs.Str.Iter.{chars_rest}
+use Rattle.aat_text.specs.TextGlyphs.{text_glyph}
+use Rattle.aat_text.proofs.Passed.{glyphs_at_start, glyphs_behind, glyphs_done, glyphs_past, starts_within}
+use Rattle.aat_text.proofs.Placed.{room_past_char}
 use Rattle.aat_text.proofs.glyphs.text_of.Goals as goal
-use Rattle.unicode_segmentation.specs.Iter.{graphemes_left}
 
-pub loop-piece-init : goal.loop-piece-init
-loop-piece-init g c =
-    let left = ap graphemes_left c.into_iter-piece-iterator.ensures.into_iter_gives ∙ c.graphemes-piece-items.ensures.left in
+pub loop-character-init : goal.loop-character-init
+loop-character-init g c =
+    let rest : chars_rest c.into_iter-character-iterator.result ≡ c.args.text.now =
+    ap chars_rest c.into_iter-character-iterator.ensures.into_iter_gives ∙ c.chars-character-items.ensures.rest in
     record {
-      made = rw (c.new-glyphs.ensures.items, left);
-      room = room_at_start c.args.text.now _ c.utf8.text left;
+      known = c.none-known.ensures c.args.face.now;
+      text = subst IsUtf8 (sym rest) c.utf8.text;
+      made = (
+        [],
+        c.nothing-before.ensures,
+        ap₂ (λ made bs. made ++ glyphs_behind c.args.face.now c.args.unit [] 0 0 (chars bs)) c.new-glyphs.ensures.items rest
+            ∙ glyphs_at_start c.args.face.now c.args.unit c.args.text.now c.utf8.text,
+      );
+      started = omega arith;
+      room = omega (arith, ap length rest);
     }
 
-pub loop-piece-preserved : goal.loop-piece-preserved
-loop-piece-preserved g c =
-    let held = c.loop-piece.invariant in
-    let count = c.count_of-place.ensures in
-    let step = c.in-Some.ensures.steps in
+pub overflow_cast-cluster : goal.overflow_cast-cluster
+overflow_cast-cluster g c =
+    let held = c.loop-character.invariant in
+    let within = starts_within c.pass.result c.loop-character.place c.loop-character.cluster c.cluster_start-cluster.result held.started c.cluster_start-cluster.ensures in
+    omega (arith, held.room, within)
+
+pub loop-character-preserved : goal.loop-character-preserved
+loop-character-preserved g c =
+    let held = c.loop-character.invariant in
+    let step = c.in-Some.ensures.steps.0 in
+    let place = c.loop-character.place in
+    let cluster = c.loop-character.cluster in
+    let start = c.cluster_start-cluster.result in
+    let within = starts_within c.pass.result place cluster start held.started c.cluster_start-cluster.ensures in
+    let begins = c.cluster_start-cluster.ensures ∙ ap (λ b. if b then place else cluster) (c.pass.ensures.begins held.made.0 held.made.1) in
+    let put : c.push.new.self.items ≡ c.loop-character.glyphs.items ++ text_glyph c.args.face.now start c.in-Some.character ∷ [] =
+    rw (← c.text_glyph.ensures.glyph) c.in_ok-push.ensures.items in
     record {
-      made = glyphs_more c.args.face.now c.args.unit c.loop-piece.glyphs.items _ c.loop-piece.place _ c.in-Some.piece.now _ _ _ step
-          c.in_ok-put_cluster.ensures (ap (λ k. c.loop-piece.place + k) count.value) held.made;
-      room = room_more c.loop-piece.place c.count_of-place.result _ c.in-Some.piece.now _ _ step count.small held.room;
+      known = c.text_glyph.ensures.known;
+      text = IsUtf8-past_char _ _ c.in-Some.character held.text step;
+      made = (
+        c.in-Some.character ∷ held.made.0,
+        c.pass.ensures.behind held.made.0 held.made.1,
+        glyphs_past c.args.face.now c.args.unit held.made.0 cluster place c.in-Some.character start _ _ _ c.loop-character.glyphs.items _ _ held.text step
+            begins (ap (λ k. place + k) c.width_of-place.ensures) put held.made.2,
+      );
+      started = omega (arith, within);
+      room = room_past_char c.args.unit place c.width_of-place.result _ _ _ c.in-Some.character step c.width_of-place.ensures held.room;
     }
 
 pub returns-clause-ok : goal.returns-clause-ok
-returns-clause-ok g c = glyphs_all c.args.face.now c.args.unit c.loop-piece.glyphs.items _ c.loop-piece.place _ c.in-None.ensures.steps.0 c.loop-piece.invariant.made
+returns-clause-ok g c =
+    let held = c.loop-character.invariant in
+    glyphs_done c.args.face.now c.args.unit held.made.0 c.loop-character.cluster c.loop-character.place _ c.loop-character.glyphs.items _ c.in-None.ensures.steps.0.0 held.made.2

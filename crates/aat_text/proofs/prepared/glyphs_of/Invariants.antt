@@ -1,7 +1,10 @@
 use Rattle.std.proofs.Common.{◌≡◌, ◌++◌, map, drop}
 use Rattle.aat_text.specs.Prepared.{placed_glyph}
+use Rattle.aat_text.specs.inside.KnownGlyphs.{AreKnown}
 use Rattle.aat_text.proofs.prepared.glyphs_of.Given as goal
 
 abbrev pub invariant-loop-character : goal.invariant-loop-character
-invariant-loop-character g l =
-    l.glyphs.items ++ map (placed_glyph l.face) (drop l.character-index l.characters) ≡ map (placed_glyph l.face) l.characters
+invariant-loop-character g l = record {
+  known : AreKnown l.face l.known;
+  made : l.glyphs.items ++ map (placed_glyph l.face) (drop l.character-index l.characters) ≡ map (placed_glyph l.face) l.characters;
+}

@@ -78,7 +78,7 @@ fn first_word(alloc: Global, text: &str) -> Result<(String, &str)> {
 /// `\"`, `\\` and `\u{HEX}` are a quote, a backslash and the character of a number.
 ///
 /// An error tells what is wrong with a quote, or that memory is wanting.
-pub(crate) fn words_of(alloc: Global, line: &str) -> Result<Vec<String>> {
+pub fn words_of(alloc: Global, line: &str) -> Result<Vec<String>> {
     let mut words = Vec::new(alloc);
     words.push(String::from_str(alloc, "aat")?)?;
     let mut rest = line.trim_start_matches(' ');

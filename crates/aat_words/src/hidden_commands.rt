@@ -1,6 +1,6 @@
 //! The commands that help does not show.
 
-use aat_words::add_command;
+use crate::commands::{add_command, shown_command};
 use clap::{Arg, ArgAction, Command};
 use std::alloc::{AllocError, Global};
 
@@ -72,9 +72,10 @@ fn rows_command<'a>(alloc: Global) -> Result<Command<'a>, AllocError> {
         )
 }
 
-/// The program's command, with the commands that help does not show.
-pub(crate) fn command<'a>(alloc: Global) -> Result<Command<'a>, AllocError> {
-    let command = add_command(aat_words::command(alloc)?, example_command(alloc))?;
+/// The program's command, with those that it takes and their options, also those that help does not show. It errs only
+/// where memory is wanting.
+pub fn command<'a>(alloc: Global) -> Result<Command<'a>, AllocError> {
+    let command = add_command(shown_command(alloc)?, example_command(alloc))?;
     let command = add_command(command, rows_command(alloc))?;
     add_command(command, make_command(alloc))
 }

@@ -1,0 +1,5 @@
+pub mod ClusterStarts
+pub mod KnownGlyphs
+pub mod Lone
+pub mod Plain
+pub mod Turning

@@ -1,0 +1,97 @@
+//! The glyphs of a text in which each character is a cluster by itself, as most texts to the right are: no character is
+//! merged with others, composed or put in order, so that each is written as it comes.
+ghost use Rattle.std.specs.Prelude.{◌≡◌, ◌<◌, ◌^◌, ◌++◌, flat_map, length, map, IfOk, OnOk};
+ghost use Rattle.aat_characters.specs.PlacedCharacters.{placed};
+ghost use Rattle.aat_characters.specs.Apart.{is_apart};
+ghost use Rattle.aat_text.specs.Prepared.{own_characters, placed_glyph};
+ghost use Rattle.aat_text.specs.inside.KnownGlyphs.{AreKnown};
+ghost use Rattle.aat_text.specs.inside.Lone.{lone_glyphs, stand_apart};
+
+use crate::glyphs::placed_glyph;
+use crate::known_glyphs::KnownGlyphs;
+use crate::unit::ClusterUnit;
+use aat_characters::{PlacedCharacter, extends, is_regional_indicator, normalized};
+use aat_face::Face;
+use aat_shaped_text::TextGlyph;
+use std::alloc::{AllocError, Allocator};
+
+/// Whether a character continues no cluster and is no half of a flag: in a text of such characters each is a cluster by
+/// itself, and none is a mark.
+fn is_apart(character: char) -> bool
+    ensures { result ≡ is_apart character }
+{
+    !extends(character) && !is_regional_indicator(character)
+}
+
+/// Whether each character of a text is a cluster by itself.
+pub(crate) fn stand_apart(text: &str) -> bool
+    ensures { result ≡ stand_apart text.now }
+{
+    text.chars().all(|character| is_apart(character))
+}
+
+/// Puts the glyphs of characters behind others.
+fn put_placed<A: Allocator>(
+    face: &Face,
+    known: &mut KnownGlyphs,
+    characters: &[PlacedCharacter],
+    glyphs: &mut Vec<TextGlyph, A>,
+) -> Result<(), AllocError>
+    requires { AreKnown face.now known.now }
+    ensures known { AreKnown face.now known.new }
+    ensures glyphs { OnOk result (glyphs.new.items ≡ glyphs.old.items ++ map (placed_glyph face.now) characters.now) }
+{
+    for character in characters {
+        glyphs.push(placed_glyph(face, known, *character))?;
+    }
+    Ok(())
+}
+
+/// Puts the glyphs of a character by itself behind others: one, if the font has it.
+fn put_lone<A: Allocator + Copy>(
+    alloc: A,
+    face: &Face,
+    known: &mut KnownGlyphs,
+    character: PlacedCharacter,
+    glyphs: &mut Vec<TextGlyph, A>,
+) -> Result<(), AllocError>
+    requires { AreKnown face.now known.now }
+    ensures known { AreKnown face.now known.new }
+    ensures glyphs { OnOk result (glyphs.new.items ≡ glyphs.old.items ++ lone_glyphs face.now character) }
+{
+    let glyph = placed_glyph(face, known, character);
+    if glyph.glyph_id != 0 {
+        glyphs.push(glyph)?;
+        return Ok(());
+    }
+    let alone = [character];
+    let written = normalized(alloc, face, &alone)?;
+    put_placed(face, known, &written, glyphs)
+}
+
+/// The glyphs of the characters of a text, each by itself.
+pub(crate) fn lone_glyphs<A: Allocator + Copy>(
+    alloc: A,
+    face: &Face,
+    unit: ClusterUnit,
+    text: &str,
+) -> Result<Vec<TextGlyph, A>, AllocError>
+    requires { length text.now < 2 ^ 32 }
+    ensures { IfOk result (λ glyphs. glyphs.items
+        ≡ flat_map (lone_glyphs face.now) (own_characters unit text.now)) }
+{
+    let mut glyphs = Vec::new(alloc);
+    let mut known = KnownGlyphs::none();
+    let mut place = 0;
+    for character in text.chars() {
+        put_lone(
+            alloc,
+            face,
+            &mut known,
+            PlacedCharacter::new(place as u32, character),
+            &mut glyphs,
+        )?;
+        place += unit.width_of(character);
+    }
+    Ok(glyphs)
+}
