@@ -4,6 +4,8 @@ pub mod Filled
 pub mod Gap
 pub mod Lent
 pub mod Lowering
+pub mod Marked
+pub mod MergedOut
 pub mod Pairs
 pub mod Pending
 pub mod Reaching

@@ -81,6 +81,14 @@ glyph_at gs i = slice_index_or gs i no_glyph
 abbrev pub with_info : Buffer → ℕ → hb_glyph_info_t → Buffer
 with_info b i r = record b { line = slice_set b.line i r }
 
+-- the record r stands at place i, but for the cluster and the mask, which stay
+abbrev pub rewritten : List hb_glyph_info_t → ℕ → hb_glyph_info_t → hb_glyph_info_t
+rewritten gs i r = record r { mask = (glyph_at gs i).mask; cluster = (glyph_at gs i).cluster }
+
+-- the same on the line of a buffer
+abbrev pub with_rewritten : Buffer → ℕ → hb_glyph_info_t → Buffer
+with_rewritten b i r = with_info b i (rewritten b.line i r)
+
 -- the glyphs from the cursor on are ws, which are as many
 abbrev pub with_from_cursor : Buffer → List hb_glyph_info_t → Buffer
 with_from_cursor b ws =

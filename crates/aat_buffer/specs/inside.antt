@@ -5,4 +5,5 @@ pub mod Inside
 pub mod Lending
 pub mod Line
 pub mod LineLending
+pub mod Marked
 pub mod Pending

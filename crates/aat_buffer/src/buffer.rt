@@ -2,16 +2,17 @@
 ghost use Rattle.std.specs.Prelude.{◌≡◌, ◌+◌, ◌-◌, ◌<◌, ◌≤◌, ◌↔◌, ◌++◌, drop, length, map, nat_lt, slice_get, slice_range, is_some, IsTrue, IsOk, OnOk, OnErr, IfErr, IfSome, IsSome, IsErrOf, All, vec_len};
 ghost use Rattle.std.specs.Bool.{OnTrue};
 ghost use Rattle.std.specs.Borrow.{sem};
-ghost use Rattle.aat_buffer.specs.Buffer.{Buffer, empty_buffer, added, failed, with_cursor, without_positions, skipped, replaced, reversed, with_zero_positions, position_list, position_at, output, glyph_at, with_info, Is16Bit, with_direction, with_cluster_level, with_flags, with_scratch_flags, with_max_ops, with_positions, with_glyphs_at, with_glyphs_in};
-ghost use Rattle.aat_buffer.specs.Marks.{marked_above, on_line_span};
+ghost use Rattle.aat_buffer.specs.Buffer.{Buffer, empty_buffer, added, failed, with_cursor, without_positions, skipped, replaced, reversed, with_zero_positions, position_list, position_at, output, glyph_at, with_info, Is16Bit, with_direction, with_cluster_level, with_flags, with_scratch_flags, with_max_ops, with_positions, with_glyphs_at, with_glyphs_in, with_rewritten};
+ghost use Rattle.aat_buffer.specs.Marks.{marked_above, on_line_span, with_mask_bits};
 ghost use Rattle.aat_buffer.specs.inside.Changes.{ChangesBy};
 ghost use Rattle.aat_buffer.specs.inside.Carried.{items_of};
 ghost use Rattle.aat_buffer.specs.inside.Lending.{LendsInfo, LendsCur, LendsFromCursor, LendsPosition, LendsPositions};
 
 use crate::gap_line::GapLine;
+use crate::marked_span::{MarkedSpan, MergedSpan};
 use aat_glyph::{
     BufferError, BufferFlags, Direction, GlyphPosition, HB_BUFFER_CLUSTER_LEVEL_MONOTONE_GRAPHEMES,
-    ScratchFlags, hb_glyph_info_t,
+    ScratchFlags, glyph_flag, hb_glyph_info_t,
 };
 use bitflags::Flags;
 use std::alloc::{Allocator, Global};
@@ -25,6 +26,10 @@ use std::mem;
 #[derive(Drop)]
 pub struct hb_buffer_t<A: Allocator + Copy = Global> {
     line: GapLine<A>,
+    /// A span of the line whose break marks are known to stand.
+    pub(crate) marked: Option<MarkedSpan>,
+    /// A span of the line that is known to be one cluster.
+    pub(crate) merged: Option<MergedSpan>,
     positions: Vec<GlyphPosition, A>,
     have_positions: bool,
     direction: Direction,
@@ -58,6 +63,8 @@ impl<A: Allocator + Copy> hb_buffer_t<A> {
     {
         hb_buffer_t {
             line: GapLine::new(alloc),
+            marked: None,
+            merged: None,
             positions: Vec::new(alloc),
             have_positions: false,
             direction: Direction::LeftToRight,
@@ -225,6 +232,8 @@ impl<A: Allocator + Copy> hb_buffer_t<A> {
         if self.len() >= self.max_len {
             return Err(self.refuse(BufferError::TooLong));
         }
+        self.marked = None;
+        self.merged = None;
         if self.line.push(info).is_err() {
             return Err(self.refuse(BufferError::OutOfMemory));
         }
@@ -250,6 +259,8 @@ impl<A: Allocator + Copy> hb_buffer_t<A> {
         ensures value { slice_get self.old.line i ≡ Some result.now }
         ensures read { result.now ≡ glyph_at self.old.line i }
     {
+        self.marked = None;
+        self.merged = None;
         self.line.get_mut(i)
     }
 
@@ -265,6 +276,8 @@ impl<A: Allocator + Copy> hb_buffer_t<A> {
         ensures* writes_back { sem 𝓛 (LendsFromCursor A.row A.Allocator self.entry result) }
         ensures value { result.now ≡ drop self.old.cursor self.old.line }
     {
+        self.marked = None;
+        self.merged = None;
         self.line.rest_mut()
     }
 
@@ -294,6 +307,8 @@ impl<A: Allocator + Copy> hb_buffer_t<A> {
             → self.new ≡ on_line_span (map f) start end self.old }
         ensures count { length self.new.line ≡ length self.old.line }
     {
+        self.marked = None;
+        self.merged = None;
         self.line.change(start, end, &change);
     }
 
@@ -305,6 +320,8 @@ impl<A: Allocator + Copy> hb_buffer_t<A> {
         ensures after { self.new ≡ on_line_span (map (marked_above cluster 3)) start end self.old }
         ensures count { length self.new.line ≡ length self.old.line }
     {
+        self.marked = None;
+        self.merged = None;
         self.line.mark_other_than(start, end, cluster);
     }
 
@@ -314,6 +331,29 @@ impl<A: Allocator + Copy> hb_buffer_t<A> {
         ensures { result ≡ glyph_at self.now.line i }
     {
         *self.info(i)
+    }
+
+    /// Puts a record in place of the glyph at place `i`, which has to be below the length, but for its cluster and its mask,
+    /// which stay. So what is known of spans stays known, as it does not behind `info_mut`.
+    pub fn rewrite_glyph(&mut self, i: usize, glyph: hb_glyph_info_t)
+        requires { i < length self.old.line }
+        ensures after { self.new ≡ with_rewritten self.old i glyph }
+        ensures count { length self.new.line ≡ length self.old.line }
+    {
+        let place = self.line.get_mut(i);
+        *place = hb_glyph_info_t {
+            cluster: place.cluster,
+            mask: place.mask,
+            ..glyph
+        };
+    }
+
+    /// Sets UNSAFE_TO_BREAK and UNSAFE_TO_CONCAT on the glyph at place `i`. What is known of spans stays known.
+    pub(crate) fn mark_glyph(&mut self, i: usize)
+        requires { i < length self.old.line }
+        ensures { self.new ≡ with_info self.old i (with_mask_bits 3 (glyph_at self.old.line i)) }
+    {
+        self.line.get_mut(i).mask |= glyph_flag::UNSAFE_TO_BREAK | glyph_flag::UNSAFE_TO_CONCAT;
     }
 
     /// Puts a record in place of the glyph at place `i`.
@@ -390,6 +430,8 @@ impl<A: Allocator + Copy> hb_buffer_t<A> {
         requires { self.old.cursor < length self.old.line }
         ensures { self.new ≡ skipped self.old }
     {
+        self.marked = None;
+        self.merged = None;
         self.line.remove();
         self.have_positions = false;
     }
@@ -427,6 +469,8 @@ impl<A: Allocator + Copy> hb_buffer_t<A> {
         }
         let model = self.glyph(self.backtrack_len().min(len - 1));
         let copy = hb_glyph_info_t { glyph_id, ..model };
+        self.marked = None;
+        self.merged = None;
         if self.line.insert(copy).is_err() {
             return Err(self.refuse(BufferError::OutOfMemory));
         }
@@ -469,6 +513,8 @@ impl<A: Allocator + Copy> hb_buffer_t<A> {
         if glyphs.len() > self.max_len - self.len() {
             return Err(self.refuse(BufferError::TooLong));
         }
+        self.marked = None;
+        self.merged = None;
         if !glyphs.is_empty() && self.line.insert_all(i, glyphs).is_err() {
             return Err(self.refuse(BufferError::OutOfMemory));
         }
@@ -497,6 +543,8 @@ impl<A: Allocator + Copy> hb_buffer_t<A> {
         ensures after { self.new ≡ reversed self.old }
         ensures count { length self.new.line ≡ length self.old.line }
     {
+        self.marked = None;
+        self.merged = None;
         self.line.reverse();
         if self.have_positions {
             self.positions.reverse();

@@ -8,6 +8,7 @@
 
 mod buffer;
 mod gap_line;
+mod marked_span;
 mod marks;
 mod pending_runs;
 mod removal;

@@ -1,10 +1,11 @@
 //! Marks and merges, written over the calls that read and write a glyph at a place or the glyphs of a span.
-ghost use Rattle.std.specs.Prelude.{◌≡◌, ◌+◌, ◌-◌, ◌<◌, ◌≤◌, Some, fold, map, min, nat_lt, length, slice_range};
-ghost use Rattle.std.specs.List.{list_any};
-ghost use Rattle.aat_buffer.specs.Buffer.{with_line};
-ghost use Rattle.aat_buffer.specs.Marks.{on_line_span, least_of, break_marked, unsafe_to_break, unsafe_to_concat, with_cluster, run_after, run_before, merged, merged_out, merge_clusters, merge_out_clusters};
+ghost use Rattle.std.specs.Prelude.{◌≡◌, ◌≢◌, ◌+◌, ◌-◌, ◌<◌, ◌≤◌, ℕ, Some, fold, map, min, length, slice_range};
+ghost use Rattle.aat_buffer.specs.Buffer.{glyph_at, with_line};
+ghost use Rattle.aat_buffer.specs.inside.Marked.{HasMarks, IsMarked};
+ghost use Rattle.aat_buffer.specs.Marks.{on_line_span, cluster_at, least_of, break_marked, unsafe_to_break, unsafe_to_concat, with_cluster, run_after, run_before, merged, merged_out, merge_clusters, merge_out_clusters};
 
 use crate::buffer::hb_buffer_t;
+use crate::marked_span::{MarkedSpan, MergedSpan};
 use aat_glyph::{BufferFlags, HB_BUFFER_CLUSTER_LEVEL_CHARACTERS, glyph_flag, hb_glyph_info_t};
 use bitflags::Flags;
 use std::alloc::Allocator;
@@ -110,29 +111,105 @@ impl<A: Allocator + Copy> hb_buffer_t<A> {
         }
     }
 
-    /// The least cluster of a span: that of its first glyph, unless another one is below it. Along most lines clusters
-    /// rise, so that the second walk is seldom taken.
+    /// The least cluster of a span.
     fn least_cluster(&self, start: usize, end: usize) -> u32
         requires some { start < end }
         requires in_line { end ≤ length self.now.line }
         ensures { result ≡ least_of (slice_range self.now.line start end) }
     {
         let first = self.glyph(start).cluster;
-        let (front, rest) = self.parts(start, end);
-        if any_below(front, first) || any_below(rest, first) {
-            return least_with(rest, least_with(front, first));
-        }
-        first
+        self.least_from(first, start, end)
     }
 
+    /// The least of a cluster and of those of a span, which may have no glyph.
+    fn least_from(&self, cluster: u32, start: usize, end: usize) -> u32
+        requires ordered { start ≤ end }
+        requires in_line { end ≤ length self.now.line }
+        ensures { result ≡ fold (λ m g. min m g.cluster) cluster (slice_range self.now.line start end) }
+    {
+        let (front, rest) = self.parts(start, end);
+        least_with(rest, least_with(front, cluster))
+    }
+
+    /// The first place of a span that has a cluster, and its end where none has.
+    fn first_with(&self, start: usize, end: usize, cluster: u32) -> usize
+        requires ordered { start ≤ end }
+        requires in_line { end ≤ length self.now.line }
+        ensures from { start ≤ result }
+        ensures within { result ≤ end }
+        ensures is { result < end → cluster_at self.now.line result ≡ cluster }
+        ensures first { (k : ℕ) → start ≤ k → k < result → cluster_at self.now.line k ≢ cluster }
+    {
+        for i in start..end {
+            if self.glyph(i).cluster == cluster {
+                return i;
+            }
+        }
+        end
+    }
+
+    /// Marks a span. A machine may mark a span again at each glyph that it takes in: then only what is new is walked over.
     fn mark_break_span(&mut self, start: usize, end: usize)
         requires some { start < end }
         requires in_line { end ≤ length self.old.line }
         ensures after { self.new ≡ on_line_span break_marked start end self.old }
         ensures count { length self.new.line ≡ length self.old.line }
     {
+        if let Some(span) = self.marked
+            && span.start == start
+            && span.end <= end
+        {
+            self.mark_longer(span, end);
+            return;
+        }
         let least = self.least_cluster(start, end);
         self.mark_other_than(start, end, least);
+        self.keep_marked(start, start, end, least);
+    }
+
+    /// Marks a span that begins where a marked one does, and is as long or longer. Where its least cluster is that of the
+    /// marked one, only what it has more is marked. Else each glyph of the marked one is above it, and those before the first
+    /// of the old least cluster are marked already.
+    fn mark_longer(&mut self, span: MarkedSpan, end: usize)
+        requires marked { HasMarks self.old.line span }
+        requires longer { span.end ≤ end }
+        requires in_line { end ≤ length self.old.line }
+        ensures after { self.new ≡ on_line_span break_marked span.start end self.old }
+        ensures count { length self.new.line ≡ length self.old.line }
+    {
+        if span.end == end {
+            return;
+        }
+        let least = self.least_cluster(span.end, end);
+        if span.least <= least {
+            self.mark_other_than(span.end, end, span.least);
+            self.marked = Some(MarkedSpan { end, ..span });
+        } else {
+            self.mark_other_than(span.low, end, least);
+            self.keep_marked(span.start, span.end, end, least);
+        }
+    }
+
+    /// Keeps that a span is marked, whose least cluster stands nowhere before a place.
+    fn keep_marked(&mut self, start: usize, from: usize, end: usize, least: u32)
+        requires ordered { start ≤ from }
+        requires some { from < end }
+        requires in_line { end ≤ length self.old.line }
+        requires above { (k : ℕ) → start ≤ k → k < end → least ≤ cluster_at self.old.line k }
+        requires front { (k : ℕ) → start ≤ k → k < from → least < cluster_at self.old.line k }
+        requires marked { (k : ℕ) → start ≤ k → k < end → least < cluster_at self.old.line k
+            → IsMarked (glyph_at self.old.line k) }
+        ensures { self.new ≡ self.old }
+    {
+        let low = self.first_with(from, end, least);
+        if low < end {
+            self.marked = Some(MarkedSpan {
+                start,
+                low,
+                end,
+                least,
+            });
+        }
     }
 
     /// The same of a span of two glyphs: of two clusters the greater one's glyph is marked, without a walk.
@@ -145,11 +222,10 @@ impl<A: Allocator + Copy> hb_buffer_t<A> {
     {
         let first = self.info(start).cluster;
         let second = self.info(start + 1).cluster;
-        let bits = glyph_flag::UNSAFE_TO_BREAK | glyph_flag::UNSAFE_TO_CONCAT;
         if first < second {
-            self.info_mut(start + 1).mask |= bits;
+            self.mark_glyph(start + 1);
         } else if second < first {
-            self.info_mut(start).mask |= bits;
+            self.mark_glyph(start);
         }
     }
 
@@ -220,6 +296,8 @@ impl<A: Allocator + Copy> hb_buffer_t<A> {
         self.set_cluster(from, to, least);
     }
 
+    /// Merges a span that is grown through its ends' clusters. A machine may join each glyph to the same first one: then
+    /// only what is new is looked at and written. What has the least cluster already need not be reached either.
     #[tactic(auto, unfolding(crate::specs::Marks::merged_out))]
     fn merge_out_span(&mut self, start: usize, end: usize)
         requires long { start + 2 ≤ end }
@@ -227,14 +305,40 @@ impl<A: Allocator + Copy> hb_buffer_t<A> {
         ensures after { self.new ≡ with_line self.old (merged_out self.old.line start end) }
         ensures count { length self.new.line ≡ length self.old.line }
     {
-        let least = self.least_cluster(start, end);
         let first = self.glyph(start).cluster;
         let last = self.glyph(end - 1).cluster;
-        self.set_cluster(
-            self.run_start(0, start, first),
-            self.run_end(end, last),
-            least,
-        );
+        let known = self.merged_until(start, end);
+        let least = self.least_from(first, known, end);
+        let from = if first == least {
+            known
+        } else {
+            self.run_start(0, start, first)
+        };
+        let to = if last == least {
+            end
+        } else {
+            self.run_end(end, last)
+        };
+        self.set_cluster(from, to, least);
+        self.merged = Some(MergedSpan {
+            start: from.min(start),
+            end: to,
+            cluster: least,
+        });
+    }
+
+    /// A place behind the start of a span up to which its glyphs are known to be one cluster.
+    fn merged_until(&self, start: usize, end: usize) -> usize
+        requires some { start < end }
+        requires in_line { end ≤ length self.now.line }
+        ensures behind { start < result }
+        ensures within { result ≤ end }
+        ensures one { (k : ℕ) → start ≤ k → k < result → cluster_at self.now.line k ≡ cluster_at self.now.line start }
+    {
+        match self.merged {
+            Some(span) if span.start <= start && start < span.end => span.end.min(end),
+            _ => start + 1,
+        }
     }
 }
 
@@ -242,16 +346,11 @@ impl<A: Allocator + Copy> hb_buffer_t<A> {
 fn least_with(glyphs: &[hb_glyph_info_t], cluster: u32) -> u32
     ensures { result ≡ fold (λ m g. min m g.cluster) cluster glyphs.now }
 {
-    glyphs
-        .iter()
-        .fold(cluster, |least, glyph| least.min(glyph.cluster))
-}
-
-/// Whether one of the glyphs has a cluster below this one.
-fn any_below(glyphs: &[hb_glyph_info_t], cluster: u32) -> bool
-    ensures { result ≡ list_any (λ g. nat_lt g.cluster cluster) glyphs.now }
-{
-    glyphs.iter().any(|glyph| glyph.cluster < cluster)
+    let mut least = cluster;
+    for glyph in glyphs {
+        least = least.min(glyph.cluster);
+    }
+    least
 }
 
 fn clustered_glyph(glyph: hb_glyph_info_t, cluster: u32) -> hb_glyph_info_t

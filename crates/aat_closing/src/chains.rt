@@ -1,5 +1,5 @@
 //! The closing runs of subtables and chains in their order.
-ghost use Rattle.std.specs.Prelude.{◌≡◌, ◌+◌, ◌^◌, ◌<◌, ◌≤◌, ◌&&◌, IfOk, IfErr, IfSome, OnErr, IsTrue, length};
+ghost use Rattle.std.specs.Prelude.{◌≡◌, ◌+◌, ◌^◌, ◌<◌, ◌≤◌, ◌&&◌, IfOk, IfErr, IfSome, OnErr, OnOk, IsTrue, length};
 ghost use Rattle.std.specs.List.{list_all};
 ghost use Rattle.std.specs.Option.{option_copied};
 ghost use Rattle.aat_buffer.specs.Clusters.{IsSmall};
@@ -11,6 +11,7 @@ ghost use Rattle.aat_font.specs.Wakers.{AreWakers};
 ghost use Rattle.aat_kinds.specs.Kinds.{sizes_of};
 ghost use Rattle.aat_map.specs.Map.{lists_for};
 ghost use Rattle.aat_map.specs.SwitchedChains.{SwitchedChain, switched_by};
+ghost use Rattle.aat_morx.specs.LineWords.{TellsOf};
 ghost use Rattle.aat_run.specs.Driven.{IsRefusal, IsRefused, StaysWithin};
 ghost use Rattle.aat_run.specs.Ranges.{IsGapless, is_whole_list, switch_for};
 
@@ -37,19 +38,24 @@ fn told_after(before: MachineRun, ran: MachineRun) -> MachineRun
 }
 
 /// Runs the subtables of a chain in their order, closes what their acts look at, and answers the turns, and whether all of
-/// them told which clusters are open. Words tell which glyphs may wake them.
+/// them told which clusters are open. Words tell which glyphs may wake them, the first one as the subtable with this
+/// number.
 #[tactic(auto, using(aat_run::specs::facts::Settings::refused_behind))]
 fn close_chain<const SLOTS: usize, const LONGEST: usize, A: Allocator + Copy>(
     face: &hb_font_t,
     ranges: &[range_flags_t],
     subtables: &[Subtable],
+    first: usize,
     words: &[GlyphWords],
+    known: &mut LineWord,
     buffer: &mut hb_buffer_t<A>,
 ) -> Result<MachineRun, AatError>
     requires slots { 0 < SLOTS }
     requires memory { SLOTS ≤ 2 ^ 59 }
     requires few { length subtables.now ≤ 65535 }
-    requires wakers { AreWakers subtables.now words.now }
+    requires start { first ≤ 65535 }
+    requires wakers { AreWakers subtables.now words.now first }
+    requires tells { TellsOf known.old words.now buffer.old.line }
     requires gapless { IsGapless ranges.now }
     requires whole { IsTrue (is_whole_list ranges.now) }
     requires ids { IsSmall buffer.old }
@@ -59,6 +65,7 @@ fn close_chain<const SLOTS: usize, const LONGEST: usize, A: Allocator + Copy>(
     ensures reason { IfErr result (IsRefusal buffer.old (closing_chain (sizes_of SLOTS LONGEST face.now)
         (record { switch = switch_for ranges.now; subtables = subtables.now }) buffer.old).buffer) }
     ensures refused { OnErr result (IsRefused buffer.old buffer.new) }
+    ensures tells { OnOk result (TellsOf known.new words.now buffer.new.line) }
 {
     let _length = buffer.len();
     let _budget = buffer.max_ops();
@@ -66,16 +73,16 @@ fn close_chain<const SLOTS: usize, const LONGEST: usize, A: Allocator + Copy>(
         turns: 0,
         is_through: true,
     };
-    let mut known = LineWord::unknown();
     for (i, subtable) in subtables.iter().enumerate() {
+        let number = first + i;
         let run = SubtableRun {
             face,
             ranges,
             feature_flags: subtable.feature_flags,
-            wakers: wakers_at(words, i),
+            wakers: wakers_at(words, number),
         };
         let ran = close_subtable::<SLOTS, LONGEST, A>(
-            &run, subtable, &mut known, words, i, buffer,
+            &run, subtable, known, words, number, buffer,
         )?;
         told = told_after(told, ran);
     }
@@ -116,12 +123,23 @@ pub(crate) fn close_chains<
         turns: 0,
         is_through: true,
     };
+    let words = morx.wakers();
+    let mut known = LineWord::unknown();
+    let mut first = 0;
     for (i, chain) in chains.iter().enumerate() {
         let default = [default_range(chain)];
         let ranges = ranges_of(map, i, &default);
-        let words = morx.wakers(i);
-        let ran = close_chain::<SLOTS, LONGEST, A>(face, ranges, &chain.subtables, words, buffer)?;
+        let ran = close_chain::<SLOTS, LONGEST, A>(
+            face,
+            ranges,
+            &chain.subtables,
+            first,
+            words,
+            &mut known,
+            buffer,
+        )?;
         told = told_after(told, ran);
+        first += chain.subtables.len();
     }
     Ok(told)
 }

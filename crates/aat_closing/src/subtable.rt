@@ -4,10 +4,11 @@ ghost use Rattle.aat_buffer.specs.Clusters.{IsSmall};
 ghost use Rattle.aat_closing.specs.ClosingChains.{closing_subtable};
 ghost use Rattle.aat_closing.specs.ClosingRuns.{IsTold, closing_ordered, closing_run, may_split, turned};
 ghost use Rattle.aat_font.specs.Idle.{is_idle};
+ghost use Rattle.aat_font.specs.Wakers.{WakeAt};
 ghost use Rattle.aat_kinds.specs.Idle.{SleepOthers};
 ghost use Rattle.aat_kinds.specs.Kinds.{is_reversed, sizes_of};
 ghost use Rattle.aat_kinds.specs.Runs.{is_on_in};
-ghost use Rattle.aat_morx.specs.LineWords.{TellsOf, WakeAt};
+ghost use Rattle.aat_morx.specs.LineWords.{TellsOf};
 ghost use Rattle.aat_run.specs.Driven.{IsRefusal, IsRefused, StaysWithin};
 ghost use Rattle.aat_run.specs.Ranges.{IsGapless, is_whole_list, switch_for};
 
@@ -101,16 +102,16 @@ fn close_ordered<const SLOTS: usize, const LONGEST: usize, A: Allocator + Copy>(
     }
 }
 
-/// Runs subtable i of a chain under the chain's ranges, closes what its acts look at, and answers besides the turns whether
-/// the run told which clusters are open: by its kind, in the order of its coverage. One that is left out takes no turn and
-/// tells, and one that no glyph of the line wakes is passed over.
+/// Runs the subtable with a number under its chain's ranges, closes what its acts look at, and answers besides the turns
+/// whether the run told which clusters are open: by its kind, in the order of its coverage. One that is left out takes no
+/// turn and tells, and one that no glyph of the line wakes is passed over.
 #[tactic(auto, unfolding(crate::specs::ClosingChains::closing_subtable))]
 pub(crate) fn close_subtable<const SLOTS: usize, const LONGEST: usize, A: Allocator + Copy>(
     run: &SubtableRun,
     subtable: &Subtable,
     known: &mut LineWord,
     words: &[GlyphWords],
-    i: usize,
+    number: usize,
     buffer: &mut hb_buffer_t<A>,
 ) -> Result<MachineRun, AatError>
     requires slots { 0 < SLOTS }
@@ -120,7 +121,7 @@ pub(crate) fn close_subtable<const SLOTS: usize, const LONGEST: usize, A: Alloca
     requires whole { IsTrue (is_whole_list run.now.ranges.now) }
     requires wakers { IfSome run.now.wakers (SleepOthers (is_idle subtable.now.kind)) }
     requires ids { IsSmall buffer.old }
-    requires wake { WakeAt subtable.now words.now i }
+    requires wake { WakeAt subtable.now words.now number }
     requires tells { TellsOf known.old words.now buffer.old.line }
     ensures run { IfOk result (IsTold (closing_subtable (sizes_of SLOTS LONGEST run.now.face.now)
         (switch_for run.now.ranges.now) subtable.now buffer.old) buffer.new) }
@@ -138,7 +139,7 @@ pub(crate) fn close_subtable<const SLOTS: usize, const LONGEST: usize, A: Alloca
             is_through: true,
         });
     }
-    if !known.wakes(words, i, buffer) {
+    if !known.wakes(words, number, buffer) {
         return Ok(MachineRun {
             turns: pass_over(&subtable.kind, buffer),
             is_through: may_tell(subtable, direction),

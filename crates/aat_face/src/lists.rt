@@ -1,11 +1,11 @@
 //! Values of all glyphs of a font.
-ghost use Rattle.std.specs.Prelude.{◌≡◌, IfOk, IfErr, None};
+ghost use Rattle.std.specs.Prelude.{◌≡◌, ℕ, ◌<◌, ◌≤◌, IfOk, IfErr, None};
 ghost use Rattle.aat_bytes.specs.declared.error.ReadError.TheVariants as errors;
 ghost use Rattle.aat_lookup.specs.Keys.{first, first_fall};
 ghost use Rattle.aat_face.specs.Lists.{advance_pairs, mark_property, property_pairs};
 
 use aat_bytes::ReadError;
-use aat_lookup::{Lookup, TableError};
+use aat_lookup::Lookup;
 use aat_read_sfnt::{GlyphClasses, Metrics};
 use std::alloc::{AllocError, Global};
 
@@ -15,7 +15,7 @@ fn rising_lookup(alloc: Global, pairs: &[(u16, u16)]) -> Result<Lookup, ReadErro
     ensures ok { IfOk result (λ lookup. lookup ≡ pairs.now) }
     ensures refused { IfErr result (λ error. error ≡ errors.OutOfMemory) }
 {
-    match Lookup::new(alloc, pairs) {
+    match Lookup::of_rising(alloc, pairs) {
         Ok(lookup) => Ok(lookup),
         Err(_) => Err(ReadError::OutOfMemory),
     }
@@ -52,12 +52,27 @@ pub fn advance_lookup(
 /// The property of marks.
 const MARK: u16 = 0x08;
 
-/// The property of a glyph that kerning asks: that of marks, and no other. HarfBuzz's kerning skips marks alone, and
-/// that of the layer by `kerx` bases and ligatures too.
-fn mark_property(classes: &GlyphClasses<'_>, glyph: u16) -> u16
-    ensures { result ≡ mark_property classes.now glyph }
+/// The property of a glyph that kerning asks, and behind which glyphs from this one on it may be another: that of marks,
+/// and no other. HarfBuzz's kerning skips marks alone, and that of the layer by `kerx` bases and ligatures too.
+fn mark_property_until(classes: &GlyphClasses<'_>, glyph: u16) -> (u16, u32)
+    ensures same { (g : ℕ) → glyph ≤ g → g < result.1 → mark_property classes.now g ≡ result.0 }
+    ensures some { glyph < result.1 }
 {
-    classes.properties(glyph) & MARK
+    let (properties, end) = classes.properties_until(glyph);
+    (properties & MARK, end)
+}
+
+/// The same, if it is not known from a glyph before.
+fn known_property(classes: &GlyphClasses<'_>, known: (u16, u32), glyph: u16) -> (u16, u32)
+    requires { (g : ℕ) → glyph ≤ g → g < known.1 → mark_property classes.now g ≡ known.0 }
+    ensures same { (g : ℕ) → glyph ≤ g → g < result.1 → mark_property classes.now g ≡ result.0 }
+    ensures some { glyph < result.1 }
+{
+    if (glyph as u32) < known.1 {
+        known
+    } else {
+        mark_property_until(classes, glyph)
+    }
 }
 
 /// The pairs of so many glyphs and that property.
@@ -68,9 +83,13 @@ fn property_pairs(
 ) -> Result<Vec<(u16, u16)>, AllocError>
     ensures { IfOk result (λ pairs. pairs.items ≡ property_pairs classes.now glyph_count) }
 {
-    (0..glyph_count)
-        .map(|glyph| (glyph, mark_property(classes, glyph)))
-        .collect(alloc)
+    let mut pairs = Vec::with_capacity(alloc, glyph_count as usize)?;
+    let mut known = (0, 0);
+    for glyph in 0..glyph_count {
+        known = known_property(classes, known, glyph);
+        pairs.push((glyph, known.0))?;
+    }
+    Ok(pairs)
 }
 
 /// The property of marks, of so many glyphs.

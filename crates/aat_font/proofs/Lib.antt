@@ -1,3 +1,4 @@
 pub mod ClearBits
 pub mod MoreBits
 pub mod MoreWakers
+pub mod Numbered

@@ -1,7 +1,8 @@
 -- Which of 64 subtables a glyph may wake, as the bits of a word.
-use Rattle.std.specs.Prelude.{◌≡◌, ◌/◌, ◌%◌, ℕ, true, List, Some, slice_get, slice_index_or, Vec, bit_or}
+use Rattle.std.specs.Prelude.{◌≡◌, ◌+◌, ◌/◌, ◌%◌, ℕ, true, List, Some, slice_get, slice_index_or, take, bit_or}
 use Rattle.std.specs.Int.{bit_at}
 use Rattle.aat_font.specs.Idle.{is_idle}
+use Rattle.aat_machine_tables.specs.Chains.{subtable_count}
 use Rattle.aat_machine_tables.specs.declared.morx.Chain.{Chain}
 use Rattle.aat_machine_tables.specs.declared.morx.Subtable.{Subtable}
 use Rattle.aat_font.specs.declared.wakers.GlyphWords.{GlyphWords}
@@ -14,14 +15,15 @@ word_of w g = bit_or w.everywhere (slice_index_or w.words.items g 0)
 abbrev pub IsAwakeIn : Subtable → GlyphWords → ℕ → Type 0
 IsAwakeIn s w bit = (g : ℕ) → bit_at (word_of w g) bit ≡ 0 → is_idle s.kind g ≡ true
 
--- words for each 64 subtables of a list, or for the first of them
-abbrev pub AreWakers : List Subtable → List GlyphWords → Type 0
-AreWakers subtables words =
-    (i : ℕ) (s : Subtable) (w : GlyphWords) → slice_get subtables i ≡ Some s → slice_get words (i / 64) ≡ Some w
-    → IsAwakeIn s w (i % 64)
+-- words tell which glyphs may wake the subtable with a number, where they reach it
+abbrev pub WakeAt : Subtable → List GlyphWords → ℕ → Type 0
+WakeAt s words number = (w : GlyphWords) → slice_get words (number / 64) ≡ Some w → IsAwakeIn s w (number % 64)
 
--- words for each chain, or for the first of them
-abbrev pub AreChainWakers : {Z : Type 0} → List Chain → List (Vec GlyphWords Z) → Type 0
-AreChainWakers {Z} chains wakers =
-    (i : ℕ) (c : Chain) (w : Vec GlyphWords Z) → slice_get chains i ≡ Some c → slice_get wakers i ≡ Some w
-    → AreWakers c.subtables.items w.items
+-- so they do for the subtables of a list, of which the first one has this number
+abbrev pub AreWakers : List Subtable → List GlyphWords → ℕ → Type 0
+AreWakers subtables words first = (i : ℕ) (s : Subtable) → slice_get subtables i ≡ Some s → WakeAt s words (first + i)
+
+-- and for those of chains, which are numbered one behind the other
+abbrev pub AreChainWakers : List Chain → List GlyphWords → Type 0
+AreChainWakers chains words =
+    (i : ℕ) (c : Chain) → slice_get chains i ≡ Some c → AreWakers c.subtables.items words (subtable_count (take i chains))

@@ -3,7 +3,7 @@ ghost use Rattle.std.specs.Prelude.{◌≡◌, ◌≤◌, IfOk, IfErr, OnOk};
 ghost use Rattle.aat_machine_tables.specs.Chains.{subtable_count};
 ghost use Rattle.aat_font.specs.Wakers.{AreChainWakers};
 
-use crate::wakers::{GlyphWords, words_of_chains};
+use crate::wakers::{GlyphWords, words_where_memory};
 use aat_lookup::TableError;
 use aat_machine_tables::{Chain, MAX_SUBTABLES};
 
@@ -13,17 +13,16 @@ use aat_machine_tables::{Chain, MAX_SUBTABLES};
 #[derive(Drop)]
 pub struct Morx {
     chains: Vec<Chain>,
-    wakers: Vec<Vec<GlyphWords>>,
+    wakers: Vec<GlyphWords>,
     ghost few: { subtable_count chains.items ≤ 65535 },
     ghost awake: { AreChainWakers chains.items wakers.items },
 }
 
 impl Morx {
-    ghost use Rattle.std.specs.Prelude.{◌≡◌, ◌≤◌, IfOk, IfErr, OnOk, Some, slice_get};
+    ghost use Rattle.std.specs.Prelude.{◌≡◌, ◌≤◌, IfOk, IfErr, OnOk};
     ghost use Rattle.aat_machine_tables.specs.Chains.{subtable_count};
     ghost use Rattle.aat_font.specs.Morx.{chains_of};
-    ghost use Rattle.aat_font.specs.Wakers.{AreWakers};
-    ghost use Rattle.aat_machine_tables.specs.declared.morx.Chain.{Chain};
+    ghost use Rattle.aat_font.specs.Wakers.{AreChainWakers};
     ghost use Rattle.aat_lookup.specs.TableErrors.{RefusesMany};
 
     /// Makes the table of its chains, which are kept as they are handed in. Beside them it keeps which subtables a glyph
@@ -44,23 +43,16 @@ impl Morx {
             }
         }
         let alloc = *chains.allocator();
-        let wakers = match words_of_chains(alloc, &chains) {
-            Ok(wakers) => wakers,
-            Err(_) => Vec::new(alloc),
-        };
+        let wakers = words_where_memory(alloc, &chains);
         Ok(Morx { chains, wakers })
     }
 
-    /// For each 64 subtables of a chain the words that tell which of them a glyph may wake, or for the first of them.
-    /// Fewer words are right too: a subtable without one runs. How many there are is not proved.
-    pub fn wakers(&self, chain: usize) -> &[GlyphWords]
-        ensures { (c : Chain) → slice_get (chains_of self.now) chain ≡ Some c
-            → AreWakers c.subtables.items result.now }
+    /// The words that tell which subtables a glyph may wake, one for each 64 subtables. Those of all chains are numbered
+    /// one behind the other. Fewer words are right too: a subtable without one runs. How many there are is not proved.
+    pub fn wakers(&self) -> &[GlyphWords]
+        ensures { AreChainWakers (chains_of self.now) result.now }
     {
-        match self.wakers.get(chain) {
-            Some(words) => words,
-            None => &[],
-        }
+        &self.wakers
     }
 
     /// The chains in their order.

@@ -1,14 +1,15 @@
 //! Words of 64 bits that tell which of 64 subtables a glyph may wake.
 //!
 //! A subtable that no glyph of a line wakes does nothing over it, and is passed over. The words are made once, with the
-//! table. Where there is no memory for them, or behind the first `MOST` times 64 subtables, there are none, and subtables
-//! run.
+//! table, and the subtables of all chains are numbered one behind the other. Where there is no memory for words, or
+//! behind `MOST_CELLS`, there are none, and subtables run.
 ghost use Rattle.std.specs.Prelude.{◌≡◌, ◌+◌, ◌%◌, ◌/◌, ◌<◌, ◌≤◌, ℕ, Some, None, IfOk, OnOk, true, is_none, length, slice_get, slice_index_or};
 ghost use Rattle.std.specs.Int.{bit_at};
 ghost use Rattle.aat_font.specs.Idle.{is_idle_class, is_idle_glyph};
 ghost use Rattle.aat_lookup.specs.Keys.{value_in};
-ghost use Rattle.aat_font.specs.Wakers.{word_of, IsAwakeIn, AreWakers, AreChainWakers};
-ghost use Rattle.aat_font.specs.inside.MarkedWords.{KeepsBits, SameWords};
+ghost use Rattle.aat_font.specs.Wakers.{word_of, IsAwakeIn, AreWakers, AreChainWakers, WakeAt};
+ghost use Rattle.aat_font.specs.inside.MarkedWords.{KeepsBits, KeepsWakers, SameWords};
+ghost use Rattle.aat_machine_tables.specs.Chains.{subtable_count};
 ghost use Rattle.aat_machine_tables.specs.declared.morx.Subtable.{Subtable};
 
 use crate::idle::{Resting, is_idle_at_end, is_idle_class};
@@ -23,9 +24,10 @@ const STEP: usize = 256;
 /// The number of subtables that have a bit in a word.
 const WORD: usize = 64;
 
-/// The largest number of words that a glyph has, of all chains of a table. It bounds the time that a hostile font takes,
-/// and the memory: 512 kibibytes for each word, where the last glyph has it.
-const MOST: usize = 16;
+/// The number of cells behind which no more words are begun. The glyphs of 64 subtables have at most 65,536, so that all
+/// have at most 2^20 cells of 8 bytes. It bounds the time that a hostile font takes too: a cell is looked at once for each
+/// of its subtables.
+const MOST_CELLS: usize = (1 << 20) - (1 << 16);
 
 /// The glyph that a machine puts in the place of one that it deletes.
 const DELETED: u16 = 0xFFFF;
@@ -143,6 +145,7 @@ impl GlyphWords {
             → value_in table.now.classes g ≡ Some class → is_idle_class T.rests table.now class ≡ true) }
     {
         for pair in &table.classes().to_pairs(alloc)? {
+            self.reach(pair.0)?;
             if !is_idle_class(table, pair.1) {
                 self.mark(pair.0, bit)?;
             }
@@ -169,22 +172,6 @@ impl GlyphWords {
             SubtableKind::Insertion(tables) => self.mark_machine(alloc, &tables.state, bit),
         }
     }
-
-    /// The words of at most 64 subtables. Fails where they get no memory.
-    fn of_subtables(alloc: Global, subtables: &[Subtable]) -> Result<GlyphWords, AllocError>
-        requires few { length subtables.now ≤ 64 }
-        ensures awake { IfOk result (λ words. (i : ℕ) (s : Subtable) → slice_get subtables.now i ≡ Some s
-            → IsAwakeIn s words i) }
-    {
-        let mut words = GlyphWords {
-            everywhere: 0,
-            words: Vec::new(alloc),
-        };
-        for (bit, subtable) in subtables.iter().enumerate() {
-            words.mark_subtable(alloc, subtable, bit as u32)?;
-        }
-        Ok(words)
-    }
 }
 
 /// The bits of a glyph in a list, none behind the last one.
@@ -195,41 +182,100 @@ pub fn word_at(words: &[u64], glyph: GlyphId) -> u64
     if place < words.len() { words[place] } else { 0 }
 }
 
-/// The words of the first subtables of a list, at most so many for each glyph. Fails where they get no memory.
-fn words_of(
-    alloc: Global,
-    subtables: &[Subtable],
-    most: usize,
-) -> Result<Vec<GlyphWords>, AllocError>
-    ensures { IfOk result (λ words. AreWakers subtables.now words.items) }
+/// The number of cells of all words of a list.
+fn cells_of(words: &[GlyphWords]) -> usize {
+    let mut cells: usize = 0;
+    for glyph_words in words {
+        cells = cells.saturating_add(glyph_words.words.len());
+    }
+    cells
+}
+
+/// Begins the word of a subtable and of the 63 that come, where it is the first one of them, those before have theirs, and
+/// there is room. Fails where it gets no memory.
+fn begin_word(alloc: Global, words: &mut Vec<GlyphWords>, number: usize) -> Result<(), AllocError>
+    ensures kept { OnOk result (KeepsWakers words.old.items words.new.items number) }
 {
-    let count = (subtables.len() / WORD + 1).min(most);
+    let is_next = number % WORD == 0 && words.len() == number / WORD;
+    if is_next && cells_of(words) <= MOST_CELLS {
+        words.push(GlyphWords {
+            everywhere: 0,
+            words: Vec::new(alloc),
+        })?;
+    }
+    Ok(())
+}
+
+/// Sets the bits of a subtable in its word, where it has one. Fails where they get no memory.
+fn mark_in(
+    alloc: Global,
+    words: &mut Vec<GlyphWords>,
+    number: usize,
+    subtable: &Subtable,
+) -> Result<(), AllocError>
+    ensures kept { OnOk result (KeepsWakers words.old.items words.new.items number) }
+    ensures awake { OnOk result (WakeAt subtable.now words.new.items number) }
+{
+    let block = number / WORD;
+    if block >= words.len() {
+        return Ok(());
+    }
+    words[block].mark_subtable(alloc, subtable, (number % WORD) as u32)
+}
+
+/// Gives words the bits of the subtable with this number. Fails where they get no memory.
+fn add_subtable(
+    alloc: Global,
+    words: &mut Vec<GlyphWords>,
+    number: usize,
+    subtable: &Subtable,
+) -> Result<(), AllocError>
+    ensures kept { OnOk result (KeepsWakers words.old.items words.new.items number) }
+    ensures awake { OnOk result (WakeAt subtable.now words.new.items number) }
+{
+    begin_word(alloc, words, number)?;
+    mark_in(alloc, words, number, subtable)?;
+    Ok(())
+}
+
+/// Gives words the bits of the subtables of a chain, whose first one has this number. Fails where they get no memory.
+fn add_chain(
+    alloc: Global,
+    words: &mut Vec<GlyphWords>,
+    first: usize,
+    subtables: &[Subtable],
+) -> Result<(), AllocError>
+    requires few { first ≤ 65535 }
+    ensures kept { OnOk result (KeepsWakers words.old.items words.new.items first) }
+    ensures awake { OnOk result (AreWakers subtables.now words.new.items first) }
+{
+    for (i, subtable) in subtables.iter().enumerate() {
+        add_subtable(alloc, words, first + i, subtable)?;
+    }
+    Ok(())
+}
+
+/// The words of the subtables of chains, as far as there is room for them. Fails where they get no memory.
+fn words_of_chains(alloc: Global, chains: &[Chain]) -> Result<Vec<GlyphWords>, AllocError>
+    requires few { subtable_count chains.now ≤ 65535 }
+    ensures { IfOk result (λ words. AreChainWakers chains.now words.items) }
+{
     let mut words = Vec::new(alloc);
-    for block in 0..count {
-        let start = (block * WORD).min(subtables.len());
-        let end = (start + WORD).min(subtables.len());
-        words.push(GlyphWords::of_subtables(alloc, &subtables[start..end])?)?;
+    let mut first = 0;
+    for chain in chains {
+        add_chain(alloc, &mut words, first, &chain.subtables)?;
+        first += chain.subtables.len();
     }
     Ok(words)
 }
 
-/// The words of the subtables of chains, as far as there are at most `MOST` for each glyph. Fails where they get no
-/// memory.
-pub(crate) fn words_of_chains(
-    alloc: Global,
-    chains: &[Chain],
-) -> Result<Vec<Vec<GlyphWords>>, AllocError>
-    ensures { IfOk result (λ wakers. AreChainWakers chains.now wakers.items) }
+/// The words of the subtables of chains, as far as there is room for them. None where they get no memory.
+pub(crate) fn words_where_memory(alloc: Global, chains: &[Chain]) -> Vec<GlyphWords>
+    requires few { subtable_count chains.now ≤ 65535 }
+    ensures { AreChainWakers chains.now result.items }
 {
-    let mut wakers = Vec::new(alloc);
-    let mut left = MOST;
-    for chain in chains {
-        if left == 0 {
-            break;
-        }
-        let words = words_of(alloc, &chain.subtables, left)?;
-        left = left.saturating_sub(words.len());
-        wakers.push(words)?;
+    match words_of_chains(alloc, chains) {
+        Ok(words) => words,
+        Err(_) => Vec::new(alloc),
     }
-    Ok(wakers)
 }

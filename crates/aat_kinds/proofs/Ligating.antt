@@ -1,7 +1,7 @@
 -- One step of the loops of a ligature machine.
 use Rattle.std.proofs.Common.{◌≡◌, zero, suc, ℕ, ◌+◌, List, set, refl, ap, sym, ◌∙◌, arith}
 use Rattle.std.specs.Prelude.{slice_get}
-use Rattle.aat_buffer.specs.Buffer.{Buffer, Is16Bit, glyph_at, with_line}
+use Rattle.aat_buffer.specs.Buffer.{Buffer, Is16Bit, glyph_at, rewritten, with_line}
 use Rattle.aat_glyph.specs.declared.glyph.hb_glyph_info_t.{hb_glyph_info_t}
 use Rattle.aat_lookup.specs.declared.glyph_id.GlyphId.{GlyphId}
 use Rattle.aat_machine_tables.specs.Subtables.{LigatureTables}
@@ -25,6 +25,10 @@ later_none r c (suc n) line none = absurd (omega arith)
 -- the glyph at a place is written as a deleted one
 pub deleted_there : (line : List hb_glyph_info_t) (i j : ℕ) (g h : hb_glyph_info_t) → i ≡ j → g ≡ glyph_at line i → h ≡ deleted g → set line i h ≡ deleted_at j line
 deleted_there line i j g h place read wrote = ap (set line i) (wrote ∙ ap deleted read) ∙ ap (λ x. deleted_at x line) place
+
+-- a deleted glyph keeps its cluster and its mask
+pub deleted_kept : (line : List hb_glyph_info_t) (i : ℕ) (g h : hb_glyph_info_t) → g ≡ glyph_at line i → h ≡ deleted g → rewritten line i h ≡ h
+deleted_kept line i g h read wrote = ap (rewritten line i) (wrote ∙ ap deleted read) ∙ sym (wrote ∙ ap deleted read)
 
 -- deleting goes on, and comes to the same line
 pub later_goes_on : (r : Registers) (c n m place most : ℕ) (line first : List hb_glyph_info_t) (g h : hb_glyph_info_t) → n ≡ m + 1 → place ≡ component r (c + n)

@@ -1,12 +1,10 @@
 -- Glyphs that get a value, and the noncontextual map. Apple's TrueType Reference Manual, "The 'morx' table",
 -- noncontextual substitution.
-use Rattle.std.specs.Prelude.{◌≡◌, ℕ, Bool, List, map, Option, Some, None, slice_set, if◌then◌else◌}
+use Rattle.std.specs.Prelude.{ℕ, Bool, List, map, Option, Some, None, slice_set, if◌then◌else◌}
 use Rattle.aat_buffer.specs.Buffer.{glyph_at}
 use Rattle.aat_glyph.specs.declared.glyph.hb_glyph_info_t.{hb_glyph_info_t}
 use Rattle.aat_font.specs.Face.{value_or_zero}
 use Rattle.aat_lookup.specs.Keys.{value_in}
-use Rattle.aat_lookup.specs.Moves.{AreMovesOf}
-use Rattle.aat_lookup.specs.declared.moves.GlyphMoves.{GlyphMoves}
 
 -- the properties of a glyph that becomes v: by the classes of the font where it has them, and else as they were
 abbrev pub props_after : Option (List (ℕ × ℕ)) → ℕ → ℕ → ℕ
@@ -30,10 +28,6 @@ with_answer classes (Some v) g = with_value classes v g
 abbrev pub with_looked_up_value : (ℕ → Bool) → Option (List (ℕ × ℕ)) → List (ℕ × ℕ) → hb_glyph_info_t → hb_glyph_info_t
 with_looked_up_value on classes lookup g =
     if on g.cluster then with_answer classes (value_in lookup g.glyph_id) g else g
-
--- a font has no classes of glyphs, so that a glyph that becomes another one changes its id alone, as a lookup has it
-abbrev pub MovesAlone : Option (List (ℕ × ℕ)) → List (ℕ × ℕ) → GlyphMoves → Type 0
-MovesAlone classes lookup moves = (classes ≡ None) × AreMovesOf moves lookup
 
 -- the noncontextual map: this of each glyph of the line
 abbrev pub noncontextual :

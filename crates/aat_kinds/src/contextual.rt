@@ -257,7 +257,7 @@ fn answer(lookups: &[Lookup], index: u16, glyph: GlyphId) -> Option<Option<u16>>
     }
 }
 
-/// Makes the glyph at a place another one.
+/// Makes the glyph at a place another one. Its cluster and its mask stay.
 fn replace<A: Allocator + Copy>(
     face: &hb_font_t,
     buffer: &mut hb_buffer_t<A>,
@@ -271,10 +271,11 @@ fn replace<A: Allocator + Copy>(
     ensures ids { IsSmall buffer.new }
     ensures count { length buffer.new.line ≡ length buffer.old.line }
 {
-    let glyph = buffer.info_mut(place);
-    *glyph = hb_glyph_info_t {
+    let glyph = *buffer.info(place);
+    let replaced = hb_glyph_info_t {
         glyph_id: value as u32,
         glyph_props: props_after(face, value, glyph.glyph_props),
-        ..*glyph
+        ..glyph
     };
+    buffer.rewrite_glyph(place, replaced);
 }

@@ -103,8 +103,9 @@ impl<const SLOTS: usize> Components<SLOTS> {
     {
         let mut n = self.count() - 1 - c;
         while n > 0 {
-            let glyph = buffer.info_mut(self.place(c + n));
-            *glyph = deleted(*glyph);
+            let place = self.place(c + n);
+            let glyph = *buffer.info(place);
+            buffer.rewrite_glyph(place, deleted(glyph));
             n -= 1;
         }
     }
@@ -133,7 +134,12 @@ impl<const SLOTS: usize> Components<SLOTS> {
         let _length = buffer.len();
         let start = self.place(c);
         let end = self.place(self.count() - 1) + 1;
-        buffer.info_mut(start).glyph_id = u32::from(ligature.0);
+        let glyph = *buffer.info(start);
+        let joined = hb_glyph_info_t {
+            glyph_id: u32::from(ligature.0),
+            ..glyph
+        };
+        buffer.rewrite_glyph(start, joined);
         self.delete_later(c, buffer);
         merge_span(buffer, start, end);
         self.truncate(c + 1);

@@ -8,16 +8,18 @@ ghost use Rattle.aat_kinds.specs.Idle.{has_no_value, SleepOthers};
 ghost use Rattle.aat_run.specs.Ranges.{IsGapless, switch_for};
 ghost use Rattle.aat_run.specs.Stretches.{IsSwitchedAlike};
 ghost use Rattle.aat_kinds.specs.Runs.{is_on_in};
-ghost use Rattle.aat_kinds.specs.Values.{with_looked_up_value, noncontextual, MovesAlone};
+ghost use Rattle.aat_kinds.specs.Values.{with_answer, with_looked_up_value, noncontextual};
 
 use crate::run::SubtableRun;
 use crate::values::props_after;
 use aat_buffer::{hb_buffer_t, hb_glyph_info_t};
+use aat_font::hb_font_t;
 use aat_lookup::{GlyphId, GlyphMoves, Lookup};
 use aat_run::{Stretch, range_flags_t, ranges_to_ask};
 use std::alloc::Allocator;
 
-/// A glyph with what it becomes, where the subtable is on and the font has no classes of glyphs.
+/// A glyph with what it becomes, where the subtable is on and the font has no classes of glyphs. A glyph whose value is
+/// itself does not change then.
 fn moved_alone(moves: GlyphMoves, glyph: hb_glyph_info_t) -> hb_glyph_info_t
     requires cells { HasCells moves }
     requires id { Is16Bit glyph }
@@ -31,6 +33,35 @@ fn moved_alone(moves: GlyphMoves, glyph: hb_glyph_info_t) -> hb_glyph_info_t
     }
 }
 
+/// A glyph that gets a value, if there is one. It gets the properties of the value's class, also where that is the glyph
+/// itself.
+fn with_answer(face: &hb_font_t, value: Option<u16>, glyph: hb_glyph_info_t) -> hb_glyph_info_t
+    requires { Is16Bit glyph }
+    ensures answer { result ≡ with_answer (glyph_classes_of face.now) value glyph }
+    ensures small { Is16Bit result }
+{
+    match value {
+        Some(value) => hb_glyph_info_t {
+            glyph_id: value as u32,
+            glyph_props: props_after(face, value, glyph.glyph_props),
+            ..glyph
+        },
+        None => glyph,
+    }
+}
+
+/// A glyph with its value of a lookup, where it has one and the subtable is on, by an array of what glyphs become.
+fn moved(face: &hb_font_t, moves: GlyphMoves, glyph: hb_glyph_info_t) -> hb_glyph_info_t
+    requires cells { HasCells moves }
+    requires id { Is16Bit glyph }
+    ensures replaced { (on : ℕ → Bool) (lookup : List (ℕ × ℕ)) → on glyph.cluster ≡ true → AreMovesOf moves.entry lookup
+        → result ≡ with_looked_up_value on (glyph_classes_of face.now) lookup glyph }
+    ensures small { Is16Bit result }
+{
+    let value = moves.value(glyph.glyph_id as u16);
+    with_answer(face, value, glyph)
+}
+
 /// A glyph with its value of a lookup, where it has one and the subtable is on. Where it is known what each glyph becomes,
 /// nothing is looked up.
 fn replacement(
@@ -41,7 +72,7 @@ fn replacement(
     glyph: hb_glyph_info_t,
 ) -> hb_glyph_info_t
     requires wakers { IfSome run.now.wakers (SleepOthers (has_no_value lookup.now)) }
-    requires moves { IfSome moves (MovesAlone (glyph_classes_of run.now.face.now) lookup.now) }
+    requires moves { IfSome moves (λ m. AreMovesOf m lookup.now) }
     requires id { Is16Bit glyph }
     ensures replaced { (on : ℕ → Bool) → on glyph.cluster ≡ is_on
         → result ≡ with_looked_up_value on (glyph_classes_of run.now.face.now) lookup.now glyph }
@@ -51,7 +82,7 @@ fn replacement(
         return glyph;
     }
     match moves {
-        Some(moves) => moved_alone(moves, glyph),
+        Some(moves) => moved(run.face, moves, glyph),
         None => looked_up(run, lookup, glyph),
     }
 }
@@ -69,14 +100,8 @@ fn looked_up(run: &SubtableRun, lookup: &Lookup, glyph: hb_glyph_info_t) -> hb_g
     {
         return glyph;
     }
-    match lookup.value(GlyphId(glyph.glyph_id as u16)) {
-        Some(value) => hb_glyph_info_t {
-            glyph_id: value as u32,
-            glyph_props: props_after(run.face, value, glyph.glyph_props),
-            ..glyph
-        },
-        None => glyph,
-    }
+    let value = lookup.value(GlyphId(glyph.glyph_id as u16));
+    with_answer(run.face, value, glyph)
 }
 
 /// Whether a subtable is on at a cluster, by some ranges: always where there are none, and else as on the stretch that
@@ -99,16 +124,6 @@ fn is_on_along(
     stretch.is_on
 }
 
-/// What each glyph becomes that gets its value of a lookup, where that is kept and the font has no classes of glyphs.
-fn moves_alone<'a>(run: &SubtableRun, lookup: &'a Lookup) -> Option<GlyphMoves<'a>>
-    ensures { IfSome result (MovesAlone (glyph_classes_of run.now.face.now) lookup.now) }
-{
-    if run.face.has_glyph_classes() {
-        return None;
-    }
-    lookup.moves()
-}
-
 /// Gives each of some glyphs at whose own cluster the subtable is on, by some ranges, its value.
 fn replace_each(
     run: &SubtableRun,
@@ -118,7 +133,7 @@ fn replace_each(
     glyphs: &mut [hb_glyph_info_t],
 )
     requires wakers { IfSome run.now.wakers (SleepOthers (has_no_value lookup.now)) }
-    requires moves { IfSome moves (MovesAlone (glyph_classes_of run.now.face.now) lookup.now) }
+    requires moves { IfSome moves (λ m. AreMovesOf m lookup.now) }
     requires ids { All Is16Bit glyphs.old }
     requires gapless { IsGapless ranges.now }
     ensures replaced { glyphs.new ≡
@@ -136,7 +151,7 @@ fn replace_each(
 
 /// Gives each of some glyphs its value, by what each becomes, where the subtable is on everywhere and the font has no
 /// classes of glyphs.
-fn move_all(lookup: &Lookup, moves: GlyphMoves, glyphs: &mut [hb_glyph_info_t])
+fn move_alone(lookup: &Lookup, moves: GlyphMoves, glyphs: &mut [hb_glyph_info_t])
     requires ids { All Is16Bit glyphs.old }
     requires moves { AreMovesOf moves lookup.now }
     ensures replaced { glyphs.new ≡ noncontextual (λ _. true) None lookup.now glyphs.old }
@@ -145,6 +160,40 @@ fn move_all(lookup: &Lookup, moves: GlyphMoves, glyphs: &mut [hb_glyph_info_t])
 {
     for glyph in glyphs.iter_mut() {
         *glyph = moved_alone(moves, *glyph);
+    }
+}
+
+/// The same in a font that may have classes of glyphs.
+fn move_classed(
+    face: &hb_font_t,
+    lookup: &Lookup,
+    moves: GlyphMoves,
+    glyphs: &mut [hb_glyph_info_t],
+)
+    requires ids { All Is16Bit glyphs.old }
+    requires moves { AreMovesOf moves lookup.now }
+    ensures replaced { glyphs.new ≡ noncontextual (λ _. true) (glyph_classes_of face.now) lookup.now glyphs.old }
+    ensures ids { All Is16Bit glyphs.new }
+    ensures len { length glyphs.new ≡ length glyphs.old }
+{
+    for glyph in glyphs.iter_mut() {
+        *glyph = moved(face, moves, *glyph);
+    }
+}
+
+/// Gives each of some glyphs its value, by what each becomes, where the subtable is on everywhere. In a font without
+/// classes of glyphs no test asks which glyphs have a value.
+fn move_all(face: &hb_font_t, lookup: &Lookup, moves: GlyphMoves, glyphs: &mut [hb_glyph_info_t])
+    requires ids { All Is16Bit glyphs.old }
+    requires moves { AreMovesOf moves lookup.now }
+    ensures replaced { glyphs.new ≡ noncontextual (λ _. true) (glyph_classes_of face.now) lookup.now glyphs.old }
+    ensures ids { All Is16Bit glyphs.new }
+    ensures len { length glyphs.new ≡ length glyphs.old }
+{
+    if face.has_glyph_classes() {
+        move_classed(face, lookup, moves, glyphs);
+    } else {
+        move_alone(lookup, moves, glyphs);
     }
 }
 
@@ -165,9 +214,9 @@ fn replace_glyphs(
     ensures ids { All Is16Bit glyphs.new }
     ensures len { length glyphs.new ≡ length glyphs.old }
 {
-    let moves = moves_alone(run, lookup);
+    let moves = lookup.moves();
     match moves {
-        Some(moves) if ranges.is_empty() => move_all(lookup, moves, glyphs),
+        Some(moves) if ranges.is_empty() => move_all(run.face, lookup, moves, glyphs),
         _ => replace_each(run, ranges, lookup, moves, glyphs),
     }
 }

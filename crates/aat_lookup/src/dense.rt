@@ -1,14 +1,13 @@
 //! Values of glyphs that are found without a search, beside the pairs that a contract sees.
-ghost use Rattle.std.specs.Prelude.{◌≡◌, ◌+◌, ◌<◌, ◌≤◌, IfOk, IfSome, length};
+ghost use Rattle.std.specs.Prelude.{◌≡◌, ◌+◌, ◌<◌, ◌≤◌, IfOk, IfSome};
 ghost use Rattle.aat_lookup.specs.Keys.{first, value_in, IsRising};
 ghost use Rattle.aat_lookup.specs.Moves.{AreMovesOf};
 ghost use Rattle.aat_lookup.specs.GlyphSpans.{span_count};
-ghost use Rattle.aat_lookup.specs.inside.Dense.{value_over, AnswersAsPairs, AnswersOver, PairsWithin};
+ghost use Rattle.aat_lookup.specs.inside.Dense.{AnswersAsPairs, PairsWithin};
 
-use crate::cells::{append_values, cell_at};
 use crate::class_array::ClassArray;
 use crate::keys::row_at;
-use crate::moves::{GlyphMoves, MoveArray, keeps_one};
+use crate::moves::{GlyphMoves, MoveArray};
 use crate::pages::{GlyphPages, page_count};
 use std::alloc::{AllocError, Allocator};
 
@@ -22,9 +21,7 @@ const PAIRS_A_PAGE: usize = 256 / CELLS_A_PAIR;
 /// How the value of a glyph is found among pairs of a glyph and its value.
 #[derive(Drop)]
 pub(crate) enum Dense<A: Allocator> {
-    /// The glyphs lie close, and one has itself as its value: in an array over their span.
-    Array(GlyphArray<A>),
-    /// They lie close, and none has itself as its value: in an array of what each glyph of their span becomes.
+    /// The glyphs lie close: in an array of what each glyph of their span becomes.
     Moves(MoveArray<A>),
     /// They lie close, and have classes: these in an array over their span, for `Lookup::class`. `value` searches.
     Classes(ClassArray<A>),
@@ -32,15 +29,6 @@ pub(crate) enum Dense<A: Allocator> {
     Pages(GlyphPages<A>),
     /// They lie apart: by bisection.
     Search,
-}
-
-/// The values of glyphs in an array over their span.
-#[derive(Drop)]
-pub(crate) struct GlyphArray<A: Allocator> {
-    /// The glyph of the first cell.
-    lowest: u16,
-    /// The value of each glyph from the lowest to the highest, if it has one.
-    cells: Vec<Option<u16>, A>,
 }
 
 impl<A: Allocator + Copy> Dense<A> {
@@ -54,7 +42,7 @@ impl<A: Allocator + Copy> Dense<A> {
     {
         let (lowest, count) = span_of(pairs);
         if count > 0 {
-            return Dense::over_span(alloc, pairs, lowest, count);
+            return Ok(Dense::Moves(MoveArray::over(alloc, pairs, lowest, count)?));
         }
         if pairs.len() < PAIRS_A_PAGE {
             return Ok(Dense::Search);
@@ -64,26 +52,6 @@ impl<A: Allocator + Copy> Dense<A> {
             return Ok(Dense::Pages(GlyphPages::over(alloc, pairs, pages)?));
         }
         Ok(Dense::Search)
-    }
-
-    /// An array over so many glyphs from the lowest on, among which are those of rising pairs. Fails where it gets no
-    /// memory.
-    fn over_span(
-        alloc: A,
-        pairs: &[(u16, u16)],
-        lowest: u16,
-        count: usize,
-    ) -> Result<Dense<A>, AllocError>
-        requires rising { IsRising first pairs.now }
-        requires some { 0 < count }
-        requires small { lowest + count ≤ 65536 }
-        requires within { PairsWithin lowest count pairs.now }
-        ensures answers { IfOk result (λ dense. AnswersAsPairs dense pairs.now) }
-    {
-        if keeps_one(pairs) {
-            return Ok(Dense::Array(GlyphArray::over(alloc, pairs, lowest, count)?));
-        }
-        Ok(Dense::Moves(MoveArray::over(alloc, pairs, lowest, count)?))
     }
 }
 
@@ -95,7 +63,6 @@ impl<A: Allocator> Dense<A> {
         ensures { result ≡ value_in pairs.now glyph }
     {
         match self {
-            Dense::Array(array) => array.value(glyph),
             Dense::Moves(array) => array.value(glyph),
             Dense::Pages(pages) => pages.value(glyph),
             Dense::Classes(_) | Dense::Search => searched(pairs, glyph),
@@ -110,19 +77,7 @@ impl<A: Allocator> Dense<A> {
     {
         match self {
             Dense::Moves(array) => Some(array.moves()),
-            Dense::Array(_) | Dense::Classes(_) | Dense::Pages(_) | Dense::Search => None,
-        }
-    }
-
-    /// The value of each glyph of a span, and its lowest glyph, where they stand in an array with none for a glyph
-    /// without a value. It has the values of pairs of which this tells how they are found.
-    pub(crate) fn span_values(&self, pairs: &[(u16, u16)]) -> Option<(u16, &[Option<u16>])>
-        requires answers { AnswersAsPairs self.now pairs.now }
-        ensures { IfSome result (λ span. AnswersOver span.0 span.1.now pairs.now) }
-    {
-        match self {
-            Dense::Array(array) => Some((array.lowest, &array.cells)),
-            Dense::Moves(_) | Dense::Classes(_) | Dense::Pages(_) | Dense::Search => None,
+            Dense::Classes(_) | Dense::Pages(_) | Dense::Search => None,
         }
     }
 }
@@ -135,37 +90,6 @@ fn searched(pairs: &[(u16, u16)], glyph: u16) -> Option<u16>
     ensures { result ≡ value_in pairs.now glyph }
 {
     row_at(pairs, glyph as u32).map(|pair| pair.1)
-}
-
-impl<A: Allocator> GlyphArray<A> {
-    /// The array of so many glyphs from the lowest on, among which are those of rising pairs.
-    fn over(
-        alloc: A,
-        pairs: &[(u16, u16)],
-        lowest: u16,
-        count: usize,
-    ) -> Result<GlyphArray<A>, AllocError>
-        requires rising { IsRising first pairs.now }
-        requires small { lowest + count ≤ 65536 }
-        requires within { PairsWithin lowest count pairs.now }
-        ensures answers { IfOk result (λ array. AnswersOver array.lowest array.cells.items pairs.now) }
-        ensures long { IfOk result (λ array. length array.cells.items ≡ count) }
-    {
-        let mut cells = Vec::with_capacity(alloc, count)?;
-        append_values(&mut cells, pairs, 0, lowest, count)?;
-        Ok(GlyphArray { lowest, cells })
-    }
-
-    /// The value of a glyph, none outside the array.
-    fn value(&self, glyph: u16) -> Option<u16>
-        ensures { result ≡ value_over self.now.lowest self.now.cells.items glyph }
-    {
-        if glyph < self.lowest {
-            return None;
-        }
-        let place = (glyph - self.lowest) as usize;
-        cell_at(&self.cells, place)
-    }
 }
 
 /// The lowest glyph of rising pairs and the number of glyphs from there to the highest, or no glyphs where these, by

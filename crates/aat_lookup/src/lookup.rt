@@ -4,7 +4,7 @@ ghost use Rattle.aat_lookup.specs.Keys.{first, first_fall, value_in, IsRising};
 ghost use Rattle.aat_lookup.specs.Moves.{AreMovesOf};
 ghost use Rattle.aat_lookup.specs.Segments.{first_segment_fall, pairs_of_segments};
 ghost use Rattle.aat_lookup.specs.TableErrors.{RefusesRising};
-ghost use Rattle.aat_lookup.specs.inside.Dense.{AnswersAsClasses, AnswersOver};
+ghost use Rattle.aat_lookup.specs.inside.Dense.{AnswersAsClasses};
 
 use crate::class_array::ClassArray;
 use crate::dense::Dense;
@@ -160,19 +160,8 @@ impl<A: Allocator> Lookup<A> {
         }
     }
 
-    /// The value of each glyph of a span, and its lowest glyph, where they stand in an array with none for a glyph
-    /// without a value.
-    pub fn span_values(&self) -> Option<(u16, &[Option<u16>])>
-        ensures { IfSome result (λ span. AnswersOver span.0 span.1.now self.now) }
-    {
-        match &self.values {
-            Values::Listed(pairs, dense) => dense.span_values(pairs),
-            Values::Segments(_) => None,
-        }
-    }
-
     /// What each glyph becomes that gets its value here, for who asks for many glyphs: where the values stand in an array,
-    /// but not in one of classes, and none is that of its own glyph.
+    /// but not in one of classes.
     pub fn moves(&self) -> Option<GlyphMoves<'_>>
         ensures { IfSome result (λ moves. AreMovesOf moves self.now) }
     {

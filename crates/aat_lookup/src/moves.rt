@@ -1,21 +1,23 @@
 //! What glyphs become, in arrays that have each glyph without a value as itself.
-ghost use Rattle.std.specs.Prelude.{◌≡◌, ◌+◌, ◌<◌, ◌≤◌, false, IfOk, length};
-ghost use Rattle.aat_lookup.specs.Keys.{first, IsRising};
-ghost use Rattle.aat_lookup.specs.Moves.{changed_to, moved_by, moved_over, AreMoved, HasCells};
-ghost use Rattle.aat_lookup.specs.inside.Dense.{keeps_one, PairsWithin};
+ghost use Rattle.std.specs.Prelude.{◌≡◌, ◌+◌, ◌<◌, ◌≤◌, ℕ, false, IfOk, length, slice_index_or, unwrap_or};
+ghost use Rattle.aat_lookup.specs.Keys.{first, value_in, IsRising};
+ghost use Rattle.aat_lookup.specs.Moves.{kept_over, moved_by, value_by, value_of_move, AreMoved, HasCells};
+ghost use Rattle.aat_lookup.specs.inside.Dense.{is_own, keeps_one, PairsWithin};
 
 use crate::cells::value_here;
 use crate::walk::walk_to;
 use std::alloc::{AllocError, Allocator};
 
-/// What glyphs become: the value that a lookup has for each, or the glyph itself where it has none. No test asks which
-/// of the two it is.
+/// What glyphs become: the value that a lookup has for each, or the glyph itself where it has none. Which of the two it
+/// is does not matter to who wants the glyph alone.
 #[derive(Clone, Copy)]
 pub struct GlyphMoves<'a> {
     /// The glyph of the first cell.
     pub lowest: u16,
     /// What each glyph from the lowest on becomes. Those outside stay.
     pub cells: &'a [u16],
+    /// Which of these glyphs have themselves as value. No glyph behind the last mark has.
+    pub kept: &'a [bool],
 }
 
 impl<'a> GlyphMoves<'a> {
@@ -29,20 +31,44 @@ impl<'a> GlyphMoves<'a> {
         let cell = self.cells[place.min(last)];
         if place <= last { cell } else { glyph }
     }
+
+    /// The value of a glyph, if it has one: what it becomes where that is another one, and else itself where it is
+    /// marked.
+    pub fn value(self, glyph: u16) -> Option<u16>
+        requires { HasCells self }
+        ensures { result ≡ value_of_move self.entry glyph }
+    {
+        let moved = self.moved(glyph);
+        if moved != glyph || is_kept(self.kept, self.lowest, glyph) {
+            Some(moved)
+        } else {
+            None
+        }
+    }
 }
 
-/// An array of what glyphs become, where no glyph has itself as its value.
+/// Whether marks over the glyphs from the lowest on have one for a glyph.
+fn is_kept(kept: &[bool], lowest: u16, glyph: u16) -> bool
+    ensures { result ≡ kept_over lowest kept.now glyph }
+{
+    let place = glyph.wrapping_sub(lowest) as usize;
+    place < kept.len() && kept[place]
+}
+
+/// An array of what glyphs become, and which have themselves as value.
 #[derive(Drop)]
 pub(crate) struct MoveArray<A: Allocator> {
     /// The glyph of the first cell.
     lowest: u16,
     /// What each glyph from the lowest to the highest becomes.
     cells: Vec<u16, A>,
+    /// Whether it has itself as value. There are no marks where no glyph has.
+    kept: Vec<bool, A>,
 }
 
-impl<A: Allocator> MoveArray<A> {
-    /// The array of so many glyphs from the lowest on, among which are those of rising pairs. Fails where the cells get
-    /// no memory.
+impl<A: Allocator + Copy> MoveArray<A> {
+    /// The array of so many glyphs from the lowest on, among which are those of rising pairs. Fails where the cells or
+    /// the marks get no memory.
     pub(crate) fn over(
         alloc: A,
         pairs: &[(u16, u16)],
@@ -50,45 +76,107 @@ impl<A: Allocator> MoveArray<A> {
         count: usize,
     ) -> Result<MoveArray<A>, AllocError>
         requires rising { IsRising first pairs.now }
-        requires moved { keeps_one pairs.now ≡ false }
         requires some { 0 < count }
         requires small { lowest + count ≤ 65536 }
         requires within { PairsWithin lowest count pairs.now }
-        ensures moved { IfOk result (λ array. AreMoved array.lowest array.cells.items pairs.now) }
+        ensures moved { IfOk result (λ array.
+            AreMoved array.lowest array.cells.items array.kept.items pairs.now) }
     {
-        let mut cells = Vec::with_capacity(alloc, count)?;
-        let mut at = 0;
-        for place in 0..count {
-            let glyph = lowest + place as u16;
-            at = walk_to(pairs, at, glyph as u32);
-            cells.push(value_here(pairs, at, glyph).unwrap_or(glyph))?;
-        }
-        Ok(MoveArray { lowest, cells })
+        let cells = moved_cells(alloc, pairs, lowest, count)?;
+        let kept = kept_marks(alloc, pairs, lowest, count)?;
+        Ok(MoveArray {
+            lowest,
+            cells,
+            kept,
+        })
     }
+}
 
+impl<A: Allocator> MoveArray<A> {
     /// What each glyph becomes.
     pub(crate) fn moves(&self) -> GlyphMoves<'_>
         ensures lowest { result.lowest ≡ self.now.lowest }
         ensures cells { result.cells.now ≡ self.now.cells.items }
+        ensures kept { result.kept.now ≡ self.now.kept.items }
     {
         GlyphMoves {
             lowest: self.lowest,
             cells: &self.cells,
+            kept: &self.kept,
         }
     }
 
-    /// The value of a glyph, none where it stays.
+    /// The value of a glyph, if it has one.
     pub(crate) fn value(&self, glyph: u16) -> Option<u16>
         requires { 0 < length self.now.cells.items }
-        ensures { result ≡ changed_to glyph (moved_over self.now.lowest self.now.cells.items glyph) }
+        ensures { result ≡ value_by self.now.lowest self.now.cells.items self.now.kept.items glyph }
     {
-        let moved = self.moves().moved(glyph);
-        if moved == glyph { None } else { Some(moved) }
+        self.moves().value(glyph)
+    }
+}
+
+/// What each of so many glyphs from the lowest on becomes by rising pairs. Fails where the cells get no memory.
+fn moved_cells<A: Allocator>(
+    alloc: A,
+    pairs: &[(u16, u16)],
+    lowest: u16,
+    count: usize,
+) -> Result<Vec<u16, A>, AllocError>
+    requires rising { IsRising first pairs.now }
+    requires small { lowest + count ≤ 65536 }
+    ensures long { IfOk result (λ cells. length cells.items ≡ count) }
+    ensures values { IfOk result (λ cells. (k : ℕ) → k < count
+        → slice_index_or cells.items k 0 ≡ unwrap_or (value_in pairs.now (lowest + k)) (lowest + k)) }
+{
+    let mut cells = Vec::with_capacity(alloc, count)?;
+    let mut at = 0;
+    for place in 0..count {
+        let glyph = lowest + place as u16;
+        at = walk_to(pairs, at, glyph as u32);
+        cells.push(value_here(pairs, at, glyph).unwrap_or(glyph))?;
+    }
+    Ok(cells)
+}
+
+/// Which of so many glyphs from the lowest on have themselves as value by rising pairs: no marks where none has. Fails
+/// where the marks get no memory.
+fn kept_marks<A: Allocator>(
+    alloc: A,
+    pairs: &[(u16, u16)],
+    lowest: u16,
+    count: usize,
+) -> Result<Vec<bool, A>, AllocError>
+    requires rising { IsRising first pairs.now }
+    requires small { lowest + count ≤ 65536 }
+    ensures few { IfOk result (λ kept. length kept.items ≤ count) }
+    ensures marks { IfOk result (λ kept. (k : ℕ) → k < count
+        → slice_index_or kept.items k false ≡ is_own (value_in pairs.now (lowest + k)) (lowest + k)) }
+{
+    if !keeps_one(pairs) {
+        return Ok(Vec::new(alloc));
+    }
+    let mut kept = Vec::with_capacity(alloc, count)?;
+    let mut at = 0;
+    for place in 0..count {
+        let glyph = lowest + place as u16;
+        at = walk_to(pairs, at, glyph as u32);
+        kept.push(is_own(value_here(pairs, at, glyph), glyph))?;
+    }
+    Ok(kept)
+}
+
+/// Whether a value is that of its own glyph.
+fn is_own(value: Option<u16>, glyph: u16) -> bool
+    ensures { result ≡ is_own value glyph }
+{
+    match value {
+        Some(value) => value == glyph,
+        None => false,
     }
 }
 
 /// Whether a pair has its glyph as value.
-pub(crate) fn keeps_one(pairs: &[(u16, u16)]) -> bool
+fn keeps_one(pairs: &[(u16, u16)]) -> bool
     ensures { result ≡ keeps_one pairs.now }
 {
     pairs.iter().any(|pair| pair.1 == pair.0)

@@ -7,10 +7,11 @@ use Rattle.std.proofs.lemmas.Nat.Bits.{bit_at_or}
 use Rattle.std.proofs.lemmas.Option.{get_or_from_slice_get}
 use Rattle.aat_buffer.specs.Buffer.{glyph_at}
 use Rattle.aat_machine_tables.specs.declared.morx.Subtable.{Subtable}
+use Rattle.aat_font.specs.Wakers.{WakeAt}
 use Rattle.aat_font.specs.declared.wakers.GlyphWords.{GlyphWords}
 use Rattle.aat_glyph.specs.declared.glyph.hb_glyph_info_t.{hb_glyph_info_t}
 use Rattle.aat_morx.specs.declared.waking.LineWord.{LineWord}
-use Rattle.aat_morx.specs.LineWords.{HasBitsOf, IsAsleep, TellsOf, WakeAt}
+use Rattle.aat_morx.specs.LineWords.{HasBitsOf, IsAsleep, TellsOf}
 
 -- a subtable whose bit is clear sleeps
 pub asleep_by :

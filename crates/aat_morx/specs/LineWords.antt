@@ -1,8 +1,8 @@
 -- What the bits of a line's glyphs tell of the subtables that they may wake.
-use Rattle.std.specs.Prelude.{◌≡◌, ◌/◌, ◌%◌, ◌<◌, ℕ, true, false, List, Some, slice_get, length}
+use Rattle.std.specs.Prelude.{◌≡◌, ◌<◌, ℕ, true, false, List, Some, slice_get, length}
 use Rattle.std.specs.Int.{bit_at}
 use Rattle.aat_buffer.specs.Buffer.{glyph_at}
-use Rattle.aat_font.specs.Wakers.{word_of, IsAwakeIn}
+use Rattle.aat_font.specs.Wakers.{word_of}
 use Rattle.aat_machine_tables.specs.declared.morx.Subtable.{Subtable}
 use Rattle.aat_font.specs.declared.wakers.GlyphWords.{GlyphWords}
 use Rattle.aat_glyph.specs.declared.glyph.hb_glyph_info_t.{hb_glyph_info_t}
@@ -23,10 +23,6 @@ KnowsNothing known = known.is_known ≡ false
 abbrev pub TellsOf : LineWord → List GlyphWords → List hb_glyph_info_t → Type 0
 TellsOf known words line =
     known.is_known ≡ true → (w : GlyphWords) → slice_get words known.block ≡ Some w → HasBitsOf w known.word line
-
--- words tell which glyphs may wake subtable i
-abbrev pub WakeAt : Subtable → List GlyphWords → ℕ → Type 0
-WakeAt s words i = (w : GlyphWords) → slice_get words (i / 64) ≡ Some w → IsAwakeIn s w (i % 64)
 
 -- a line has a glyph, and none of its glyphs wakes a subtable
 abbrev pub IsAsleep : Subtable → List hb_glyph_info_t → Type 0

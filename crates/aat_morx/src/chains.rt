@@ -1,5 +1,5 @@
 //! Subtables and chains in their order.
-ghost use Rattle.std.specs.Prelude.{◌≡◌, ◌^◌, ◌<◌, ◌≤◌, IfOk, IfErr, IfSome, OnErr, IsTrue, length};
+ghost use Rattle.std.specs.Prelude.{◌≡◌, ◌^◌, ◌<◌, ◌≤◌, IfOk, IfErr, IfSome, OnErr, OnOk, IsTrue, length};
 ghost use Rattle.std.specs.List.{list_all};
 ghost use Rattle.std.specs.Option.{option_copied};
 ghost use Rattle.aat_buffer.specs.Clusters.{IsSmall};
@@ -9,6 +9,7 @@ ghost use Rattle.aat_font.specs.Wakers.{AreWakers};
 ghost use Rattle.aat_kinds.specs.Kinds.{sizes_of};
 ghost use Rattle.aat_map.specs.Map.{lists_for};
 ghost use Rattle.aat_map.specs.SwitchedChains.{SwitchedChain, switched_by};
+ghost use Rattle.aat_morx.specs.LineWords.{TellsOf};
 ghost use Rattle.aat_morx.specs.Substitution.{chain_run};
 ghost use Rattle.aat_run.specs.Driven.{IsRefusal, IsRefused, StaysWithin};
 ghost use Rattle.aat_run.specs.Outcome.{IsOutcome, in_order};
@@ -24,19 +25,24 @@ use aat_map::{default_range, hb_aat_map_t, ranges_of};
 use aat_run::{AatError, range_flags_t};
 use std::alloc::Allocator;
 
-/// Runs the subtables of a chain in their order, and answers the turns. Words tell which glyphs may wake them.
+/// Runs the subtables of a chain in their order, and answers the turns. Words tell which glyphs may wake them, the first
+/// one as the subtable with this number.
 #[tactic(auto, using(aat_run::specs::facts::Settings::refused_behind))]
 fn run_chain<const SLOTS: usize, const LONGEST: usize, A: Allocator + Copy>(
     face: &hb_font_t,
     ranges: &[range_flags_t],
     subtables: &[Subtable],
+    first: usize,
     words: &[GlyphWords],
+    known: &mut LineWord,
     buffer: &mut hb_buffer_t<A>,
 ) -> Result<u64, AatError>
     requires slots { 0 < SLOTS }
     requires memory { SLOTS ≤ 2 ^ 59 }
     requires few { length subtables.now ≤ 65535 }
-    requires wakers { AreWakers subtables.now words.now }
+    requires start { first ≤ 65535 }
+    requires wakers { AreWakers subtables.now words.now first }
+    requires tells { TellsOf known.old words.now buffer.old.line }
     requires gapless { IsGapless ranges.now }
     requires whole { IsTrue (is_whole_list ranges.now) }
     requires ids { IsSmall buffer.old }
@@ -46,19 +52,20 @@ fn run_chain<const SLOTS: usize, const LONGEST: usize, A: Allocator + Copy>(
     ensures reason { IfErr result (IsRefusal buffer.old (chain_run (sizes_of SLOTS LONGEST face.now)
         (record { switch = switch_for ranges.now; subtables = subtables.now }) buffer.old).buffer) }
     ensures refused { OnErr result (IsRefused buffer.old buffer.new) }
+    ensures tells { OnOk result (TellsOf known.new words.now buffer.new.line) }
 {
     let _length = buffer.len();
     let _budget = buffer.max_ops();
     let mut turns = 0;
-    let mut known = LineWord::unknown();
     for (i, subtable) in subtables.iter().enumerate() {
+        let number = first + i;
         let run = SubtableRun {
             face,
             ranges,
             feature_flags: subtable.feature_flags,
-            wakers: wakers_at(words, i),
+            wakers: wakers_at(words, number),
         };
-        turns += run_subtable::<SLOTS, LONGEST, A>(&run, subtable, &mut known, words, i, buffer)?;
+        turns += run_subtable::<SLOTS, LONGEST, A>(&run, subtable, known, words, number, buffer)?;
     }
     Ok(turns)
 }
@@ -93,12 +100,23 @@ pub(crate) fn run_chains<
 {
     let _length = buffer.len();
     let _budget = buffer.max_ops();
+    let words = morx.wakers();
+    let mut known = LineWord::unknown();
+    let mut first = 0;
     let mut turns = 0;
     for (i, chain) in chains.iter().enumerate() {
         let default = [default_range(chain)];
         let ranges = ranges_of(map, i, &default);
-        let words = morx.wakers(i);
-        turns += run_chain::<SLOTS, LONGEST, A>(face, ranges, &chain.subtables, words, buffer)?;
+        turns += run_chain::<SLOTS, LONGEST, A>(
+            face,
+            ranges,
+            &chain.subtables,
+            first,
+            words,
+            &mut known,
+            buffer,
+        )?;
+        first += chain.subtables.len();
     }
     Ok(turns)
 }

@@ -2,11 +2,12 @@
 ghost use Rattle.std.specs.Prelude.{◌≡◌, ◌^◌, ◌<◌, ◌≤◌, IfOk, IfErr, OnOk, OnErr, IfSome, IsTrue, false, length, true};
 ghost use Rattle.aat_buffer.specs.Clusters.{IsSmall};
 ghost use Rattle.aat_font.specs.Idle.{is_idle};
+ghost use Rattle.aat_font.specs.Wakers.{WakeAt};
 ghost use Rattle.aat_kinds.specs.Idle.{SleepOthers};
 ghost use Rattle.aat_kinds.specs.Kinds.{is_for, is_reversed, kind_run, ordered_run, reversed_run, sizes_of};
 ghost use Rattle.aat_kinds.specs.Runs.{is_on_in};
 ghost use Rattle.aat_morx.specs.Substitution.{is_skipped, subtable_run};
-ghost use Rattle.aat_morx.specs.LineWords.{TellsOf, WakeAt};
+ghost use Rattle.aat_morx.specs.LineWords.{TellsOf};
 ghost use Rattle.aat_run.specs.Driven.{IsRefusal, IsRefused, StaysWithin};
 ghost use Rattle.aat_run.specs.Outcome.{IsOutcome};
 ghost use Rattle.aat_run.specs.Ranges.{IsGapless, is_whole_list, switch_for};
@@ -111,7 +112,7 @@ fn run_ordered<const SLOTS: usize, const LONGEST: usize, A: Allocator + Copy>(
     }
 }
 
-/// Runs subtable i of a chain under the chain's ranges, and answers the turns: by its kind, in the order of its
+/// Runs the subtable with a number under its chain's ranges, and answers the turns: by its kind, in the order of its
 /// coverage. One that is left out takes none, and one that no glyph of the line wakes is passed over.
 #[tactic(auto, unfolding(crate::specs::Substitution::subtable_run))]
 pub(crate) fn run_subtable<const SLOTS: usize, const LONGEST: usize, A: Allocator + Copy>(
@@ -119,7 +120,7 @@ pub(crate) fn run_subtable<const SLOTS: usize, const LONGEST: usize, A: Allocato
     subtable: &Subtable,
     known: &mut LineWord,
     words: &[GlyphWords],
-    i: usize,
+    number: usize,
     buffer: &mut hb_buffer_t<A>,
 ) -> Result<u64, AatError>
     requires slots { 0 < SLOTS }
@@ -129,7 +130,7 @@ pub(crate) fn run_subtable<const SLOTS: usize, const LONGEST: usize, A: Allocato
     requires whole { IsTrue (is_whole_list run.now.ranges.now) }
     requires wakers { IfSome run.now.wakers (SleepOthers (is_idle subtable.now.kind)) }
     requires ids { IsSmall buffer.old }
-    requires wake { WakeAt subtable.now words.now i }
+    requires wake { WakeAt subtable.now words.now number }
     requires tells { TellsOf known.old words.now buffer.old.line }
     ensures run { IfOk result (IsOutcome (subtable_run (sizes_of SLOTS LONGEST run.now.face.now)
         (switch_for run.now.ranges.now) subtable.now buffer.old) buffer.new) }
@@ -143,7 +144,7 @@ pub(crate) fn run_subtable<const SLOTS: usize, const LONGEST: usize, A: Allocato
     if is_skipped(run, subtable, buffer.direction()) {
         return Ok(0);
     }
-    if !known.wakes(words, i, buffer) {
+    if !known.wakes(words, number, buffer) {
         return Ok(pass_over(&subtable.kind, buffer));
     }
     // a copy, so that the caller's record need not be in memory where no subtable runs

@@ -4,10 +4,10 @@ ghost use Rattle.std.specs.Int.{bit_at};
 ghost use Rattle.aat_buffer.specs.Buffer.{Is16Bit, glyph_at};
 ghost use Rattle.aat_buffer.specs.Clusters.{IsSmall};
 ghost use Rattle.aat_font.specs.Idle.{is_idle};
-ghost use Rattle.aat_font.specs.Wakers.{word_of};
+ghost use Rattle.aat_font.specs.Wakers.{WakeAt, word_of};
 ghost use Rattle.aat_machine_tables.specs.declared.morx.Subtable.{Subtable};
 ghost use Rattle.aat_kinds.specs.Idle.{SleepOthers};
-ghost use Rattle.aat_morx.specs.LineWords.{HasBitsOf, IsAsleep, KnowsNothing, TellsOf, WakeAt};
+ghost use Rattle.aat_morx.specs.LineWords.{HasBitsOf, IsAsleep, KnowsNothing, TellsOf};
 
 use aat_buffer::{hb_buffer_t, hb_glyph_info_t};
 use aat_font::{GlyphWords, word_at};
@@ -18,10 +18,11 @@ use std::alloc::Allocator;
 /// The number of subtables that have a bit in a word.
 const WORD: usize = 64;
 
-/// Which subtables of a chain the glyphs of a line may wake: the bits of all of its glyphs for 64 subtables, as long as they
-/// are known, and those of an earlier line behind that.
+/// Which subtables the glyphs of a line may wake: the bits of all of its glyphs for 64 subtables, as long as they are known,
+/// and those of an earlier line behind that.
 ///
-/// Each chain begins with one that knows nothing of the line, and forgets what is known where a subtable has run.
+/// A run begins with one that knows nothing of the line. It goes from chain to chain, and forgets what is known where a
+/// subtable has run.
 #[derive(Clone, Copy)]
 pub struct LineWord {
     /// Which 64 subtables these are: their first one has this number times 64.
@@ -51,9 +52,10 @@ impl LineWord {
         self.is_known = false;
     }
 
-    /// Whether a glyph of a line may wake subtable i, by the words of the subtables. It looks at the glyphs of the line
-    /// only where their bits for these 64 subtables are not known. Where a glyph of an earlier line may wake it, and the
-    /// line's own bits are not known, it answers that one may: to run the subtable costs little more than to look.
+    /// Whether a glyph of a line may wake the subtable with a number, by the words of the subtables (`Morx::wakers`). It
+    /// looks at the glyphs of the line only where their bits for these 64 subtables are not known. Where a glyph of an
+    /// earlier line may wake it, and the line's own bits are not known, it answers that one may: to run the subtable costs
+    /// little more than to look.
     ///
     /// Each glyph id has to be at most 0xFFFF, and what is known has to hold of the line. Where it answers that none may,
     /// the line has a glyph, and the subtable does nothing over each of its glyphs.
@@ -61,32 +63,32 @@ impl LineWord {
     pub fn wakes<A: Allocator + Copy>(
         &mut self,
         words: &[GlyphWords],
-        i: usize,
+        number: usize,
         buffer: &hb_buffer_t<A>,
     ) -> bool
         requires ids { IsSmall buffer.now }
         requires tells { TellsOf self.old words.now buffer.now.line }
         ensures tells { TellsOf self.new words.now buffer.now.line }
-        ensures asleep { (s : Subtable) → WakeAt s words.now i → result ≡ false → IsAsleep s buffer.now.line }
+        ensures asleep { (s : Subtable) → WakeAt s words.now number → result ≡ false → IsAsleep s buffer.now.line }
     {
-        if self.was_awake(i) {
+        if self.was_awake(number) {
             return true;
         }
-        match words.get(i / WORD) {
+        match words.get(number / WORD) {
             Some(glyph_words) => {
-                self.learn(glyph_words, i / WORD, buffer);
-                self.has(i % WORD)
+                self.learn(glyph_words, number / WORD, buffer);
+                self.has(number % WORD)
             }
             None => true,
         }
     }
 
-    /// Whether the bits are those of an earlier line, and that of subtable i is set.
-    fn was_awake(&self, i: usize) -> bool {
-        if self.is_known || self.block != i / WORD {
+    /// Whether the bits are those of an earlier line, and that of the subtable with a number is set.
+    fn was_awake(&self, number: usize) -> bool {
+        if self.is_known || self.block != number / WORD {
             return false;
         }
-        let bit = i % WORD;
+        let bit = number % WORD;
         self.has(bit)
     }
 
@@ -155,14 +157,14 @@ fn bits_of(listed: &[u64], glyphs: &[hb_glyph_info_t]) -> u64
     word
 }
 
-/// Which glyphs may wake subtable i of a chain, by the words of its subtables (`Morx::wakers`), where these tell.
-pub fn wakers_at(words: &[GlyphWords], i: usize) -> Option<Wakers<'_>>
-    ensures { (s : Subtable) → WakeAt s words.now i → IfSome result (SleepOthers (is_idle s.kind)) }
+/// Which glyphs may wake the subtable with a number, by the words of the subtables (`Morx::wakers`), where these tell.
+pub fn wakers_at(words: &[GlyphWords], number: usize) -> Option<Wakers<'_>>
+    ensures { (s : Subtable) → WakeAt s words.now number → IfSome result (SleepOthers (is_idle s.kind)) }
 {
-    match words.get(i / WORD) {
+    match words.get(number / WORD) {
         Some(words) => Some(Wakers {
             words,
-            bit: (i % WORD) as u32,
+            bit: (number % WORD) as u32,
         }),
         None => None,
     }

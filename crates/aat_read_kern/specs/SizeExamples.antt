@@ -8,5 +8,5 @@ pub record SizesAreKnown : Type 0 where
   pub kern_rule : KERN_RULE_SIZE ≡ 18
   pub pair : PAIR_SIZE ≡ 6
   pub start : START_SIZE ≡ 16
-  pub kern_subtable : KERN_SUBTABLE_SIZE ≡ 248
+  pub kern_subtable : KERN_SUBTABLE_SIZE ≡ 264
   pub left_out : LEFT_OUT_SIZE ≡ 24

@@ -10,5 +10,5 @@ pub record SizesAreKnown : Type 0 where
   pub kerx_rule : KERX_RULE_SIZE ≡ 18
   pub pair : PAIR_SIZE ≡ 6
   pub start : START_SIZE ≡ 16
-  pub kerx_subtable : KERX_SUBTABLE_SIZE ≡ 248
+  pub kerx_subtable : KERX_SUBTABLE_SIZE ≡ 264
   pub left_out : LEFT_OUT_SIZE ≡ 24

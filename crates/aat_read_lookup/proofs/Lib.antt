@@ -7,6 +7,7 @@ pub mod KeptPairs
 pub mod LayoutsRise
 pub mod ReadLayouts
 pub mod Rises
+pub mod RisingUnits
 pub mod SizeBounds
 pub mod SoundUnits
 pub mod Spans

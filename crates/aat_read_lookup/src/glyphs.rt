@@ -28,8 +28,9 @@ impl Units {
         ensures few { result < 2 ^ 32 }
     {
         let mut glyphs = 0;
+        let rise = self.do_rise(bytes);
         for i in 0..self.count {
-            glyphs += self.segment(i, bytes).count;
+            glyphs += self.segment(i, bytes, rise).count;
         }
         glyphs
     }

@@ -35,6 +35,9 @@ fn row_of(width: u16, value: u32) -> u16
 
 impl Segment {
     /// What is kept of the value of the glyph that stands so many glyphs behind the first.
+    ///
+    /// It is inlined, since a call for each glyph takes longer than to read its value.
+    #[inline(always)]
     fn kept(self, bytes: &[u8], k: usize, keep: Keep) -> u16
         requires can { CanKeep keep }
         requires fits { Fits bytes.now self }
@@ -49,6 +52,7 @@ impl Segment {
     }
 
     /// Appends the pairs of the segment.
+    #[inline(always)]
     pub(crate) fn append<A: Allocator>(
         self,
         bytes: &[u8],
@@ -135,8 +139,9 @@ impl Units {
         ensures few { result < 2 ^ 32 }
     {
         let mut count = 0;
+        let rise = self.do_rise(bytes);
         for i in 0..self.count {
-            count += self.segment(i, bytes).kept_count();
+            count += self.segment(i, bytes, rise).kept_count();
         }
         count
     }
@@ -153,8 +158,10 @@ impl Units {
         ensures { OnOk result (segments.new.items
             ≡ segments.old.items ++ flat_map (kept_segments bytes.now keep) (unit_segments bytes.now self)) }
     {
+        let rise = self.do_rise(bytes);
         for i in 0..self.count {
-            self.segment(i, bytes).append_kept(bytes, keep, segments)?;
+            self.segment(i, bytes, rise)
+                .append_kept(bytes, keep, segments)?;
         }
         Ok(())
     }

@@ -1,7 +1,7 @@
 //! Lookups from bytes.
 ghost use Rattle.std.specs.Prelude.{◌≡◌, ◌++◌, None, Ok, IfOk, OnOk, MatchResult};
 ghost use Rattle.std.specs.List.{flat_map};
-ghost use Rattle.aat_lookup.specs.Keys.{first, first_fall};
+ghost use Rattle.aat_lookup.specs.Keys.{first};
 ghost use Rattle.aat_lookup.specs.Segments.{first_segment_fall, pairs_of_segments};
 ghost use Rattle.aat_read_lookup.specs.Kept.{kept_pairs};
 ghost use Rattle.aat_read_lookup.specs.Lookups.{Gives, Refuses, lookup_at};
@@ -27,8 +27,9 @@ fn append_units<A: Allocator>(
     requires sound { AreSound bytes.now units }
     ensures { OnOk result (pairs.new.items ≡ pairs.old.items ++ kept_pairs bytes.now keep (Searched units)) }
 {
+    let rise = units.do_rise(bytes);
     for i in 0..units.count {
-        units.segment(i, bytes).append(bytes, keep, pairs)?;
+        units.segment(i, bytes, rise).append(bytes, keep, pairs)?;
     }
     Ok(())
 }
@@ -50,21 +51,6 @@ fn pairs_of<A: Allocator>(
         Layout::Searched(units) => append_units(units, bytes, keep, &mut pairs)?,
     }
     Ok(pairs)
-}
-
-/// The lookup of pairs. Fails only where it gets no memory.
-fn lookup_of_pairs<A: Allocator + Copy>(
-    alloc: A,
-    pairs: &[(u16, u16)],
-) -> Result<Lookup<A>, AllocError>
-    requires { first_fall first pairs.now ≡ None }
-    ensures { IfOk result (λ lookup. lookup ≡ pairs.now) }
-{
-    match Lookup::new(alloc, pairs) {
-        Ok(lookup) => Ok(lookup),
-        Err(TableError::OutOfMemory) => Err(AllocError),
-        Err(_) => unreachable!(),
-    }
 }
 
 /// The lookup of segments. Fails only where it gets no memory.
@@ -94,7 +80,7 @@ fn listed_lookup<A: Allocator + Copy>(
     ensures { IfOk result (λ lookup. lookup ≡ kept_pairs bytes.now keep layout) }
 {
     let pairs = pairs_of(alloc, layout, bytes, keep)?;
-    lookup_of_pairs(alloc, &pairs)
+    Lookup::of_rising(alloc, &pairs)
 }
 
 /// The lookup of a layout that is kept as segments. Fails only where it gets no memory.

@@ -147,6 +147,7 @@ impl Segment {
     }
 
     /// The value of 16 bits of the glyph that stands so many glyphs behind the first.
+    #[inline(always)]
     pub(crate) fn value(self, bytes: &[u8], k: usize) -> u16
         requires fits { Fits bytes.now self }
         requires below { k < self.count }

@@ -68,8 +68,9 @@ impl Units {
         ensures short { result ≤ 65536 }
     {
         let mut ends = (0, 0);
+        let rise = self.do_rise(bytes);
         for i in 0..self.count {
-            ends = ends_with(ends, self.segment(i, bytes));
+            ends = ends_with(ends, self.segment(i, bytes, rise));
         }
         (ends.1 - 1).saturating_sub(ends.0) + 1
     }

@@ -1,9 +1,9 @@
 //! Units: the records of the formats 2, 4 and 6, which are found by bisection, as in HarfBuzz.
-ghost use Rattle.std.specs.Prelude.{◌≡◌, ◌+◌, ◌-◌, ◌*◌, ◌<◌, ◌≤◌, length, IfOk};
+ghost use Rattle.std.specs.Prelude.{◌≡◌, ◌+◌, ◌-◌, ◌*◌, ◌<◌, ◌≤◌, length, IfOk, IsTrue};
 ghost use Rattle.aat_bytes.specs.Bisection.{nearest};
 ghost use Rattle.aat_read_lookup.specs.Layouts.{checked_units, glyphs_found, is_terminator, record_size, segment_at, segment_of, unit_at, unit_fault, unit_place, units_at, units_fault, without_terminator};
 ghost use Rattle.aat_read_lookup.specs.Segments.{values_place};
-ghost use Rattle.aat_read_lookup.specs.inside.Sound.{AreInside, AreSound, Fits};
+ghost use Rattle.aat_read_lookup.specs.inside.Sound.{AreInside, AreSound, DoRise, Fits};
 
 use crate::segment::{Segment, ValueKind, Values};
 use aat_bytes::{Fault, FaultKind, Tag, be16};
@@ -154,13 +154,34 @@ impl Units {
         }
     }
 
-    /// The segment of a unit: those of its glyphs by which a bisection finds it.
-    pub(crate) fn segment(self, i: u16, bytes: &[u8]) -> Segment
+    /// Whether each unit begins behind the end of those before it, as units ought to.
+    pub(crate) fn do_rise(self, bytes: &[u8]) -> bool
+        requires { AreInside bytes.now self }
+        ensures { IsTrue result → DoRise bytes.now self }
+    {
+        let mut end = 0;
+        for i in 0..self.count {
+            let unit = self.unit(i, bytes);
+            if unit.first < end {
+                return false;
+            }
+            end = unit.first + unit.count;
+        }
+        true
+    }
+
+    /// The segment of a unit: those of its glyphs by which a bisection finds it. Where units rise these are all of them,
+    /// and no bisection is needed.
+    pub(crate) fn segment(self, i: u16, bytes: &[u8], rise: bool) -> Segment
         requires sound { AreSound bytes.now self }
         requires below { i < self.count }
+        requires rise { IsTrue rise → DoRise bytes.now self }
         ensures is { result ≡ segment_of bytes.now self i }
         ensures fits { Fits bytes.now result }
     {
+        if rise {
+            return self.unit(i, bytes);
+        }
         let (first, end) = self.glyphs_found(i, bytes);
         self.unit(i, bytes).part(first, end)
     }

@@ -4,6 +4,7 @@ use Rattle.std.specs.List.{range_with_len}
 use Rattle.std.specs.Prelude.{nat_lt, ◌==◌}
 use Rattle.std.proofs.Math.Nat.{mul-div-le}
 use Rattle.std.proofs.lemmas.Bool.{leb-true, ltb-false}
+use Rattle.std.proofs.lemmas.Bool.Decides.{nat_tests}
 use Rattle.std.proofs.lemmas.List.{length-drop}
 use Rattle.std.proofs.lemmas.List.FromFn.{length-map-range_with_len}
 use Rattle.aat_bytes.specs.Numbers.{be16, be32, u32_at}
@@ -136,18 +137,18 @@ asked_light bytes place glyph_count =
 -- a lookup of a list has room for its values
 module _ (bytes : List ℕ) (list glyph_count : ℕ) where
   listed_by : (offset : Option ℕ)
-      → elim offset [ None ↦ 0 | Some o ↦ values_weight bytes (list + o) glyph_count ] + 88
-      ≤ 11 * elim offset [ None ↦ 8 | Some o ↦ 8 + lookup_size bytes (list + o) glyph_count ]
+      → elim offset [ None ↦ 0 | Some o ↦ values_weight bytes (list + o) glyph_count ] + 96
+      ≤ 12 * elim offset [ None ↦ 8 | Some o ↦ 8 + lookup_size bytes (list + o) glyph_count ]
   listed_by None = omega arith
   listed_by (Some o) = let light = asked_light bytes (list + o) glyph_count in omega (arith, light)
 
 listed_light : (bytes : List ℕ) (list glyph_count i : ℕ)
-    → listed_weight bytes list glyph_count i + 88 ≤ 11 * lookup_cost bytes list glyph_count i
+    → listed_weight bytes list glyph_count i + 96 ≤ 12 * lookup_cost bytes list glyph_count i
 unfolding lookup_cost
 listed_light bytes list glyph_count i = listed_by bytes list glyph_count (u32_at bytes (list + 4 * i))
 
 all_listed_light : (bytes : List ℕ) (list glyph_count count : ℕ)
-    → all_listed_weight bytes list glyph_count count + 88 * count ≤ 11 * lookups_cost bytes list glyph_count count
+    → all_listed_weight bytes list glyph_count count + 96 * count ≤ 12 * lookups_cost bytes list glyph_count count
 all_listed_light bytes list glyph_count zero = omega arith
 all_listed_light bytes list glyph_count (suc n) =
     let more = sum_more (lookup_cost bytes list glyph_count) n in
@@ -155,7 +156,7 @@ all_listed_light bytes list glyph_count (suc n) =
     let here = listed_light bytes list glyph_count n in
     let before = all_listed_light bytes list glyph_count n in
     let same : n + 1 ≡ suc n = omega arith in
-    subst (λ (k : ℕ). all_listed_weight bytes list glyph_count k + 88 * k ≤ 11 * lookups_cost bytes list glyph_count k) same
+    subst (λ (k : ℕ). all_listed_weight bytes list glyph_count k + 96 * k ≤ 12 * lookups_cost bytes list glyph_count k) same
     (omega (arith, more, weights, here, before))
 
 -- and for each byte from its place on
@@ -214,7 +215,7 @@ lookups_fit bytes list glyph_count room count lookups is =
 
 contextual_light : (bytes : List ℕ) (list glyph_count : ℕ) (m : StateArray) (cells : ℕ) (t : ContextualTables)
     → 2 * cells ≤ length m.bytes → contextual_tables bytes list glyph_count m cells ≡ Ok t
-    → contextual_weight t + all_listed_weight bytes list glyph_count (length t.lookups) ≤ 11 * length m.bytes
+    → contextual_weight t + all_listed_weight bytes list glyph_count (length t.lookups) + 2 * cells ≤ 12 * length m.bytes
 unfolding contextual_tables
 contextual_light bytes list glyph_count m cells t inside is =
     let count = lookup_count m cells in
@@ -229,34 +230,68 @@ contextual_light bytes list glyph_count m cells t inside is =
     let listed = all_listed_light bytes list glyph_count count in
     let values : all_listed_weight bytes list glyph_count (length lookups.0) ≡ all_listed_weight bytes list glyph_count count =
     ap (all_listed_weight bytes list glyph_count) long in
-    let light : contextual_weight tables + all_listed_weight bytes list glyph_count (length tables.lookups) ≤ 11 * length m.bytes =
+    let light : contextual_weight tables + all_listed_weight bytes list glyph_count (length tables.lookups) + 2 * cells
+    ≤ 12 * length m.bytes =
     omega (arith, rules, long, within, listed, values, inside) in
-    subst (λ (k : ContextualTables). contextual_weight k + all_listed_weight bytes list glyph_count (length k.lookups)
-    ≤ 11 * length m.bytes) same light
+    subst (λ (k : ContextualTables). contextual_weight k + all_listed_weight bytes list glyph_count (length k.lookups) + 2 * cells
+    ≤ 12 * length m.bytes) same light
+
+-- without cells there are no rules, and no lookup is named
+contextual_none : (bytes : List ℕ) (list glyph_count : ℕ) (m : StateArray) (t : ContextualTables)
+    → contextual_tables bytes list glyph_count m 0 ≡ Ok t
+    → contextual_weight t + all_listed_weight bytes list glyph_count (length t.lookups) ≤ 0
+unfolding contextual_tables
+contextual_none bytes list glyph_count m t is =
+    let state = parts (with_classes contextual_at m 0 (lookup_at MORX bytes (class_place m) glyph_count)) _ t is in
+    let lookups = parts (lookups_within bytes list glyph_count (room_left m 0) 0) _ t state.2 in
+    let tables : ContextualTables = record { state = state.0; lookups = lookups.0 } in
+    let same : tables ≡ t = ok_parts tables t lookups.2 in
+    let rules = rules_are_cells contextual_at m 0 _ state.0 state.1 in
+    let fit = lookups_fit bytes list glyph_count (room_left m 0) 0 lookups.0 lookups.1 in
+    let long = fit.0 in
+    let values : all_listed_weight bytes list glyph_count (length lookups.0) ≡ 0 =
+    ap (all_listed_weight bytes list glyph_count) long in
+    let light : contextual_weight tables + all_listed_weight bytes list glyph_count (length tables.lookups) ≤ 0 =
+    omega (arith, rules, long, values) in
+    subst (λ (k : ContextualTables). contextual_weight k + all_listed_weight bytes list glyph_count (length k.lookups) ≤ 0) same light
+
+-- so a machine with lookups weighs less for its cells
+by_cells : (bytes : List ℕ) (list glyph_count : ℕ) (m : StateArray) (cells : ℕ) (t : ContextualTables) (n classes : ℕ)
+    → 2 * cells ≤ length m.bytes → contextual_tables bytes list glyph_count m cells ≡ Ok t
+    → length m.bytes ≡ n → classes ≤ 7 * (n - 1) → 16 ≤ n
+    → contextual_weight t + classes + all_listed_weight bytes list glyph_count (length t.lookups) ≤ 19 * n - 9
+by_cells bytes list glyph_count m zero t n classes inside is long few wide =
+    let none = contextual_none bytes list glyph_count m t is in
+    omega (arith, none, few, wide)
+by_cells bytes list glyph_count m (suc cells) t n classes inside is long few wide =
+    let light = contextual_light bytes list glyph_count m (suc cells) t inside is in
+    omega (arith, light, long, few, wide)
 
 contextual_bounded : (bytes : List ℕ) (place glyph_count : ℕ) (t : ContextualTables)
     → contextual_tables_at bytes place glyph_count ≡ Ok t
     → contextual_weight t + classes_weight bytes place glyph_count
-    + all_listed_weight bytes (list_place bytes place 16) glyph_count (length t.lookups) ≤ 19 * (length bytes - place) - 1
+    + all_listed_weight bytes (list_place bytes place 16) glyph_count (length t.lookups) ≤ 19 * (length bytes - place) - 9
 unfolding contextual_tables_at
 contextual_bounded bytes place glyph_count t is =
     let whole = passes (nat_lt (length bytes) (place + 20)) _ _ t is in
     let array = parts (state_array_at MORX bytes place 4) _ t whole.1 in
     let cells = parts (cells_of array.0) _ t array.2 in
     let inside = cells_fit array.0 cells.0 cells.1 in
-    let light = contextual_light bytes (list_place bytes place 16) glyph_count array.0 cells.0 t inside cells.2 in
     let behind = bytes_behind MORX bytes place 4 array.0 array.1 in
     let counted = classes_light bytes place 4 glyph_count array.0 array.1 in
     let there = counted.0 in
-    let classes = counted.1 in
-    omega (arith, light, behind, classes, there)
+    let wide : 16 ≤ length bytes - place = omega (arith, there) in
+    let few : classes_weight bytes place glyph_count ≤ 7 * (length bytes - place - 1) = counted.1 in
+    by_cells bytes (list_place bytes place 16) glyph_count array.0 cells.0 t (length bytes - place)
+    (classes_weight bytes place glyph_count) inside cells.2 behind few wide
 
 -- a list with an offset starts behind the subtable's place
-list_behind : (bytes : List ℕ) (place at list : ℕ) → list_at bytes place at ≡ Ok list → place ≤ list
+list_behind : (bytes : List ℕ) (place at list : ℕ) → list_at bytes place at ≡ Ok list → place + 1 ≤ list
 list_behind bytes place at list is =
     let some = passes (be32 bytes (place + at) == 0) _ _ list is in
+    let there = some.0 in
     let same : list_place bytes place at ≡ list = ok_parts _ list some.1 in
-    omega (arith, same)
+    grind (arith, nat_tests, there, same)
 
 -- a list takes no more than the bytes from its place on
 list_fits : (size whole : ℕ) → size * (whole / size) ≤ whole
@@ -264,7 +299,7 @@ list_fits size whole = mul-div-le whole size
 
 ligature_bounded : (bytes : List ℕ) (place glyph_count : ℕ) (t : LigatureTables)
     → ligature_at bytes place glyph_count ≡ Ok t
-    → ligature_weight t + classes_weight bytes place glyph_count ≤ 19 * (length bytes - place) - 1
+    → ligature_weight t + classes_weight bytes place glyph_count ≤ 19 * (length bytes - place) - 9
 unfolding ligature_at
 ligature_bounded bytes place glyph_count t is =
     let whole = passes (nat_lt (length bytes) (place + 28)) _ _ t is in
@@ -297,14 +332,14 @@ ligature_bounded bytes place glyph_count t is =
     let counted = classes_light bytes place 2 glyph_count array.0 array.1 in
     let there = counted.0 in
     let classes = counted.1 in
-    let light : ligature_weight tables + classes_weight bytes place glyph_count ≤ 19 * (length bytes - place) - 1 =
+    let light : ligature_weight tables + classes_weight bytes place glyph_count ≤ 19 * (length bytes - place) - 9 =
     omega (arith, rules, actions, components, ligatures, a, b, c, classes, there, one_behind, two_behind, three_behind) in
     subst (λ (k : LigatureTables). ligature_weight k + classes_weight bytes place glyph_count
-    ≤ 19 * (length bytes - place) - 1) same light
+    ≤ 19 * (length bytes - place) - 9) same light
 
 insertion_bounded : (bytes : List ℕ) (place glyph_count : ℕ) (t : InsertionTables)
     → insertion_tables_at bytes place glyph_count ≡ Ok t
-    → insertion_weight t + classes_weight bytes place glyph_count ≤ 19 * (length bytes - place) - 1
+    → insertion_weight t + classes_weight bytes place glyph_count ≤ 19 * (length bytes - place) - 9
 unfolding insertion_tables_at
 insertion_bounded bytes place glyph_count t is =
     let whole = passes (nat_lt (length bytes) (place + 20)) _ _ t is in
@@ -322,15 +357,15 @@ insertion_bounded bytes place glyph_count t is =
     let counted = classes_light bytes place 4 glyph_count array.0 array.1 in
     let there = counted.0 in
     let classes = counted.1 in
-    let light : insertion_weight tables + classes_weight bytes place glyph_count ≤ 19 * (length bytes - place) - 1 =
+    let light : insertion_weight tables + classes_weight bytes place glyph_count ≤ 19 * (length bytes - place) - 9 =
     omega (arith, rules, glyphs, a, classes, there, behind) in
     subst (λ (k : InsertionTables). insertion_weight k + classes_weight bytes place glyph_count
-    ≤ 19 * (length bytes - place) - 1) same light
+    ≤ 19 * (length bytes - place) - 9) same light
 
 -- a plain machine
 plain_bounded : (bytes : List ℕ) (place glyph_count : ℕ) (t : TableValue (GenericStateEntry Unit))
     → machine_at 0 (λ _ _. tt) MORX bytes place glyph_count ≡ Ok t
-    → machine_weight PLAIN_RULE_SIZE t + classes_weight bytes place glyph_count ≤ 19 * (length bytes - place) - 1
+    → machine_weight PLAIN_RULE_SIZE t + classes_weight bytes place glyph_count ≤ 19 * (length bytes - place) - 9
 plain_bounded bytes place glyph_count t is =
     let array = machine_array (λ _ _. tt) 0 MORX bytes place glyph_count t is in
     let counted = classes_light bytes place 0 glyph_count array.0 array.1 in
@@ -358,20 +393,20 @@ module _ (bytes : List ℕ) (place glyph_count : ℕ) where
   chosen false r s does most one other is = other is
 
   values_bounded : (pairs : List (ℕ × ℕ))
-      → kind_weight bytes place glyph_count (NonContextual pairs) ≤ 19 * (length bytes - place) - 1
+      → kind_weight bytes place glyph_count (NonContextual pairs) ≤ 19 * (length bytes - place) - 9
   values_bounded pairs = let light = inside_light bytes place glyph_count in omega (arith, light)
 
   unknown : (does : SubtableKind) → ◌≡◌ {A = Result SubtableKind Fault} (Ok (NonContextual [])) (Ok does)
-      → kind_weight bytes place glyph_count does ≤ 19 * (length bytes - place) - 1
+      → kind_weight bytes place glyph_count does ≤ 19 * (length bytes - place) - 9
   unknown does is =
       let same : NonContextual [] ≡ does = ok_parts (NonContextual []) does is in
-      subst (λ (k : SubtableKind). kind_weight bytes place glyph_count k ≤ 19 * (length bytes - place) - 1) same
+      subst (λ (k : SubtableKind). kind_weight bytes place glyph_count k ≤ 19 * (length bytes - place) - 9) same
       (values_bounded [])
 
 pub subtables_bounded : SubtablesAreBounded
 unfolding subtable_kind_at
 subtables_bounded bytes place kind glyph_count does is =
-    let most = 19 * (length bytes - place) - 1 in
+    let most = 19 * (length bytes - place) - 9 in
     chosen bytes place glyph_count (kind == 0) _ _ does most
     (kind_light bytes place glyph_count Rearrangement (machine_at 0 (λ _ _. tt) MORX bytes place glyph_count) does most
     (plain_bounded bytes place glyph_count))

@@ -33,8 +33,8 @@ MachinesAreThoseOfBytes {T} size extra_at =
     → IsMachineOf size extra_at (drop place bytes)
     (value_of_glyph table bytes (place + be32 (drop place bytes) 4) glyph_count) machine
 
--- what a subtable does weighs less than 19 bytes for each byte from its place on, or nothing
+-- what a subtable does weighs at least 9 less than 19 bytes for each byte from its place on, or nothing
 abbrev pub SubtablesAreBounded : Type 0
 SubtablesAreBounded =
     (bytes : List ℕ) (place kind glyph_count : ℕ) (does : SubtableKind)
-    → subtable_kind_at bytes place kind glyph_count ≡ Ok does → kind_weight bytes place glyph_count does ≤ 19 * (length bytes - place) - 1
+    → subtable_kind_at bytes place kind glyph_count ≡ Ok does → kind_weight bytes place glyph_count does ≤ 19 * (length bytes - place) - 9

@@ -8,4 +8,4 @@ pub record SizesAreKnown : Type 0 where
   pub ligature_rule : LIGATURE_RULE_SIZE ≡ 18
   pub contextual_rule : CONTEXTUAL_RULE_SIZE ≡ 22
   pub insertion_rule : INSERTION_RULE_SIZE ≡ 22
-  pub lookup : LOOKUP_SIZE ≡ 88
+  pub lookup : LOOKUP_SIZE ≡ 96

@@ -6,4 +6,4 @@ use Rattle.aat_read_morx.specs.declared.weights.TheConstants.{CHAIN_SIZE, FEATUR
 pub record SizesAreKnown : Type 0 where
   pub chain : CHAIN_SIZE ≡ 56
   pub feature : FEATURE_SIZE ≡ 12
-  pub subtable : SUBTABLE_SIZE ≡ 232
+  pub subtable : SUBTABLE_SIZE ≡ 240

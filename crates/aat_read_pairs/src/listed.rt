@@ -36,19 +36,6 @@ fn pair_at(bytes: &[u8], tuples: Tuples, place: usize, i: usize) -> (u16, u16, i
     )
 }
 
-/// The first pair that is not above the one before it.
-fn first_fall(bytes: &[u8], tuples: Tuples, place: usize, count: usize) -> Option<usize>
-    requires { place + 6 * count ≤ length bytes.now }
-    ensures { result ≡ first_fall key_of_pair (pairs_at bytes.now tuples place count) }
-{
-    for i in 1..count {
-        if key_at(bytes, place, i) <= key_at(bytes, place, i - 1) {
-            return Some(i);
-        }
-    }
-    None
-}
-
 /// Which of so many pairs a bisection for a key finds. Of two pairs in the middle it looks at the lower one, as HarfBuzz
 /// does.
 fn row_found(bytes: &[u8], place: usize, count: usize, key: u32) -> Option<usize>
@@ -121,24 +108,6 @@ fn bisected_pairs<A: Allocator>(
     Ok(pairs)
 }
 
-/// The same, without a search where all rise strictly, as they ought to.
-fn found_pairs<A: Allocator>(
-    alloc: A,
-    bytes: &[u8],
-    tuples: Tuples,
-    place: usize,
-    count: usize,
-) -> Result<Vec<(u16, u16, i16), A>, AllocError>
-    requires inside { place + 6 * count ≤ length bytes.now }
-    requires tuples { tuples.place < 2 ^ 63 + 2 ^ 32 }
-    ensures { IfOk result (λ pairs. pairs.items ≡ found_pairs bytes.now tuples place count) }
-{
-    match first_fall(bytes, tuples, place, count) {
-        None => pairs_at(alloc, bytes, tuples, place, count),
-        Some(_) => bisected_pairs(alloc, bytes, tuples, place, count),
-    }
-}
-
 /// The table of pairs. Fails only where it gets no memory.
 fn table_of<A: Allocator + Copy>(
     alloc: A,
@@ -151,6 +120,42 @@ fn table_of<A: Allocator + Copy>(
         Ok(table) => Ok(table),
         Err(TableError::OutOfMemory) => Err(AllocError),
         Err(_) => unreachable!(),
+    }
+}
+
+/// The table of what a bisection finds of so many pairs. Fails only where it gets no memory.
+fn bisected_table<A: Allocator + Copy>(
+    alloc: A,
+    bytes: &[u8],
+    tuples: Tuples,
+    place: usize,
+    count: usize,
+) -> Result<Pairs<A>, AllocError>
+    requires inside { place + 6 * count ≤ length bytes.now }
+    requires tuples { tuples.place < 2 ^ 63 + 2 ^ 32 }
+    ensures { IfOk result (λ table. table ≡ found_pairs bytes.now tuples place count) }
+{
+    let pairs = bisected_pairs(alloc, bytes, tuples, place, count)?;
+    table_of(alloc, &pairs)
+}
+
+/// The same, without a search where all rise strictly, as they ought to. That is known where all of them make a table.
+fn found_table<A: Allocator + Copy>(
+    alloc: A,
+    bytes: &[u8],
+    tuples: Tuples,
+    place: usize,
+    count: usize,
+) -> Result<Pairs<A>, AllocError>
+    requires inside { place + 6 * count ≤ length bytes.now }
+    requires tuples { tuples.place < 2 ^ 63 + 2 ^ 32 }
+    ensures { IfOk result (λ table. table ≡ found_pairs bytes.now tuples place count) }
+{
+    let pairs = pairs_at(alloc, bytes, tuples, place, count)?;
+    match Pairs::new(alloc, &pairs) {
+        Ok(table) => Ok(table),
+        Err(TableError::NotRising(_)) => bisected_table(alloc, bytes, tuples, place, count),
+        Err(_) => Err(AllocError),
     }
 }
 
@@ -173,8 +178,7 @@ fn listed_pairs<A: Allocator + Copy>(
         let whole = (bytes.len() - place) / 6;
         return Err(ReadError::Fault(Fault::new(table, FaultKind::PastEnd, place + 6 * whole)));
     }
-    let pairs = found_pairs(alloc, bytes, tuples, place, count)?;
-    Ok(table_of(alloc, &pairs)?)
+    Ok(found_table(alloc, bytes, tuples, place, count)?)
 }
 
 /// Reads the pairs of a subtable of format 0 of the table `kern`. `bytes` is the table from its start, up to where the

@@ -1,7 +1,7 @@
 //! Classes of glyphs, in two formats.
-ghost use Rattle.std.specs.Prelude.{◌≡◌, ◌+◌, ◌*◌, ◌<◌, ◌≤◌, IfSome, length};
+ghost use Rattle.std.specs.Prelude.{◌≡◌, ℕ, ◌+◌, ◌*◌, ◌<◌, ◌≤◌, IfSome, length};
 ghost use Rattle.aat_bytes.specs.Numbers.{be16};
-ghost use Rattle.aat_read_sfnt.specs.ClassDefinition.{class_array_at, class_in_array, class_in_ranges, class_of, class_ranges_at, definition_at, definition_of, fault_of, range_of};
+ghost use Rattle.aat_read_sfnt.specs.ClassDefinition.{class_array_at, class_in_array, class_in_ranges, class_of, class_ranges_at, definition_of, fault_of, range_of};
 
 use crate::tags::GDEF;
 use aat_bytes::{Fault, FaultKind, be16, slice_from};
@@ -52,27 +52,32 @@ impl<'a> ClassArray<'a> {
     }
 }
 
-/// The range that a bisection finds for a glyph. Of two ranges in the middle it looks at the lower one, as HarfBuzz does.
-fn range_of(bytes: &[u8], glyph: u16) -> Option<u16>
+/// The range that a bisection finds for a glyph, if it finds one, and behind which glyphs from this one on it may find
+/// another one: up to there it takes the same way. Of two ranges in the middle it looks at the lower one, as HarfBuzz
+/// does.
+fn range_until(bytes: &[u8], glyph: u16) -> (Option<u16>, u32)
     requires { 4 + 6 * be16 bytes.now 2 ≤ length bytes.now }
-    ensures is { result ≡ range_of bytes.now glyph }
-    ensures below { IfSome result (λ i. i < be16 bytes.now 2) }
+    ensures same { (g : ℕ) → glyph ≤ g → g < result.1 → range_of bytes.now g ≡ result.0 }
+    ensures some { glyph < result.1 }
+    ensures below { IfSome result.0 (λ i. i < be16 bytes.now 2) }
 {
     let mut from = 0;
     let mut to = be16(bytes, 2) as usize;
+    let mut end = 65536;
     while from < to {
         let middle = (from + (to - 1)) / 2;
         let first = be16(bytes, 4 + 6 * middle);
         let last = be16(bytes, 6 + 6 * middle);
         if glyph < first {
             to = middle;
+            end = end.min(first as u32);
         } else if last < glyph {
             from = middle + 1;
         } else {
-            return Some(middle as u16);
+            return (Some(middle as u16), end.min(last as u32 + 1));
         }
     }
-    None
+    (None, end)
 }
 
 /// Classes of format 2: a class for each of some ranges, which need not rise: a glyph has the class of the range that a
@@ -112,9 +117,17 @@ impl<'a> ClassRanges<'a> {
     pub fn class(&self, glyph: u16) -> u16
         ensures { result ≡ class_in_ranges self.now glyph }
     {
-        match range_of(self.bytes, glyph) {
-            Some(i) => be16(self.bytes, 8 + 6 * i as usize),
-            None => 0,
+        self.class_until(glyph).0
+    }
+
+    /// The class of a glyph, and behind which glyphs from this one on it may be another.
+    fn class_until(&self, glyph: u16) -> (u16, u32)
+        ensures same { (g : ℕ) → glyph ≤ g → g < result.1 → class_in_ranges self.now g ≡ result.0 }
+        ensures some { glyph < result.1 }
+    {
+        match range_until(self.bytes, glyph) {
+            (Some(i), end) => (be16(self.bytes, 8 + 6 * i as usize), end),
+            (None, end) => (0, end),
         }
     }
 }
@@ -132,37 +145,29 @@ pub enum ClassDefinition<'a> {
     Faulty(Fault),
 }
 
-/// The definition at the start of bytes, which stand at a place of the table.
-#[tactic(auto, unfolding(crate::specs::ClassDefinition::definition_at))]
-fn definition_at(bytes: &[u8], place: u16) -> Result<ClassDefinition<'_>, Fault>
-    ensures { result ≡ definition_at bytes.now place }
-{
-    if bytes.len() < 2 {
-        return Err(Fault::new(GDEF, FaultKind::PastEnd, place as usize));
-    }
-    match be16(bytes, 0) {
-        1 => Ok(ClassDefinition::Array(ClassArray::read(bytes, place)?)),
-        2 => Ok(ClassDefinition::Ranges(ClassRanges::read(bytes, place)?)),
-        _ => Ok(ClassDefinition::Faulty(Fault::new(
-            GDEF,
-            FaultKind::UnknownFormat,
-            place as usize,
-        ))),
-    }
-}
-
 impl<'a> ClassDefinition<'a> {
     /// The definition at an offset of the table, or an empty one at offset 0.
-    #[tactic(auto, unfolding(crate::specs::ClassDefinition::definition_of))]
+    #[tactic(auto, unfolding(crate::specs::ClassDefinition::definition_of, crate::specs::ClassDefinition::definition_at))]
     pub(crate) fn read(gdef: &'a [u8], offset: u16) -> Result<ClassDefinition<'a>, Fault>
         ensures { result ≡ definition_of gdef.now offset }
     {
         if offset == 0 {
             return Ok(ClassDefinition::Empty);
         }
-        match slice_from(gdef, offset as usize) {
-            Some(bytes) => definition_at(bytes, offset),
-            None => Err(Fault::new(GDEF, FaultKind::PastEnd, offset as usize)),
+        let Some(bytes) = slice_from(gdef, offset as usize) else {
+            return Err(Fault::new(GDEF, FaultKind::PastEnd, offset as usize));
+        };
+        if bytes.len() < 2 {
+            return Err(Fault::new(GDEF, FaultKind::PastEnd, offset as usize));
+        }
+        match be16(bytes, 0) {
+            1 => Ok(ClassDefinition::Array(ClassArray::read(bytes, offset)?)),
+            2 => Ok(ClassDefinition::Ranges(ClassRanges::read(bytes, offset)?)),
+            _ => Ok(ClassDefinition::Faulty(Fault::new(
+                GDEF,
+                FaultKind::UnknownFormat,
+                offset as usize,
+            ))),
         }
     }
 
@@ -187,6 +192,19 @@ impl<'a> ClassDefinition<'a> {
             ClassDefinition::Faulty(_) => 0,
             ClassDefinition::Array(array) => array.class(glyph),
             ClassDefinition::Ranges(ranges) => ranges.class(glyph),
+        }
+    }
+
+    /// The class of a glyph, and behind which glyphs from this one on it may be another.
+    pub(crate) fn class_until(&self, glyph: u16) -> (u16, u32)
+        ensures same { (g : ℕ) → glyph ≤ g → g < result.1 → class_of self.now g ≡ result.0 }
+        ensures some { glyph < result.1 }
+    {
+        match self {
+            ClassDefinition::Empty => (0, 65536),
+            ClassDefinition::Faulty(_) => (0, 65536),
+            ClassDefinition::Array(array) => (array.class(glyph), glyph as u32 + 1),
+            ClassDefinition::Ranges(ranges) => ranges.class_until(glyph),
         }
     }
 }

@@ -1,6 +1,6 @@
 //! The glyph definition table: classes of glyphs.
-ghost use Rattle.std.specs.Prelude.{◌≡◌};
-ghost use Rattle.aat_read_sfnt.specs.GlyphClasses.{class_fault, glyph_classes_of, properties_of, properties_of_class};
+ghost use Rattle.std.specs.Prelude.{◌≡◌, ℕ, ◌<◌, ◌≤◌};
+ghost use Rattle.aat_read_sfnt.specs.GlyphClasses.{class_fault, glyph_classes_of, properties_of};
 
 use crate::class_definition::ClassDefinition;
 use crate::tags::GDEF;
@@ -13,18 +13,6 @@ pub struct GlyphClasses<'a> {
     pub classes: ClassDefinition<'a>,
     /// The class of a mark, among marks.
     pub mark_classes: ClassDefinition<'a>,
-}
-
-/// The properties of a class.
-fn properties_of_class(class: u16, mark_class: u16) -> u16
-    ensures { result ≡ properties_of_class class mark_class }
-{
-    match class {
-        1 => 0x02,
-        2 => 0x04,
-        3 => 0x08 + 256 * (mark_class % 256),
-        _ => 0,
-    }
 }
 
 impl<'a> GlyphClasses<'a> {
@@ -69,6 +57,25 @@ impl<'a> GlyphClasses<'a> {
     pub fn properties(&self, glyph: u16) -> u16
         ensures { result ≡ properties_of self.now glyph }
     {
-        properties_of_class(self.classes.class(glyph), self.mark_classes.class(glyph))
+        self.properties_until(glyph).0
+    }
+
+    /// The properties of a glyph, and behind which glyphs from this one on they may be others, for who asks for those of
+    /// all glyphs in their order.
+    pub fn properties_until(&self, glyph: u16) -> (u16, u32)
+        ensures same { (g : ℕ) → glyph ≤ g → g < result.1 → properties_of self.now g ≡ result.0 }
+        ensures some { glyph < result.1 }
+    {
+        let (class, end) = self.classes.class_until(glyph);
+        match class {
+            1 => (0x02, end),
+            2 => (0x04, end),
+            // the next mark may be of another class among marks
+            3 => (
+                0x08 + 256 * (self.mark_classes.class(glyph) % 256),
+                glyph as u32 + 1,
+            ),
+            _ => (0, end),
+        }
     }
 }

@@ -11,6 +11,7 @@
 #![tactic(auto)]
 
 mod lines;
+mod memory;
 mod names;
 mod shaper;
 /// Worked examples of whether a font has a feature, as a theorem.
@@ -20,4 +21,5 @@ pub mod worked;
 pub use aat_placement::{Track, TrackData, Tracking, TrackingError};
 pub use aat_shaped_text::{CharacterKind, ShapedGlyph, SpaceWidth, TextGlyph};
 pub use lines::{LineStop, TextLine, TextLines};
+pub use memory::ShaperMemory;
 pub use shaper::Shaper;

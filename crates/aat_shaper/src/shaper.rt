@@ -10,6 +10,7 @@ ghost use Rattle.aat_shaper.specs.Named.{has_feature};
 ghost use Rattle.aat_shaper.specs.Shaper.{no_values, value_along, values_at};
 ghost use Rattle.aat_drawn_text.specs.TextPlan.{IsPlanOf};
 
+use crate::memory::ShaperMemory;
 use crate::names::has_feature;
 use aat_drawn_text::{KERNED, LONGEST_TEXT, draw_text};
 use aat_layout::AatError;
@@ -82,9 +83,27 @@ impl<'f, A: Allocator + Copy> Shaper<'f, A> {
           is_budget_used_up = false;
         } }
     {
+        Shaper::with_memory(font, ShaperMemory::new_in(global, alloc))
+    }
+
+    /// A shaper of texts of a font in the memory of another one. It tracks nothing, whatever that did.
+    pub fn with_memory(font: &'f hb_font_t, memory: ShaperMemory<A>) -> Shaper<'f, A>
+        ensures { result ≡ record {
+          font = font.now;
+          values = no_values;
+          glyphs = [];
+          is_budget_used_up = false;
+        } }
+    {
+        let ShaperMemory {
+            alloc,
+            features,
+            mut glyphs,
+        } = memory;
+        glyphs.clear();
         let plan = hb_ot_shape_plan_t {
             kern_mask: KERNED,
-            ..hb_ot_shape_plan_t::new(Vec::new(global))
+            ..hb_ot_shape_plan_t::new(features)
         };
         Shaper {
             font,
@@ -93,8 +112,24 @@ impl<'f, A: Allocator + Copy> Shaper<'f, A> {
             workspace: Bump::new(alloc),
             row_value: 0,
             column_value: 0,
-            glyphs: Vec::new(alloc),
+            glyphs,
             is_budget_used_up: false,
+        }
+    }
+
+    /// Its memory, for another shaper, but that in which texts are shaped.
+    pub fn into_memory(self) -> ShaperMemory<A> {
+        let Shaper {
+            alloc,
+            plan,
+            glyphs,
+            ..
+        } = self;
+        let hb_ot_shape_plan_t { user_features, .. } = plan;
+        ShaperMemory {
+            alloc,
+            features: user_features,
+            glyphs,
         }
     }
 

@@ -1,5 +1,6 @@
 pub mod HiddenGlyphs
 pub mod HiddenParts
 pub mod PlacedMarks
+pub mod RunsBegun
 pub mod Scanned
 pub mod Shown

@@ -33,6 +33,15 @@ pub(crate) enum MarkBase {
     Boxed(Base),
 }
 
+/// What is known of a base: itself, or the glyph whose base it is.
+#[derive(Clone, Copy)]
+pub(crate) enum KnownBase {
+    /// The base.
+    Told(MarkBase),
+    /// The glyph, whose box is not yet asked.
+    Glyph(ShapedGlyph),
+}
+
 /// What a mark of a class is placed around.
 fn stack_for(base: Base, class: u8) -> GlyphBox
     ensures { result ≡ stack_for base class }

@@ -3,9 +3,10 @@ ghost use Rattle.std.specs.Prelude.{◌≡◌, if◌then◌else◌};
 ghost use Rattle.aat_glyph.specs.Directions.{is_backward};
 ghost use Rattle.aat_showing.specs.FaceMetrics.{mark_placing};
 ghost use Rattle.aat_showing.specs.MarkBoxes.{base_after, base_of, begins_run, class_of, followed_base, held, held_runs, next_base, place_marks, placed, placed_in_order, placed_on};
+ghost use Rattle.aat_showing.specs.inside.KnownBases.{told_base};
 
 use crate::face_metrics::{box_in, row_advance};
-use crate::mark_bases::{Base, MarkBase, base_behind, base_with, boxed_base, set_on};
+use crate::mark_bases::{Base, KnownBase, MarkBase, base_behind, base_with, boxed_base, set_on};
 use crate::marks::zeroed_mark;
 use aat_face::Face;
 use aat_glyph::Direction;
@@ -132,32 +133,50 @@ fn followed_base(
     }
 }
 
-/// The base behind a glyph.
-fn next_base(
+/// The base that is known.
+fn told_base(face: &Face<'_>, direction: Direction, moves: bool, known: KnownBase) -> MarkBase
+    ensures { result ≡ told_base (mark_placing face.now direction moves) known }
+{
+    match known {
+        KnownBase::Told(base) => base,
+        KnownBase::Glyph(glyph) => base_of(face, direction, moves, glyph),
+    }
+}
+
+/// A glyph in its place, and what is known of the base behind it. The box of a glyph that begins a run is not asked
+/// before another glyph of its run comes.
+#[tactic(auto, using(crate::proofs::RunsBegun::run_stays))]
+fn placed_next(
     face: &Face<'_>,
     direction: Direction,
     moves: bool,
-    base: MarkBase,
+    known: KnownBase,
     glyph: ShapedGlyph,
-) -> MarkBase
-    ensures { result ≡ next_base (mark_placing face.now direction moves) base glyph }
+) -> (ShapedGlyph, KnownBase)
+    ensures glyph { result.0 ≡ placed (mark_placing face.now direction moves)
+        (told_base (mark_placing face.now direction moves) known) glyph }
+    ensures base { told_base (mark_placing face.now direction moves) result.1
+        ≡ next_base (mark_placing face.now direction moves)
+        (told_base (mark_placing face.now direction moves) known) glyph }
 {
     if begins_run(glyph) {
-        base_of(face, direction, moves, glyph)
-    } else {
-        followed_base(face, direction, moves, base, glyph)
+        return (glyph, KnownBase::Glyph(glyph));
     }
+    let base = told_base(face, direction, moves, known);
+    let next = followed_base(face, direction, moves, base, glyph);
+    let placed = placed(face, direction, moves, base, glyph);
+    (placed, KnownBase::Told(next))
 }
 
 /// Places the marks of glyphs in the order of a text.
 fn place_in_order(face: &Face<'_>, direction: Direction, moves: bool, glyphs: &mut [ShapedGlyph])
     ensures { glyphs.new ≡ placed_in_order (mark_placing face.now direction moves) glyphs.old }
 {
-    let mut base = MarkBase::Missing;
+    let mut known = KnownBase::Told(MarkBase::Missing);
     for i in 0..glyphs.len() {
-        let glyph = glyphs[i];
-        glyphs[i] = placed(face, direction, moves, base, glyph);
-        base = next_base(face, direction, moves, base, glyph);
+        let (glyph, next) = placed_next(face, direction, moves, known, glyphs[i]);
+        glyphs[i] = glyph;
+        known = next;
     }
 }
 

@@ -1,6 +1,7 @@
 -- How the fields of a buffer show its value.
-use Rattle.std.specs.Prelude.{◌≤◌, ◌≡◌, true, Some, None, if◌then◌else◌, length, vec_len}
+use Rattle.std.specs.Prelude.{◌≤◌, ◌≡◌, true, Some, None, IfSome, if◌then◌else◌, length, vec_len}
 use Rattle.aat_buffer.specs.Buffer.{Buffer}
+use Rattle.aat_buffer.specs.inside.Marked.{HasMarks, IsMerged}
 use Rattle.aat_buffer.specs.declared.buffer.hb_buffer_t.TheInside.{Inside}
 
 -- the line, the positions where they stand, and the plain fields
@@ -19,9 +20,12 @@ buffer_of a =
       successful = a.successful;
     }
 
--- the line has at most its greatest length, and a position for each glyph where positions stand
+-- the line has at most its greatest length and a position for each glyph where positions stand, and what is known of its
+-- spans holds
 pub record IsSoundInside {Z : Type 0} (a : Inside Z) : Type 0 where
   pub in_line : a.line.cursor ≤ length a.line.glyphs
   pub within_max : length a.line.glyphs ≤ a.max_len
   pub small : a.max_len ≤ 0x3FFFFFFF
   pub placed : a.have_positions ≡ true → vec_len a.positions ≡ length a.line.glyphs
+  pub marked : IfSome a.marked (HasMarks a.line.glyphs)
+  pub merged : IfSome a.merged (IsMerged a.line.glyphs)

@@ -1,7 +1,8 @@
 -- How the words of glyphs are marked. No contract but those of the words cites this.
-use Rattle.std.specs.Prelude.{◌≡◌, ◌≤◌, ℕ}
+use Rattle.std.specs.Prelude.{◌≡◌, ◌<◌, ◌≤◌, ℕ, List}
 use Rattle.std.specs.Int.{bit_at}
-use Rattle.aat_font.specs.Wakers.{word_of}
+use Rattle.aat_font.specs.Wakers.{word_of, WakeAt}
+use Rattle.aat_machine_tables.specs.declared.morx.Subtable.{Subtable}
 use Rattle.aat_font.specs.declared.wakers.GlyphWords.{GlyphWords}
 
 -- no glyph lost a bit
@@ -11,3 +12,7 @@ KeepsBits old new = (g k : ℕ) → bit_at (word_of old g) k ≤ bit_at (word_of
 -- each glyph has the word that it had
 abbrev pub SameWords : GlyphWords → GlyphWords → Type 0
 SameWords old new = (g : ℕ) → word_of new g ≡ word_of old g
+
+-- no subtable below a number is woken by a glyph that did not wake it
+abbrev pub KeepsWakers : List GlyphWords → List GlyphWords → ℕ → Type 0
+KeepsWakers old new number = (k : ℕ) (s : Subtable) → k < number → WakeAt s old k → WakeAt s new k

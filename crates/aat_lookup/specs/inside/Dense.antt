@@ -1,18 +1,10 @@
 -- Arrays that answer as the rows of a table do. No contract but those of the tables and their arrays cites this.
-use Rattle.std.specs.Prelude.{◌≡◌, ◌+◌, ◌-◌, ◌/◌, ◌%◌, ◌<◌, ◌≤◌, ℕ, Bool, List, ◌&&◌, ◌==◌, Option, None, Some, if◌then◌else◌, nat_lt, nat_le, length, slice_index_or, unwrap_or}
+use Rattle.std.specs.Prelude.{◌≡◌, ◌+◌, ◌/◌, ◌%◌, ◌<◌, ◌≤◌, ℕ, Bool, List, ◌&&◌, ◌==◌, Option, None, Some, false, nat_lt, nat_le, length, slice_index_or, unwrap_or}
 use Rattle.std.specs.List.{list_any}
 use Rattle.aat_lookup.specs.declared.dense.Dense.{Dense}
-use Rattle.aat_lookup.specs.declared.dense.Dense.TheVariants.{Array, Moves, Classes, Pages, Search}
+use Rattle.aat_lookup.specs.declared.dense.Dense.TheVariants.{Moves, Classes, Pages, Search}
 use Rattle.aat_lookup.specs.Keys.{first, value_in}
 use Rattle.aat_lookup.specs.Moves.{place_over, AreMoved}
-
--- the value of a glyph in an array over the glyphs from the lowest on, none outside it
-abbrev pub value_over : ℕ → List (Option ℕ) → ℕ → Option ℕ
-value_over lowest cells glyph = if nat_lt glyph lowest then None else slice_index_or cells (glyph - lowest) None
-
--- an array answers as pairs do
-abbrev pub AnswersOver : ℕ → List (Option ℕ) → List (ℕ × ℕ) → Type 0
-AnswersOver lowest cells pairs = (glyph : ℕ) → value_over lowest cells glyph ≡ value_in pairs glyph
 
 -- what stands at a place of a page whose cells begin at a start, nothing where the page is not kept
 abbrev pub on_page : List (Option ℕ) → Option ℕ → ℕ → Option ℕ
@@ -41,6 +33,11 @@ abbrev pub AnswersOnPages : List (Option ℕ) → List (Option ℕ) → List (�
 AnswersOnPages starts cells pairs =
     (glyph : ℕ) → glyph < 65536 → value_on_pages starts cells glyph ≡ value_in pairs glyph
 
+-- whether a value is that of its own glyph
+abbrev pub is_own : Option ℕ → ℕ → Bool
+is_own None glyph = false
+is_own (Some value) glyph = value == glyph
+
 -- whether a pair has its glyph as value
 abbrev pub keeps_one : List (ℕ × ℕ) → Bool
 keeps_one pairs = list_any (λ p. p.1 == p.0) pairs
@@ -53,8 +50,7 @@ AnswersAsClasses missing lowest cells pairs =
 
 -- an array or pages answer as pairs do; a search needs nothing
 abbrev pub AnswersAsPairs : {A : Type 0} → Dense A → List (ℕ × ℕ) → Type 0
-AnswersAsPairs (Array array) pairs = AnswersOver array.lowest array.cells.items pairs
-AnswersAsPairs (Moves array) pairs = AreMoved array.lowest array.cells.items pairs
+AnswersAsPairs (Moves array) pairs = AreMoved array.lowest array.cells.items array.kept.items pairs
 AnswersAsPairs (Classes array) pairs = AnswersAsClasses array.missing array.lowest array.cells.items pairs
 AnswersAsPairs (Pages pages) pairs = AnswersOnPages pages.starts.items pages.cells.items pairs
 AnswersAsPairs Search pairs = Unit

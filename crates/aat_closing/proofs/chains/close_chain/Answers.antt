@@ -17,7 +17,7 @@ unfolding told_in_order
 loop-i-init g c = record {
   same = refl;
   within = record { ids = c.requires.ids; counted = omega arith; extent = omega arith; settings = settings_stay c.args.buffer.now };
-  tells = λ known. absurd (cc (known, c.unknown-known.ensures));
+  tells = c.requires.tells;
 }
 
 pub close_subtable-requires-clause-wake : goal.close_subtable-requires-clause-wake
@@ -25,14 +25,14 @@ close_subtable-requires-clause-wake g c = λ w found.
     let l = c.loop-i in
     let s = c.index-subtables-i.result in
     let here : slice_get c.args.subtables.now l.i ≡ Some s = slice_get_read c.args.subtables.now (length c.args.subtables.now) l.i s refl c.loop-i-test.true c.index-subtables-i.is in
-    c.requires.wakers l.i s w here found
+    c.requires.wakers l.i s here w found
 
 pub close_subtable-requires-clause-wakers : goal.close_subtable-requires-clause-wakers
 close_subtable-requires-clause-wakers g c =
     let l = c.loop-i in
     let s = c.index-subtables-i.result in
     let here : slice_get c.args.subtables.now l.i ≡ Some s = slice_get_read c.args.subtables.now (length c.args.subtables.now) l.i s refl c.loop-i-test.true c.index-subtables-i.is in
-    c.wakers_at.ensures s (λ w found. c.requires.wakers l.i s w here found)
+    c.wakers_at.ensures s (c.requires.wakers l.i s here)
 
 pub loop-i-preserved : goal.loop-i-preserved
 loop-i-preserved g c =

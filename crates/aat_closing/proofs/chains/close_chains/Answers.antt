@@ -3,7 +3,8 @@ use Rattle.std.proofs.lemmas.Option.{slice_get_read}
 use Rattle.std.specs.List.{slice_get}
 use Rattle.std.specs.Option.{option_copied}
 use Rattle.std.proofs.lemmas.Result.{err_from_is_err_and}
-use Rattle.aat_font.specs.Wakers.{AreWakers}
+use Rattle.aat_font.proofs.Numbered.{number_behind, number_is_few, wakers_of_chain}
+use Rattle.aat_font.specs.Morx.{chains_of}
 use Rattle.aat_kinds.specs.Kinds.{sizes_of}
 use Rattle.aat_machine_tables.specs.declared.morx.Chain.{Chain}
 use Rattle.aat_machine_tables.specs.declared.morx.Subtable.{Subtable}
@@ -22,6 +23,8 @@ pub loop-i-init : goal.loop-i-init
 unfolding told_in_order
 loop-i-init g c = record {
   same = refl;
+  first = refl;
+  tells = λ known. absurd (cc (known, c.unknown-known.ensures));
   within = record { ids = c.requires.ids; counted = omega arith; extent = omega arith; settings = settings_stay c.args.buffer.now };
 }
 
@@ -29,9 +32,12 @@ pub close_chain-requires-clause-wakers : goal.close_chain-requires-clause-wakers
 close_chain-requires-clause-wakers g c =
     let l = c.loop-i in
     let chain = c.index-chains-i.result in
-    let here : slice_get c.args.chains.now l.i ≡ Some chain = slice_get_read c.args.chains.now (length c.args.chains.now) l.i chain refl c.loop-i-test.true c.index-chains-i.is in
-    subst (λ (ss : List Subtable). AreWakers ss c.wakers-words.result.now) (sym c.deref.ensures.value)
-    (c.wakers-words.ensures chain (ap (λ (cs : List Chain). slice_get cs l.i) (sym c.requires.chains) ∙ here))
+    wakers_of_chain (chains_of c.args.morx.now) c.args.chains.now c.wakers-words.result.now l.i chain c.deref.result.now l.first
+    c.wakers-words.ensures c.requires.chains c.loop-i-test.true c.index-chains-i.is c.deref.ensures.value l.invariant.first
+
+pub close_chain-requires-clause-start : goal.close_chain-requires-clause-start
+close_chain-requires-clause-start g c =
+    number_is_few c.args.chains.now c.loop-i.i c.loop-i.first c.loop-i.invariant.first c.requires.few
 
 pub returns-in_err-ran-clause-reason : goal.returns-in_err-ran-clause-reason
 returns-in_err-ran-clause-reason g c =
@@ -53,6 +59,8 @@ loop-i-preserved g c =
       same = closing_chain_ran (sizes_of g.row.SLOTS g.row.LONGEST c.args.face.now) c.args.chains.now (lists_for (option_copied c.args.map) c.args.chains.now) c.args.buffer.now l.i c.index-chains-i.result c.ranges_of-ranges.result.now c.deref.result.now
           c.loop-i-test.true c.index-chains-i.is listed c.deref.ensures.value l.buffer l.told l.invariant.same
           v c.in_ok-ran.ran told.result told.ensures c.in_ok-ran.ensures.run;
+      first = number_behind c.args.chains.now l.i c.index-chains-i.result c.len-first.result l.first c.loop-i-test.true c.index-chains-i.is c.len-first.ensures l.invariant.first;
+      tells = c.in_ok-ran.ensures.tells;
       within = subst (λ (o : MachineRun). StaysWithin (subtable_count (take (l.i + 1) c.args.chains.now)) b v o.turns) (sym told.ensures)
           (stays_with_more c.args.chains.now l.i c.index-chains-i.result (length c.deref.result.now) b l.buffer v l.told.turns c.in_ok-ran.ran.turns
           c.loop-i-test.true c.index-chains-i.is c.deref.ensures.len l.invariant.within c.in_ok-ran.ensures.within);

@@ -1,8 +1,25 @@
+use Rattle.std.proofs.Common.{◌≡◌, Some, length, refl}
+use Rattle.std.specs.List.{slice_get}
+use Rattle.std.proofs.lemmas.Option.{slice_get_read}
 use Rattle.std.proofs.lemmas.Result.{err_from_is_err_and}
 use Rattle.aat_run.specs.Ranges.{switch_for}
 use Rattle.aat_kinds.specs.Kinds.{sizes_of}
 use Rattle.aat_morx.proofs.Chained.{subtable_refused}
 use Rattle.aat_morx.proofs.chains.run_chain.Goals as goal
+
+pub run_subtable-requires-clause-wake : goal.run_subtable-requires-clause-wake
+run_subtable-requires-clause-wake g c =
+    let l = c.loop-i in
+    let s = c.index-subtables-i.result in
+    let here : slice_get c.args.subtables.now l.i ≡ Some s = slice_get_read c.args.subtables.now (length c.args.subtables.now) l.i s refl c.loop-i-test.true c.index-subtables-i.is in
+    c.requires.wakers l.i s here
+
+pub run_subtable-requires-clause-wakers : goal.run_subtable-requires-clause-wakers
+run_subtable-requires-clause-wakers g c =
+    let l = c.loop-i in
+    let s = c.index-subtables-i.result in
+    let here : slice_get c.args.subtables.now l.i ≡ Some s = slice_get_read c.args.subtables.now (length c.args.subtables.now) l.i s refl c.loop-i-test.true c.index-subtables-i.is in
+    c.wakers_at.ensures s (c.requires.wakers l.i s here)
 
 pub returns-in_err-turns-clause-reason : goal.returns-in_err-turns-clause-reason
 returns-in_err-turns-clause-reason g c =

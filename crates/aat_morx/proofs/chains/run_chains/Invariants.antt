@@ -6,11 +6,14 @@ use Rattle.aat_run.specs.Outcome.{in_order}
 use Rattle.aat_kinds.specs.Kinds.{sizes_of}
 use Rattle.aat_map.specs.Map.{lists_for}
 use Rattle.aat_map.specs.SwitchedChains.{switched_by}
+use Rattle.aat_morx.specs.LineWords.{TellsOf}
 use Rattle.aat_morx.specs.Substitution.{chain_run}
 use Rattle.aat_morx.proofs.chains.run_chains.Given as goal
 
 abbrev pub invariant-loop-i : goal.invariant-loop-i
 invariant-loop-i g l = record {
   same : record { buffer = l.buffer; turns = l.turns } ≡ in_order (chain_run (sizes_of g.row.SLOTS g.row.LONGEST l.fn.face)) (take l.i (switched_by l.fn.chains (lists_for (option_copied l.fn.map) l.fn.chains))) l.fn.buffer;
+  first : l.first ≡ subtable_count (take l.i l.fn.chains);
+  tells : TellsOf l.known l.words l.buffer.line;
   within : StaysWithin (subtable_count (take l.i l.fn.chains)) l.fn.buffer l.buffer l.turns;
 }

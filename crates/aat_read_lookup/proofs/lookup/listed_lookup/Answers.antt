@@ -1,10 +1,12 @@
 use Rattle.std.proofs.Common.{ap, ◌∙◌}
 use Rattle.aat_lookup.specs.Keys.{first, first_fall}
+use Rattle.aat_lookup.specs.facts.Falls.{rising}
 use Rattle.aat_read_lookup.specs.Kept.{kept_value}
 use Rattle.aat_read_lookup.proofs.LayoutsRise.{layout_pairs_rise}
 use Rattle.aat_read_lookup.proofs.lookup.listed_lookup.Goals as goal
 
-pub lookup_of_pairs-requires : goal.lookup_of_pairs-requires
-lookup_of_pairs-requires g c =
-    ap (first_fall first) (c.deref.ensures.value ∙ c.in_ok-pairs.ensures)
-    ∙ layout_pairs_rise c.args.bytes.now (kept_value c.args.bytes.now c.args.keep) c.args.layout c.requires.sound
+pub of_rising-requires : goal.of_rising-requires
+of_rising-requires g c =
+    rising first c.deref.result.now
+    (ap (first_fall first) (c.deref.ensures.value ∙ c.in_ok-pairs.ensures)
+    ∙ layout_pairs_rise c.args.bytes.now (kept_value c.args.bytes.now c.args.keep) c.args.layout c.requires.sound)

@@ -10,12 +10,12 @@ there words i w read within = slice_get_read words (length words) i w refl withi
 
 pub learn-requires-clause-tells : goal.learn-requires-clause-tells
 learn-requires-clause-tells g c = λ is_known same.
-    c.requires.tells is_known c.in-Some.glyph_words.now (ap (slice_get c.args.words.now) same ∙ (there c.args.words.now (c.args.i / 64) c.in-Some.glyph_words.now c.in-Some.ensures.lookup.1 c.in-Some.ensures.lookup.3.0))
+    c.requires.tells is_known c.in-Some.glyph_words.now (ap (slice_get c.args.words.now) same ∙ (there c.args.words.now (c.args.number / 64) c.in-Some.glyph_words.now c.in-Some.ensures.lookup.1 c.in-Some.ensures.lookup.3.0))
 
 pub returns-in-Some-clause-tells : goal.returns-in-Some-clause-tells
 returns-in-Some-clause-tells g c =
-    tells_of c.learn.new.self c.args.words.now (c.args.i / 64) c.in-Some.glyph_words.now c.args.buffer.now.line (there c.args.words.now (c.args.i / 64) c.in-Some.glyph_words.now c.in-Some.ensures.lookup.1 c.in-Some.ensures.lookup.3.0) c.learn.ensures.block c.learn.ensures.bits
+    tells_of c.learn.new.self c.args.words.now (c.args.number / 64) c.in-Some.glyph_words.now c.args.buffer.now.line (there c.args.words.now (c.args.number / 64) c.in-Some.glyph_words.now c.in-Some.ensures.lookup.1 c.in-Some.ensures.lookup.3.0) c.learn.ensures.block c.learn.ensures.bits
 
 pub returns-in-Some-clause-asleep : goal.returns-in-Some-clause-asleep
 returns-in-Some-clause-asleep g c = λ s wake asleep.
-    asleep_by s c.args.words.now c.args.i c.in-Some.glyph_words.now c.learn.new.self.word c.args.buffer.now.line (there c.args.words.now (c.args.i / 64) c.in-Some.glyph_words.now c.in-Some.ensures.lookup.1 c.in-Some.ensures.lookup.3.0) c.learn.ensures.bits (c.has.ensures asleep) wake
+    asleep_by s c.args.words.now c.args.number c.in-Some.glyph_words.now c.learn.new.self.word c.args.buffer.now.line (there c.args.words.now (c.args.number / 64) c.in-Some.glyph_words.now c.in-Some.ensures.lookup.1 c.in-Some.ensures.lookup.3.0) c.learn.ensures.bits (c.has.ensures asleep) wake

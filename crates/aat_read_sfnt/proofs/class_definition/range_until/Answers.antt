@@ -1,0 +1,72 @@
+use Rattle.std.proofs.Common.{◌≡◌, ℕ, ◌+◌, ◌-◌, ◌/◌, ◌<◌, ◌≤◌, Some, ◌∙◌, ap, arith, subst, sym}
+use Rattle.std.specs.Ordering.{ord_min}
+use Rattle.std.proofs.Common.{nat_cmp}
+use Rattle.aat_bytes.specs.Numbers.{be16}
+use Rattle.aat_bytes.specs.facts.Bisections.{GoesOn, begins, ended, none_left, on_above, on_below}
+use Rattle.aat_read_sfnt.specs.ClassDefinition.{first_glyph, last_glyph}
+use Rattle.aat_read_sfnt.proofs.class_definition.range_until.Goals as goal
+
+-- the lower of two numbers is one of them, and no more than either
+lower : (a b : ℕ) → (ord_min nat_cmp a b ≤ a) × (ord_min nat_cmp a b ≤ b)
+lower a b = (grind arith, grind arith)
+
+above_both : (a b k : ℕ) → k < a → k < b → k < ord_min nat_cmp a b
+above_both a b k one other = grind arith
+
+pub loop-from-init : goal.loop-from-init
+loop-from-init c =
+    let bytes = c.args.bytes.now in
+    record {
+      goes = λ g from below.
+          subst (λ (to : ℕ). GoesOn (first_glyph bytes) (last_glyph bytes) (be16 bytes 2) g 0 to) (sym c.be16-to.ensures)
+          (begins (first_glyph bytes) (last_glyph bytes) (be16 bytes 2) g);
+      some = omega arith;
+      within = omega (arith, c.be16-to.ensures);
+    }
+
+pub loop-from-preserved-then-glyph-first : goal.loop-from-preserved-then-glyph-first
+loop-from-preserved-then-glyph-first c =
+    let bytes = c.args.bytes.now in
+    let low = lower c.loop-from.end c.be16-first.result in
+    record {
+      goes = λ g from below.
+          on_below (first_glyph bytes) (last_glyph bytes) (be16 bytes 2) g c.loop-from.from c.loop-from.to
+          (c.loop-from.invariant.goes g from (omega (arith, c.min-end.ensures, low.0))) c.loop-from-test.true
+          (omega (arith, c.be16-first.ensures, c.min-end.ensures, low.1));
+      some = let above = above_both c.loop-from.end c.be16-first.result c.args.glyph c.loop-from.invariant.some c.if-glyph-first.true in
+          omega (arith, above, c.min-end.ensures);
+      within = omega arith;
+    }
+
+pub loop-from-preserved : goal.loop-from-preserved
+loop-from-preserved c =
+    let bytes = c.args.bytes.now in
+    record {
+      goes = λ g from below.
+          on_above (first_glyph bytes) (last_glyph bytes) (be16 bytes 2) g c.loop-from.from c.loop-from.to
+          (c.loop-from.invariant.goes g from below) c.loop-from-test.true
+          (omega (arith, c.be16-first.ensures)) (omega (arith, c.be16-last.ensures));
+      some = c.loop-from.invariant.some;
+      within = c.loop-from.invariant.within;
+    }
+
+pub returns-else-last-glyph-clause-same : goal.returns-else-last-glyph-clause-same
+returns-else-last-glyph-clause-same c =
+    let bytes = c.args.bytes.now in
+    let low = lower c.loop-from.end (c.be16-last.result + 1) in
+    λ g from below.
+    sym (ended (first_glyph bytes) (last_glyph bytes) (be16 bytes 2) g c.loop-from.from c.loop-from.to
+    (c.loop-from.invariant.goes g from (omega (arith, c.min.ensures, low.0))) c.loop-from-test.true
+    (omega (arith, c.be16-first.ensures)) (omega (arith, c.be16-last.ensures, c.min.ensures, low.1)))
+
+pub returns-else-last-glyph-clause-some : goal.returns-else-last-glyph-clause-some
+returns-else-last-glyph-clause-some c =
+    let above = above_both c.loop-from.end (c.be16-last.result + 1) c.args.glyph c.loop-from.invariant.some (omega arith) in
+    omega (arith, above, c.min.ensures)
+
+pub returns-clause-same : goal.returns-clause-same
+returns-clause-same c =
+    let bytes = c.args.bytes.now in
+    λ g from below.
+    sym (none_left (first_glyph bytes) (last_glyph bytes) (be16 bytes 2) g c.loop-from.from c.loop-from.to
+    (c.loop-from.invariant.goes g from below) c.loop-from-test.false)
