@@ -1,0 +1,6 @@
+pub mod Handles
+pub mod Options
+pub mod Records
+pub mod Slots
+pub mod Failures
+pub mod Shaped

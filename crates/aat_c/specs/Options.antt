@@ -1,0 +1,57 @@
+-- What C tells of a text.
+use Rattle.std.specs.Prelude.{◌≡◌, ℕ, ◌==◌, List, find, Option, Some, None, option_map, Result, Ok, Err, bit_and, bit_or, if◌then◌else◌}
+use Rattle.aat_glyph.specs.declared.glyph.Direction.{Direction}
+use Rattle.aat_glyph.specs.declared.glyph.Direction.TheVariants.{LeftToRight, RightToLeft, TopToBottom, BottomToTop}
+use Rattle.aat_text.specs.declared.clusters.ClusterLevel.{ClusterLevel}
+use Rattle.aat_text.specs.declared.clusters.ClusterLevel.TheVariants.{Graphemes, Characters}
+use Rattle.aat_text.specs.declared.unit.ClusterUnit.{ClusterUnit}
+use Rattle.aat_typesetter.specs.declared.options.TextOptions.{TextOptions}
+use Rattle.ucd_script.specs.declared.Script.{Script}
+use Rattle.aat_c.specs.declared.records.OptionsRecord.{OptionsRecord}
+use Rattle.aat_c.specs.declared.script_tags.TheConstants.{SCRIPTS}
+use Rattle.aat_c.specs.declared.failure.Failure.{Failure}
+use Rattle.aat_c.specs.declared.failure.Failure.TheVariants.{BadOption}
+
+-- the direction of a number of HarfBuzz's, of which 0 tells none
+abbrev pub direction_told : ℕ → Result (Option Direction) Failure
+direction_told number =
+    if number == 0 then Ok None
+    else if number == 4 then Ok (Some LeftToRight)
+    else if number == 5 then Ok (Some RightToLeft)
+    else if number == 6 then Ok (Some TopToBottom)
+    else if number == 7 then Ok (Some BottomToTop)
+    else Err BadOption
+
+-- a tag with one capital letter, as ISO 15924 has them
+abbrev pub cased : ℕ → ℕ
+cased tag = bit_or (bit_and tag 0xDFDFDFDF) 0x202020
+
+-- the script of a tag, in whatever case
+abbrev pub script_of : ℕ → Option Script
+script_of tag = option_map (λ row. row.1) (find (λ row. row.0 == cased tag) SCRIPTS)
+
+-- a script that is told has to be one
+abbrev pub script_or_none : Option Script → Result (Option Script) Failure
+script_or_none None = Err BadOption
+script_or_none (Some script) = Ok (Some script)
+
+-- the script of a tag, of which 0 tells none
+abbrev pub script_told : ℕ → Result (Option Script) Failure
+script_told tag = if tag == 0 then Ok None else script_or_none (script_of tag)
+
+-- the point size of a number, of which 0 tells none, and the greatest one that nothing is tracked
+abbrev pub size_told : ℕ → Option ℕ
+size_told number = if number == 0 then None else if number == 0xFFFFFFFF then Some 0 else Some number
+
+-- the level of a number
+abbrev pub level_told : ℕ → Result ClusterLevel Failure
+level_told number = if number == 0 then Ok Graphemes else if number == 1 then Ok Characters else Err BadOption
+
+-- options are those that C tells, but for their features
+abbrev pub IsTold : OptionsRecord → ClusterUnit → TextOptions → Type 0
+IsTold told unit options =
+    (direction_told told.direction ≡ Ok options.direction)
+    × (script_told told.script ≡ Ok options.script)
+    × (options.size ≡ size_told told.point_size)
+    × (options.unit ≡ unit)
+    × (level_told told.cluster_level ≡ Ok options.level)

@@ -1,0 +1,329 @@
+//! What C asks of a font.
+ghost use Rattle.std.specs.Prelude.{◌≡◌, ◌≢◌, IfErr, IfOk, None, Ok, length};
+ghost use Rattle.aat_c.specs.Failures.{number_of_outcome};
+ghost use Rattle.aat_c.specs.Handles.{EndsReading, HoldsFile, RefusesFile, asked, glyph_in, held_in};
+ghost use Rattle.aat_face.specs.Faces.{face_of};
+
+use crate::failure::{DONE, Failure};
+use crate::handle::Handle;
+use crate::held::Held;
+use crate::names::put_name;
+use crate::records::FaultRecord;
+use crate::shape_calls::finish;
+use aat_bytes::ReadError;
+use aat_face::Face;
+use aat_font::hb_tag_t;
+use aat_read_sfnt::FontFile;
+use aat_shaper::Shaper;
+use std::alloc::Global;
+
+/// A font of bytes in a box.
+fn read_held(alloc: Global, bytes: &'static [u8], index: u32) -> Result<Box<Held>, Failure>
+    ensures ok { IfOk result (λ b. face_of bytes.now index ≡ Ok b.value.face) }
+    ensures refused { IfErr result (RefusesFile (face_of bytes.now index)) }
+{
+    match Face::read(alloc, bytes, index) {
+        Ok(face) => Ok(Box::new(alloc, Held { face })?),
+        Err(ReadError::Fault(_)) => Err(Failure::BadFont),
+        Err(ReadError::OutOfMemory) => Err(Failure::OutOfMemory),
+    }
+}
+
+/// Has the handle hold the font at an index of a file, whose bytes stay as they are as long as it does. What it held
+/// before goes. Where the call is refused, it holds nothing.
+///
+/// Refused as 3, `BadFont`, where the directory of the file has a fault (`aat_file_fault`), and as 2, `OutOfMemory`,
+/// where memory is wanting.
+#[unsafe(no_mangle)]
+pub extern "C" fn aat_font_read(
+    alloc: Global,
+    font: &mut Handle,
+    bytes: &'static [u8],
+    index: u32,
+) -> u32
+    ensures ends { EndsReading (face_of bytes.now index) result }
+    ensures read { result ≡ 0 → HoldsFile bytes.now index (held_in font.new) }
+    ensures empty { result ≢ 0 → held_in font.new ≡ None }
+{
+    let before = font.take(alloc);
+    drop(before);
+    match read_held(alloc, bytes, index) {
+        Ok(held) => {
+            font.put(held);
+            DONE
+        }
+        Err(failure) => failure.number(),
+    }
+}
+
+/// Has the handle hold nothing. Nothing happens where it holds nothing.
+#[unsafe(no_mangle)]
+pub extern "C" fn aat_font_free(alloc: Global, font: &mut Handle)
+    ensures empty { held_in font.new ≡ None }
+{
+    let before = font.take(alloc);
+    drop(before);
+}
+
+/// The number of glyphs, 0 where there is no font.
+#[unsafe(no_mangle)]
+pub extern "C" fn aat_font_glyph_count(alloc: Global, font: &mut Handle) -> u32
+    ensures count { result ≡ asked 0 (λ face. face.glyph_count) (held_in font.old) }
+    ensures kept { held_in font.new ≡ held_in font.old }
+{
+    match font.take(alloc) {
+        Some(held) => {
+            let count = held.face.glyph_count();
+            font.put(held);
+            u32::from(count)
+        }
+        None => 0,
+    }
+}
+
+/// The units of the em, 0 where there is no font.
+#[unsafe(no_mangle)]
+pub extern "C" fn aat_font_units_per_em(alloc: Global, font: &mut Handle) -> u32
+    ensures units { result ≡ asked 0 (λ face. face.units_per_em) (held_in font.old) }
+    ensures kept { held_in font.new ≡ held_in font.old }
+{
+    match font.take(alloc) {
+        Some(held) => {
+            let units = held.face.units_per_em();
+            font.put(held);
+            u32::from(units)
+        }
+        None => 0,
+    }
+}
+
+/// The glyph of a character in a face, 0 where there is none.
+fn glyph_in(face: &Face<'_>, character: u32) -> u32
+    ensures { result ≡ glyph_in character face.now }
+{
+    match char::from_u32(character) {
+        Some(character) => face
+            .glyph_of(character)
+            .map_or(0, |glyph| u32::from(glyph.0)),
+        None => 0,
+    }
+}
+
+/// The glyph of a character, 0 where there is none.
+#[unsafe(no_mangle)]
+pub extern "C" fn aat_font_glyph(alloc: Global, font: &mut Handle, character: u32) -> u32
+    ensures glyph { result ≡ asked 0 (glyph_in character) (held_in font.old) }
+    ensures kept { held_in font.new ≡ held_in font.old }
+{
+    match font.take(alloc) {
+        Some(held) => {
+            let glyph = glyph_in(&held.face, character);
+            font.put(held);
+            glyph
+        }
+        None => 0,
+    }
+}
+
+/// Whether a face has a feature.
+fn has_feature_in(alloc: Global, face: &Face<'_>, tag: u32) -> bool {
+    Shaper::new(alloc, face.font()).has_feature(hb_tag_t(tag))
+}
+
+/// Whether the font has a feature. It has none where there is no font.
+#[unsafe(no_mangle)]
+pub extern "C" fn aat_font_has_feature(alloc: Global, font: &mut Handle, tag: u32) -> bool
+    ensures kept { held_in font.new ≡ held_in font.old }
+{
+    match font.take(alloc) {
+        Some(held) => {
+            let has = has_feature_in(alloc, &held.face, tag);
+            font.put(held);
+            has
+        }
+        None => false,
+    }
+}
+
+/// The number of faults of the font's tables, 0 where there is no font.
+#[unsafe(no_mangle)]
+pub extern "C" fn aat_font_fault_count(alloc: Global, font: &mut Handle) -> usize
+    ensures count { result ≡ asked 0 (λ face. length face.faults) (held_in font.old) }
+    ensures kept { held_in font.new ≡ held_in font.old }
+{
+    match font.take(alloc) {
+        Some(held) => {
+            let count = held.face.faults().len();
+            font.put(held);
+            count
+        }
+        None => 0,
+    }
+}
+
+/// A fault of a face, by its number from 0.
+fn fault_in(face: &Face<'_>, number: usize) -> Result<FaultRecord, Failure> {
+    match face.faults().get(number) {
+        Some(fault) => Ok(FaultRecord::of(*fault)),
+        None => Err(Failure::NotThere),
+    }
+}
+
+/// Puts a fault where there is one, and answers the number of how a call ends.
+fn put_fault(outcome: Result<FaultRecord, Failure>, fault: &mut FaultRecord) -> u32
+    ensures { result ≡ number_of_outcome outcome }
+{
+    match outcome {
+        Ok(found) => {
+            *fault = found;
+            DONE
+        }
+        Err(failure) => failure.number(),
+    }
+}
+
+/// Puts a fault of the font's tables, by its number from 0. Refused as 1, `NoFont`, and as 10, `NotThere`.
+#[unsafe(no_mangle)]
+pub extern "C" fn aat_font_fault(
+    alloc: Global,
+    font: &mut Handle,
+    number: usize,
+    fault: &mut FaultRecord,
+) -> u32
+    ensures kept { held_in font.new ≡ held_in font.old }
+{
+    match font.take(alloc) {
+        Some(held) => {
+            let found = fault_in(&held.face, number);
+            font.put(held);
+            put_fault(found, fault)
+        }
+        None => Failure::NoFont.number(),
+    }
+}
+
+/// The fault of a file's directory.
+fn fault_of_file(bytes: &[u8], index: u32) -> Result<FaultRecord, Failure> {
+    match FontFile::read(bytes, index) {
+        Ok(_) => Err(Failure::NotThere),
+        Err(fault) => Ok(FaultRecord::of(fault)),
+    }
+}
+
+/// Puts the fault of a file's directory, for which `aat_font_read` refuses it. Refused as 10, `NotThere`, where it has
+/// none.
+#[unsafe(no_mangle)]
+pub extern "C" fn aat_file_fault(bytes: &[u8], index: u32, fault: &mut FaultRecord) -> u32 {
+    put_fault(fault_of_file(bytes, index), fault)
+}
+
+/// A number of 16 bits, of which others are not there.
+fn short(number: u32) -> Result<u16, Failure> {
+    match u16::try_from(number) {
+        Ok(number) => Ok(number),
+        Err(_) => Err(Failure::NotThere),
+    }
+}
+
+/// Puts the name of a face with a number.
+fn put_name_of(
+    alloc: Global,
+    face: &Face<'_>,
+    name: u32,
+    out: &mut [u8],
+) -> Result<usize, Failure> {
+    let name = short(name)?;
+    put_name(alloc, face.name(name), out)
+}
+
+/// Puts the name of a feature type of a face.
+fn put_feature_name(
+    alloc: Global,
+    face: &Face<'_>,
+    kind: u32,
+    out: &mut [u8],
+) -> Result<usize, Failure> {
+    let kind = short(kind)?;
+    put_name(alloc, face.feature_name(kind), out)
+}
+
+/// Puts the name of a setting of a feature type of a face.
+fn put_setting_name(
+    alloc: Global,
+    face: &Face<'_>,
+    kind: u32,
+    setting: u32,
+    out: &mut [u8],
+) -> Result<usize, Failure> {
+    let kind = short(kind)?;
+    let setting = short(setting)?;
+    put_name(alloc, face.setting_name(kind, setting), out)
+}
+
+/// Puts the English text of a name into room, as UTF-8, and tells how many bytes it has. Refused as 1, `NoFont`, as 10,
+/// `NotThere`, and as 2, `OutOfMemory`.
+#[unsafe(no_mangle)]
+pub extern "C" fn aat_font_name(
+    alloc: Global,
+    font: &mut Handle,
+    name: u32,
+    out: &mut [u8],
+    count: &mut usize,
+) -> u32
+    ensures kept { held_in font.new ≡ held_in font.old }
+{
+    let outcome = match font.take(alloc) {
+        Some(held) => {
+            let outcome = put_name_of(alloc, &held.face, name, out);
+            font.put(held);
+            outcome
+        }
+        None => Err(Failure::NoFont),
+    };
+    finish(outcome, count)
+}
+
+/// Puts the English name of a feature type into room, as `aat_font_name` puts a name.
+#[unsafe(no_mangle)]
+pub extern "C" fn aat_font_feature_name(
+    alloc: Global,
+    font: &mut Handle,
+    kind: u32,
+    out: &mut [u8],
+    count: &mut usize,
+) -> u32
+    ensures kept { held_in font.new ≡ held_in font.old }
+{
+    let outcome = match font.take(alloc) {
+        Some(held) => {
+            let outcome = put_feature_name(alloc, &held.face, kind, out);
+            font.put(held);
+            outcome
+        }
+        None => Err(Failure::NoFont),
+    };
+    finish(outcome, count)
+}
+
+/// Puts the English name of a setting of a feature type into room, as `aat_font_name` puts a name.
+#[unsafe(no_mangle)]
+pub extern "C" fn aat_font_setting_name(
+    alloc: Global,
+    font: &mut Handle,
+    kind: u32,
+    setting: u32,
+    out: &mut [u8],
+    count: &mut usize,
+) -> u32
+    ensures kept { held_in font.new ≡ held_in font.old }
+{
+    let outcome = match font.take(alloc) {
+        Some(held) => {
+            let outcome = put_setting_name(alloc, &held.face, kind, setting, out);
+            font.put(held);
+            outcome
+        }
+        None => Err(Failure::NoFont),
+    };
+    finish(outcome, count)
+}

@@ -1,0 +1,52 @@
+//! What C reads of texts, and the texts of numbers.
+ghost use Rattle.std.specs.Prelude.{◌≡◌};
+
+use crate::failure::{DONE, Failure, fault_text, status_text};
+use crate::names::put_bytes;
+use crate::records::FeatureRecord;
+use aat_layout::parse_feature;
+
+/// The version: its major number counts 65536, its minor one 256.
+const VERSION: u32 = 0x0001_0000;
+
+/// The version of the library.
+#[unsafe(no_mangle)]
+pub extern "C" fn aat_version() -> u32
+    ensures { result ≡ VERSION }
+{
+    VERSION
+}
+
+/// Puts the feature that a text is. Refused as 4, `BadText`, where it is no UTF-8, and as 8, `BadFeature`, where it is
+/// no feature. The feature then stays as it was.
+#[unsafe(no_mangle)]
+pub extern "C" fn aat_feature_from_string(text: &[u8], feature: &mut FeatureRecord) -> u32 {
+    let Ok(text) = std::str::from_utf8(text) else {
+        return Failure::BadText.number();
+    };
+    match parse_feature(text) {
+        Ok(found) => {
+            *feature = FeatureRecord::of(found);
+            DONE
+        }
+        Err(_) => Failure::BadFeature.number(),
+    }
+}
+
+/// Puts what a number of a status says into room, in English, and answers how many bytes it has: 0 for a number that is
+/// none of a status.
+#[unsafe(no_mangle)]
+pub extern "C" fn aat_status_text(status: u32, out: &mut [u8]) -> usize {
+    let text = status_text(status);
+    put_bytes(text.as_bytes(), out);
+    text.len()
+}
+
+/// Puts what a number of a kind of fault says into room, in English, and answers how many bytes it has: 0 for a number
+/// that is none of a kind.
+#[unsafe(no_mangle)]
+pub extern "C" fn aat_fault_text(kind: u32, out: &mut [u8]) -> usize {
+    let text = fault_text(kind);
+    put_bytes(text.as_bytes(), out);
+    text.len()
+}
