@@ -105,7 +105,8 @@ typedef enum { AAT_CLUSTER_LEVEL_GRAPHEMES = 0, AAT_CLUSTER_LEVEL_CHARACTERS = 1
 /**
  * aat_font_t:
  *
- * A font, or none. Make it AAT_FONT_NONE (all zeros), and give it back by aat_font_free(). Do not look into it, and never
+ * A font, or none, with the memory in which its texts are shaped, of which a text that is no longer than one before asks
+ * for little more. Make it AAT_FONT_NONE (all zeros), and give it back by aat_font_free(). Do not look into it, and never
  * use two copies of it.
  */
 typedef struct {

@@ -14,6 +14,8 @@ bytes are built here, and stand in the place of those that were written.
 - cmap_N.ttf: the characters of noncontextual.ttf in format N, of 0, 4, 6 and 12. cmap_symbol.ttf: from U+F000 on, for
   symbols. cmap_macintosh.ttf: for the Macintosh, which has U+00C4, U+20AC and U+F8FF too.
 - kerx_4_points.ttf, kerx_4_coordinates.ttf: the machine of kerx_4.ttf with the two other types of actions.
+- steps_130.ttf, steps_1100.ttf: steps.ttf with 130 chains of a subtable each, and a chain of 1,100 subtables. That of the
+  number N has glyph N + 2 in the place of N + 1, but those of every seventh one insert it behind.
 """
 import os
 import shlex
@@ -247,6 +249,31 @@ def in_steps(characters):
     return runs
 
 
+def step(number):
+    """A subtable of `morx` with one glyph more in the place of a glyph, or behind it."""
+    glyph = number + 1
+    if number % 7 < 6:
+        kind, body = 4, words(6, 4, 1, 4, 0, 0, glyph, glyph + 1, 0xFFFF, 0xFFFF)
+    else:
+        classes = words(8, glyph, 1, 4)
+        states = words(0, 0, 0, 0, 1, 0, 0, 0, 0, 1)
+        entries = words(0, 0, 0xFFFF, 0xFFFF, 0, 0x0020, 0, 0xFFFF)
+        start = 20
+        kind = 5
+        body = longs(5, start, start + 8, start + 28, start + 44) + classes + states + entries + words(glyph + 1, 0)
+    return longs(12 + len(body), 0x20000000 | kind, 1) + body
+
+
+def with_steps(font, chains):
+    """A font with chains of so many steps each."""
+    body, number = b"", 0
+    for count in chains:
+        subtables = b"".join(step(number + place) for place in range(count))
+        body += longs(1, 16 + len(subtables), 0, count) + subtables
+        number += count
+    return with_table(font, b"morx", words(2, 0) + longs(len(chains)) + body)
+
+
 def variants(fonts):
     """The fonts with tables in other formats, by their names."""
     made, plain = {}, fonts["noncontextual"]
@@ -266,6 +293,8 @@ def variants(fonts):
     count = word_at(tables_of(classes)[b"maxp"], 4)
     made["kern_old_2"] = with_table(classes, b"kern", old_kern(arrays, 2))
     made["kern_3"] = with_table(classes, b"kern", kern_3(arrays, count))
+    made["steps_130"] = with_steps(fonts["steps"], [1] * 130)
+    made["steps_1100"] = with_steps(fonts["steps"], [1100])
     made["kerx_4_points"] = with_action_type(fonts["kerx_4"], 0)
     made["kerx_4_coordinates"] = with_action_type(fonts["kerx_4"], 2)
     return made

@@ -1,18 +1,22 @@
 #!/usr/bin/env python3
-"""Prints the rows of the table of docs/BENCH.md.
+"""Prints the rows of the tables of docs/BENCH.md.
 
     python3 tools/times.py AAT FOLDER HBTIME6 HBTIME12 [RUNS]
+    python3 tools/times.py --fonts AAT HBTIME6 HBTIME12 FONT:TEXT..
 
 AAT is the program, FOLDER what tools/workloads.py wrote, and HBTIME6 and HBTIME12 are tools/hbtime.cc built over
 HarfBuzz 6.0.0 and 12.3.2:
 
     g++ -O3 -std=c++17 -Isrc hbtime.cc src/harfbuzz.cc -o hbtime
 
-Programs run by turns, RUNS times (5), and the least time counts, in nanoseconds a character. Run it on a quiet machine."""
+Programs run by turns, RUNS times (5), and the least time counts, in nanoseconds a character. Run it on a quiet machine.
+With --fonts each font is timed over each line of a text, over each word of it, and opened."""
 import math
+import os
 import re
 import subprocess
 import sys
+import tempfile
 
 ROWS = [
     ("noncontextual", "`noncontextual`, 8 subtables"), ("noncontextual-classes", "the same with `GDEF`"),
@@ -21,33 +25,38 @@ ROWS = [
     ("mixed-two-awake", "`mixed-two-awake`"), ("mixed-each-awake", "`mixed-each-awake`"),
     ("kern-pairs", "`kern-pairs`, 4,000 pairs"), ("kerx-pairs", "`kerx-pairs`, 4,000 pairs"),
     ("kerx-classes", "`kerx-classes`"), ("kern-machine", "`kern-machine`"), ("kerx-machine", "`kerx-machine`"),
-    ("kerx-anchors", "`kerx-anchors`"), ("130-chains-awake", "`130-chains-awake`"),
-    ("256-chains-asleep", "`256-chains-asleep`"), ("2048-asleep", "`2048-asleep`"),
-    ("far-replacement", "`far-replacement`"), ("far-ligature", "`far-ligature`"), ("far-insertion", "`far-insertion`"),
+    ("kerx-anchors", "`kerx-anchors`"),
+]
+WORST_ROWS = [
+    ("130-chains-awake", "`130-chains-awake`"), ("256-chains-asleep", "`256-chains-asleep`"),
+    ("2048-asleep", "`2048-asleep`"), ("far-replacement", "`far-replacement`"), ("far-ligature", "`far-ligature`"),
+    ("far-insertion", "`far-insertion`"),
 ]
 LENGTHS = (20, 2000)
+WORST_LENGTHS = (1000, 16000, 64000)
 STEP = re.compile(r"^(\w+)\s+([\d.]+)\s+[\d.]+\s", re.M)
 
 
-def ours(program, folder, name, length, rounds):
+def ours(program, font, text, rounds):
     """The least time of each step."""
-    words = [program, "bench", f"{folder}/{name}.ttf", "--file", f"{folder}/{length}.txt", "--rounds", str(rounds)]
+    words = [program, "bench", font, "--file", text, "--rounds", str(rounds)]
     output = subprocess.run(words, capture_output=True, text=True, check=True).stdout
     return {found[1]: float(found[2]) for found in STEP.finditer(output)}
 
 
-def theirs(program, folder, name, length, rounds):
+def theirs(program, font, text, rounds, *more):
     """The least time of `hb_shape`."""
-    words = [program, f"{folder}/{name}.ttf", f"{folder}/{length}.txt", str(rounds)]
+    words = [program, font, text, str(rounds), *more]
     return float(subprocess.run(words, capture_output=True, text=True, check=True).stdout.split()[0])
 
 
-def least_of(program, folder, judges, name, runs, rounds):
+def least_of(program, folder, judges, name, lengths, rounds):
     """The least time of each step of ours, and of each judge, by the length of the lines."""
     least = {}
-    for length in LENGTHS * runs:
-        times = ours(program, folder, name, length, rounds)
-        times.update((judge, theirs(judge, folder, name, length, rounds)) for judge in judges)
+    for length in lengths:
+        font, text = f"{folder}/{name}.ttf", f"{folder}/{length}.txt"
+        times = ours(program, font, text, rounds)
+        times.update((judge, theirs(judge, font, text, rounds)) for judge in judges)
         for key, time in times.items():
             least[key, length] = min(least.get((key, length), math.inf), time)
     return least
@@ -57,20 +66,68 @@ def written(time):
     return f"{time:,.1f}" if time < 1000 else f"{time:,.0f}"
 
 
-def main():
-    program, folder, *judges = sys.argv[1:5]
-    runs = int(sys.argv[5]) if len(sys.argv) > 5 else 5
+def beside(least, judges, step, lengths):
+    """The times of the judges, each with ours as a part of it."""
+    return [f"{written(least[judge, length])}:{least[step, length] / least[judge, length]:.2f}"
+            for judge in judges for length in lengths]
+
+
+def workloads(program, folder, judges, runs):
     for name, title in ROWS:
-        is_worst = name[0].isdigit() or name.startswith("far-")
-        least = least_of(program, folder, judges, name, 1 if is_worst else runs, 1 if is_worst else 7)
+        least = least_of(program, folder, judges, name, LENGTHS * runs, 7)
         step = "kerning" if name.startswith("ker") else "substitution"
         cells = [written(least[key, 2000]) for key in (step, "text", "shaping")]
         cells += [written(least["typesetting", length]) for length in LENGTHS]
-        for judge in judges:
-            for length in LENGTHS:
-                part = least["typesetting", length] / least[judge, length]
-                cells.append(f"{written(least[judge, length])}:{part:.2f}")
-        print(f"|{title}|{'|'.join(cells)}|", flush=True)
+        print(f"|{title}|{'|'.join(cells + beside(least, judges, 'typesetting', LENGTHS))}|", flush=True)
+    for name, title in WORST_ROWS:
+        least = least_of(program, folder, judges, name, WORST_LENGTHS, 1)
+        cells = [written(least["typesetting", length]) for length in WORST_LENGTHS]
+        print(f"|{title}|{'|'.join(cells + beside(least, judges, 'typesetting', WORST_LENGTHS))}|", flush=True)
+
+
+def in_words(text, folder):
+    """The words of a text, a line each."""
+    path = os.path.join(folder, "words.txt")
+    with open(text, encoding="utf-8") as file, open(path, "w", encoding="utf-8") as out:
+        out.write("".join(word + "\n" for word in file.read().split()))
+    return path
+
+
+def opening(program, font, text, folder):
+    """The seconds of a run of ours that shapes two characters, as `perf` is not everywhere: the least of many."""
+    with open(text, encoding="utf-8") as file:
+        start = file.read()[:2]
+    path = os.path.join(folder, "start.txt")
+    with open(path, "w", encoding="utf-8") as out:
+        out.write(start + "\n")
+    size = os.path.getsize(font)
+    times = ours(program, font, path, 9)
+    return times["reading"] * size + times["typesetting"] * len(start), path
+
+
+def fonts(program, judges, pairs):
+    """Rows of real fonts: lines, words and opening, ours, theirs and their parts."""
+    for pair in pairs:
+        font, text = pair.split(":")
+        with tempfile.TemporaryDirectory() as folder:
+            cells = []
+            for path in (text, in_words(text, folder)):
+                time = ours(program, font, path, 9)["typesetting"]
+                cells.append(written(time))
+                cells += [f"{time / theirs(judge, font, path, 9):.2f}" for judge in judges]
+            time, path = opening(program, font, text, folder)
+            cells.append(written(time / 1000))
+            cells += [f"{time / theirs(judge, font, path, 9, '--open'):.2f}" for judge in judges]
+        print(f"|{os.path.basename(font)}|{'|'.join(cells)}|", flush=True)
+
+
+def main():
+    words = sys.argv[1:]
+    if words[0] == "--fonts":
+        fonts(words[1], words[2:4], words[4:])
+        return
+    program, folder, *judges = words[:4]
+    workloads(program, folder, judges, int(words[4]) if len(words) > 4 else 5)
 
 
 main()

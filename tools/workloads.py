@@ -40,8 +40,8 @@ ONE_AT_MARK = 0x0001
 # The lengths of lines, with the place, the distance and the span of requests over them, and how many lines a text has.
 LINES = {8: (185, 2, 1, 2_500), 20: (185, 2, 1, 1_000), 2_000: (185, 10, 5, 10), 200_000: (185, 1_000, 500, 1)}
 
-# The lengths of lines of the worst workloads, whose time grows with the square of a line.
-SHORT_LINES = (20, 2_000)
+# The lengths of lines of the worst workloads, whose time may grow with the square of a line. A text is one of them.
+WORST_LINES = (20, 1_000, 2_000, 16_000, 64_000)
 
 # The numbers of a step of a generator of 64 bits, of which the upper half is taken: a low bit comes back after few steps.
 FACTOR = 6364136223846793005
@@ -541,7 +541,7 @@ def requests():
             for length in LINES:
                 yield variant, length, []
     for name in WORST_FONTS:
-        for length in SHORT_LINES:
+        for length in WORST_LINES:
             yield name, length, []
     for name in ("noncontextual", "ligatures"):
         for length, (places, stride, span, _lines) in LINES.items():
@@ -570,6 +570,9 @@ def main():
         write(folder, f"{name}.ttf", font(tables()))
     for length, (_places, _stride, _span, lines) in LINES.items():
         write(folder, f"{length}.txt", text_of(length, lines).encode())
+    for length in WORST_LINES:
+        if length not in LINES:
+            write(folder, f"{length}.txt", text_of(length, 1).encode())
     listed = [["bench", f"{name}.ttf", "--file", f"{length}.txt", *more] for name, length, more in requests()]
     write(folder, "requests", "".join(" ".join(request) + "\n" for request in listed).encode())
 

@@ -1,16 +1,24 @@
 -- What handles hold.
-use Rattle.std.specs.Prelude.{◌≡◌, ◌⊎◌, ◌&&◌, ◌||◌, ℕ, Bool, List, Option, None, Some, Result, Ok, Err, IsOk, IsErr, nat_lt, if◌then◌else◌}
+use Rattle.std.specs.Prelude.{◌≡◌, ◌⊎◌, ◌&&◌, ◌||◌, ℕ, Bool, false, List, Option, None, Some, Result, Ok, Err, IsOk, IsErr, nat_lt, option_map, slice_get, if◌then◌else◌}
 use Rattle.aat_bytes.specs.declared.error.Fault.{Fault}
-use Rattle.aat_face.specs.Faces.{FaceValue, face_of, glyph_of_character}
+use Rattle.aat_face.specs.Faces.{FaceValue, face_of, font_value, glyph_of_character}
+use Rattle.aat_font.specs.declared.face.hb_font_t.{hb_font_t}
 use Rattle.aat_lookup.specs.declared.glyph_id.GlyphId.{GlyphId}
+use Rattle.aat_shaper.specs.Named.{has_feature}
 use Rattle.aat_c.specs.declared.failure.Failure.{Failure}
 use Rattle.aat_c.specs.declared.failure.Failure.TheVariants.{NoFont, OutOfMemory, BadFont, BadText, TextTooLong, AlternateTooLarge, LineTooLong, BadFeature, BadOption, NotThere}
 use Rattle.aat_c.specs.declared.handle.Handle.{Handle}
 use Rattle.aat_c.specs.declared.held.Held.{Held}
+use Rattle.aat_c.specs.declared.records.FaultRecord.{FaultRecord}
+use Rattle.aat_c.specs.Records.{fault_record}
 
 -- the font of a handle, if it holds one
 abbrev pub held_in : Handle → Option Held
 held_in handle = handle.slot.value
+
+-- its face
+abbrev pub face_in : Handle → Option FaceValue
+face_in handle = option_map (λ held. held.face) handle.slot.value
 
 -- what a query finds in the font of a handle, and what it answers where there is none
 abbrev pub asked : {X : Type 0} → X → (FaceValue → X) → Option Held → X
@@ -29,6 +37,31 @@ is_character number = nat_lt number 0xD800 || nat_lt 0xDFFF number && nat_lt num
 -- the number of the glyph of a character, 0 where there is none, and of what is no character
 abbrev pub glyph_in : ℕ → FaceValue → ℕ
 glyph_in character face = if is_character character then number_or_zero (glyph_of_character face character) else 0
+
+-- whether the font of a face has a feature, as `has_feature` of the shaper has it
+pub record TellsFeature (face : FaceValue) (tag : ℕ) (has : Bool) : Type 0 where
+  pub font : hb_font_t
+  pub of_face : font_value font ≡ face.font
+  pub told : has ≡ has_feature font (record { 0 = tag })
+
+-- the same of the font of a handle, where there is none if it holds no font
+abbrev pub TellsFeatureOf : Option Held → ℕ → Bool → Type 0
+TellsFeatureOf None tag has = has ≡ false
+TellsFeatureOf (Some held) tag has = TellsFeature held.face tag has
+
+-- a fault as C is told of it, where there is one
+abbrev pub told_fault : Option Fault → Result FaultRecord Failure
+told_fault None = Err NotThere
+told_fault (Some fault) = Ok (fault_record fault)
+
+-- the fault with a number of the font of a handle
+abbrev pub fault_told : ℕ → Option Held → Result FaultRecord Failure
+fault_told number = asked (Err NoFont) (λ face. told_fault (slice_get face.faults number))
+
+-- what a place has then: what is told, or else what it had
+abbrev pub told_or : {X : Type 0} → X → Result X Failure → X
+told_or before (Ok told) = told
+told_or before (Err failure) = before
 
 -- what is held is the font of a file
 abbrev pub HoldsFile : List ℕ → ℕ → Option Held → Type 0

@@ -1,14 +1,14 @@
 -- What C tells of a text.
-use Rattle.std.specs.Prelude.{◌≡◌, ℕ, ◌==◌, List, find, Option, Some, None, option_map, Result, Ok, Err, bit_and, bit_or, if◌then◌else◌}
+use Rattle.std.specs.Prelude.{◌≡◌, ℕ, ◌==◌, Option, Some, None, Result, Ok, Err, if◌then◌else◌}
 use Rattle.aat_glyph.specs.declared.glyph.Direction.{Direction}
 use Rattle.aat_glyph.specs.declared.glyph.Direction.TheVariants.{LeftToRight, RightToLeft, TopToBottom, BottomToTop}
 use Rattle.aat_text.specs.declared.clusters.ClusterLevel.{ClusterLevel}
 use Rattle.aat_text.specs.declared.clusters.ClusterLevel.TheVariants.{Graphemes, Characters}
 use Rattle.aat_text.specs.declared.unit.ClusterUnit.{ClusterUnit}
+use Rattle.aat_typesetter.specs.ScriptTags.{script_of_tag}
 use Rattle.aat_typesetter.specs.declared.options.TextOptions.{TextOptions}
 use Rattle.ucd_script.specs.declared.Script.{Script}
 use Rattle.aat_c.specs.declared.records.OptionsRecord.{OptionsRecord}
-use Rattle.aat_c.specs.declared.script_tags.TheConstants.{SCRIPTS}
 use Rattle.aat_c.specs.declared.failure.Failure.{Failure}
 use Rattle.aat_c.specs.declared.failure.Failure.TheVariants.{BadOption}
 
@@ -22,14 +22,6 @@ direction_told number =
     else if number == 7 then Ok (Some BottomToTop)
     else Err BadOption
 
--- a tag with one capital letter, as ISO 15924 has them
-abbrev pub cased : ℕ → ℕ
-cased tag = bit_or (bit_and tag 0xDFDFDFDF) 0x202020
-
--- the script of a tag, in whatever case
-abbrev pub script_of : ℕ → Option Script
-script_of tag = option_map (λ row. row.1) (find (λ row. row.0 == cased tag) SCRIPTS)
-
 -- a script that is told has to be one
 abbrev pub script_or_none : Option Script → Result (Option Script) Failure
 script_or_none None = Err BadOption
@@ -37,7 +29,7 @@ script_or_none (Some script) = Ok (Some script)
 
 -- the script of a tag, of which 0 tells none
 abbrev pub script_told : ℕ → Result (Option Script) Failure
-script_told tag = if tag == 0 then Ok None else script_or_none (script_of tag)
+script_told tag = if tag == 0 then Ok None else script_or_none (script_of_tag tag)
 
 -- the point size of a number, of which 0 tells none, and the greatest one that nothing is tracked
 abbrev pub size_told : ℕ → Option ℕ

@@ -1,5 +1,7 @@
 //! Texts in other encodings than UTF-8.
-ghost use Rattle.std.specs.Prelude.{◌≡◌, ◌<◌, length};
+ghost use Rattle.std.specs.Prelude.{◌≡◌, IfOk};
+ghost use Rattle.std.specs.Str.{encode_utf8_all};
+ghost use Rattle.std.specs.String.{string_bytes};
 
 use crate::failure::Failure;
 use crate::records::{FeatureRecord, GlyphRecord};
@@ -88,7 +90,10 @@ impl Decoded {
 }
 
 /// The text of characters of 32 bits.
-pub(crate) fn text_of_characters(alloc: Global, characters: &[u32]) -> Result<String, Failure> {
+#[tactic(auto, using(crate::proofs::Encoded::one_more))]
+pub(crate) fn text_of_characters(alloc: Global, characters: &[u32]) -> Result<String, Failure>
+    ensures { IfOk result (λ text. string_bytes text ≡ encode_utf8_all characters.now) }
+{
     let mut text = String::with_capacity(alloc, characters.len())?;
     for number in characters {
         match char::from_u32(*number) {

@@ -1,7 +1,7 @@
 //! What C asks of a font.
-ghost use Rattle.std.specs.Prelude.{◌≡◌, ◌≢◌, IfErr, IfOk, None, Ok, length};
+ghost use Rattle.std.specs.Prelude.{◌≡◌, ◌≢◌, IfErr, IfOk, None, Ok, length, slice_get};
 ghost use Rattle.aat_c.specs.Failures.{number_of_outcome};
-ghost use Rattle.aat_c.specs.Handles.{EndsReading, HoldsFile, RefusesFile, asked, glyph_in, held_in};
+ghost use Rattle.aat_c.specs.Handles.{EndsReading, HoldsFile, RefusesFile, TellsFeature, TellsFeatureOf, asked, fault_told, glyph_in, held_in, told_fault, told_or};
 ghost use Rattle.aat_face.specs.Faces.{face_of};
 
 use crate::failure::{DONE, Failure};
@@ -15,6 +15,7 @@ use aat_face::Face;
 use aat_font::hb_tag_t;
 use aat_read_sfnt::FontFile;
 use aat_shaper::Shaper;
+use aat_typesetter::TypesetterMemory;
 use std::alloc::Global;
 
 /// A font of bytes in a box.
@@ -23,7 +24,10 @@ fn read_held(alloc: Global, bytes: &'static [u8], index: u32) -> Result<Box<Held
     ensures refused { IfErr result (RefusesFile (face_of bytes.now index)) }
 {
     match Face::read(alloc, bytes, index) {
-        Ok(face) => Ok(Box::new(alloc, Held { face })?),
+        Ok(face) => {
+            let memory = TypesetterMemory::new(alloc);
+            Ok(Box::new(alloc, Held { face, memory })?)
+        }
         Err(ReadError::Fault(_)) => Err(Failure::BadFont),
         Err(ReadError::OutOfMemory) => Err(Failure::OutOfMemory),
     }
@@ -126,13 +130,16 @@ pub extern "C" fn aat_font_glyph(alloc: Global, font: &mut Handle, character: u3
 }
 
 /// Whether a face has a feature.
-fn has_feature_in(alloc: Global, face: &Face<'_>, tag: u32) -> bool {
+fn has_feature_in(alloc: Global, face: &Face<'_>, tag: u32) -> bool
+    ensures { TellsFeature face.now tag result }
+{
     Shaper::new(alloc, face.font()).has_feature(hb_tag_t(tag))
 }
 
 /// Whether the font has a feature. It has none where there is no font.
 #[unsafe(no_mangle)]
 pub extern "C" fn aat_font_has_feature(alloc: Global, font: &mut Handle, tag: u32) -> bool
+    ensures told { TellsFeatureOf (held_in font.old) tag result }
     ensures kept { held_in font.new ≡ held_in font.old }
 {
     match font.take(alloc) {
@@ -162,7 +169,9 @@ pub extern "C" fn aat_font_fault_count(alloc: Global, font: &mut Handle) -> usiz
 }
 
 /// A fault of a face, by its number from 0.
-fn fault_in(face: &Face<'_>, number: usize) -> Result<FaultRecord, Failure> {
+fn fault_in(face: &Face<'_>, number: usize) -> Result<FaultRecord, Failure>
+    ensures { result ≡ told_fault (slice_get face.now.faults number) }
+{
     match face.faults().get(number) {
         Some(fault) => Ok(FaultRecord::of(*fault)),
         None => Err(Failure::NotThere),
@@ -171,7 +180,8 @@ fn fault_in(face: &Face<'_>, number: usize) -> Result<FaultRecord, Failure> {
 
 /// Puts a fault where there is one, and answers the number of how a call ends.
 fn put_fault(outcome: Result<FaultRecord, Failure>, fault: &mut FaultRecord) -> u32
-    ensures { result ≡ number_of_outcome outcome }
+    ensures number { result ≡ number_of_outcome outcome }
+    ensures put { fault.new ≡ told_or fault.old outcome }
 {
     match outcome {
         Ok(found) => {
@@ -190,6 +200,8 @@ pub extern "C" fn aat_font_fault(
     number: usize,
     fault: &mut FaultRecord,
 ) -> u32
+    ensures number { result ≡ number_of_outcome (fault_told number (held_in font.old)) }
+    ensures put { fault.new ≡ told_or fault.old (fault_told number (held_in font.old)) }
     ensures kept { held_in font.new ≡ held_in font.old }
 {
     match font.take(alloc) {

@@ -14,7 +14,6 @@ mod lines;
 mod names;
 mod options;
 mod records;
-mod script_tags;
 mod shape;
 mod shape_calls;
 mod slot;

@@ -2,10 +2,10 @@
 ghost use Rattle.std.specs.Prelude.{◌≡◌, length};
 
 use crate::failure::{Failure, failure_of_typeset};
+use crate::held::Held;
 use crate::options::{features_told, options_told};
 use crate::records::{FeatureRecord, GlyphRecord, LineRecord, OptionsRecord};
-use crate::shape::put;
-use aat_face::Face;
+use crate::shape::{put, taken_memory};
 use aat_shaped_text::TextGlyph;
 use aat_typesetter::{ClusterUnit, TypesetLine, Typesetter};
 use std::alloc::Global;
@@ -61,36 +61,43 @@ fn put_lines(
 /// Typesets a text in lines of a width.
 fn break_text(
     alloc: Global,
-    face: &Face<'_>,
+    held: &mut Held,
     told: &OptionsRecord,
     features: &[FeatureRecord],
     text: &str,
     width: u64,
     out: &mut [GlyphRecord],
     rows: &mut [LineRecord],
-) -> Result<LineCounts, Failure> {
+) -> Result<LineCounts, Failure>
+    ensures { held.new.face ≡ held.old.face }
+{
     let features = features_told(alloc, features)?;
     let options = options_told(told, ClusterUnit::Bytes, &features)?;
-    let mut typesetter = Typesetter::new(alloc, face);
-    match typesetter.lines(text, width, &options) {
+    let memory = taken_memory(alloc, held);
+    let mut typesetter = Typesetter::with_memory(&held.face, memory);
+    let outcome = match typesetter.lines(text, width, &options) {
         Ok(lines) => Ok(put_lines(&lines, typesetter.text(), text.len(), out, rows)),
         Err(error) => Err(failure_of_typeset(error)),
-    }
+    };
+    held.memory = typesetter.into_memory();
+    outcome
 }
 
 /// Typesets a text of UTF-8 in lines of a width.
 pub(crate) fn break_utf8(
     alloc: Global,
-    face: &Face<'_>,
+    held: &mut Held,
     told: &OptionsRecord,
     features: &[FeatureRecord],
     text: &[u8],
     width: u64,
     out: &mut [GlyphRecord],
     rows: &mut [LineRecord],
-) -> Result<LineCounts, Failure> {
+) -> Result<LineCounts, Failure>
+    ensures { held.new.face ≡ held.old.face }
+{
     match std::str::from_utf8(text) {
-        Ok(text) => break_text(alloc, face, told, features, text, width, out, rows),
+        Ok(text) => break_text(alloc, held, told, features, text, width, out, rows),
         Err(_) => Err(Failure::BadText),
     }
 }

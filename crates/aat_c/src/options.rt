@@ -5,9 +5,8 @@ ghost use Rattle.aat_c.specs.Records.{feature_of};
 
 use crate::failure::Failure;
 use crate::records::{FeatureRecord, OptionsRecord};
-use crate::script_tags::script_of;
 use aat_glyph::Direction;
-use aat_typesetter::{ClusterLevel, ClusterUnit, Feature, Script, TextOptions};
+use aat_typesetter::{ClusterLevel, ClusterUnit, Feature, Script, TextOptions, script_of_tag};
 use std::alloc::{AllocError, Global};
 
 /// The direction of a number of HarfBuzz's, of which 0 tells none.
@@ -31,7 +30,7 @@ fn script_told(tag: u32) -> Result<Option<Script>, Failure>
     if tag == 0 {
         return Ok(None);
     }
-    match script_of(tag) {
+    match script_of_tag(tag) {
         Some(script) => Ok(Some(script)),
         None => Err(Failure::BadOption),
     }

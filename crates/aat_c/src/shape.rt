@@ -1,17 +1,19 @@
 //! Texts that are shaped for C.
 ghost use Rattle.std.specs.Prelude.{◌≡◌, map, IfOk, length};
+ghost use Rattle.std.specs.Str.{encode_utf8_all};
 ghost use Rattle.aat_text.specs.declared.unit.ClusterUnit.TheVariants.{Bytes, Characters};
 ghost use Rattle.aat_c.specs.Records.{feature_of, filled, glyph_record, text_glyph_of};
 ghost use Rattle.aat_c.specs.Shaped.{IsDrawn, IsPut, draws_glyphs, draws_text};
 
 use crate::decoded::{Decoded, text_of_characters};
 use crate::failure::{Failure, failure_of_typeset};
+use crate::held::Held;
 use crate::options::{features_told, options_told};
 use crate::records::{FeatureRecord, GlyphRecord, OptionsRecord, TextGlyphRecord};
-use aat_face::Face;
 use aat_shaped_text::{ShapedGlyph, TextGlyph};
-use aat_typesetter::{ClusterUnit, Typesetter};
+use aat_typesetter::{ClusterUnit, Typesetter, TypesetterMemory};
 use std::alloc::{AllocError, Global};
+use std::mem;
 
 /// Puts glyphs into room, as many as it has places.
 pub(crate) fn put(glyphs: &[ShapedGlyph], out: &mut [GlyphRecord])
@@ -31,42 +33,54 @@ fn put_drawn(typesetter: &Typesetter<'_>, out: &mut [GlyphRecord]) -> usize
     glyphs.len()
 }
 
+/// Takes the memory of what is held out of it.
+pub(crate) fn taken_memory(alloc: Global, held: &mut Held) -> TypesetterMemory
+    ensures { held.new.face ≡ held.old.face }
+{
+    mem::replace(&mut held.memory, TypesetterMemory::new(alloc))
+}
+
 /// Shapes a text into room, and answers how many glyphs are drawn.
 fn shape_text(
     alloc: Global,
-    face: &Face<'_>,
+    held: &mut Held,
     told: &OptionsRecord,
     unit: ClusterUnit,
     features: &[FeatureRecord],
     text: &str,
     out: &mut [GlyphRecord],
 ) -> Result<usize, Failure>
-    ensures drawn { IfOk result (IsDrawn (draws_text text.now) face.now told.now unit
+    ensures face { held.new.face ≡ held.old.face }
+    ensures drawn { IfOk result (IsDrawn (draws_text text.now) held.old.face told.now unit
         (map feature_of features.now) out.old out.new) }
 {
     let features = features_told(alloc, features)?;
     let options = options_told(told, unit, &features)?;
-    let mut typesetter = Typesetter::new(alloc, face);
-    match typesetter.line(text, &options) {
+    let memory = taken_memory(alloc, held);
+    let mut typesetter = Typesetter::with_memory(&held.face, memory);
+    let outcome = match typesetter.line(text, &options) {
         Ok(()) => Ok(put_drawn(&typesetter, out)),
         Err(error) => Err(failure_of_typeset(error)),
-    }
+    };
+    held.memory = typesetter.into_memory();
+    outcome
 }
 
 /// Shapes a text of UTF-8.
 pub(crate) fn shape_utf8(
     alloc: Global,
-    face: &Face<'_>,
+    held: &mut Held,
     told: &OptionsRecord,
     features: &[FeatureRecord],
     text: &[u8],
     out: &mut [GlyphRecord],
 ) -> Result<usize, Failure>
-    ensures drawn { IfOk result (IsDrawn (draws_text text.now) face.now told.now Bytes
+    ensures face { held.new.face ≡ held.old.face }
+    ensures drawn { IfOk result (IsDrawn (draws_text text.now) held.old.face told.now Bytes
         (map feature_of features.now) out.old out.new) }
 {
     match std::str::from_utf8(text) {
-        Ok(text) => shape_text(alloc, face, told, ClusterUnit::Bytes, features, text, out),
+        Ok(text) => shape_text(alloc, held, told, ClusterUnit::Bytes, features, text, out),
         Err(_) => Err(Failure::BadText),
     }
 }
@@ -74,17 +88,19 @@ pub(crate) fn shape_utf8(
 /// Shapes a text of UTF-16.
 pub(crate) fn shape_utf16(
     alloc: Global,
-    face: &Face<'_>,
+    held: &mut Held,
     told: &OptionsRecord,
     features: &[FeatureRecord],
     text: &[u16],
     out: &mut [GlyphRecord],
-) -> Result<usize, Failure> {
+) -> Result<usize, Failure>
+    ensures { held.new.face ≡ held.old.face }
+{
     let decoded = Decoded::of(alloc, text)?;
     let features = decoded.features(alloc, features)?;
     let count = shape_text(
         alloc,
-        face,
+        held,
         told,
         ClusterUnit::Characters,
         &features,
@@ -99,16 +115,20 @@ pub(crate) fn shape_utf16(
 /// Shapes a text of UTF-32.
 pub(crate) fn shape_utf32(
     alloc: Global,
-    face: &Face<'_>,
+    held: &mut Held,
     told: &OptionsRecord,
     features: &[FeatureRecord],
     text: &[u32],
     out: &mut [GlyphRecord],
-) -> Result<usize, Failure> {
+) -> Result<usize, Failure>
+    ensures face { held.new.face ≡ held.old.face }
+    ensures drawn { IfOk result (IsDrawn (draws_text (encode_utf8_all text.now)) held.old.face told.now Characters
+        (map feature_of features.now) out.old out.new) }
+{
     let text = text_of_characters(alloc, text)?;
     shape_text(
         alloc,
-        face,
+        held,
         told,
         ClusterUnit::Characters,
         features,
@@ -127,21 +147,25 @@ fn text_glyphs(alloc: Global, text: &[TextGlyphRecord]) -> Result<Vec<TextGlyph>
 /// Shapes a text of glyphs.
 pub(crate) fn shape_glyphs(
     alloc: Global,
-    face: &Face<'_>,
+    held: &mut Held,
     told: &OptionsRecord,
     features: &[FeatureRecord],
     text: &[TextGlyphRecord],
     out: &mut [GlyphRecord],
 ) -> Result<usize, Failure>
-    ensures drawn { IfOk result (IsDrawn (draws_glyphs (map text_glyph_of text.now)) face.now told.now Characters
+    ensures face { held.new.face ≡ held.old.face }
+    ensures drawn { IfOk result (IsDrawn (draws_glyphs (map text_glyph_of text.now)) held.old.face told.now Characters
         (map feature_of features.now) out.old out.new) }
 {
     let features = features_told(alloc, features)?;
     let options = options_told(told, ClusterUnit::Characters, &features)?;
     let glyphs = text_glyphs(alloc, text)?;
-    let mut typesetter = Typesetter::new(alloc, face);
-    match typesetter.line_of_glyphs(glyphs, &options) {
+    let memory = taken_memory(alloc, held);
+    let mut typesetter = Typesetter::with_memory(&held.face, memory);
+    let outcome = match typesetter.line_of_glyphs(glyphs, &options) {
         Ok(()) => Ok(put_drawn(&typesetter, out)),
         Err(error) => Err(failure_of_typeset(error)),
-    }
+    };
+    held.memory = typesetter.into_memory();
+    outcome
 }

@@ -1,8 +1,9 @@
 //! What C has shaped.
 ghost use Rattle.std.specs.Prelude.{◌≡◌, ◌≢◌, None, map};
+ghost use Rattle.std.specs.Str.{encode_utf8_all};
 ghost use Rattle.aat_text.specs.declared.unit.ClusterUnit.TheVariants.{Bytes, Characters};
 ghost use Rattle.aat_c.specs.Failures.{count_of_outcome, number_of_outcome};
-ghost use Rattle.aat_c.specs.Handles.{held_in};
+ghost use Rattle.aat_c.specs.Handles.{face_in, held_in};
 ghost use Rattle.aat_c.specs.Records.{feature_of, text_glyph_of};
 ghost use Rattle.aat_c.specs.Shaped.{IsDrawnBy, draws_glyphs, draws_text};
 
@@ -41,15 +42,15 @@ pub extern "C" fn aat_shape_utf8(
     out: &mut [GlyphRecord],
     count: &mut usize,
 ) -> u32
-    ensures kept { held_in font.new ≡ held_in font.old }
+    ensures kept { face_in font.new ≡ face_in font.old }
     ensures drawn { result ≡ 0 → IsDrawnBy (draws_text text.now) (held_in font.old) options.now Bytes
         (map feature_of features.now) out.old out.new count.new }
     ensures no_font { held_in font.old ≡ None → result ≡ 1 }
     ensures refused { result ≢ 0 → count.new ≡ 0 }
 {
     let outcome = match font.take(alloc) {
-        Some(held) => {
-            let outcome = shape_utf8(alloc, &held.face, options, features, text, out);
+        Some(mut held) => {
+            let outcome = shape_utf8(alloc, &mut held, options, features, text, out);
             font.put(held);
             outcome
         }
@@ -69,13 +70,13 @@ pub extern "C" fn aat_shape_utf16(
     out: &mut [GlyphRecord],
     count: &mut usize,
 ) -> u32
-    ensures kept { held_in font.new ≡ held_in font.old }
+    ensures kept { face_in font.new ≡ face_in font.old }
     ensures no_font { held_in font.old ≡ None → result ≡ 1 }
     ensures refused { result ≢ 0 → count.new ≡ 0 }
 {
     let outcome = match font.take(alloc) {
-        Some(held) => {
-            let outcome = shape_utf16(alloc, &held.face, options, features, text, out);
+        Some(mut held) => {
+            let outcome = shape_utf16(alloc, &mut held, options, features, text, out);
             font.put(held);
             outcome
         }
@@ -95,13 +96,15 @@ pub extern "C" fn aat_shape_utf32(
     out: &mut [GlyphRecord],
     count: &mut usize,
 ) -> u32
-    ensures kept { held_in font.new ≡ held_in font.old }
+    ensures kept { face_in font.new ≡ face_in font.old }
+    ensures drawn { result ≡ 0 → IsDrawnBy (draws_text (encode_utf8_all text.now)) (held_in font.old) options.now
+        Characters (map feature_of features.now) out.old out.new count.new }
     ensures no_font { held_in font.old ≡ None → result ≡ 1 }
     ensures refused { result ≢ 0 → count.new ≡ 0 }
 {
     let outcome = match font.take(alloc) {
-        Some(held) => {
-            let outcome = shape_utf32(alloc, &held.face, options, features, text, out);
+        Some(mut held) => {
+            let outcome = shape_utf32(alloc, &mut held, options, features, text, out);
             font.put(held);
             outcome
         }
@@ -121,15 +124,15 @@ pub extern "C" fn aat_shape_glyphs(
     out: &mut [GlyphRecord],
     count: &mut usize,
 ) -> u32
-    ensures kept { held_in font.new ≡ held_in font.old }
+    ensures kept { face_in font.new ≡ face_in font.old }
     ensures drawn { result ≡ 0 → IsDrawnBy (draws_glyphs (map text_glyph_of text.now)) (held_in font.old) options.now
         Characters (map feature_of features.now) out.old out.new count.new }
     ensures no_font { held_in font.old ≡ None → result ≡ 1 }
     ensures refused { result ≢ 0 → count.new ≡ 0 }
 {
     let outcome = match font.take(alloc) {
-        Some(held) => {
-            let outcome = shape_glyphs(alloc, &held.face, options, features, text, out);
+        Some(mut held) => {
+            let outcome = shape_glyphs(alloc, &mut held, options, features, text, out);
             font.put(held);
             outcome
         }
@@ -144,7 +147,9 @@ fn finish_lines(
     count: &mut usize,
     line_count: &mut usize,
 ) -> u32
-    ensures { result ≡ number_of_outcome outcome }
+    ensures number { result ≡ number_of_outcome outcome }
+    ensures glyphs { result ≢ 0 → count.new ≡ 0 }
+    ensures lines { result ≢ 0 → line_count.new ≡ 0 }
 {
     match outcome {
         Ok(found) => {
@@ -174,14 +179,14 @@ pub extern "C" fn aat_lines_utf8(
     lines: &mut [LineRecord],
     line_count: &mut usize,
 ) -> u32
-    ensures kept { held_in font.new ≡ held_in font.old }
+    ensures kept { face_in font.new ≡ face_in font.old }
     ensures no_font { held_in font.old ≡ None → result ≡ 1 }
+    ensures no_glyphs { result ≢ 0 → count.new ≡ 0 }
+    ensures no_lines { result ≢ 0 → line_count.new ≡ 0 }
 {
     let outcome = match font.take(alloc) {
-        Some(held) => {
-            let outcome = break_utf8(
-                alloc, &held.face, options, features, text, width, out, lines,
-            );
+        Some(mut held) => {
+            let outcome = break_utf8(alloc, &mut held, options, features, text, width, out, lines);
             font.put(held);
             outcome
         }

@@ -23,7 +23,6 @@ mod output;
 mod progress;
 mod request;
 mod rows;
-mod script_tags;
 mod session;
 mod settled;
 mod shape;

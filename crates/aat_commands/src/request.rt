@@ -1,9 +1,8 @@
 //! What a command line asks of `aat shape`.
 
-use crate::script_tags::script_of;
 use aat_typesetter::{
     ClusterLevel, ClusterUnit, Direction, Feature, FeatureListError, Script, TextOptions,
-    parse_features,
+    parse_features, script_of_tag,
 };
 use anyhow::{Context, Result, anyhow, bail, ensure};
 use clap::ArgMatches;
@@ -73,6 +72,15 @@ fn direction_of(word: &str) -> Option<Direction> {
         "btt" => Some(Direction::BottomToTop),
         _ => None,
     }
+}
+
+/// The script of a tag of four letters.
+fn script_of(tag: &str) -> Option<Script> {
+    let letters = tag.as_bytes();
+    if letters.len() != 4 {
+        return None;
+    }
+    script_of_tag(u32::from_be_bytes([letters[0], letters[1], letters[2], letters[3]]))
 }
 
 /// The form of a word.

@@ -10,3 +10,4 @@ pub mod SizeExamples
 pub mod Tables
 pub mod Tracking
 pub mod Weights
+pub mod inside

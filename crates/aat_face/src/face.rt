@@ -5,6 +5,7 @@ ghost use Rattle.aat_read_lookup.specs.Lookups.{Gives};
 ghost use Rattle.aat_face.specs.Faces.{advances_in, face_of, face_of_tables, faults_of, feature_text, font_value, glyph_box_of, glyph_of_character, name_of, properties_in, setting_text, tables_in, vertical_advance_of, vertical_origin_of};
 
 use crate::chains::{chains_in, layer_tables};
+use crate::characters::Characters;
 use crate::features::{feature_bytes, features_in};
 use crate::kerning::{
     ankr_in, has_gpos_in, has_stat_in, kern_in, kern_parts, kerx_in, kerx_parts, with_kerning,
@@ -25,7 +26,7 @@ use aat_read_metrics::{
     units_per_em_in, vertical_advance_in, vertical_origin_in,
 };
 use aat_read_pairs::LeftOutSubtable;
-use aat_read_sfnt::{CharacterMap, FontFile, Names};
+use aat_read_sfnt::{FontFile, Names};
 use std::alloc::{AllocError, Global};
 use std::marker::Model;
 
@@ -37,7 +38,7 @@ pub struct Face<'a> {
     file: FontFile<'a>,
     glyph_count: u16,
     units_per_em: u16,
-    characters: Option<CharacterMap<'a>>,
+    characters: Option<Characters<'a>>,
     names: Option<Names<'a>>,
     features: Option<&'a [u8]>,
     font: hb_font_t,
@@ -167,7 +168,10 @@ impl<'a> Face<'a> {
             file,
             glyph_count: tables.glyph_count,
             units_per_em: tables.units_per_em,
-            characters: found_in(tables.cmap),
+            characters: match found_in(tables.cmap) {
+                Some(map) => Some(Characters::of(map)),
+                None => None,
+            },
             names: found_in(tables.name),
             features: feature_bytes(&tables.feat),
             font: hb_font_t::new(

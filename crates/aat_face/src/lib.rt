@@ -7,6 +7,7 @@
 #![tactic(auto)]
 
 mod chains;
+mod characters;
 mod encoding;
 mod face;
 mod features;

@@ -7,4 +7,5 @@ pub mod MarkBoxes
 pub mod Marks
 pub mod PlacedExamples
 pub mod Spaces
+pub mod facts
 pub mod inside

@@ -15,15 +15,14 @@ use Rattle.aat_characters.specs.declared.placed_character.PlacedCharacter.{Place
 use Rattle.aat_characters.proofs.Apart.{apart_merged, apart_normalized, kept_single}
 use Rattle.aat_face.specs.Faces.{FaceValue, glyph_of_character}
 use Rattle.aat_glyph.specs.declared.glyph.Direction.{Direction}
-use Rattle.aat_glyph.specs.declared.glyph.Direction.TheVariants.{LeftToRight, RightToLeft, TopToBottom, BottomToTop}
 use Rattle.aat_lookup.specs.declared.glyph_id.GlyphId.{GlyphId}
 use Rattle.aat_text.specs.Places.{width_in, with_places}
-use Rattle.aat_text.specs.Prepared.{by_level, exchanged_at, own_characters, placed_glyph, placed_text}
+use Rattle.aat_text.specs.Prepared.{by_level, exchanged, exchanged_at, own_characters, placed_glyph}
 use Rattle.aat_text.specs.declared.clusters.ClusterLevel.{ClusterLevel}
 use Rattle.aat_text.specs.declared.clusters.ClusterLevel.TheVariants.{Graphemes, Characters}
 use Rattle.aat_text.specs.declared.unit.ClusterUnit.{ClusterUnit}
-use Rattle.aat_text.specs.inside.Lone.{lone_glyphs, stand_apart}
-use Rattle.aat_text.specs.inside.Turning.{characters_when, is_plainly_forward}
+use Rattle.aat_text.specs.inside.Lone.{exchanged_glyphs, lone_glyphs, stand_apart}
+use Rattle.aat_text.specs.inside.Turning.{characters_when}
 use Rattle.aat_text.proofs.Chars.{chars_of_empty}
 
 -- characters with places stand apart as they do without
@@ -35,10 +34,30 @@ placed_apart unit place (c ∷ cs) h =
     ap (λ b. b && list_all (λ c. is_apart c.character) (map placed (with_places (width_in unit) (place + width_in unit c) cs))) both.0
     ∙ placed_apart unit (place + width_in unit c) cs both.1
 
--- to the right no character is exchanged
-none_exchanged : (has : ℕ → Bool) (cs : List PlacedCharacter) → map (exchanged_at has LeftToRight) cs ≡ cs
-none_exchanged has [] = refl
-none_exchanged has (c ∷ cs) = ap (λ ds. c ∷ ds) (none_exchanged has cs)
+-- so do they as they are exchanged
+exchanged_apart : (has : ℕ → Bool) (direction : Direction) (unit : ClusterUnit) (place : ℕ) (cs : List ℕ)
+    → list_all (λ c. is_apart (exchanged has direction c)) cs ≡ true
+    → list_all (λ c. is_apart c.character) (map (exchanged_at has direction) (map placed (with_places (width_in unit) place cs))) ≡ true
+exchanged_apart has direction unit place [] h = refl
+exchanged_apart has direction unit place (c ∷ cs) h =
+    let here = is_apart (exchanged has direction c) in
+    let both = and_parts here (list_all (λ c. is_apart (exchanged has direction c)) cs) h in
+    let next = place + width_in unit c in
+    ap (λ b. b && list_all (λ c. is_apart c.character) (map (exchanged_at has direction) (map placed (with_places (width_in unit) next cs)))) both.0
+    ∙ exchanged_apart has direction unit next cs both.1
+
+-- what holds of each in two ways holds in the one and the other
+first_of : (p q : ℕ → Bool) (cs : List ℕ) → list_all (λ c. p c && q c) cs ≡ true → list_all p cs ≡ true
+first_of p q [] h = refl
+first_of p q (c ∷ cs) h =
+    let both = and_parts (p c && q c) (list_all (λ c. p c && q c) cs) h in
+    ap (λ b. b && list_all p cs) (and_parts (p c) (q c) both.0).0 ∙ first_of p q cs both.1
+
+second_of : (p q : ℕ → Bool) (cs : List ℕ) → list_all (λ c. p c && q c) cs ≡ true → list_all q cs ≡ true
+second_of p q [] h = refl
+second_of p q (c ∷ cs) h =
+    let both = and_parts (p c && q c) (list_all (λ c. p c && q c) cs) h in
+    ap (λ b. b && list_all q cs) (and_parts (p c) (q c) both.0).1 ∙ second_of p q cs both.1
 
 level_same : (level : ClusterLevel) (cs : List PlacedCharacter) → list_all (λ c. is_apart c.character) cs ≡ true → by_level level cs ≡ cs
 level_same Graphemes cs h = apart_merged cs h
@@ -48,23 +67,25 @@ map_flat : {X Y Z : Type 0} (f : Y → Z) (g : X → List Y) (xs : List X) → m
 map_flat f g [] = refl
 map_flat f g (x ∷ xs) = map-append f (g x) (flat_map g xs) ∙ ap (λ ys. map f (g x) ++ ys) (map_flat f g xs)
 
-forward_text : (face : FaceValue) (level : ClusterLevel) (unit : ClusterUnit) (text : List ℕ) → stand_apart text ≡ true
-    → map (placed_glyph face) (normalized (has_glyph face) (placed_text (has_glyph face) LeftToRight level unit text)) ≡ flat_map (lone_glyphs face) (own_characters unit text)
-forward_text face level unit text h =
-    let own = own_characters unit text in
-    let apart = placed_apart unit 0 (chars text) h in
-    ap (λ cs. map (placed_glyph face) (normalized (has_glyph face) cs)) (none_exchanged (has_glyph face) (by_level level own) ∙ level_same level own apart)
-    ∙ ap (map (placed_glyph face)) (apart_normalized (has_glyph face) own apart)
-    ∙ map_flat (placed_glyph face) (λ c. normalized (has_glyph face) (c ∷ [])) own
+flat_map_of : {X Y Z : Type 0} (g : Y → List Z) (f : X → Y) (xs : List X) → flat_map g (map f xs) ≡ flat_map (λ x. g (f x)) xs
+flat_map_of g f [] = refl
+flat_map_of g f (x ∷ xs) = ap (λ zs. g (f x) ++ zs) (flat_map_of g f xs)
 
 pub lone_text : (face : FaceValue) (turned : Bool) (direction : Direction) (level : ClusterLevel) (unit : ClusterUnit) (text : List ℕ)
-    → is_plainly_forward turned direction ≡ true → stand_apart text ≡ true
-    → flat_map (lone_glyphs face) (own_characters unit text) ≡ map (placed_glyph face) (characters_when (has_glyph face) turned direction level unit text)
-lone_text face true LeftToRight level unit text f h = cc
-lone_text face false LeftToRight level unit text f h = sym (forward_text face level unit text h)
-lone_text face turned RightToLeft level unit text f h = cc
-lone_text face turned TopToBottom level unit text f h = cc
-lone_text face turned BottomToTop level unit text f h = cc
+    → turned ≡ false → stand_apart (has_glyph face) direction text ≡ true
+    → flat_map (exchanged_glyphs face direction) (own_characters unit text) ≡ map (placed_glyph face) (characters_when (has_glyph face) turned direction level unit text)
+lone_text face true direction level unit text f h = cc
+lone_text face false direction level unit text f h =
+    let has = has_glyph face in
+    let own = own_characters unit text in
+    let seen = map (exchanged_at has direction) own in
+    let apart = placed_apart unit 0 (chars text) (first_of is_apart (λ c. is_apart (exchanged has direction c)) (chars text) h) in
+    let apart_seen = exchanged_apart has direction unit 0 (chars text) (second_of is_apart (λ c. is_apart (exchanged has direction c)) (chars text) h) in
+    sym
+    (ap (λ cs. map (placed_glyph face) (normalized has (map (exchanged_at has direction) cs))) (level_same level own apart)
+    ∙ (ap (map (placed_glyph face)) (apart_normalized has seen apart_seen)
+    ∙ (map_flat (placed_glyph face) (λ c. normalized has (c ∷ [])) seen
+    ∙ flat_map_of (lone_glyphs face) (exchanged_at has direction) own)))
 
 module _ {X : Type 0} (f : PlacedCharacter → List X) (width : ℕ → ℕ) (done all now : List X) (place next : ℕ) (bs rest : List ℕ) (c : ℕ) where
   -- one more character is written

@@ -24,7 +24,7 @@ pub enum ClusterLevel {
 fn preferred(face: &Face, other: char, character: char) -> char
     ensures { result ≡ preferred (has_glyph face.now) other character }
 {
-    if has_glyph(face, other) {
+    if other != character && has_glyph(face, other) {
         other
     } else {
         character
@@ -43,7 +43,7 @@ fn mirrored_in(face: &Face, direction: Direction, character: char) -> char
 }
 
 /// A character of a text that runs in a direction: mirrored in backward text, and then vertical in columns.
-fn exchanged(face: &Face, direction: Direction, character: char) -> char
+pub(crate) fn exchanged(face: &Face, direction: Direction, character: char) -> char
     ensures { result ≡ exchanged (has_glyph face.now) direction character }
 {
     let seen = mirrored_in(face, direction, character);
@@ -55,7 +55,11 @@ fn exchanged(face: &Face, direction: Direction, character: char) -> char
 }
 
 /// A character of a text that runs in a direction, exchanged, at its place.
-fn exchanged_at(face: &Face, direction: Direction, character: PlacedCharacter) -> PlacedCharacter
+pub(crate) fn exchanged_at(
+    face: &Face,
+    direction: Direction,
+    character: PlacedCharacter,
+) -> PlacedCharacter
     ensures { result ≡ exchanged_at (has_glyph face.now) direction character }
 {
     PlacedCharacter {

@@ -2,6 +2,7 @@
 ghost use Rattle.std.specs.Prelude.{◌≡◌};
 ghost use Rattle.aat_text.specs.Kinds.{character_kind, placed_kind, space_kind};
 
+use crate::plain::is_plain;
 use aat_characters::{PlacedCharacter, box_class};
 use aat_lookup::keys::row_at;
 use aat_shaped_text::{CharacterKind, SpaceWidth};
@@ -36,9 +37,13 @@ fn space_kind(space: char) -> CharacterKind
 }
 
 /// The kind of a character that stands for no space.
+#[tactic(auto, using(crate::proofs::PlainCharacters::plain_kind))]
 pub(crate) fn character_kind(character: char) -> CharacterKind
     ensures { result ≡ character_kind character }
 {
+    if is_plain(character) {
+        return CharacterKind::Other;
+    }
     match box_class(character) {
         Some(class) => CharacterKind::Mark(class),
         None => CharacterKind::Other,

@@ -1,25 +1,21 @@
 //! The glyphs of characters that were looked up before.
-ghost use Rattle.std.specs.Prelude.{◌≡◌};
+ghost use Rattle.std.specs.Prelude.{◌≡◌, ◌<◌};
 ghost use Rattle.aat_face.specs.Faces.{FaceValue};
-ghost use Rattle.aat_text.specs.inside.KnownGlyphs.{glyph_id_in, is_of, AreKnown};
+ghost use Rattle.aat_text.specs.inside.KnownGlyphs.{glyph_id_in, AreKnown};
 
 use aat_face::Face;
 
-/// How many characters are kept: as many as ASCII has, so that those of English are kept apart.
-const KEPT: usize = 128;
+/// How many characters are kept: as many as the letters of an alphabet.
+const KEPT: usize = 64;
 
-/// A character, if it is one, and the number of its glyph.
-#[derive(Clone, Copy)]
-struct KnownGlyph {
-    character: Option<char>,
-    glyph_id: u16,
-}
-
-/// The glyphs of the characters that a text had last, one for each place that a character may have among so many. A
-/// text has few different characters, and a font takes long to find one.
+/// The glyphs of the characters past ASCII that a text had last, one for each place that a character may have among so
+/// many. A text has few different characters, and a font takes long to find one; those of ASCII the face keeps.
 #[derive(Drop)]
 pub(crate) struct KnownGlyphs {
-    kept: [KnownGlyph; KEPT],
+    /// The number of each character, 0 where there is none.
+    characters: [u32; KEPT],
+    /// The number of the glyph of each.
+    glyphs: [u16; KEPT],
 }
 
 /// The number of the glyph of a character, 0 where the font has none.
@@ -32,29 +28,25 @@ fn glyph_id_of(face: &Face, character: char) -> u16
     }
 }
 
-impl KnownGlyph {
-    /// Whether it is that of a character.
-    fn is_of(self, character: char) -> bool
-        ensures { result ≡ is_of self character }
-    {
-        match self.character {
-            Some(known) => known == character,
-            None => false,
-        }
-    }
-}
-
 impl KnownGlyphs {
     /// None is known.
     pub(crate) fn none() -> KnownGlyphs
         ensures { (face : FaceValue) → AreKnown face result }
     {
         KnownGlyphs {
-            kept: [KnownGlyph {
-                character: None,
-                glyph_id: 0,
-            }; KEPT],
+            characters: [0; KEPT],
+            glyphs: [0; KEPT],
         }
+    }
+
+    /// Keeps the glyph of a character.
+    fn keep(&mut self, at: usize, character: u32, glyph_id: u16)
+        requires { at < 64 }
+        ensures { (face : FaceValue) → glyph_id ≡ glyph_id_in face character → AreKnown face self.old
+            → AreKnown face self.new }
+    {
+        self.characters[at] = character;
+        self.glyphs[at] = glyph_id;
     }
 
     /// The number of the glyph of a character, 0 where the font has none. It is kept.
@@ -63,16 +55,16 @@ impl KnownGlyphs {
         ensures id { result ≡ glyph_id_in face.now character }
         ensures known { AreKnown face.now self.new }
     {
-        let at = character as usize % KEPT;
-        let kept = self.kept[at];
-        if kept.is_of(character) {
-            return kept.glyph_id;
+        if character.is_ascii() {
+            return glyph_id_of(face, character);
+        }
+        let number = character as u32;
+        let at = number as usize % KEPT;
+        if self.characters[at] == number {
+            return self.glyphs[at];
         }
         let glyph_id = glyph_id_of(face, character);
-        self.kept[at] = KnownGlyph {
-            character: Some(character),
-            glyph_id,
-        };
+        self.keep(at, number, glyph_id);
         glyph_id
     }
 }

@@ -1,17 +1,20 @@
-//! The glyphs of a text in which each character is a cluster by itself, as most texts to the right are: no character is
+//! The glyphs of a text in which each character is a cluster by itself, as in most texts without marks: no character is
 //! merged with others, composed or put in order, so that each is written as it comes.
-ghost use Rattle.std.specs.Prelude.{◌≡◌, ◌<◌, ◌^◌, ◌++◌, flat_map, length, map, IfOk, OnOk};
+ghost use Rattle.std.specs.Prelude.{◌≡◌, ◌<◌, ◌^◌, ◌++◌, ◌&&◌, flat_map, length, map, IfOk, OnOk};
 ghost use Rattle.aat_characters.specs.PlacedCharacters.{placed};
 ghost use Rattle.aat_characters.specs.Apart.{is_apart};
-ghost use Rattle.aat_text.specs.Prepared.{own_characters, placed_glyph};
+ghost use Rattle.aat_characters.specs.Decomposed.{has_glyph};
+ghost use Rattle.aat_text.specs.Prepared.{exchanged, own_characters, placed_glyph};
 ghost use Rattle.aat_text.specs.inside.KnownGlyphs.{AreKnown};
-ghost use Rattle.aat_text.specs.inside.Lone.{lone_glyphs, stand_apart};
+ghost use Rattle.aat_text.specs.inside.Lone.{exchanged_glyphs, lone_glyphs, stand_apart};
 
+use crate::clusters::{exchanged, exchanged_at};
 use crate::glyphs::placed_glyph;
 use crate::known_glyphs::KnownGlyphs;
 use crate::unit::ClusterUnit;
 use aat_characters::{PlacedCharacter, extends, is_regional_indicator, normalized};
 use aat_face::Face;
+use aat_glyph::Direction;
 use aat_shaped_text::TextGlyph;
 use std::alloc::{AllocError, Allocator};
 
@@ -23,11 +26,23 @@ fn is_apart(character: char) -> bool
     !extends(character) && !is_regional_indicator(character)
 }
 
-/// Whether each character of a text is a cluster by itself.
-pub(crate) fn stand_apart(text: &str) -> bool
-    ensures { result ≡ stand_apart text.now }
+/// Whether a character of a text that runs in a direction is a cluster by itself, also as it is exchanged.
+fn is_apart_in(face: &Face, direction: Direction, character: char) -> bool
+    ensures { result ≡ (is_apart character && is_apart (exchanged (has_glyph face.now) direction character)) }
 {
-    text.chars().all(|character| is_apart(character))
+    if !is_apart(character) {
+        return false;
+    }
+    let seen = exchanged(face, direction, character);
+    seen == character || is_apart(seen)
+}
+
+/// Whether each character of a text that runs in a direction is a cluster by itself.
+pub(crate) fn stand_apart(face: &Face, direction: Direction, text: &str) -> bool
+    ensures { result ≡ stand_apart (has_glyph face.now) direction text.now }
+{
+    text.chars()
+        .all(|character| is_apart_in(face, direction, character))
 }
 
 /// Puts the glyphs of characters behind others.
@@ -69,28 +84,28 @@ fn put_lone<A: Allocator + Copy>(
     put_placed(face, known, &written, glyphs)
 }
 
-/// The glyphs of the characters of a text, each by itself.
+/// For how many characters of a text there is room at once, if it has as many bytes.
+const ROOM: usize = 64;
+
+/// The glyphs of the characters of a text that runs in a direction, each by itself.
 pub(crate) fn lone_glyphs<A: Allocator + Copy>(
     alloc: A,
     face: &Face,
+    direction: Direction,
     unit: ClusterUnit,
     text: &str,
 ) -> Result<Vec<TextGlyph, A>, AllocError>
     requires { length text.now < 2 ^ 32 }
     ensures { IfOk result (λ glyphs. glyphs.items
-        ≡ flat_map (lone_glyphs face.now) (own_characters unit text.now)) }
+        ≡ flat_map (exchanged_glyphs face.now direction) (own_characters unit text.now)) }
 {
-    let mut glyphs = Vec::new(alloc);
+    let mut glyphs = Vec::with_capacity(alloc, text.len().min(ROOM))?;
     let mut known = KnownGlyphs::none();
     let mut place = 0;
     for character in text.chars() {
-        put_lone(
-            alloc,
-            face,
-            &mut known,
-            PlacedCharacter::new(place as u32, character),
-            &mut glyphs,
-        )?;
+        let own = PlacedCharacter::new(place as u32, character);
+        let seen = exchanged_at(face, direction, own);
+        put_lone(alloc, face, &mut known, seen, &mut glyphs)?;
         place += unit.width_of(character);
     }
     Ok(glyphs)

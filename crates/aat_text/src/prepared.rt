@@ -3,7 +3,7 @@ ghost use Rattle.std.specs.Prelude.{◌≡◌, ◌<◌, ◌≤◌, ◌^◌, ◌�
 ghost use Rattle.aat_characters.specs.Native.{native_direction, told_script};
 ghost use Rattle.aat_characters.specs.Decomposed.{has_glyph};
 ghost use Rattle.aat_text.specs.Prepared.{is_turned, placed_glyph, prepared_glyphs, told_direction};
-ghost use Rattle.aat_text.specs.inside.Turning.{characters_when, is_plainly_forward, is_turned_to};
+ghost use Rattle.aat_text.specs.inside.Turning.{characters_when, is_turned_to};
 
 use crate::clusters::{ClusterLevel, placed_text, turned_text};
 use crate::error::TextError;
@@ -82,16 +82,6 @@ fn glyphs_of<A: Allocator>(
     Ok(glyphs)
 }
 
-/// Whether a text runs to the right and is shaped so.
-fn is_plainly_forward(is_turned: bool, direction: Direction) -> bool
-    ensures { result ≡ is_plainly_forward is_turned direction }
-{
-    match direction {
-        Direction::LeftToRight => !is_turned,
-        _ => false,
-    }
-}
-
 /// The glyphs of a text that runs in a direction.
 #[tactic(auto, using(crate::proofs::LoneTexts::lone_text))]
 fn prepared_glyphs<A: Allocator + Copy>(
@@ -107,8 +97,8 @@ fn prepared_glyphs<A: Allocator + Copy>(
     ensures { IfOk result (λ glyphs. glyphs.items
         ≡ map (placed_glyph face.now) (characters_when (has_glyph face.now) is_turned direction level unit text.now)) }
 {
-    if is_plainly_forward(is_turned, direction) && stand_apart(text) {
-        return lone_glyphs(alloc, face, unit, text);
+    if !is_turned && stand_apart(face, direction, text) {
+        return lone_glyphs(alloc, face, direction, unit, text);
     }
     let characters = shaped_characters(alloc, face, unit, level, is_turned, direction, text)?;
     glyphs_of(alloc, face, &characters)

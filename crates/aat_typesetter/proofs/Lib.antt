@@ -3,5 +3,6 @@ pub mod Counted
 pub mod EndsKept
 pub mod FeaturesRead
 pub mod Hanging
+pub mod Plain
 pub mod Refusals
 pub mod Unhidden

@@ -6,7 +6,9 @@ use Rattle.aat_font.specs.declared.face.hb_font_t.{hb_font_t}
 use Rattle.aat_glyph.specs.declared.glyph.Direction.TheVariants.{LeftToRight, RightToLeft}
 use Rattle.aat_shaped_text.specs.declared.text.CharacterKind.TheVariants.{Other}
 use Rattle.aat_shaped_text.specs.declared.text.TextGlyph.{TextGlyph}
+use Rattle.ucd_script.specs.declared.Script.TheVariants as scripts
 use Rattle.aat_typesetter.specs.ScriptSettings.{boxes_for, features_for, kern_off, marks_for}
+use Rattle.aat_typesetter.specs.ScriptTags.{script_of_tag}
 use Rattle.aat_typesetter.specs.Stops.{stops_for}
 
 -- no tables, and the extended kerning table alone
@@ -55,3 +57,11 @@ SpacesHang =
     stops_for (Some (record { 0 = 3 })) (glyph_at 5 0 ∷ glyph_at 3 1 ∷ glyph_at 3 2 ∷ glyph_at 6 3 ∷ [])
     (record { place = 3; is_forced = false } ∷ [])
     ≡ record { place = 3; hang = Some 1; is_forced = false } ∷ record { place = 4; hang = None; is_forced = true } ∷ []
+
+-- `Latn`, `lATN` and `KHMR` are tags of scripts, and `Late` is none
+abbrev pub TagsAreCased : Type 0
+TagsAreCased =
+    (script_of_tag 0x4C61746E ≡ Some scripts.Latin)
+    × (script_of_tag 0x6C41544E ≡ Some scripts.Latin)
+    × (script_of_tag 0x4B484D52 ≡ Some scripts.Khmer)
+    × (script_of_tag 0x4C617465 ≡ None)

@@ -2,6 +2,7 @@ pub mod Examples
 pub mod FeatureLists
 pub mod Prepared
 pub mod ScriptSettings
+pub mod ScriptTags
 pub mod Stops
 pub mod Typeset
 pub mod TypesetErrors

@@ -3,7 +3,7 @@ ghost use Rattle.std.specs.Prelude.{◌≡◌, IfOk, slice_range};
 ghost use Rattle.aat_typesetter.specs.TypesetLines.{set_line, set_lines};
 ghost use Rattle.aat_typesetter.specs.inside.Inside.{showing_by};
 
-use crate::showing::{Shown, show};
+use crate::showing::{Drawn, Shown, show};
 use aat_face::Face;
 use aat_shaped_text::ShapedGlyph;
 use aat_shaper::TextLine;
@@ -15,15 +15,20 @@ use std::marker::Model;
 pub struct TypesetLine<A: Allocator = Global> {
     text_end: usize,
     shaped: Vec<ShapedGlyph, A>,
-    glyphs: Vec<ShapedGlyph, A>,
+    drawn: Drawn<A>,
 }
 
 impl<A: Allocator> Model for TypesetLine<A> {
     ghost use Rattle.aat_typesetter.specs.TypesetLines.{SetLine};
+    ghost use Rattle.aat_typesetter.specs.inside.Drawn.{drawn_by};
 
     ghost Value = { SetLine };
 
-    ghost view = { λ l. record { text_end = l.text_end; shaped = l.shaped.items; glyphs = l.glyphs.items } };
+    ghost view = { λ l. record {
+      text_end = l.text_end;
+      shaped = l.shaped.items;
+      glyphs = drawn_by l.drawn.is_as_shaped l.shaped.items l.drawn.glyphs.items;
+    } };
 }
 
 impl<A: Allocator> TypesetLine<A> {
@@ -46,7 +51,7 @@ impl<A: Allocator> TypesetLine<A> {
     pub fn glyphs(&self) -> &[ShapedGlyph]
         ensures { result.now ≡ self.now.glyphs }
     {
-        &self.glyphs
+        self.drawn.of(&self.shaped)
     }
 }
 
@@ -75,7 +80,7 @@ fn set_line<A: Allocator + Copy>(
     Ok(TypesetLine {
         text_end,
         shaped: Vec::from_slice(alloc, shaped)?,
-        glyphs: show(alloc, Vec::new(alloc), face, showing, shaped)?,
+        drawn: show(alloc, Vec::new(alloc), face, showing, shaped)?,
     })
 }
 

@@ -4,13 +4,14 @@ ghost use Rattle.aat_shaper.specs.Shaper.{no_values};
 ghost use Rattle.aat_typesetter.specs.Typeset.{IsWithinLimits, RefusesSetting, drawn_setting, shaped_setting, size_for, uses_up, values_for};
 ghost use Rattle.aat_typesetter.specs.TypesetErrors.{RefusesTypesetting};
 ghost use Rattle.aat_typesetter.specs.TypesetLines.{AreSetLines, RefusesParts, end_of_lines};
+ghost use Rattle.aat_typesetter.specs.inside.Drawn.{drawn_by};
 ghost use Rattle.aat_typesetter.specs.inside.Inside.{setting_by};
 
 use crate::error::TypesetError;
 use crate::lines::{TypesetLine, set_lines};
 use crate::prepared::PreparedText;
 use crate::script_settings::features_for;
-use crate::showing::{show, shown_for};
+use crate::showing::{Drawn, show, shown_for};
 use crate::stops::stops_for;
 use aat_face::Face;
 use aat_font::Feature;
@@ -51,7 +52,8 @@ pub(crate) fn track_at<'f, A: Allocator + Copy>(
     }
 }
 
-/// Shapes a text, and answers what is drawn of it, in the memory of a vector whose own glyphs are dropped.
+/// Shapes a text, and answers what is drawn of what the shaper has then, in the memory of a vector whose own glyphs are
+/// dropped.
 #[tactic(auto, unfolding(crate::specs::Typeset::shaped_setting, crate::specs::Typeset::drawn_setting, crate::specs::Typeset::uses_up, crate::specs::Typeset::RefusesSetting))]
 pub(crate) fn draw<A: Allocator + Copy>(
     alloc: A,
@@ -60,11 +62,11 @@ pub(crate) fn draw<A: Allocator + Copy>(
     shaper: &mut Shaper<'_, A>,
     features: &[Feature],
     text: &PreparedText<A>,
-) -> Result<Vec<ShapedGlyph, A>, TypesetError>
+) -> Result<Drawn<A>, TypesetError>
     ensures font { shaper.new.font ≡ shaper.old.font }
     ensures values { shaper.new.values ≡ shaper.old.values }
-    ensures drawn { IfOk result (λ glyphs.
-        glyphs.items ≡ drawn_setting (setting_by face.now shaper.old features.now text.now)) }
+    ensures drawn { IfOk result (λ drawn. drawn_by drawn.is_as_shaped shaper.new.glyphs drawn.glyphs.items
+        ≡ drawn_setting (setting_by face.now shaper.old features.now text.now)) }
     ensures shaped { OnOk result
         (shaper.new.glyphs ≡ shaped_setting (setting_by face.now shaper.old features.now text.now)) }
     ensures budget { OnOk result
@@ -77,8 +79,8 @@ pub(crate) fn draw<A: Allocator + Copy>(
     let asked = features_for(alloc, font, text.rules, features)?;
     shaper.shape(text.direction, &text.glyphs, &asked)?;
     let showing = shown_for(face, font, text.rules, text.direction);
-    let glyphs = show(alloc, room, face, showing, shaper.glyphs())?;
-    Ok(glyphs)
+    let drawn = show(alloc, room, face, showing, shaper.glyphs())?;
+    Ok(drawn)
 }
 
 /// Shapes a text in lines of a width, which may end at places of its characters, and answers what is drawn of them.

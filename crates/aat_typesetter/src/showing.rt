@@ -1,13 +1,15 @@
 //! How what is drawn is shown.
-ghost use Rattle.std.specs.Prelude.{◌≡◌, IfOk, option_map};
-ghost use Rattle.std.specs.List.{list_any};
+ghost use Rattle.std.specs.Prelude.{◌≡◌, IfOk, option_map, true};
+ghost use Rattle.std.specs.List.{list_all, list_any};
 ghost use Rattle.aat_showing.specs.Columns.{in_columns};
 ghost use Rattle.aat_showing.specs.FaceMetrics.{mark_placing};
 ghost use Rattle.aat_showing.specs.Ignorables.{drawn_without_ignorables};
 ghost use Rattle.aat_showing.specs.HiddenParts.{asked, positioned, shown};
 ghost use Rattle.aat_showing.specs.MarkBoxes.{place_marks};
 ghost use Rattle.aat_showing.specs.Marks.{zero_marks};
+ghost use Rattle.aat_showing.specs.facts.Plain.{is_plain};
 ghost use Rattle.aat_typesetter.specs.Typeset.{columns_for, showing_for};
+ghost use Rattle.aat_typesetter.specs.inside.Drawn.{drawn_by};
 ghost use Rattle.aat_typesetter.specs.inside.Inside.{showing_by};
 
 use crate::script_settings::{boxes_for, marks_for};
@@ -16,7 +18,7 @@ use aat_face::Face;
 use aat_font::hb_font_t;
 use aat_glyph::Direction;
 use aat_lookup::GlyphId;
-use aat_shaped_text::ShapedGlyph;
+use aat_shaped_text::{CharacterKind, ShapedGlyph};
 use aat_showing::{hide_ignorables, place_marks, set_in_columns, widen_spaces, zero_marks};
 use std::alloc::{AllocError, Allocator};
 
@@ -112,8 +114,53 @@ fn hide<A: Allocator + Copy>(
     hide_ignorables(alloc, direction, space, &glyphs)
 }
 
+/// What is drawn of glyphs that were shaped.
+#[derive(Drop)]
+pub(crate) struct Drawn<A: Allocator> {
+    /// Whether they are drawn as they are, so that `glyphs` has none.
+    pub(crate) is_as_shaped: bool,
+    /// What is drawn, where they are not.
+    pub(crate) glyphs: Vec<ShapedGlyph, A>,
+}
+
+impl<A: Allocator> Drawn<A> {
+    /// What is drawn of these glyphs that were shaped.
+    pub(crate) fn of<'g>(&'g self, shaped: &'g [ShapedGlyph]) -> &'g [ShapedGlyph]
+        ensures { result.now ≡ drawn_by self.now.is_as_shaped shaped.now self.now.glyphs.items }
+    {
+        if self.is_as_shaped {
+            shaped
+        } else {
+            &self.glyphs
+        }
+    }
+}
+
+/// Whether a glyph of a text in rows is drawn as it is: it is neither ignorable nor a mark, nor is its character a mark,
+/// or a space that the font lacks.
+fn is_plain(glyph: &ShapedGlyph) -> bool
+    ensures { result ≡ is_plain glyph.now }
+{
+    !glyph.is_ignorable && !glyph.is_mark && matches!(glyph.kind, CharacterKind::Other)
+}
+
+/// Whether all of some glyphs are drawn so.
+fn are_plain(glyphs: &[ShapedGlyph]) -> bool
+    ensures { result ≡ list_all is_plain glyphs.now }
+{
+    glyphs.iter().all(|glyph| is_plain(glyph))
+}
+
+/// Whether glyphs are known to be drawn as they are.
+#[tactic(auto, using(crate::proofs::Plain::shown_plainly))]
+fn is_shown_as_shaped(face: &Face<'_>, showing: Shown, glyphs: &[ShapedGlyph]) -> bool
+    ensures { result ≡ true → glyphs.now ≡ shown (showing_by face.now showing) glyphs.now }
+{
+    showing.direction.is_horizontal() && showing.space.is_some() && are_plain(glyphs)
+}
+
 /// Glyphs as they are shown, in the memory of a vector whose own glyphs are dropped.
-pub(crate) fn show<A: Allocator + Copy>(
+fn shown_in<A: Allocator + Copy>(
     alloc: A,
     room: Vec<ShapedGlyph, A>,
     face: &Face<'_>,
@@ -127,4 +174,28 @@ pub(crate) fn show<A: Allocator + Copy>(
     positioned.extend_from_slice(glyphs)?;
     position(&mut positioned, face, showing);
     hide(alloc, showing.direction, showing.space, positioned)
+}
+
+/// Glyphs as they are shown, in the memory of a vector whose own glyphs are dropped. Where they are known to be drawn as
+/// they are, there is no copy of them.
+pub(crate) fn show<A: Allocator + Copy>(
+    alloc: A,
+    room: Vec<ShapedGlyph, A>,
+    face: &Face<'_>,
+    showing: Shown,
+    glyphs: &[ShapedGlyph],
+) -> Result<Drawn<A>, AllocError>
+    ensures { IfOk result (λ drawn.
+        drawn_by drawn.is_as_shaped glyphs.now drawn.glyphs.items ≡ shown (showing_by face.now showing) glyphs.now) }
+{
+    if is_shown_as_shaped(face, showing, glyphs) {
+        return Ok(Drawn {
+            is_as_shaped: true,
+            glyphs: room,
+        });
+    }
+    Ok(Drawn {
+        is_as_shaped: false,
+        glyphs: shown_in(alloc, room, face, showing, glyphs)?,
+    })
 }

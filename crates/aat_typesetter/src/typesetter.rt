@@ -8,9 +8,11 @@ ghost use Rattle.aat_typesetter.specs.TypesetLines.{AreSetLines, AreTypesetLines
 
 use crate::error::TypesetError;
 use crate::lines::TypesetLine;
+use crate::memory::TypesetterMemory;
 use crate::options::TextOptions;
 use crate::prepared::{PreparedText, options_for_lines, prepare};
 use crate::shaping::{draw, draw_lines, track_at};
+use crate::showing::Drawn;
 use aat_face::Face;
 use aat_glyph::Direction;
 use aat_shaped_text::{ShapedGlyph, TextGlyph};
@@ -38,7 +40,8 @@ pub struct Typesetter<'f, A: Allocator + Copy = Global> {
     alloc: A,
     shaper: Shaper<'f, A>,
     text: PreparedText<A>,
-    glyphs: Vec<ShapedGlyph, A>,
+    /// What is drawn of what the shaper has shaped last.
+    drawn: Drawn<A>,
     /// Whether the text is that which the shaper has shaped last.
     is_set: bool,
 }
@@ -73,14 +76,50 @@ impl<'f, A: Allocator + Copy> Typesetter<'f, A> {
         ensures font { font_value result.font ≡ face.now.font }
         ensures nothing { result ≡ nothing_set result }
     {
+        Typesetter::with_memory(face, TypesetterMemory::new_in(global, alloc))
+    }
+
+    /// A typesetter of texts of a face in the memory of another one.
+    pub fn with_memory(face: &'f Face<'f>, memory: TypesetterMemory<A>) -> Typesetter<'f, A>
+        ensures face { result.face ≡ face.now }
+        ensures font { font_value result.font ≡ face.now.font }
+        ensures nothing { result ≡ nothing_set result }
+    {
+        let TypesetterMemory {
+            global,
+            alloc,
+            shaper,
+            mut glyphs,
+        } = memory;
+        glyphs.clear();
         Typesetter {
             face,
             global,
             alloc,
-            shaper: Shaper::new_in(global, alloc, face.font()),
+            shaper: Shaper::with_memory(face.font(), shaper),
             text: PreparedText::none(alloc),
-            glyphs: Vec::new(alloc),
+            drawn: Drawn {
+                is_as_shaped: false,
+                glyphs,
+            },
             is_set: false,
+        }
+    }
+
+    /// Its memory, for another typesetter, but that of its text and that in which texts are shaped.
+    pub fn into_memory(self) -> TypesetterMemory<A> {
+        let Typesetter {
+            global,
+            alloc,
+            shaper,
+            drawn,
+            ..
+        } = self;
+        TypesetterMemory {
+            global,
+            alloc,
+            shaper: shaper.into_memory(),
+            glyphs: drawn.glyphs,
         }
     }
 
@@ -126,7 +165,7 @@ impl<'f, A: Allocator + Copy> Typesetter<'f, A> {
     pub fn glyphs(&self) -> &[ShapedGlyph]
         ensures { result.now ≡ self.now.glyphs }
     {
-        &self.glyphs
+        self.drawn.of(self.shaper.glyphs())
     }
 
     /// Whether the text that was typeset last used up its budget of operations in one line, as
@@ -143,7 +182,8 @@ impl<'f, A: Allocator + Copy> Typesetter<'f, A> {
         ensures { self.new ≡ nothing_set self.old }
     {
         self.text = PreparedText::none(self.alloc);
-        self.glyphs.clear();
+        self.drawn.is_as_shaped = false;
+        self.drawn.glyphs.clear();
         self.is_set = false;
     }
 
@@ -168,10 +208,10 @@ impl<'f, A: Allocator + Copy> Typesetter<'f, A> {
             options.size,
             &mut self.shaper,
         );
-        let room = mem::replace(&mut self.glyphs, Vec::new(self.alloc));
+        let room = mem::replace(&mut self.drawn.glyphs, Vec::new(self.alloc));
         match draw(self.alloc, room, face, &mut self.shaper, features, &text) {
-            Ok(glyphs) => {
-                self.glyphs = glyphs;
+            Ok(drawn) => {
+                self.drawn = drawn;
                 self.text = text;
                 self.is_set = true;
                 Ok(())
@@ -302,7 +342,8 @@ impl<'f, A: Allocator + Copy> Typesetter<'f, A> {
             width,
         ) {
             Ok(lines) => {
-                self.glyphs.clear();
+                self.drawn.is_as_shaped = false;
+                self.drawn.glyphs.clear();
                 self.text = text;
                 self.is_set = true;
                 Ok(lines)

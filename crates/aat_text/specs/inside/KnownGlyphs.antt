@@ -1,22 +1,18 @@
 -- The glyphs of characters that were looked up before.
-use Rattle.std.specs.Prelude.{◌≡◌, ℕ, Bool, ◌==◌, false, All}
-use Rattle.std.specs.Option.{ForSome, option_map_or}
+use Rattle.std.specs.Prelude.{◌≡◌, ℕ, ◌<◌, slice_index}
+use Rattle.std.specs.Option.{option_map_or}
 use Rattle.aat_face.specs.Faces.{FaceValue, glyph_of_character}
-use Rattle.aat_text.specs.declared.known_glyphs.KnownGlyph.{KnownGlyph}
 use Rattle.aat_text.specs.declared.known_glyphs.KnownGlyphs.{KnownGlyphs}
 
 -- the number of the glyph of a character, 0 where a font has none
 abbrev pub glyph_id_in : FaceValue → ℕ → ℕ
 glyph_id_in face character = option_map_or (λ glyph. glyph.0) (glyph_of_character face character) 0
 
--- what is kept is that of a character
-abbrev pub is_of : KnownGlyph → ℕ → Bool
-is_of kept character = option_map_or (λ known. known == character) kept.character false
+-- what is kept at a place, if it is a character, has its glyph
+abbrev pub IsKnown : FaceValue → KnownGlyphs → ℕ → Type 0
+IsKnown face known i =
+    0 < slice_index known.characters i → slice_index known.glyphs i ≡ glyph_id_in face (slice_index known.characters i)
 
--- what is kept is the glyph of its character
-abbrev pub IsKnown : FaceValue → KnownGlyph → Type 0
-IsKnown face kept = ForSome kept.character (λ known. kept.glyph_id ≡ glyph_id_in face known)
-
--- so is all that is kept
+-- so has all that is kept
 abbrev pub AreKnown : FaceValue → KnownGlyphs → Type 0
-AreKnown face glyphs = All (IsKnown face) glyphs.kept
+AreKnown face known = (i : ℕ) → i < 64 → IsKnown face known i

@@ -1,5 +1,5 @@
 -- What only this crate's own calls say of texts in which each character is a cluster by itself.
-use Rattle.std.specs.Prelude.{ℕ, Bool, List, [], ◌∷◌, map}
+use Rattle.std.specs.Prelude.{ℕ, Bool, ◌&&◌, List, [], ◌∷◌, map}
 use Rattle.std.specs.List.{list_all}
 use Rattle.std.specs.Str.{chars}
 use Rattle.aat_characters.specs.Composed.{normalized}
@@ -7,13 +7,18 @@ use Rattle.aat_characters.specs.Decomposed.{has_glyph}
 use Rattle.aat_characters.specs.Apart.{is_apart}
 use Rattle.aat_characters.specs.declared.placed_character.PlacedCharacter.{PlacedCharacter}
 use Rattle.aat_face.specs.Faces.{FaceValue}
+use Rattle.aat_glyph.specs.declared.glyph.Direction.{Direction}
 use Rattle.aat_shaped_text.specs.declared.text.TextGlyph.{TextGlyph}
-use Rattle.aat_text.specs.Prepared.{placed_glyph}
+use Rattle.aat_text.specs.Prepared.{exchanged, exchanged_at, placed_glyph}
 
--- each character of a text is a cluster by itself
-abbrev pub stand_apart : List ℕ → Bool
-stand_apart text = list_all is_apart (chars text)
+-- each character of a text that runs in a direction is a cluster by itself, also as it is exchanged
+abbrev pub stand_apart : (ℕ → Bool) → Direction → List ℕ → Bool
+stand_apart has direction text = list_all (λ c. is_apart c && is_apart (exchanged has direction c)) (chars text)
 
 -- the glyphs of a character by itself
 abbrev pub lone_glyphs : FaceValue → PlacedCharacter → List TextGlyph
 lone_glyphs face c = map (placed_glyph face) (normalized (has_glyph face) (c ∷ []))
+
+-- and of one of a text that runs in a direction
+abbrev pub exchanged_glyphs : FaceValue → Direction → PlacedCharacter → List TextGlyph
+exchanged_glyphs face direction c = lone_glyphs face (exchanged_at (has_glyph face) direction c)

@@ -9,6 +9,7 @@ use Rattle.aat_typesetter.specs.Prepared.{Prepared}
 use Rattle.aat_typesetter.specs.ScriptSettings.{features_for}
 use Rattle.aat_typesetter.specs.Typeset.{Setting, TypesetterValue, columns_for, showing_for}
 use Rattle.aat_typesetter.specs.declared.showing.Shown.{Shown}
+use Rattle.aat_typesetter.specs.inside.Drawn.{drawn_by}
 use Rattle.aat_typesetter.specs.declared.typesetter.Typesetter.TheInside.{Inside}
 
 -- the face with its font, and what is shown of the text that was typeset last
@@ -18,7 +19,7 @@ typesetter_of a = record {
   font = a.shaper.font;
   text = a.text;
   shaped = if a.is_set then a.shaper.glyphs else [];
-  glyphs = a.glyphs.items;
+  glyphs = drawn_by a.drawn.is_as_shaped a.shaper.glyphs a.drawn.glyphs.items;
   is_budget_used_up = a.is_set && a.shaper.is_budget_used_up;
 }
 

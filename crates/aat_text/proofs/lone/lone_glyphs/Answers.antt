@@ -2,7 +2,9 @@ use Rattle.std.proofs.Common.{◌≡◌, ◌+◌, ◌++◌, ap, ◌∙◌, arith
 use Rattle.std.proofs.lemmas.Str.{IsUtf8-past_char}
 use Rattle.aat_characters.specs.PlacedCharacters.{placed}
 use Rattle.aat_text.specs.Places.{width_in}
-use Rattle.aat_text.specs.inside.Lone.{lone_glyphs}
+use Rattle.aat_characters.specs.Decomposed.{has_glyph}
+use Rattle.aat_text.specs.Prepared.{exchanged_at}
+use Rattle.aat_text.specs.inside.Lone.{exchanged_glyphs, lone_glyphs}
 use Rattle.aat_text.proofs.LoneTexts.{lone_done, lone_more}
 use Rattle.aat_text.proofs.Placed.{room_past_char}
 use Rattle.aat_text.proofs.lone.lone_glyphs.Goals as goal
@@ -14,9 +16,9 @@ pub loop-character-preserved : goal.loop-character-preserved
 loop-character-preserved g c =
     let held = c.loop-character.invariant in
     let step = c.in-Some.ensures.steps.0 in
-    let f = lone_glyphs c.args.face.now in
+    let f = exchanged_glyphs c.args.face.now c.args.direction in
     let put : c.put_lone.new.glyphs.items ≡ c.loop-character.glyphs.items ++ f (placed (c.loop-character.place, c.in-Some.character)) =
-    c.in_ok-put_lone.ensures.glyphs ∙ ap (λ one. c.loop-character.glyphs.items ++ f one) c.new.ensures in
+    c.in_ok-put_lone.ensures.glyphs ∙ ap (λ one. c.loop-character.glyphs.items ++ lone_glyphs c.args.face.now one) (c.exchanged_at-seen.ensures ∙ ap (exchanged_at (has_glyph c.args.face.now) c.args.direction) c.new-own.ensures) in
     record {
       known = c.put_lone.ensures.known;
       text = IsUtf8-past_char _ _ c.in-Some.character held.text step;
@@ -27,4 +29,4 @@ loop-character-preserved g c =
 
 pub returns : goal.returns
 returns g c =
-    lone_done (lone_glyphs c.args.face.now) (width_in c.args.unit) c.loop-character.glyphs.items _ c.loop-character.place _ c.in-None.ensures.steps.0.0 c.loop-character.invariant.made
+    lone_done (exchanged_glyphs c.args.face.now c.args.direction) (width_in c.args.unit) c.loop-character.glyphs.items _ c.loop-character.place _ c.in-None.ensures.steps.0.0 c.loop-character.invariant.made

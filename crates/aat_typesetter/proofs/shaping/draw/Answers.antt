@@ -1,15 +1,17 @@
-use Rattle.std.proofs.Common.{◌≡◌, ◌∙◌, List, Option, ap, ap₂}
+use Rattle.std.proofs.Common.{◌≡◌, ◌∙◌, List, Option, ap, ap₂, sym}
 use Rattle.aat_characters.specs.declared.script_rules.ScriptRules.{ScriptRules}
 use Rattle.aat_font.specs.declared.face.hb_font_t.{hb_font_t}
 use Rattle.aat_font.specs.declared.plan.Feature.{Feature}
 use Rattle.aat_glyph.specs.declared.glyph.Direction.{Direction}
 use Rattle.aat_shaped_text.specs.ShapedText.{shaped_text}
+use Rattle.aat_shaped_text.specs.declared.text.ShapedGlyph.{ShapedGlyph}
 use Rattle.aat_shaped_text.specs.declared.text.TextGlyph.{TextGlyph}
 use Rattle.aat_shaper.specs.Shaper.{value_along}
 use Rattle.aat_showing.specs.HiddenParts.{Showing, shown}
 use Rattle.aat_typesetter.specs.Prepared.{Prepared}
 use Rattle.aat_typesetter.specs.ScriptSettings.{features_for}
 use Rattle.aat_typesetter.specs.Typeset.{drawn_setting, shaped_setting, showing_for}
+use Rattle.aat_typesetter.specs.inside.Drawn.{drawn_by}
 use Rattle.aat_typesetter.specs.inside.Inside.{showing_by}
 use Rattle.aat_typesetter.proofs.shaping.draw.Goals as goal
 
@@ -40,6 +42,7 @@ returns-clause-drawn g c =
     ∙ (ap (λ (f : hb_font_t). showing_for face f c.text.inside.rules c.text.inside.direction) c.font-font.ensures
     ∙ ap (λ (p : Prepared). showing_for face shaper.font p.rules p.direction) c.text.view_is)
     in
-    c.in_ok-glyphs.ensures
+    ap (λ (gs : List ShapedGlyph). drawn_by c.in_ok-drawn.drawn.is_as_shaped gs c.in_ok-drawn.drawn.glyphs.items) (sym c.glyphs.ensures)
+    ∙ (c.in_ok-drawn.ensures
     ∙ (ap (λ (s : Showing). shown s c.glyphs.result.now) showing
-    ∙ ap (shown (showing_for face shaper.font text.rules text.direction)) (c.glyphs.ensures ∙ returns-clause-shaped g c))
+    ∙ ap (shown (showing_for face shaper.font text.rules text.direction)) (c.glyphs.ensures ∙ returns-clause-shaped g c)))

@@ -1,10 +1,10 @@
-//! The tags of scripts, as ISO 15924 and HarfBuzz have them.
+//! The scripts by their tags of ISO 15924. Written by tools/scripts.py from Unicode 17.0.0. Do not edit.
 ghost use Rattle.std.specs.Prelude.{◌≡◌};
-ghost use Rattle.aat_c.specs.Options.{script_of};
+ghost use Rattle.aat_typesetter.specs.ScriptTags.{script_of_tag};
 
-use aat_typesetter::Script;
+use aat_characters::Script;
 
-/// The scripts with their tags, in the order of these.
+/// The tags, as Unicode has them, and their scripts.
 const SCRIPTS: [(u32, Script); 175] = [
     (0x4164_6C6D, Script::Adlam),
     (0x4167_6862, Script::CaucasianAlbanian),
@@ -183,9 +183,9 @@ const SCRIPTS: [(u32, Script); 175] = [
     (0x5A7A_7A7A, Script::Unknown),
 ];
 
-/// The script of a tag, in whatever case.
-pub(crate) fn script_of(tag: u32) -> Option<Script>
-    ensures { result ≡ script_of tag }
+/// The script of a tag of ISO 15924, of four letters in whatever case, the first of which counts most.
+pub fn script_of_tag(tag: u32) -> Option<Script>
+    ensures { result ≡ script_of_tag tag }
 {
     let cased = (tag & 0xDFDF_DFDF) | 0x0020_2020;
     let found = SCRIPTS.iter().find(|row| row.0 == cased);
