@@ -51,7 +51,7 @@ extern "C" {
  * @AAT_OUT_OF_MEMORY: memory is wanting
  * @AAT_BAD_FONT: the directory of the file has a fault, which aat_file_fault() tells
  * @AAT_BAD_TEXT: the text is not of its encoding
- * @AAT_TEXT_TOO_LONG: the text has more than 4,294,967,295 bytes
+ * @AAT_TEXT_TOO_LONG: the text has more than 4,294,967,295 bytes in UTF-8
  * @AAT_ALTERNATE_TOO_LARGE: a feature `aalt` has a value above 65535
  * @AAT_LINE_TOO_LONG: the text has more than 2^24 glyphs, or substitution makes the line too long
  * @AAT_BAD_FEATURE: the text is no feature
@@ -105,9 +105,8 @@ typedef enum { AAT_CLUSTER_LEVEL_GRAPHEMES = 0, AAT_CLUSTER_LEVEL_CHARACTERS = 1
 /**
  * aat_font_t:
  *
- * A font, or none, with the memory in which its texts are shaped, of which a text that is no longer than one before asks
- * for little more. Make it AAT_FONT_NONE (all zeros), and give it back by aat_font_free(). Do not look into it, and never
- * use two copies of it.
+ * A font, or none. It keeps room for glyphs between texts; what else a call takes it gives back. Make it AAT_FONT_NONE
+ * (all zeros), and give it back by aat_font_free(). Do not look into it, and never use two copies of it.
  */
 typedef struct {
   struct {
@@ -121,7 +120,8 @@ typedef struct {
 /**
  * aat_options_t:
  * @direction: an aat_direction_t
- * @script: a tag of ISO 15924 as AAT_TAG('L','a','t','n'), or 0 for the first script that a character of the text has
+ * @script: the tag of a script of Unicode as AAT_TAG('L','a','t','n'), or 0 for the first script that a character of the
+ *     text has; others are AAT_BAD_OPTION
  * @point_size: the size at which the text is tracked, 65536 a point; 0 is none that is told: 12 points for a font with
  *     `STAT`, as in HarfBuzz, and else no tracking. AAT_POINT_SIZE_UNTRACKED tracks nothing.
  * @cluster_level: an aat_cluster_level_t
@@ -185,7 +185,10 @@ typedef struct {
 #define AAT_NO_GLYPHS AAT_NONE_OF(aat_glyph_t)
 #define AAT_NO_LINES AAT_NONE_OF(aat_line_t)
 
-/** The text may be broken before it: shaped by themselves, the two parts look as they do here. It is no end of a line. */
+/**
+ * The text may be broken before it: its glyphs in two parts, shaped alike, look as they do here. A part of the characters
+ * may have another script: tell the script. It is no end of a line.
+ */
 #define AAT_GLYPH_FLAG_MAY_BREAK_BEFORE 1u
 /** Its character is ignorable. */
 #define AAT_GLYPH_FLAG_IGNORABLE 2u
@@ -308,7 +311,7 @@ uint32_t aat_font_units_per_em(aat_font_t *font) AAT_NONNULL;
  * @font: a handle
  * @character: a character of Unicode
  *
- * Return value: its glyph, 0 where the font has none.
+ * Return value: its glyph, 0 where the font has none, it is no character, or there is no font.
  */
 uint32_t aat_font_glyph(aat_font_t *font, uint32_t character) AAT_NONNULL;
 
@@ -317,7 +320,7 @@ uint32_t aat_font_glyph(aat_font_t *font, uint32_t character) AAT_NONNULL;
  * @font: a handle
  * @tag: the tag of a feature
  *
- * Return value: whether the font has it.
+ * Return value: whether the font has it, false where there is no font.
  */
 bool aat_font_has_feature(aat_font_t *font, uint32_t tag) AAT_NONNULL;
 
@@ -325,7 +328,7 @@ bool aat_font_has_feature(aat_font_t *font, uint32_t tag) AAT_NONNULL;
  * aat_font_fault_count:
  * @font: a handle
  *
- * Return value: how many faults the font's tables have.
+ * Return value: how many faults the font's tables have, 0 where there is no font.
  */
 size_t aat_font_fault_count(aat_font_t *font) AAT_NONNULL;
 
@@ -416,7 +419,8 @@ uint32_t aat_feature_from_string(const uint8_t *text, size_t length, aat_feature
  * Shapes a text as one line. Glyphs come in drawing order: from left to right, or from top to bottom. Clusters, also those
  * of features, count bytes.
  *
- * Return value: AAT_OK, or why it is refused
+ * Return value: AAT_OK, or AAT_NO_FONT, AAT_OUT_OF_MEMORY, AAT_BAD_TEXT, AAT_TEXT_TOO_LONG, AAT_ALTERNATE_TOO_LARGE,
+ * AAT_LINE_TOO_LONG or AAT_BAD_OPTION
  */
 uint32_t aat_shape_utf8(aat_font_t *font, const aat_options_t *options, const aat_feature_t *features,
                         size_t feature_count, const uint8_t *text, size_t length, aat_glyph_t *out, size_t out_size,
@@ -466,10 +470,11 @@ uint32_t aat_shape_glyphs(aat_font_t *font, const aat_options_t *options, const 
  * @line_room: how many
  * @line_count: (out) how many lines there are
  *
- * Shapes a text in lines of a width, which end where Unicode's line breaking has it. The spaces at the end of a line hang
- * over it.
+ * Shapes a text in lines of a width. They end by the main rules of Unicode's line breaking; words of Southeast Asia are not
+ * found. They run in the direction of their script. Clusters count bytes. The spaces at the end of a line hang over it, and
+ * ignorable glyphs count for no width. Where it is refused both counts are 0.
  *
- * Return value: AAT_OK, or why it is refused
+ * Return value: as of aat_shape_utf8()
  */
 uint32_t aat_lines_utf8(aat_font_t *font, const aat_options_t *options, const aat_feature_t *features,
                         size_t feature_count, const uint8_t *text, size_t length, uint64_t width, aat_glyph_t *out,

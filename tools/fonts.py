@@ -14,8 +14,8 @@ bytes are built here, and stand in the place of those that were written.
 - cmap_N.ttf: the characters of noncontextual.ttf in format N, of 0, 4, 6 and 12. cmap_symbol.ttf: from U+F000 on, for
   symbols. cmap_macintosh.ttf: for the Macintosh, which has U+00C4, U+20AC and U+F8FF too.
 - kerx_4_points.ttf, kerx_4_coordinates.ttf: the machine of kerx_4.ttf with the two other types of actions.
-- steps_130.ttf, steps_1100.ttf: steps.ttf with 130 chains of a subtable each, and a chain of 1,100 subtables. That of the
-  number N has glyph N + 2 in the place of N + 1, but those of every seventh one insert it behind.
+- steps_1100.ttf: steps.ttf with a chain of 1,100 subtables. That of the number N has glyph N + 2 in the place of N + 1,
+  but each seventh one inserts it behind that glyph.
 """
 import os
 import shlex
@@ -264,14 +264,11 @@ def step(number):
     return longs(12 + len(body), 0x20000000 | kind, 1) + body
 
 
-def with_steps(font, chains):
-    """A font with chains of so many steps each."""
-    body, number = b"", 0
-    for count in chains:
-        subtables = b"".join(step(number + place) for place in range(count))
-        body += longs(1, 16 + len(subtables), 0, count) + subtables
-        number += count
-    return with_table(font, b"morx", words(2, 0) + longs(len(chains)) + body)
+def with_steps(font, count):
+    """A font with a chain of so many steps."""
+    subtables = b"".join(step(number) for number in range(count))
+    chain = longs(1, 16 + len(subtables), 0, count) + subtables
+    return with_table(font, b"morx", words(2, 0) + longs(1) + chain)
 
 
 def variants(fonts):
@@ -293,8 +290,7 @@ def variants(fonts):
     count = word_at(tables_of(classes)[b"maxp"], 4)
     made["kern_old_2"] = with_table(classes, b"kern", old_kern(arrays, 2))
     made["kern_3"] = with_table(classes, b"kern", kern_3(arrays, count))
-    made["steps_130"] = with_steps(fonts["steps"], [1] * 130)
-    made["steps_1100"] = with_steps(fonts["steps"], [1100])
+    made["steps_1100"] = with_steps(fonts["steps"], 1100)
     made["kerx_4_points"] = with_action_type(fonts["kerx_4"], 0)
     made["kerx_4_coordinates"] = with_action_type(fonts["kerx_4"], 2)
     return made

@@ -1,5 +1,5 @@
 #!/usr/bin/env python3
-"""Prints the rows of the tables of docs/BENCH.md.
+"""Prints rows of times (docs/BENCH.md, "Times").
 
     python3 tools/times.py AAT FOLDER HBTIME6 HBTIME12 [RUNS]
     python3 tools/times.py --fonts AAT HBTIME6 HBTIME12 FONT:TEXT..
@@ -94,7 +94,7 @@ def in_words(text, folder):
 
 
 def opening(program, font, text, folder):
-    """The seconds of a run of ours that shapes two characters, as `perf` is not everywhere: the least of many."""
+    """The nanoseconds of reading the font and shaping two characters, and the file of these."""
     with open(text, encoding="utf-8") as file:
         start = file.read()[:2]
     path = os.path.join(folder, "start.txt")

@@ -40,7 +40,8 @@ ONE_AT_MARK = 0x0001
 # The lengths of lines, with the place, the distance and the span of requests over them, and how many lines a text has.
 LINES = {8: (185, 2, 1, 2_500), 20: (185, 2, 1, 1_000), 2_000: (185, 10, 5, 10), 200_000: (185, 1_000, 500, 1)}
 
-# The lengths of lines of the worst workloads, whose time may grow with the square of a line. A text is one of them.
+# The lengths of lines of the worst workloads, whose time may grow with the square of a line. A text is one line, but
+# those of a length of LINES.
 WORST_LINES = (20, 1_000, 2_000, 16_000, 64_000)
 
 # The numbers of a step of a generator of 64 bits, of which the upper half is taken: a low bit comes back after few steps.

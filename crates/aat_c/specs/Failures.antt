@@ -1,5 +1,5 @@
 -- How calls end.
-use Rattle.std.specs.Prelude.{ℕ, ◌==◌, Option, None, Some, Result, Ok, Err, if◌then◌else◌}
+use Rattle.std.specs.Prelude.{ℕ, Result, Ok, Err}
 use Rattle.aat_run.specs.declared.error.AatError.TheVariants as shaper
 use Rattle.aat_typesetter.specs.declared.error.TypesetError.{TypesetError}
 use Rattle.aat_typesetter.specs.declared.error.TypesetError.TheVariants as typesetter

@@ -3,6 +3,9 @@ use Rattle.std.specs.Prelude.{◌≡◌, ◌⊎◌, ◌&&◌, ◌||◌, ℕ, Boo
 use Rattle.aat_bytes.specs.declared.error.Fault.{Fault}
 use Rattle.aat_face.specs.Faces.{FaceValue, face_of, font_value, glyph_of_character}
 use Rattle.aat_font.specs.declared.face.hb_font_t.{hb_font_t}
+use Rattle.aat_font.specs.declared.plan.Feature.{Feature}
+use Rattle.aat_layout.specs.declared.features.error.FeatureError.{FeatureError}
+use Rattle.aat_read_sfnt.specs.Directory.{Directory}
 use Rattle.aat_lookup.specs.declared.glyph_id.GlyphId.{GlyphId}
 use Rattle.aat_shaper.specs.Named.{has_feature}
 use Rattle.aat_c.specs.declared.failure.Failure.{Failure}
@@ -10,13 +13,14 @@ use Rattle.aat_c.specs.declared.failure.Failure.TheVariants.{NoFont, OutOfMemory
 use Rattle.aat_c.specs.declared.handle.Handle.{Handle}
 use Rattle.aat_c.specs.declared.held.Held.{Held}
 use Rattle.aat_c.specs.declared.records.FaultRecord.{FaultRecord}
-use Rattle.aat_c.specs.Records.{fault_record}
+use Rattle.aat_c.specs.declared.records.FeatureRecord.{FeatureRecord}
+use Rattle.aat_c.specs.Records.{fault_record, feature_record}
 
 -- the font of a handle, if it holds one
 abbrev pub held_in : Handle → Option Held
 held_in handle = handle.slot.value
 
--- its face
+-- the face of the font of a handle, if it holds one
 abbrev pub face_in : Handle → Option FaceValue
 face_in handle = option_map (λ held. held.face) handle.slot.value
 
@@ -38,13 +42,13 @@ is_character number = nat_lt number 0xD800 || nat_lt 0xDFFF number && nat_lt num
 abbrev pub glyph_in : ℕ → FaceValue → ℕ
 glyph_in character face = if is_character character then number_or_zero (glyph_of_character face character) else 0
 
--- whether the font of a face has a feature, as `has_feature` of the shaper has it
+-- `has` says whether the font of a face has a feature, as `has_feature` of the shaper does
 pub record TellsFeature (face : FaceValue) (tag : ℕ) (has : Bool) : Type 0 where
   pub font : hb_font_t
   pub of_face : font_value font ≡ face.font
   pub told : has ≡ has_feature font (record { 0 = tag })
 
--- the same of the font of a handle, where there is none if it holds no font
+-- the same of a handle; one without a font has no feature
 abbrev pub TellsFeatureOf : Option Held → ℕ → Bool → Type 0
 TellsFeatureOf None tag has = has ≡ false
 TellsFeatureOf (Some held) tag has = TellsFeature held.face tag has
@@ -54,11 +58,21 @@ abbrev pub told_fault : Option Fault → Result FaultRecord Failure
 told_fault None = Err NotThere
 told_fault (Some fault) = Ok (fault_record fault)
 
+-- the fault of a file's directory, where it has one
+abbrev pub directory_fault : Result Directory Fault → Result FaultRecord Failure
+directory_fault (Ok directory) = Err NotThere
+directory_fault (Err fault) = Ok (fault_record fault)
+
+-- a feature as C is told of it, where a text is one
+abbrev pub feature_told : Result Feature FeatureError → Result FeatureRecord Failure
+feature_told (Ok feature) = Ok (feature_record feature)
+feature_told (Err error) = Err BadFeature
+
 -- the fault with a number of the font of a handle
 abbrev pub fault_told : ℕ → Option Held → Result FaultRecord Failure
 fault_told number = asked (Err NoFont) (λ face. told_fault (slice_get face.faults number))
 
--- what a place has then: what is told, or else what it had
+-- a place after a call: what is told, else what it had
 abbrev pub told_or : {X : Type 0} → X → Result X Failure → X
 told_or before (Ok told) = told
 told_or before (Err failure) = before

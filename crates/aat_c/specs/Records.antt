@@ -49,6 +49,7 @@ text_glyph_of g = record {
 abbrev pub feature_of : FeatureRecord → Feature
 feature_of f = record { tag = record { 0 = f.tag }; value = f.value; start = f.start; end = f.end }
 
+-- a feature for C
 abbrev pub feature_record : Feature → FeatureRecord
 feature_record f = record { tag = f.tag.0; value = f.value; start = f.start; end = f.end }
 

@@ -17,7 +17,7 @@ use Rattle.aat_c.specs.declared.records.OptionsRecord.{OptionsRecord}
 abbrev pub IsPut : List ShapedGlyph → List GlyphRecord → List GlyphRecord → ℕ → Type 0
 IsPut drawn room put count = (put ≡ filled (map glyph_record drawn) room) × (count ≡ length drawn)
 
--- what a typesetter of a face draws by the options and features that are told, with glyphs by a definition
+-- room has what a typesetter of the face draws (`draws`) by the options and features that are told
 pub record IsDrawn (draws : TypesetterValue → TextOptions → List ShapedGlyph) (face : FaceValue) (told : OptionsRecord)
     (unit : ClusterUnit) (features : List Feature) (room put : List GlyphRecord) (count : ℕ) : Type 0 where
   pub setter : TypesetterValue

@@ -20,7 +20,7 @@ pub(crate) enum Failure {
     BadFont,
     /// 4: the text is none of its encoding.
     BadText,
-    /// 5: the text is longer than clusters can count.
+    /// 5: the text has more than 4,294,967,295 bytes in UTF-8.
     TextTooLong,
     /// 6: a feature `aalt` has a value above 65535.
     AlternateTooLarge,
@@ -54,7 +54,7 @@ impl Failure {
     }
 }
 
-/// What a refusal of the typesetter is. It has no `BufferFailed`.
+/// What a refusal of the typesetter is. The typesetter never refuses as `BufferFailed`.
 pub(crate) fn failure_of_typeset(error: TypesetError) -> Failure
     ensures { result ≡ failure_of_typeset error }
 {

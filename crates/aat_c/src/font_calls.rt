@@ -1,8 +1,9 @@
 //! What C asks of a font.
 ghost use Rattle.std.specs.Prelude.{◌≡◌, ◌≢◌, IfErr, IfOk, None, Ok, length, slice_get};
 ghost use Rattle.aat_c.specs.Failures.{number_of_outcome};
-ghost use Rattle.aat_c.specs.Handles.{EndsReading, HoldsFile, RefusesFile, TellsFeature, TellsFeatureOf, asked, fault_told, glyph_in, held_in, told_fault, told_or};
+ghost use Rattle.aat_c.specs.Handles.{EndsReading, HoldsFile, RefusesFile, TellsFeature, TellsFeatureOf, asked, directory_fault, fault_told, glyph_in, held_in, told_fault, told_or};
 ghost use Rattle.aat_face.specs.Faces.{face_of};
+ghost use Rattle.aat_read_sfnt.specs.Directory.{directory_of};
 
 use crate::failure::{DONE, Failure};
 use crate::handle::Handle;
@@ -192,7 +193,8 @@ fn put_fault(outcome: Result<FaultRecord, Failure>, fault: &mut FaultRecord) -> 
     }
 }
 
-/// Puts a fault of the font's tables, by its number from 0. Refused as 1, `NoFont`, and as 10, `NotThere`.
+/// Puts a fault of the font's tables, by its number from 0. Refused as 1, `NoFont`, where there is no font, and as 10,
+/// `NotThere`, where there are not so many. `fault` stays then.
 #[unsafe(no_mangle)]
 pub extern "C" fn aat_font_fault(
     alloc: Global,
@@ -215,7 +217,9 @@ pub extern "C" fn aat_font_fault(
 }
 
 /// The fault of a file's directory.
-fn fault_of_file(bytes: &[u8], index: u32) -> Result<FaultRecord, Failure> {
+fn fault_of_file(bytes: &[u8], index: u32) -> Result<FaultRecord, Failure>
+    ensures { result ≡ directory_fault (directory_of bytes.now index) }
+{
     match FontFile::read(bytes, index) {
         Ok(_) => Err(Failure::NotThere),
         Err(fault) => Ok(FaultRecord::of(fault)),
@@ -223,9 +227,12 @@ fn fault_of_file(bytes: &[u8], index: u32) -> Result<FaultRecord, Failure> {
 }
 
 /// Puts the fault of a file's directory, for which `aat_font_read` refuses it. Refused as 10, `NotThere`, where it has
-/// none.
+/// none. `fault` stays then.
 #[unsafe(no_mangle)]
-pub extern "C" fn aat_file_fault(bytes: &[u8], index: u32, fault: &mut FaultRecord) -> u32 {
+pub extern "C" fn aat_file_fault(bytes: &[u8], index: u32, fault: &mut FaultRecord) -> u32
+    ensures number { result ≡ number_of_outcome (directory_fault (directory_of bytes.now index)) }
+    ensures put { fault.new ≡ told_or fault.old (directory_fault (directory_of bytes.now index)) }
+{
     put_fault(fault_of_file(bytes, index), fault)
 }
 
@@ -273,7 +280,7 @@ fn put_setting_name(
 }
 
 /// Puts the English text of a name into room, as UTF-8, and tells how many bytes it has. Refused as 1, `NoFont`, as 10,
-/// `NotThere`, and as 2, `OutOfMemory`.
+/// `NotThere`, and as 2, `OutOfMemory`. The count is 0 then.
 #[unsafe(no_mangle)]
 pub extern "C" fn aat_font_name(
     alloc: Global,

@@ -31,7 +31,8 @@ pub(crate) fn finish(outcome: Result<usize, Failure>, count: &mut usize) -> u32
     }
 }
 
-/// Shapes a text of UTF-8. Clusters count bytes.
+/// Shapes a text of UTF-8. Clusters count bytes. Refused as 1, `NoFont`, 2, `OutOfMemory`, 4, `BadText`, 5, `TextTooLong`, 6,
+/// `AlternateTooLarge`, 7, `LineTooLong`, and 9, `BadOption`. The count is 0 then.
 #[unsafe(no_mangle)]
 pub extern "C" fn aat_shape_utf8(
     alloc: Global,
@@ -59,7 +60,7 @@ pub extern "C" fn aat_shape_utf8(
     finish(outcome, count)
 }
 
-/// Shapes a text of UTF-16. Clusters count units of 16 bits.
+/// Shapes a text of UTF-16. Clusters count units of 16 bits. Refused as `aat_shape_utf8` is.
 #[unsafe(no_mangle)]
 pub extern "C" fn aat_shape_utf16(
     alloc: Global,
@@ -85,7 +86,7 @@ pub extern "C" fn aat_shape_utf16(
     finish(outcome, count)
 }
 
-/// Shapes a text of UTF-32. Clusters count characters.
+/// Shapes a text of UTF-32. Clusters count characters. Refused as `aat_shape_utf8` is.
 #[unsafe(no_mangle)]
 pub extern "C" fn aat_shape_utf32(
     alloc: Global,
@@ -113,7 +114,8 @@ pub extern "C" fn aat_shape_utf32(
     finish(outcome, count)
 }
 
-/// Shapes a text of glyphs with clusters of their own. Script and level of the options do not count.
+/// Shapes a text of glyphs with clusters of their own. Script and level of the options do not count. Refused as
+/// `aat_shape_utf8` is, but not as 4 or 5.
 #[unsafe(no_mangle)]
 pub extern "C" fn aat_shape_glyphs(
     alloc: Global,
@@ -165,7 +167,8 @@ fn finish_lines(
     }
 }
 
-/// Breaks a text of UTF-8 into lines of a width, in units of the font. Clusters count bytes.
+/// Breaks a text of UTF-8 into lines of a width, in units of the font. Clusters count bytes. Refused as `aat_shape_utf8`
+/// is: both counts are 0 then.
 #[unsafe(no_mangle)]
 pub extern "C" fn aat_lines_utf8(
     alloc: Global,

@@ -1,5 +1,9 @@
 //! What C reads of texts, and the texts of numbers.
 ghost use Rattle.std.specs.Prelude.{◌≡◌};
+ghost use Rattle.std.specs.Str.{IsUtf8};
+ghost use Rattle.aat_layout.specs.features.Reading.{feature_of};
+ghost use Rattle.aat_c.specs.Failures.{number_of_outcome};
+ghost use Rattle.aat_c.specs.Handles.{feature_told, told_or};
 
 use crate::failure::{DONE, Failure, fault_text, status_text};
 use crate::names::put_bytes;
@@ -9,7 +13,7 @@ use aat_layout::parse_feature;
 /// The version: its major number counts 65536, its minor one 256.
 const VERSION: u32 = 0x0001_0000;
 
-/// The version of the library.
+/// The version of the library: 65536 for its major number, 256 for its minor one.
 #[unsafe(no_mangle)]
 pub extern "C" fn aat_version() -> u32
     ensures { result ≡ VERSION }
@@ -20,7 +24,12 @@ pub extern "C" fn aat_version() -> u32
 /// Puts the feature that a text is. Refused as 4, `BadText`, where it is no UTF-8, and as 8, `BadFeature`, where it is
 /// no feature. The feature then stays as it was.
 #[unsafe(no_mangle)]
-pub extern "C" fn aat_feature_from_string(text: &[u8], feature: &mut FeatureRecord) -> u32 {
+pub extern "C" fn aat_feature_from_string(text: &[u8], feature: &mut FeatureRecord) -> u32
+    ensures number { IsUtf8 text.now → result ≡ number_of_outcome (feature_told (feature_of text.now)) }
+    ensures put { IsUtf8 text.now → feature.new ≡ told_or feature.old (feature_told (feature_of text.now)) }
+    ensures bad_text { ¬ (IsUtf8 text.now) → result ≡ 4 }
+    ensures stays { ¬ (IsUtf8 text.now) → feature.new ≡ feature.old }
+{
     let Ok(text) = std::str::from_utf8(text) else {
         return Failure::BadText.number();
     };

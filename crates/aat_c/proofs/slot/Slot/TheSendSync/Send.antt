@@ -1,6 +1,5 @@
 -- A slot may cross threads where what it holds may.
 use base.Fraction.{full_share}
-use base.Fml.{Fml}
 use base.Shift.{Keyless}
 use mir.Raw.{raw}
 use denote.Exit.{Exit, unchanged, leaves, hidden, under}
