@@ -18,6 +18,7 @@
  * What the caller has to see to:
  *
  * - No pointer is NULL, also where its length is 0: AAT_NO_FEATURES, AAT_NO_GLYPHS and AAT_NO_LINES are there for that.
+ *   malloc(0) and std::vector's data() may be NULL.
  * - What a pointer with a length points to is there for all of the length. What a call writes overlaps with nothing else
  *   that it is given.
  * - A font is used by one call at a time. It may move between threads, if what one thread did to it happens before what
@@ -52,14 +53,14 @@ extern "C" {
  * @AAT_BAD_FONT: the directory of the file has a fault, which aat_file_fault() tells
  * @AAT_BAD_TEXT: the text is not of its encoding
  * @AAT_TEXT_TOO_LONG: the text has more than 4,294,967,295 bytes in UTF-8
- * @AAT_ALTERNATE_TOO_LARGE: a feature `aalt` has a value above 65535
+ * @AAT_ALTERNATE_TOO_LARGE: a feature `aalt` has a value above 65535, and the font has character alternatives
  * @AAT_LINE_TOO_LONG: the text has more than 2^24 glyphs, or substitution makes the line too long
  * @AAT_BAD_FEATURE: the text is no feature
  * @AAT_BAD_OPTION: a number of the options stands for nothing
  * @AAT_NOT_THERE: what is asked for is not there
  *
- * How a call ends. A call that is refused writes nothing but its counts, which are 0 then, and leaves the font as it was;
- * aat_font_read() leaves no font.
+ * How a call ends. A call that is refused writes nothing but its counts, which are 0 then, and leaves the font as it
+ * was; aat_font_read() leaves no font.
  */
 typedef enum {
   AAT_OK = 0,
@@ -106,7 +107,8 @@ typedef enum { AAT_CLUSTER_LEVEL_GRAPHEMES = 0, AAT_CLUSTER_LEVEL_CHARACTERS = 1
  * aat_font_t:
  *
  * A font, or none. It keeps room for glyphs between texts; what else a call takes it gives back. Make it AAT_FONT_NONE
- * (all zeros), and give it back by aat_font_free(). Do not look into it, and never use two copies of it.
+ * (all zeros) where it is declared, and give it back by aat_font_free(). Do not look into it, and never use two copies
+ * of it.
  */
 typedef struct {
   struct {
@@ -186,8 +188,12 @@ typedef struct {
 #define AAT_NO_LINES AAT_NONE_OF(aat_line_t)
 
 /**
- * The text may be broken before it: its glyphs in two parts, shaped alike, look as they do here. A part of the characters
- * may have another script: tell the script. It is no end of a line.
+ * The text may be broken before it: its glyphs in two parts, shaped alike, look as they do here. A part of the
+ * characters may have another script: tell the script. It is no end of a line.
+ *
+ * It is the opposite of HB_GLYPH_FLAG_UNSAFE_TO_BREAK, but only on the first glyph of a cluster in the array, and never
+ * on the first one of all. Where the text runs from right to left, the place in the text is the cluster of the glyph
+ * before it in the array. None is set where a text runs against the direction of its script.
  */
 #define AAT_GLYPH_FLAG_MAY_BREAK_BEFORE 1u
 /** Its character is ignorable. */
@@ -226,7 +232,7 @@ typedef struct {
 
 /**
  * aat_fault_t:
- * @table: the tag of the table
+ * @table: the tag of the table, `sfnt` for the directory of the file
  * @kind: the number of its kind, of which aat_fault_text() has the English
  * @place: where, in bytes from the start of the table
  *
@@ -253,7 +259,8 @@ uint32_t aat_version(void);
  *
  * Puts what a status says into room, in English and without an end mark, as much as there is room for.
  *
- * Return value: how many bytes it has, 0 for a number that is none of a status.
+ * Return value: how many bytes it has, which may be more than there is room for; 0 for a number that is none of a
+ * status.
  */
 size_t aat_status_text(uint32_t status, uint8_t *out, size_t out_size) AAT_NONNULL;
 
@@ -265,7 +272,7 @@ size_t aat_status_text(uint32_t status, uint8_t *out, size_t out_size) AAT_NONNU
  *
  * Puts what a kind of fault says into room, as aat_status_text().
  *
- * Return value: how many bytes it has, 0 for a number that is none of a kind.
+ * Return value: how many bytes it has, which may be more than there is room for; 0 for a number that is none of a kind.
  */
 size_t aat_fault_text(uint32_t kind, uint8_t *out, size_t out_size) AAT_NONNULL;
 
@@ -320,7 +327,7 @@ uint32_t aat_font_glyph(aat_font_t *font, uint32_t character) AAT_NONNULL;
  * @font: a handle
  * @tag: the tag of a feature
  *
- * Return value: whether the font has it, false where there is no font.
+ * Return value: whether the font has it: `kern` by a table of kerning, others by `feat`; false where there is no font.
  */
 bool aat_font_has_feature(aat_font_t *font, uint32_t tag) AAT_NONNULL;
 
@@ -414,10 +421,10 @@ uint32_t aat_feature_from_string(const uint8_t *text, size_t length, aat_feature
  * @length: its length in bytes
  * @out: room for glyphs
  * @out_size: how many
- * @count: (out) how many glyphs are drawn; where there is less room, the first ones stand in it
+ * @count: (out) how many glyphs are drawn; where there is less room, the first ones stand in it, which is no refusal
  *
- * Shapes a text as one line. Glyphs come in drawing order: from left to right, or from top to bottom. Clusters, also those
- * of features, count bytes.
+ * Shapes a text as one line. Glyphs come in drawing order: from left to right, or from top to bottom. Clusters, also
+ * those of features, count bytes.
  *
  * Return value: AAT_OK, or AAT_NO_FONT, AAT_OUT_OF_MEMORY, AAT_BAD_TEXT, AAT_TEXT_TOO_LONG, AAT_ALTERNATE_TOO_LARGE,
  * AAT_LINE_TOO_LONG or AAT_BAD_OPTION
@@ -457,22 +464,24 @@ uint32_t aat_shape_glyphs(aat_font_t *font, const aat_options_t *options, const 
 /**
  * aat_lines_utf8:
  * @font: a handle
- * @options: how the text is shaped
+ * @options: how the text is shaped; the direction does not count
  * @features: features over ranges of clusters
  * @feature_count: how many
  * @text: a text of UTF-8
  * @length: its length in bytes
- * @width: the width of the lines
+ * @width: the width of the lines, in units of the font
  * @out: room for glyphs, those of a line behind those of the line before it
  * @out_size: how many
- * @count: (out) how many glyphs are drawn
+ * @count: (out) how many glyphs are drawn, also where there is less room
  * @lines: room for lines
  * @line_room: how many
- * @line_count: (out) how many lines there are
+ * @line_count: (out) how many lines there are, also where there is less room
  *
- * Shapes a text in lines of a width. They end by the main rules of Unicode's line breaking; words of Southeast Asia are not
- * found. They run in the direction of their script. Clusters count bytes. The spaces at the end of a line hang over it, and
- * ignorable glyphs count for no width. Where it is refused both counts are 0.
+ * Shapes a text in lines of a width. They end by the main rules of Unicode's line breaking; words of Southeast Asia are
+ * not found. They run in the direction of their script. Clusters count bytes. The spaces at the end of a line hang over
+ * it, and ignorable glyphs count for no width. A line without a place to end is longer than the width. The spaces and
+ * the newline of a line belong to it and have glyphs, and an empty text has no line. Where it is refused both counts
+ * are 0.
  *
  * Return value: as of aat_shape_utf8()
  */
