@@ -45,7 +45,7 @@ text_glyph_of g = record {
   kind = Other;
 }
 
--- the feature that one of C stands for, and the other way round
+-- the feature that one of C stands for
 abbrev pub feature_of : FeatureRecord → Feature
 feature_of f = record { tag = record { 0 = f.tag }; value = f.value; start = f.start; end = f.end }
 
