@@ -23,6 +23,9 @@
  *   that it is given.
  * - A font is used by one call at a time. It may move between threads, if what one thread did to it happens before what
  *   the next one does.
+ *
+ * A font keeps the memory in which it shapes: a text of UTF-8 without features that is no longer than the one before it
+ * mostly asks for none.
  */
 #ifndef AAT_H
 #define AAT_H
@@ -426,8 +429,9 @@ uint32_t aat_feature_from_string(const uint8_t *text, size_t length, aat_feature
  * Shapes a text as one line. Glyphs come in drawing order: from left to right, or from top to bottom. Clusters, also
  * those of features, count bytes.
  *
- * Return value: AAT_OK, or AAT_NO_FONT, AAT_OUT_OF_MEMORY, AAT_BAD_TEXT, AAT_TEXT_TOO_LONG, AAT_ALTERNATE_TOO_LARGE,
- * AAT_LINE_TOO_LONG or AAT_BAD_OPTION
+ * Return value: AAT_OK, or the first that applies of AAT_NO_FONT, AAT_BAD_TEXT, AAT_BAD_OPTION, and then
+ * AAT_TEXT_TOO_LONG, AAT_ALTERNATE_TOO_LARGE or AAT_LINE_TOO_LONG. AAT_OUT_OF_MEMORY may come in place of any but
+ * AAT_NO_FONT and, of UTF-8, AAT_BAD_TEXT.
  */
 uint32_t aat_shape_utf8(aat_font_t *font, const aat_options_t *options, const aat_feature_t *features,
                         size_t feature_count, const uint8_t *text, size_t length, aat_glyph_t *out, size_t out_size,

@@ -14,6 +14,7 @@ bytes are built here, and stand in the place of those that were written.
 - cmap_N.ttf: the characters of noncontextual.ttf in format N, of 0, 4, 6 and 12. cmap_symbol.ttf: from U+F000 on, for
   symbols. cmap_macintosh.ttf: for the Macintosh, which has U+00C4, U+20AC and U+F8FF too.
 - kerx_4_points.ttf, kerx_4_coordinates.ttf: the machine of kerx_4.ttf with the two other types of actions.
+- charstrings.ttf, charstrings_cid.ttf: outlines.ttf with other outlines, in `CFF `; the second one with two Font DICTs.
 - steps_1100.ttf: steps.ttf with a chain of 1,100 subtables. That of the number N has glyph N + 2 in the place of N + 1,
   but each seventh one inserts it behind that glyph.
 """
@@ -59,7 +60,8 @@ def tables_of(font):
 def font_of(tables):
     """The font of tables. The sums of the directory stay 0, as the writers leave them."""
     place = 12 + 16 * len(tables)
-    head, body = longs(0x00010000) + words(len(tables), 0, 0, 0), b""
+    version = b"OTTO" if b"CFF " in tables else longs(0x00010000)
+    head, body = version + words(len(tables), 0, 0, 0), b""
     for tag, table in sorted(tables.items()):
         head += tag + longs(0, place + len(body), len(table))
         body += table + bytes(-len(table) % 4)
@@ -271,6 +273,115 @@ def with_steps(font, count):
     return with_table(font, b"morx", words(2, 0) + longs(1) + chain)
 
 
+# Charstrings
+
+OPERATORS = {
+    "hstem": 1, "vstem": 3, "vmoveto": 4, "rlineto": 5, "hlineto": 6, "vlineto": 7, "rrcurveto": 8, "callsubr": 10,
+    "return": 11, "endchar": 14, "hstemhm": 18, "hintmask": 19, "cntrmask": 20, "rmoveto": 21, "hmoveto": 22,
+    "vstemhm": 23, "rcurveline": 24, "rlinecurve": 25, "vvcurveto": 26, "hhcurveto": 27, "callgsubr": 29,
+    "vhcurveto": 30, "hvcurveto": 31, "hflex": 3106, "flex": 3107, "hflex1": 3108, "flex1": 3109,
+}
+CHARSET, CHAR_STRINGS, PRIVATE, SUBRS, ROS, FD_ARRAY, FD_SELECT = 15, 17, 18, 19, 3102, 3108, 3109
+
+
+def code(operator):
+    """The bytes of an operator: one above 255 stands behind 12."""
+    return bytes([operator]) if operator < 256 else words(operator)
+
+
+def token(word):
+    """The bytes of a word of a charstring: an operator, bytes of a mask, or a number in the shortest form."""
+    if word in OPERATORS:
+        return code(OPERATORS[word])
+    if word.startswith("0x"):
+        return bytes.fromhex(word[2:])
+    number = float(word)
+    if number != int(number):
+        return b"\xFF" + longs(int(number * 65536))
+    number = int(number)
+    if abs(number) <= 107:
+        return bytes([number + 139])
+    if abs(number) <= 1131:
+        return words((abs(number) - 108) + (0xF700 if number > 0 else 0xFB00))
+    return b"\x1C" + words(number)
+
+
+def charstring(text):
+    return b"".join(map(token, text.split()))
+
+
+def index(objects):
+    """An INDEX with offsets of 16 bits."""
+    if not objects:
+        return words(0)
+    ends = [1 + sum(map(len, objects[:count])) for count in range(len(objects) + 1)]
+    return words(len(objects)) + b"\2" + words(*ends) + b"".join(objects)
+
+
+def dictionary(entries):
+    """A DICT of keys with numbers, which have five bytes each."""
+    return b"".join(b"".join(b"\x1D" + longs(number) for number in numbers) + code(key) for key, numbers in entries)
+
+
+def private(locals_, start):
+    """A Private DICT that begins there with its local subroutines behind it, and the entry that names it."""
+    size = len(dictionary([(SUBRS, [0])]))
+    return dictionary([(SUBRS, [size])]) + index(locals_), (PRIVATE, [size, start])
+
+
+def cff(glyphs, globals_, fonts, ranges=None):
+    """The table of the texts of charstrings and of global subroutines, and for each Font DICT those of its local ones.
+    In a CID font ranges of glyphs, by their first ones, have the Font DICTs."""
+    glyphs, globals_ = list(map(charstring, glyphs)), list(map(charstring, globals_))
+    strings = [b"Adobe", b"Identity"] if ranges else []
+
+    def laid_out(places):
+        """The table whose parts stand at these places, and the places where they do."""
+        top = [(ROS, [391, 392, 0])] if ranges else []
+        top += [(CHAR_STRINGS, places[:1])]
+        privates = [private(list(map(charstring, it)), place) for it, place in zip(fonts, places[4:])]
+        if ranges:
+            top += [(CHARSET, places[1:2]), (FD_SELECT, places[2:3]), (FD_ARRAY, places[3:4])]
+        else:
+            top += [(CHARSET, [0]), privates[0][1]]
+        parts = [index(glyphs)]
+        parts.append(b"\2" + words(1, len(glyphs) - 2) if ranges else b"")
+        spans = b"".join(words(first) + bytes([number]) for number, first in enumerate(ranges or []))
+        parts.append(b"\3" + words(len(ranges)) + spans + words(len(glyphs)) if ranges else b"")
+        parts.append(index([dictionary([entry]) for _, entry in privates]) if ranges else b"")
+        parts += [it for it, _ in privates]
+        head = b"\1\0\4\2" + index([b"Test"]) + index([dictionary(top)]) + index(strings) + index(globals_)
+        return head + b"".join(parts), [len(head + b"".join(parts[:part])) for part in range(len(parts))]
+
+    _, places = laid_out([0] * (4 + len(fonts)))
+    return laid_out(places)[0]
+
+
+# Lines with hints; curves by each operator; subroutines within each other, and parts of units; flexes.
+GLYPHS = [
+    "endchar",
+    "120 0 80 540 80 hstemhm 100 90 320 90 hintmask 0xF0 100 hmoveto 500 hlineto 700 vlineto -500 hlineto"
+    " cntrmask 0xA0 90 -620 rmoveto 540 320 -540 vlineto endchar",
+    "30 350 rmoveto -110 60 -90 120 vhcurveto 80 50 40 70 20 hvcurveto 10 -20 30 -40 50 60 70 80 rcurveline"
+    " -30 20 -40 50 10 60 rlinecurve 5 -40 -60 20 -50 hhcurveto 3 20 -30 10 40 vvcurveto"
+    " -10 20 -30 40 -50 60 rrcurveto 0 -300 rmoveto 40 10 20 30 -40 -10 -20 -30 hvcurveto endchar",
+    "1 4 hstem 50.25 -20.75 rmoveto -107 callsubr 200.5 -107 callgsubr endchar",
+    "100 vmoveto 50 60 70 80 90 100 -110 hflex 10 20 30 40 50 60 -20 -10 15 -35 45 25 50 flex"
+    " 10 5 20 30 40 -50 -60 7 -70 hflex1 20 30 -10 40 15 -50 10 20 300 -60 45 flex1 endchar",
+]
+GLOBALS = ["100.125 hlineto return"]
+LOCALS = ["300 hlineto -106 callsubr return", "0.25 100 -50.5 150 25.125 75.375 rrcurveto return"]
+# Each Font DICT has another first subroutine.
+CID_GLYPHS = ["endchar"] + ["100 50 rmoveto -107 callsubr endchar"] * 4
+CID_LOCALS = [["200 300 -200 hlineto return"], ["200 hlineto -100 400 rlineto return"]]
+
+
+def with_charstrings(font, table):
+    """A font with this table in the place of its outlines."""
+    tables = {tag: it for tag, it in tables_of(font).items() if tag not in (b"glyf", b"loca")}
+    return font_of({**tables, b"CFF ": table})
+
+
 def variants(fonts):
     """The fonts with tables in other formats, by their names."""
     made, plain = {}, fonts["noncontextual"]
@@ -291,6 +402,8 @@ def variants(fonts):
     made["kern_old_2"] = with_table(classes, b"kern", old_kern(arrays, 2))
     made["kern_3"] = with_table(classes, b"kern", kern_3(arrays, count))
     made["steps_1100"] = with_steps(fonts["steps"], 1100)
+    made["charstrings"] = with_charstrings(fonts["outlines"], cff(GLYPHS, GLOBALS, [LOCALS]))
+    made["charstrings_cid"] = with_charstrings(fonts["outlines"], cff(CID_GLYPHS, [], CID_LOCALS, [0, 3]))
     made["kerx_4_points"] = with_action_type(fonts["kerx_4"], 0)
     made["kerx_4_coordinates"] = with_action_type(fonts["kerx_4"], 2)
     return made

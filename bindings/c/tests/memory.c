@@ -1,4 +1,5 @@
-/* Each request for memory refused in turn, in reading and in shaping: nothing is lost, and the next call answers. */
+/* Each request for memory refused in turn, in reading and in shaping: nothing is lost, and the next call answers. The
+   second word asks for none. */
 #include "common.h"
 
 struct taken {
@@ -47,13 +48,19 @@ int main(int count, char **words) {
   asked = 0;
   CHECK(shape(&font, &told) == AAT_OK && told > 0);
   long shaping = asked;
+  asked = 0;
+  CHECK(shape(&font, &glyphs) == AAT_OK && glyphs == told);
+  CHECK(asked == 0);
   for (long turn = 1; turn <= shaping; turn++) {
+    aat_font_t fresh = AAT_FONT_NONE;
+    CHECK(aat_font_read(&fresh, bytes, length, 0) == AAT_OK);
     asked = 0;
     refused = turn;
-    uint32_t status = shape(&font, &glyphs);
+    uint32_t status = shape(&fresh, &glyphs);
     refused = -1;
     CHECK(status == AAT_OK || (status == AAT_OUT_OF_MEMORY && glyphs == 0));
-    CHECK(shape(&font, &glyphs) == AAT_OK && glyphs == told);
+    CHECK(shape(&fresh, &glyphs) == AAT_OK && glyphs == told);
+    aat_font_free(&fresh);
   }
   aat_font_free(&font);
   CHECK(live == 0);
@@ -68,6 +75,6 @@ int main(int count, char **words) {
     CHECK(live == 0);
   }
   free(bytes);
-  printf("memory: ok, %ld requests in reading, %ld in shaping a word\n", reading, shaping);
+  printf("memory: ok, %ld requests in reading, %ld in shaping a first word\n", reading, shaping);
   return 0;
 }

@@ -2,7 +2,7 @@
 ghost use Rattle.std.specs.Prelude.{◌≡◌, ◌+◌, ◌-◌, ◌<◌, ◌≤◌, ◌↔◌, ◌++◌, drop, length, map, nat_lt, slice_get, slice_range, is_some, IsTrue, IsOk, OnOk, OnErr, IfErr, IfSome, IsSome, IsErrOf, All, vec_len};
 ghost use Rattle.std.specs.Bool.{OnTrue};
 ghost use Rattle.std.specs.Borrow.{sem};
-ghost use Rattle.aat_buffer.specs.Buffer.{Buffer, empty_buffer, added, failed, with_cursor, without_positions, skipped, replaced, reversed, with_zero_positions, position_list, position_at, output, glyph_at, with_info, Is16Bit, with_direction, with_cluster_level, with_flags, with_scratch_flags, with_max_ops, with_positions, with_glyphs_at, with_glyphs_in, with_rewritten};
+ghost use Rattle.aat_buffer.specs.Buffer.{Buffer, empty_buffer, added, failed, with_cursor, with_line, without_positions, skipped, replaced, reversed, with_zero_positions, position_list, position_at, output, glyph_at, with_info, Is16Bit, with_direction, with_cluster_level, with_flags, with_scratch_flags, with_max_ops, with_positions, with_glyphs_at, with_glyphs_in, with_rewritten};
 ghost use Rattle.aat_buffer.specs.Marks.{marked_above, on_line_span, with_mask_bits};
 ghost use Rattle.aat_buffer.specs.inside.Changes.{ChangesBy};
 ghost use Rattle.aat_buffer.specs.inside.Carried.{items_of};
@@ -75,6 +75,23 @@ impl<A: Allocator + Copy> hb_buffer_t<A> {
             max_len,
             successful: true,
         }
+    }
+
+    /// A line of these glyphs, with the cursor at its front, and all else as [`hb_buffer_t::new`] has it. It takes no
+    /// memory but theirs. There have to be at most `max_len` of them.
+    pub fn with_line(
+        alloc: A,
+        line: Vec<hb_glyph_info_t, A>,
+        max_len: usize,
+        max_ops: i32,
+    ) -> hb_buffer_t<A>
+        requires most { max_len ≤ 0x3FFFFFFF }
+        requires fits { length line.items ≤ max_len }
+        ensures { result ≡ with_line (empty_buffer max_len max_ops) line.items }
+    {
+        let mut buffer = hb_buffer_t::new(alloc, max_len, max_ops);
+        buffer.line = GapLine::of(line);
+        buffer
     }
 
     /// How many glyphs the line has.

@@ -49,6 +49,17 @@ impl<A: Allocator + Copy> GapLine<A> {
         }
     }
 
+    /// The line of these glyphs, with the cursor at its front. It takes no memory.
+    pub(crate) fn of(glyphs: Vec<hb_glyph_info_t, A>) -> GapLine<A>
+        ensures { result ≡ record { glyphs = glyphs.items; cursor = 0 } }
+    {
+        GapLine {
+            cells: glyphs,
+            gap_start: 0,
+            gap_end: 0,
+        }
+    }
+
     /// How many glyphs the line has.
     pub(crate) fn len(&self) -> usize
         ensures { result ≡ length self.now.glyphs }

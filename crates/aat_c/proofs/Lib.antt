@@ -1,3 +1,3 @@
 pub mod AsBox
-pub mod Encoded
-pub mod Filled
+pub mod Ends
+pub mod HeldCrosses

@@ -1,5 +1,5 @@
 -- What handles hold.
-use Rattle.std.specs.Prelude.{◌≡◌, ◌⊎◌, ◌&&◌, ◌||◌, ℕ, Bool, false, List, Option, None, Some, Result, Ok, Err, IsOk, IsErr, nat_lt, option_map, slice_get, if◌then◌else◌}
+use Rattle.std.specs.Prelude.{◌≡◌, ◌⊎◌, ℕ, Bool, false, List, Option, None, Some, Result, Ok, Err, IsOk, IsErr, option_map, slice_get, if◌then◌else◌}
 use Rattle.aat_bytes.specs.declared.error.Fault.{Fault}
 use Rattle.aat_face.specs.Faces.{FaceValue, face_of, font_value, glyph_of_character}
 use Rattle.aat_font.specs.declared.face.hb_font_t.{hb_font_t}
@@ -8,13 +8,14 @@ use Rattle.aat_layout.specs.declared.features.error.FeatureError.{FeatureError}
 use Rattle.aat_read_sfnt.specs.Directory.{Directory}
 use Rattle.aat_lookup.specs.declared.glyph_id.GlyphId.{GlyphId}
 use Rattle.aat_shaper.specs.Named.{has_feature}
-use Rattle.aat_c.specs.declared.failure.Failure.{Failure}
-use Rattle.aat_c.specs.declared.failure.Failure.TheVariants.{NoFont, OutOfMemory, BadFont, BadText, TextTooLong, AlternateTooLarge, LineTooLong, BadFeature, BadOption, NotThere}
+use Rattle.aat_records.specs.Decoded.{is_character}
+use Rattle.aat_records.specs.Records.{fault_record, feature_record}
+use Rattle.aat_records.specs.declared.failure.Failure.{Failure}
+use Rattle.aat_records.specs.declared.failure.Failure.TheVariants.{NoFont, OutOfMemory, BadFont, BadText, TextTooLong, AlternateTooLarge, LineTooLong, BadFeature, BadOption, NotThere}
+use Rattle.aat_records.specs.declared.records.FaultRecord.{FaultRecord}
+use Rattle.aat_records.specs.declared.records.FeatureRecord.{FeatureRecord}
 use Rattle.aat_c.specs.declared.handle.Handle.{Handle}
 use Rattle.aat_c.specs.declared.held.Held.{Held}
-use Rattle.aat_c.specs.declared.records.FaultRecord.{FaultRecord}
-use Rattle.aat_c.specs.declared.records.FeatureRecord.{FeatureRecord}
-use Rattle.aat_c.specs.Records.{fault_record, feature_record}
 
 -- the font of a handle, if it holds one
 abbrev pub held_in : Handle → Option Held
@@ -33,10 +34,6 @@ asked none ask (Some held) = ask held.face
 abbrev pub number_or_zero : Option GlyphId → ℕ
 number_or_zero None = 0
 number_or_zero (Some glyph) = glyph.0
-
--- whether a number is that of a character: at most 0x10FFFF, and of no surrogate
-abbrev pub is_character : ℕ → Bool
-is_character number = nat_lt number 0xD800 || nat_lt 0xDFFF number && nat_lt number 0x110000
 
 -- the number of the glyph of a character, 0 where there is none, and of what is no character
 abbrev pub glyph_in : ℕ → FaceValue → ℕ

@@ -1,6 +1,5 @@
 pub mod Handles
-pub mod Options
-pub mod Records
 pub mod Slots
-pub mod Failures
+pub mod Names
+pub mod Refused
 pub mod Shaped

@@ -1,20 +1,21 @@
 //! What C asks of a font.
-ghost use Rattle.std.specs.Prelude.{◌≡◌, ◌≢◌, IfErr, IfOk, None, Ok, length, slice_get};
-ghost use Rattle.aat_c.specs.Failures.{number_of_outcome};
+ghost use Rattle.std.specs.Prelude.{◌≡◌, ◌≢◌, ◌<◌, ◌≤◌, IfErr, IfOk, OnOk, None, Ok, length, slice_get};
+ghost use Rattle.aat_records.specs.Failures.{number_of_outcome};
+ghost use Rattle.aat_records.specs.Names.{PutsName, by_short};
+ghost use Rattle.aat_c.specs.Names.{IsNamePut, feature_name_told, name_told, setting_by_shorts, setting_name_told};
+ghost use Rattle.aat_c.specs.Refused.{EndsName};
 ghost use Rattle.aat_c.specs.Handles.{EndsReading, HoldsFile, RefusesFile, TellsFeature, TellsFeatureOf, asked, directory_fault, fault_told, glyph_in, held_in, told_fault, told_or};
-ghost use Rattle.aat_face.specs.Faces.{face_of};
+ghost use Rattle.aat_face.specs.Faces.{face_of, feature_text, name_of};
 ghost use Rattle.aat_read_sfnt.specs.Directory.{directory_of};
 
-use crate::failure::{DONE, Failure};
 use crate::handle::Handle;
 use crate::held::Held;
-use crate::names::put_name;
-use crate::records::FaultRecord;
 use crate::shape_calls::finish;
 use aat_bytes::ReadError;
 use aat_face::Face;
 use aat_font::hb_tag_t;
 use aat_read_sfnt::FontFile;
+use aat_records::{DONE, Failure, FaultRecord, put_name};
 use aat_shaper::Shaper;
 use aat_typesetter::TypesetterMemory;
 use std::alloc::Global;
@@ -237,7 +238,11 @@ pub extern "C" fn aat_file_fault(bytes: &[u8], index: u32, fault: &mut FaultReco
 }
 
 /// A number of 16 bits, of which others are not there.
-fn short(number: u32) -> Result<u16, Failure> {
+fn short(number: u32) -> Result<u16, Failure>
+    ensures short { IfOk result (λ short. short ≡ number) }
+    ensures small { OnOk result (number < 65536) }
+    ensures large { IfErr result (λ failure. (failure ≡ Failure.NotThere) × (65536 ≤ number)) }
+{
     match u16::try_from(number) {
         Ok(number) => Ok(number),
         Err(_) => Err(Failure::NotThere),
@@ -245,12 +250,9 @@ fn short(number: u32) -> Result<u16, Failure> {
 }
 
 /// Puts the name of a face with a number.
-fn put_name_of(
-    alloc: Global,
-    face: &Face<'_>,
-    name: u32,
-    out: &mut [u8],
-) -> Result<usize, Failure> {
+fn put_name_of(alloc: Global, face: &Face<'_>, name: u32, out: &mut [u8]) -> Result<usize, Failure>
+    ensures { PutsName (by_short name (name_of face.now)) out.old out.new result }
+{
     let name = short(name)?;
     put_name(alloc, face.name(name), out)
 }
@@ -261,7 +263,9 @@ fn put_feature_name(
     face: &Face<'_>,
     kind: u32,
     out: &mut [u8],
-) -> Result<usize, Failure> {
+) -> Result<usize, Failure>
+    ensures { PutsName (by_short kind (feature_text face.now)) out.old out.new result }
+{
     let kind = short(kind)?;
     put_name(alloc, face.feature_name(kind), out)
 }
@@ -273,7 +277,9 @@ fn put_setting_name(
     kind: u32,
     setting: u32,
     out: &mut [u8],
-) -> Result<usize, Failure> {
+) -> Result<usize, Failure>
+    ensures { PutsName (setting_by_shorts face.now kind setting) out.old out.new result }
+{
     let kind = short(kind)?;
     let setting = short(setting)?;
     put_name(alloc, face.setting_name(kind, setting), out)
@@ -290,16 +296,19 @@ pub extern "C" fn aat_font_name(
     count: &mut usize,
 ) -> u32
     ensures kept { held_in font.new ≡ held_in font.old }
+    ensures ends { EndsName (held_in font.old) (name_told name (held_in font.old)) result }
+    ensures put { result ≡ 0 → IsNamePut (name_told name (held_in font.old)) out.old out.new count.new }
+    ensures none { result ≢ 0 → count.new ≡ 0 }
+    ensures stays { result ≢ 0 → out.new ≡ out.old }
 {
-    let outcome = match font.take(alloc) {
+    match font.take(alloc) {
         Some(held) => {
             let outcome = put_name_of(alloc, &held.face, name, out);
             font.put(held);
-            outcome
+            finish(outcome, count)
         }
-        None => Err(Failure::NoFont),
-    };
-    finish(outcome, count)
+        None => finish(Err(Failure::NoFont), count),
+    }
 }
 
 /// Puts the English name of a feature type into room, as `aat_font_name` puts a name.
@@ -312,16 +321,19 @@ pub extern "C" fn aat_font_feature_name(
     count: &mut usize,
 ) -> u32
     ensures kept { held_in font.new ≡ held_in font.old }
+    ensures ends { EndsName (held_in font.old) (feature_name_told kind (held_in font.old)) result }
+    ensures put { result ≡ 0 → IsNamePut (feature_name_told kind (held_in font.old)) out.old out.new count.new }
+    ensures none { result ≢ 0 → count.new ≡ 0 }
+    ensures stays { result ≢ 0 → out.new ≡ out.old }
 {
-    let outcome = match font.take(alloc) {
+    match font.take(alloc) {
         Some(held) => {
             let outcome = put_feature_name(alloc, &held.face, kind, out);
             font.put(held);
-            outcome
+            finish(outcome, count)
         }
-        None => Err(Failure::NoFont),
-    };
-    finish(outcome, count)
+        None => finish(Err(Failure::NoFont), count),
+    }
 }
 
 /// Puts the English name of a setting of a feature type into room, as `aat_font_name` puts a name.
@@ -335,14 +347,17 @@ pub extern "C" fn aat_font_setting_name(
     count: &mut usize,
 ) -> u32
     ensures kept { held_in font.new ≡ held_in font.old }
+    ensures ends { EndsName (held_in font.old) (setting_name_told kind setting (held_in font.old)) result }
+    ensures put { result ≡ 0 → IsNamePut (setting_name_told kind setting (held_in font.old)) out.old out.new count.new }
+    ensures none { result ≢ 0 → count.new ≡ 0 }
+    ensures stays { result ≢ 0 → out.new ≡ out.old }
 {
-    let outcome = match font.take(alloc) {
+    match font.take(alloc) {
         Some(held) => {
             let outcome = put_setting_name(alloc, &held.face, kind, setting, out);
             font.put(held);
-            outcome
+            finish(outcome, count)
         }
-        None => Err(Failure::NoFont),
-    };
-    finish(outcome, count)
+        None => finish(Err(Failure::NoFont), count),
+    }
 }

@@ -2,18 +2,13 @@
 //!
 //! `include/aat.h` declares what is exported here. A handle is a place in the caller's memory that holds a
 //! box with a font, or nothing. A call takes the box out, works on the font, and puts it back, so that a font is never
-//! in two places.
+//! in two places. What crosses is of `aat_records`.
 #![tactic(auto)]
 
-mod decoded;
-mod failure;
 mod font_calls;
 mod handle;
 mod held;
 mod lines;
-mod names;
-mod options;
-mod records;
 mod shape;
 mod shape_calls;
 mod slot;
@@ -21,7 +16,4 @@ mod word_calls;
 
 pub use handle::Handle;
 pub use held::Held;
-pub use records::{
-    FaultRecord, FeatureRecord, GlyphRecord, LineRecord, OptionsRecord, TextGlyphRecord,
-};
 pub use slot::Slot;

@@ -1,60 +1,40 @@
 //! Lines that are typeset for C.
-ghost use Rattle.std.specs.Prelude.{◌≡◌, length};
+ghost use Rattle.std.specs.Prelude.{◌≡◌, ◌↔◌, true, length, map, IfErr, IfOk, OnErr};
+ghost use Rattle.std.specs.Str.{IsUtf8};
+ghost use Rattle.aat_text.specs.declared.unit.ClusterUnit.TheVariants.{Bytes};
+ghost use Rattle.aat_records.specs.Failures.{number_of_outcome};
+ghost use Rattle.aat_records.specs.Options.{has_bad_option};
+ghost use Rattle.aat_records.specs.Records.{feature_of};
+ghost use Rattle.aat_c.specs.Refused.{IsOrNoMemory, RefusesAs, WhyNotShaped, refuses_lines};
+ghost use Rattle.aat_c.specs.Shaped.{AreBroken, AreSet};
 
-use crate::failure::{Failure, failure_of_typeset};
 use crate::held::Held;
-use crate::options::{features_told, options_told};
-use crate::records::{FeatureRecord, GlyphRecord, LineRecord, OptionsRecord};
-use crate::shape::{put, taken_memory};
-use aat_shaped_text::TextGlyph;
-use aat_typesetter::{ClusterUnit, TypesetLine, Typesetter};
+use crate::shape::taken_memory;
+use aat_records::{
+    Failure, FeatureRecord, GlyphRecord, LineCounts, LineRecord, OptionsRecord, failure_of_typeset,
+    features_told, options_told, put_lines,
+};
+use aat_typesetter::{ClusterUnit, TextOptions, Typesetter};
 use std::alloc::Global;
 
-/// How many lines there are, and how many glyphs are drawn of them.
-#[derive(Clone, Copy)]
-pub(crate) struct LineCounts {
-    pub(crate) lines: usize,
-    pub(crate) glyphs: usize,
-}
-
-/// The place in a text of a length before which so many of its glyphs are.
-fn place_behind(text: &[TextGlyph], count: usize, length: usize) -> usize {
-    match text.get(count) {
-        Some(glyph) => glyph.cluster as usize,
-        None => length,
-    }
-}
-
-/// Puts the glyphs of a line into room behind those of the lines before it.
-fn put_line(line: &TypesetLine, start: usize, out: &mut [GlyphRecord]) {
-    if start < out.len() {
-        put(line.glyphs(), &mut out[start..]);
-    }
-}
-
-/// Puts lines and their glyphs into room.
-fn put_lines(
-    lines: &[TypesetLine],
-    text: &[TextGlyph],
-    length: usize,
+/// Puts the lines of a text into room. Where memory is wanting to count its glyphs, nothing is put.
+#[tactic(auto, unfolding(crate::specs::Shaped::sets_lines, crate::specs::Shaped::AreLinesOf, crate::specs::Refused::refuses_lines))]
+fn set_lines(
+    typesetter: &mut Typesetter<'_>,
+    text: &str,
+    width: u64,
+    options: &TextOptions<'_>,
     out: &mut [GlyphRecord],
     rows: &mut [LineRecord],
-) -> LineCounts {
-    let mut glyphs = 0usize;
-    for i in 0..lines.len() {
-        let line = &lines[i];
-        put_line(line, glyphs, out);
-        glyphs = glyphs.saturating_add(line.glyphs().len());
-        if i < rows.len() {
-            rows[i] = LineRecord {
-                text_end: place_behind(text, line.text_end(), length),
-                glyphs_end: glyphs,
-            };
-        }
-    }
-    LineCounts {
-        lines: lines.len(),
-        glyphs,
+) -> Result<LineCounts, Failure>
+    ensures put { IfOk result (AreSet text.now width typesetter.old options.now out.old out.new rows.old rows.new) }
+    ensures glyphs_stay { OnErr result (out.new ≡ out.old) }
+    ensures rows_stay { OnErr result (rows.new ≡ rows.old) }
+    ensures refused { IfErr result (RefusesAs (refuses_lines text.now typesetter.old options.now)) }
+{
+    match typesetter.lines(text, width, options) {
+        Ok(lines) => put_lines(&lines, typesetter.text(), text.len(), out, rows),
+        Err(error) => Err(failure_of_typeset(error)),
     }
 }
 
@@ -69,16 +49,20 @@ fn break_text(
     out: &mut [GlyphRecord],
     rows: &mut [LineRecord],
 ) -> Result<LineCounts, Failure>
-    ensures { held.new.face ≡ held.old.face }
+    ensures face { held.new.face ≡ held.old.face }
+    ensures glyphs_stay { OnErr result (out.new ≡ out.old) }
+    ensures rows_stay { OnErr result (rows.new ≡ rows.old) }
+    ensures put { IfOk result (AreBroken text.now width held.old.face told.now Bytes (map feature_of features.now)
+        out.old out.new rows.old rows.new) }
+    ensures bad_option { has_bad_option told.now ≡ true → IsOrNoMemory 9 (number_of_outcome result) }
+    ensures refused { IfErr result (WhyNotShaped ⊥ (refuses_lines text.now) held.old.face told.now Bytes
+        (map feature_of features.now)) }
 {
     let features = features_told(alloc, features)?;
     let options = options_told(told, ClusterUnit::Bytes, &features)?;
     let memory = taken_memory(alloc, held);
     let mut typesetter = Typesetter::with_memory(&held.face, memory);
-    let outcome = match typesetter.lines(text, width, &options) {
-        Ok(lines) => Ok(put_lines(&lines, typesetter.text(), text.len(), out, rows)),
-        Err(error) => Err(failure_of_typeset(error)),
-    };
+    let outcome = set_lines(&mut typesetter, text, width, &options, out, rows);
     held.memory = typesetter.into_memory();
     outcome
 }
@@ -94,7 +78,15 @@ pub(crate) fn break_utf8(
     out: &mut [GlyphRecord],
     rows: &mut [LineRecord],
 ) -> Result<LineCounts, Failure>
-    ensures { held.new.face ≡ held.old.face }
+    ensures face { held.new.face ≡ held.old.face }
+    ensures glyphs_stay { OnErr result (out.new ≡ out.old) }
+    ensures rows_stay { OnErr result (rows.new ≡ rows.old) }
+    ensures put { IfOk result (AreBroken text.now width held.old.face told.now Bytes (map feature_of features.now)
+        out.old out.new rows.old rows.new) }
+    ensures bad_text { (number_of_outcome result ≡ 4) ↔ ¬ (IsUtf8 text.now) }
+    ensures bad_option { IsUtf8 text.now → has_bad_option told.now ≡ true → IsOrNoMemory 9 (number_of_outcome result) }
+    ensures refused { IfErr result (WhyNotShaped (¬ (IsUtf8 text.now)) (refuses_lines text.now) held.old.face told.now
+        Bytes (map feature_of features.now)) }
 {
     match std::str::from_utf8(text) {
         Ok(text) => break_text(alloc, held, told, features, text, width, out, rows),

@@ -1,43 +1,82 @@
 //! Texts that are shaped for C.
-ghost use Rattle.std.specs.Prelude.{◌≡◌, map, IfOk, length};
-ghost use Rattle.std.specs.Str.{encode_utf8_all};
+ghost use Rattle.std.specs.Prelude.{◌≡◌, ◌≢◌, ◌↔◌, false, true, map, IfErr, IfOk, OnErr, OnOk, encode_utf8_all};
+ghost use Rattle.std.specs.Char.Utf16.{has_unpaired_surrogate};
+ghost use Rattle.std.specs.Str.{IsUtf8};
 ghost use Rattle.aat_text.specs.declared.unit.ClusterUnit.TheVariants.{Bytes, Characters};
-ghost use Rattle.aat_c.specs.Records.{feature_of, filled, glyph_record, text_glyph_of};
-ghost use Rattle.aat_c.specs.Shaped.{IsDrawn, IsPut, draws_glyphs, draws_text};
+ghost use Rattle.aat_records.specs.Decoded.{is_utf32, over_characters, unit_of, utf8_of_units};
+ghost use Rattle.aat_records.specs.Failures.{number_of_outcome};
+ghost use Rattle.aat_records.specs.Options.{has_bad_option};
+ghost use Rattle.aat_records.specs.Places.{placed};
+ghost use Rattle.aat_records.specs.declared.places.Places.TheVariants.{Own};
+ghost use Rattle.aat_records.specs.Records.{IsPut, feature_of, glyph_record, text_glyph_of};
+ghost use Rattle.aat_typesetter.specs.Typeset.{IsWithinLimits, drawn_setting};
+ghost use Rattle.aat_c.specs.Refused.{IsOrNoMemory, RefusesAs, WhyNotShaped, refuses_glyphs, refuses_text};
+ghost use Rattle.aat_c.specs.Shaped.{IsDrawn, sets_glyphs, sets_text};
 
-use crate::decoded::{Decoded, text_of_characters};
-use crate::failure::{Failure, failure_of_typeset};
 use crate::held::Held;
-use crate::options::{features_told, options_told};
-use crate::records::{FeatureRecord, GlyphRecord, OptionsRecord, TextGlyphRecord};
-use aat_shaped_text::{ShapedGlyph, TextGlyph};
-use aat_typesetter::{ClusterUnit, Typesetter, TypesetterMemory};
+use aat_records::{
+    Decoded, Failure, FeatureRecord, GlyphRecord, OptionsRecord, Places, TextGlyphRecord,
+    failure_of_typeset, features_over, features_told, options_told, put, text_of_characters,
+};
+use aat_shaped_text::TextGlyph;
+use aat_typesetter::{ClusterUnit, TextOptions, Typesetter, TypesetterMemory};
 use std::alloc::{AllocError, Global};
 use std::mem;
-
-/// Puts glyphs into room, as many as it has places.
-pub(crate) fn put(glyphs: &[ShapedGlyph], out: &mut [GlyphRecord])
-    ensures { out.new ≡ filled (map glyph_record glyphs.now) out.old }
-{
-    for i in 0..glyphs.len().min(out.len()) {
-        out[i] = GlyphRecord::of(&glyphs[i]);
-    }
-}
-
-/// Puts what is drawn into room, and answers how many glyphs that are.
-fn put_drawn(typesetter: &Typesetter<'_>, out: &mut [GlyphRecord]) -> usize
-    ensures { IsPut typesetter.now.glyphs out.old out.new result }
-{
-    let glyphs = typesetter.glyphs();
-    put(glyphs, out);
-    glyphs.len()
-}
 
 /// Takes the memory of what is held out of it.
 pub(crate) fn taken_memory(alloc: Global, held: &mut Held) -> TypesetterMemory
     ensures { held.new.face ≡ held.old.face }
 {
     mem::replace(&mut held.memory, TypesetterMemory::new(alloc))
+}
+
+/// Draws a text into room, and answers how many glyphs are drawn.
+#[tactic(auto, unfolding(crate::specs::Shaped::sets_text, crate::specs::Refused::refuses_text))]
+fn draw_text(
+    typesetter: &mut Typesetter<'_>,
+    text: &str,
+    options: &TextOptions<'_>,
+    places: &Places,
+    out: &mut [GlyphRecord],
+) -> Result<usize, Failure>
+    ensures drawn { IfOk result (IsPut (map (glyph_record (placed places.now))
+        (drawn_setting (sets_text text.now typesetter.old options.now))) out.old out.new) }
+    ensures fits { OnOk result (IsWithinLimits (sets_text text.now typesetter.old options.now)) }
+    ensures stays { OnErr result (out.new ≡ out.old) }
+    ensures refused { IfErr result (RefusesAs (refuses_text text.now typesetter.old options.now)) }
+{
+    match typesetter.line(text, options) {
+        Ok(()) => {
+            let glyphs = typesetter.glyphs();
+            put(glyphs, places, out);
+            Ok(glyphs.len())
+        }
+        Err(error) => Err(failure_of_typeset(error)),
+    }
+}
+
+/// Draws a text of glyphs into room, and answers how many glyphs are drawn.
+#[tactic(auto, unfolding(crate::specs::Shaped::sets_glyphs, crate::specs::Refused::refuses_glyphs))]
+fn draw_glyphs(
+    typesetter: &mut Typesetter<'_>,
+    text: Vec<TextGlyph>,
+    options: &TextOptions<'_>,
+    out: &mut [GlyphRecord],
+) -> Result<usize, Failure>
+    ensures drawn { IfOk result (IsPut (map (glyph_record (placed Own))
+        (drawn_setting (sets_glyphs text.items typesetter.old options.now))) out.old out.new) }
+    ensures fits { OnOk result (IsWithinLimits (sets_glyphs text.items typesetter.old options.now)) }
+    ensures stays { OnErr result (out.new ≡ out.old) }
+    ensures refused { IfErr result (RefusesAs (refuses_glyphs text.items typesetter.old options.now)) }
+{
+    match typesetter.line_of_glyphs(text, options) {
+        Ok(()) => {
+            let glyphs = typesetter.glyphs();
+            put(glyphs, &Places::Own, out);
+            Ok(glyphs.len())
+        }
+        Err(error) => Err(failure_of_typeset(error)),
+    }
 }
 
 /// Shapes a text into room, and answers how many glyphs are drawn.
@@ -47,21 +86,23 @@ fn shape_text(
     told: &OptionsRecord,
     unit: ClusterUnit,
     features: &[FeatureRecord],
+    places: &Places,
     text: &str,
     out: &mut [GlyphRecord],
 ) -> Result<usize, Failure>
     ensures face { held.new.face ≡ held.old.face }
-    ensures drawn { IfOk result (IsDrawn (draws_text text.now) held.old.face told.now unit
+    ensures stays { OnErr result (out.new ≡ out.old) }
+    ensures drawn { IfOk result (IsDrawn (sets_text text.now) (placed places.now) held.old.face told.now unit
         (map feature_of features.now) out.old out.new) }
+    ensures bad_option { has_bad_option told.now ≡ true → IsOrNoMemory 9 (number_of_outcome result) }
+    ensures refused { IfErr result (WhyNotShaped ⊥ (refuses_text text.now) held.old.face told.now unit
+        (map feature_of features.now)) }
 {
     let features = features_told(alloc, features)?;
     let options = options_told(told, unit, &features)?;
     let memory = taken_memory(alloc, held);
     let mut typesetter = Typesetter::with_memory(&held.face, memory);
-    let outcome = match typesetter.line(text, &options) {
-        Ok(()) => Ok(put_drawn(&typesetter, out)),
-        Err(error) => Err(failure_of_typeset(error)),
-    };
+    let outcome = draw_text(&mut typesetter, text, &options, places, out);
     held.memory = typesetter.into_memory();
     outcome
 }
@@ -76,11 +117,25 @@ pub(crate) fn shape_utf8(
     out: &mut [GlyphRecord],
 ) -> Result<usize, Failure>
     ensures face { held.new.face ≡ held.old.face }
-    ensures drawn { IfOk result (IsDrawn (draws_text text.now) held.old.face told.now Bytes
+    ensures stays { OnErr result (out.new ≡ out.old) }
+    ensures drawn { IfOk result (IsDrawn (sets_text text.now) (placed Own) held.old.face told.now Bytes
         (map feature_of features.now) out.old out.new) }
+    ensures bad_text { (number_of_outcome result ≡ 4) ↔ ¬ (IsUtf8 text.now) }
+    ensures bad_option { IsUtf8 text.now → has_bad_option told.now ≡ true → IsOrNoMemory 9 (number_of_outcome result) }
+    ensures refused { IfErr result (WhyNotShaped (¬ (IsUtf8 text.now)) (refuses_text text.now) held.old.face told.now
+        Bytes (map feature_of features.now)) }
 {
     match std::str::from_utf8(text) {
-        Ok(text) => shape_text(alloc, held, told, ClusterUnit::Bytes, features, text, out),
+        Ok(text) => shape_text(
+            alloc,
+            held,
+            told,
+            ClusterUnit::Bytes,
+            features,
+            &Places::Own,
+            text,
+            out,
+        ),
         Err(_) => Err(Failure::BadText),
     }
 }
@@ -94,22 +149,29 @@ pub(crate) fn shape_utf16(
     text: &[u16],
     out: &mut [GlyphRecord],
 ) -> Result<usize, Failure>
-    ensures { held.new.face ≡ held.old.face }
+    ensures face { held.new.face ≡ held.old.face }
+    ensures stays { OnErr result (out.new ≡ out.old) }
+    ensures drawn { IfOk result (IsDrawn (sets_text (utf8_of_units text.now)) (unit_of text.now) held.old.face told.now
+        Characters (map feature_of (map (over_characters text.now) features.now)) out.old out.new) }
+    ensures bad_text { has_unpaired_surrogate text.now ≡ true → IsOrNoMemory 4 (number_of_outcome result) }
+    ensures bad_option { has_unpaired_surrogate text.now ≡ false → has_bad_option told.now ≡ true
+        → IsOrNoMemory 9 (number_of_outcome result) }
+    ensures refused { IfErr result (WhyNotShaped (has_unpaired_surrogate text.now ≡ true)
+        (refuses_text (utf8_of_units text.now)) held.old.face told.now Characters
+        (map feature_of (map (over_characters text.now) features.now))) }
 {
     let decoded = Decoded::of(alloc, text)?;
-    let features = decoded.features(alloc, features)?;
-    let count = shape_text(
+    let features = features_over(alloc, features, text)?;
+    shape_text(
         alloc,
         held,
         told,
         ClusterUnit::Characters,
         &features,
+        &decoded.places,
         &decoded.text,
         out,
-    )?;
-    let end = count.min(out.len());
-    decoded.place(&mut out[..end]);
-    Ok(count)
+    )
 }
 
 /// Shapes a text of UTF-32.
@@ -122,8 +184,14 @@ pub(crate) fn shape_utf32(
     out: &mut [GlyphRecord],
 ) -> Result<usize, Failure>
     ensures face { held.new.face ≡ held.old.face }
-    ensures drawn { IfOk result (IsDrawn (draws_text (encode_utf8_all text.now)) held.old.face told.now Characters
-        (map feature_of features.now) out.old out.new) }
+    ensures stays { OnErr result (out.new ≡ out.old) }
+    ensures drawn { IfOk result (IsDrawn (sets_text (encode_utf8_all text.now)) (placed Own) held.old.face told.now
+        Characters (map feature_of features.now) out.old out.new) }
+    ensures bad_text { is_utf32 text.now ≡ false → IsOrNoMemory 4 (number_of_outcome result) }
+    ensures bad_option { is_utf32 text.now ≡ true → has_bad_option told.now ≡ true
+        → IsOrNoMemory 9 (number_of_outcome result) }
+    ensures refused { IfErr result (WhyNotShaped (is_utf32 text.now ≡ false) (refuses_text (encode_utf8_all text.now))
+        held.old.face told.now Characters (map feature_of features.now)) }
 {
     let text = text_of_characters(alloc, text)?;
     shape_text(
@@ -132,6 +200,7 @@ pub(crate) fn shape_utf32(
         told,
         ClusterUnit::Characters,
         features,
+        &Places::Own,
         &text,
         out,
     )
@@ -154,18 +223,19 @@ pub(crate) fn shape_glyphs(
     out: &mut [GlyphRecord],
 ) -> Result<usize, Failure>
     ensures face { held.new.face ≡ held.old.face }
-    ensures drawn { IfOk result (IsDrawn (draws_glyphs (map text_glyph_of text.now)) held.old.face told.now Characters
-        (map feature_of features.now) out.old out.new) }
+    ensures stays { OnErr result (out.new ≡ out.old) }
+    ensures drawn { IfOk result (IsDrawn (sets_glyphs (map text_glyph_of text.now)) (placed Own) held.old.face told.now
+        Characters (map feature_of features.now) out.old out.new) }
+    ensures bad_option { has_bad_option told.now ≡ true → IsOrNoMemory 9 (number_of_outcome result) }
+    ensures refused { IfErr result (WhyNotShaped ⊥ (refuses_glyphs (map text_glyph_of text.now)) held.old.face told.now
+        Characters (map feature_of features.now)) }
 {
     let features = features_told(alloc, features)?;
     let options = options_told(told, ClusterUnit::Characters, &features)?;
     let glyphs = text_glyphs(alloc, text)?;
     let memory = taken_memory(alloc, held);
     let mut typesetter = Typesetter::with_memory(&held.face, memory);
-    let outcome = match typesetter.line_of_glyphs(glyphs, &options) {
-        Ok(()) => Ok(put_drawn(&typesetter, out)),
-        Err(error) => Err(failure_of_typeset(error)),
-    };
+    let outcome = draw_glyphs(&mut typesetter, glyphs, &options, out);
     held.memory = typesetter.into_memory();
     outcome
 }

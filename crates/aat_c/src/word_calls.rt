@@ -1,14 +1,14 @@
 //! What C reads of texts, and the texts of numbers.
-ghost use Rattle.std.specs.Prelude.{◌≡◌};
+ghost use Rattle.std.specs.Prelude.{◌≡◌, length};
 ghost use Rattle.std.specs.Str.{IsUtf8};
 ghost use Rattle.aat_layout.specs.features.Reading.{feature_of};
-ghost use Rattle.aat_c.specs.Failures.{number_of_outcome};
+ghost use Rattle.aat_records.specs.Failures.{number_of_outcome};
+ghost use Rattle.aat_records.specs.Records.{filled};
+ghost use Rattle.aat_records.specs.Texts.{text_of_fault, text_of_status};
 ghost use Rattle.aat_c.specs.Handles.{feature_told, told_or};
 
-use crate::failure::{DONE, Failure, fault_text, status_text};
-use crate::names::put_bytes;
-use crate::records::FeatureRecord;
 use aat_layout::parse_feature;
+use aat_records::{DONE, Failure, FeatureRecord, fault_text, put_bytes, status_text};
 
 /// The version: its major number counts 65536, its minor one 256.
 const VERSION: u32 = 0x0001_0000;
@@ -45,7 +45,10 @@ pub extern "C" fn aat_feature_from_string(text: &[u8], feature: &mut FeatureReco
 /// Puts what a number of a status says into room, in English, and answers how many bytes it has: 0 for a number that is
 /// none of a status.
 #[unsafe(no_mangle)]
-pub extern "C" fn aat_status_text(status: u32, out: &mut [u8]) -> usize {
+pub extern "C" fn aat_status_text(status: u32, out: &mut [u8]) -> usize
+    ensures put { out.new ≡ filled (text_of_status status) out.old }
+    ensures size { result ≡ length (text_of_status status) }
+{
     let text = status_text(status);
     put_bytes(text.as_bytes(), out);
     text.len()
@@ -54,7 +57,10 @@ pub extern "C" fn aat_status_text(status: u32, out: &mut [u8]) -> usize {
 /// Puts what a number of a kind of fault says into room, in English, and answers how many bytes it has: 0 for a number
 /// that is none of a kind.
 #[unsafe(no_mangle)]
-pub extern "C" fn aat_fault_text(kind: u32, out: &mut [u8]) -> usize {
+pub extern "C" fn aat_fault_text(kind: u32, out: &mut [u8]) -> usize
+    ensures put { out.new ≡ filled (text_of_fault kind) out.old }
+    ensures size { result ≡ length (text_of_fault kind) }
+{
     let text = fault_text(kind);
     put_bytes(text.as_bytes(), out);
     text.len()

@@ -4,10 +4,9 @@ use crate::line::{Context, SetLine, drawn_line, line_trace};
 use crate::request::Output;
 use aat_calls::write_trace;
 use aat_drawing::{
-    DrawError, DrawnLine, LineMetrics, Picture, write_flagged_glyphs, write_glyphs, write_json,
-    write_svg,
+    DrawError, DrawnLine, FontOutlines, LineMetrics, Picture, write_flagged_glyphs, write_glyphs,
+    write_json, write_svg,
 };
-use aat_read_outlines::Outlines;
 use aat_read_sfnt::FontFile;
 use aat_typesetter::ShapedGlyph;
 use anyhow::{Context as _, Result, anyhow, bail};
@@ -63,7 +62,7 @@ pub(crate) fn write_picture<W: Write>(
     lines: &[DrawnLine],
 ) -> Result<()> {
     let outlines = if context.request.output == Output::Svg {
-        Outlines::of_file(file).with_context(|| anyhow!("{path}"))?
+        FontOutlines::of_file(file).with_context(|| anyhow!("{path}"))?
     } else {
         None
     };

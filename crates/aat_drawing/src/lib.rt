@@ -16,6 +16,7 @@ mod legend;
 mod line;
 mod marks;
 mod metrics;
+mod outlines;
 mod paths;
 mod picture;
 
@@ -26,4 +27,5 @@ pub use forms::{write_flagged_glyphs, write_glyphs};
 pub use json::write_json;
 pub use line::{DrawnGlyph, DrawnLine, LineBreak};
 pub use metrics::LineMetrics;
+pub use outlines::FontOutlines;
 pub use picture::{Picture, write_svg};

@@ -6,8 +6,8 @@ use crate::legend::{colour_of, is_shown, write_entry};
 use crate::line::{DrawnGlyph, DrawnLine};
 use crate::marks::{half_units, write_bar, write_box};
 use crate::metrics::LineMetrics;
+use crate::outlines::FontOutlines;
 use crate::paths::write_outlines;
-use aat_read_outlines::Outlines;
 use std::alloc::Global;
 use std::io::{self, Write};
 
@@ -16,8 +16,8 @@ use std::io::{self, Write};
 pub struct Picture<'a> {
     /// How much room a line takes.
     pub metrics: LineMetrics,
-    /// The outlines of the font. Without them the box of each glyph's advance is drawn.
-    pub outlines: Option<&'a Outlines<'a>>,
+    /// The outlines of the font. Of a glyph without one the box of its advance is drawn.
+    pub outlines: Option<&'a FontOutlines<'a>>,
     /// The lines, from the top, or from the right where the text stands in columns.
     pub lines: &'a [DrawnLine],
     /// What each subtable of `morx` is called in the legend, through all chains. A text without `<` and `&`.
@@ -44,10 +44,11 @@ fn write_use<W: Write>(
     )
 }
 
-/// Writes a glyph, where the pen stands there.
+/// Writes a glyph, where the pen stands there: by its outline where that is written, else as a box.
 fn write_glyph<W: Write>(
     out: &mut W,
     picture: &Picture<'_>,
+    written: &[u16],
     line: &DrawnLine,
     pen: (i64, i64),
     drawn: &DrawnGlyph,
@@ -58,26 +59,36 @@ fn write_glyph<W: Write>(
         pen.0.saturating_add(i64::from(glyph.x_offset)),
         pen.1.saturating_add(i64::from(glyph.y_offset)),
     );
-    match picture.outlines {
-        Some(_) => write_use(out, place, glyph.glyph_id, colour),
-        None => write_box(out, &picture.metrics, line, place, drawn, colour),
+    match written.binary_search(&glyph.glyph_id) {
+        Ok(_) => write_use(out, place, glyph.glyph_id, colour),
+        Err(_) => write_box(out, &picture.metrics, line, place, drawn, colour),
     }
 }
 
 /// Writes the glyphs of a line and its bars, from its origin on.
-fn write_line<W: Write>(out: &mut W, picture: &Picture<'_>, line: &DrawnLine) -> io::Result<()> {
+fn write_line<W: Write>(
+    out: &mut W,
+    picture: &Picture<'_>,
+    written: &[u16],
+    line: &DrawnLine,
+) -> io::Result<()> {
     let mut pen = (0i64, 0i64);
     for drawn in &line.glyphs {
         write_bar(out, &picture.metrics, line, pen, drawn)?;
-        write_glyph(out, picture, line, pen, drawn)?;
+        write_glyph(out, picture, written, line, pen, drawn)?;
         pen.0 = pen.0.saturating_add(i64::from(drawn.glyph.x_advance));
         pen.1 = pen.1.saturating_add(i64::from(drawn.glyph.y_advance));
     }
     Ok(())
 }
 
-/// Writes all lines.
-fn write_lines<W: Write>(out: &mut W, picture: &Picture<'_>, extent: &Extent) -> io::Result<()> {
+/// Writes all lines, whose glyphs have these outlines written.
+fn write_lines<W: Write>(
+    out: &mut W,
+    picture: &Picture<'_>,
+    written: &[u16],
+    extent: &Extent,
+) -> io::Result<()> {
     let stroke = picture.metrics.units_per_em / 40;
     for (number, line) in picture.lines.iter().enumerate() {
         let (x, y) = extent.origin(number, line);
@@ -85,7 +96,7 @@ fn write_lines<W: Write>(out: &mut W, picture: &Picture<'_>, extent: &Extent) ->
             out,
             "<g transform=\"translate({x} {y}) scale(.5 -.5)\" stroke-width=\"{stroke}\">"
         )?;
-        write_line(out, picture, line)?;
+        write_line(out, picture, written, line)?;
         writeln!(out, "</g>")?;
     }
     Ok(())
@@ -155,13 +166,25 @@ fn write_head<W: Write>(out: &mut W, em: u16, width: i64, height: i64) -> io::Re
     )
 }
 
-/// Writes a picture of lines as a file of SVG, 64 pixels an em: each glyph by its outline, or as the box of its advance,
-/// in the colour of the subtable that changed it last; a bar where the text may be broken; and below what each colour
-/// stands for.
+/// Writes all lines, whose glyphs have these outlines written, the legend and the end of a picture.
+fn write_shown<W: Write>(
+    out: &mut W,
+    picture: &Picture<'_>,
+    written: &[u16],
+    extent: &Extent,
+) -> io::Result<()> {
+    write_lines(out, picture, written, extent)?;
+    write_legend(out, picture, extent.height)?;
+    writeln!(out, "</svg>")
+}
+
+/// Writes a picture of lines as a file of SVG, 64 pixels an em: each glyph by its outline, or without one as the box of
+/// its advance, in the colour of the subtable that changed it last; a bar where the text may be broken; and below what
+/// each colour stands for. A glyph whose charstring has a fault has no outline.
 ///
-/// Refused as 1, `Outline`, where the outline of a glyph has a fault, in the order of the numbers of the glyphs; as 2,
-/// `Writer`, where the writer fails; and as 3, `OutOfMemory`, where memory is wanting. A part of the picture may be
-/// written then.
+/// Refused as 1, `Outline`, where the outline of a glyph of `glyf` has a fault, in the order of the numbers of the
+/// glyphs; as 2, `Writer`, where the writer fails; and as 3, `OutOfMemory`, where memory is wanting. A part of the
+/// picture may be written then.
 pub fn write_svg<W: Write>(
     alloc: Global,
     out: &mut W,
@@ -170,11 +193,9 @@ pub fn write_svg<W: Write>(
     let extent = Extent::new(&picture.metrics, picture.lines);
     let (width, height) = size_of(picture, &extent);
     write_head(out, picture.metrics.units_per_em, width, height)?;
-    if let Some(outlines) = picture.outlines {
-        write_outlines(alloc, out, outlines, picture.lines)?;
-    }
-    write_lines(out, picture, &extent)?;
-    write_legend(out, picture, extent.height)?;
-    writeln!(out, "</svg>")?;
-    Ok(())
+    let written = match picture.outlines {
+        Some(outlines) => write_outlines(alloc, out, outlines, picture.lines)?,
+        None => Vec::new(alloc),
+    };
+    Ok(write_shown(out, picture, written.as_slice(), &extent)?)
 }

@@ -44,6 +44,9 @@ pub(crate) fn kind_of_number(number: u16) -> CharacterKind
     requires { number < 512 }
     ensures { result ≡ kind_of_number number }
 {
+    if number == 0 {
+        return CharacterKind::Other;
+    }
     if number >= MARK_WITHOUT_CLASS {
         return CharacterKind::Mark((number - MARK_WITHOUT_CLASS) as u8);
     }

@@ -160,10 +160,8 @@ pub(crate) fn buffer_of<H: Allocator + Copy>(
 {
     let most = most_glyphs(text.len());
     let line = line_of(alloc, face, features, text)?;
-    let mut buffer = hb_buffer_t::new(alloc, most, most_operations(text.len()));
+    let mut buffer = hb_buffer_t::with_line(alloc, line, most, most_operations(text.len()));
     buffer.set_direction(direction);
-    buffer.insert_glyphs(&line)?;
-    buffer.sync();
     Ok(buffer)
 }
 

@@ -6,9 +6,10 @@ ghost use Rattle.aat_face.specs.inside.GlyphRows.{IsRow};
 use aat_read_sfnt::CharacterMap;
 use std::marker::Model;
 
-/// The space, and the end of the characters that are shown of ASCII.
+/// The space, the first printable character of ASCII.
 const SPACE: u16 = 0x20;
 
+/// The character behind the last printable one.
 const END: u16 = 0x7F;
 
 /// The map of characters, with a row of characters of ASCII, from the space on, whose glyphs stand in a row too, as in

@@ -1,5 +1,5 @@
 //! Values of all glyphs of a font.
-ghost use Rattle.std.specs.Prelude.{◌≡◌, ℕ, ◌<◌, ◌≤◌, IfOk, IfErr, None};
+ghost use Rattle.std.specs.Prelude.{◌≡◌, ℕ, ◌<◌, ◌≤◌, IfOk, IfErr, None, length, slice_index_or};
 ghost use Rattle.aat_bytes.specs.declared.error.ReadError.TheVariants as errors;
 ghost use Rattle.aat_lookup.specs.Keys.{first, first_fall};
 ghost use Rattle.aat_face.specs.Lists.{advance_pairs, mark_property, property_pairs};
@@ -62,16 +62,16 @@ fn mark_property_until(classes: &GlyphClasses<'_>, glyph: u16) -> (u16, u32)
     (properties & MARK, end)
 }
 
-/// The same, if it is not known from a glyph before.
-fn known_property(classes: &GlyphClasses<'_>, known: (u16, u32), glyph: u16) -> (u16, u32)
-    requires { (g : ℕ) → glyph ≤ g → g < known.1 → mark_property classes.now g ≡ known.0 }
-    ensures same { (g : ℕ) → glyph ≤ g → g < result.1 → mark_property classes.now g ≡ result.0 }
-    ensures some { glyph < result.1 }
+/// Writes each glyph from one up to another with their property.
+fn write_property(pairs: &mut [(u16, u16)], from: usize, to: usize, property: u16)
+    requires glyphs { to ≤ 65536 }
+    requires inside { to ≤ length pairs.old }
+    ensures long { length pairs.new ≡ length pairs.old }
+    ensures before { (k : ℕ) → k < from → slice_index_or pairs.new k (0, 0) ≡ slice_index_or pairs.old k (0, 0) }
+    ensures written { (k : ℕ) → from ≤ k → k < to → slice_index_or pairs.new k (0, 0) ≡ (k, property) }
 {
-    if (glyph as u32) < known.1 {
-        known
-    } else {
-        mark_property_until(classes, glyph)
+    for glyph in from..to {
+        pairs[glyph] = (glyph as u16, property);
     }
 }
 
@@ -83,11 +83,14 @@ fn property_pairs(
 ) -> Result<Vec<(u16, u16)>, AllocError>
     ensures { IfOk result (λ pairs. pairs.items ≡ property_pairs classes.now glyph_count) }
 {
-    let mut pairs = Vec::with_capacity(alloc, glyph_count as usize)?;
-    let mut known = (0, 0);
-    for glyph in 0..glyph_count {
-        known = known_property(classes, known, glyph);
-        pairs.push((glyph, known.0))?;
+    let count = glyph_count as usize;
+    let mut pairs = vec![in alloc; (0, 0); count]?;
+    let mut from = 0;
+    while from < count {
+        let (property, end) = mark_property_until(classes, from as u16);
+        let to = count.min(end as usize);
+        write_property(&mut pairs, from, to, property);
+        from = to;
     }
     Ok(pairs)
 }

@@ -2,6 +2,7 @@ pub mod ClassAnswers
 pub mod DenseAnswers
 pub mod Falls
 pub mod MoveAnswers
+pub mod MovesWritten
 pub mod PageAnswers
 pub mod SegmentFalls
 pub mod SegmentValues

@@ -1,11 +1,9 @@
 //! What glyphs become, in arrays that have each glyph without a value as itself.
-ghost use Rattle.std.specs.Prelude.{◌≡◌, ◌+◌, ◌<◌, ◌≤◌, ℕ, false, IfOk, length, slice_index_or, unwrap_or};
+ghost use Rattle.std.specs.Prelude.{◌≡◌, ◌+◌, ◌<◌, ◌≤◌, ℕ, false, IfOk, drop, length, slice_index_or, unwrap_or};
 ghost use Rattle.aat_lookup.specs.Keys.{first, value_in, IsRising};
 ghost use Rattle.aat_lookup.specs.Moves.{kept_over, moved_by, value_by, value_of_move, AreMoved, HasCells};
 ghost use Rattle.aat_lookup.specs.inside.Dense.{is_own, keeps_one, PairsWithin};
 
-use crate::cells::value_here;
-use crate::walk::walk_to;
 use std::alloc::{AllocError, Allocator};
 
 /// What glyphs become: the value that a lookup has for each, or the glyph itself where it has none. Which of the two it
@@ -62,7 +60,7 @@ pub(crate) struct MoveArray<A: Allocator> {
     lowest: u16,
     /// What each glyph from the lowest to the highest becomes.
     cells: Vec<u16, A>,
-    /// Whether it has itself as value. There are no marks where no glyph has.
+    /// Whether it has itself as value, up to the last glyph that has. There are no marks where none has.
     kept: Vec<bool, A>,
 }
 
@@ -115,7 +113,8 @@ impl<A: Allocator> MoveArray<A> {
     }
 }
 
-/// What each of so many glyphs from the lowest on becomes by rising pairs. Fails where the cells get no memory.
+/// What each of so many glyphs from the lowest on becomes by rising pairs, whose glyphs are among them. Fails where the
+/// cells get no memory.
 fn moved_cells<A: Allocator>(
     alloc: A,
     pairs: &[(u16, u16)],
@@ -124,22 +123,34 @@ fn moved_cells<A: Allocator>(
 ) -> Result<Vec<u16, A>, AllocError>
     requires rising { IsRising first pairs.now }
     requires small { lowest + count ≤ 65536 }
+    requires within { PairsWithin lowest count pairs.now }
     ensures long { IfOk result (λ cells. length cells.items ≡ count) }
     ensures values { IfOk result (λ cells. (k : ℕ) → k < count
         → slice_index_or cells.items k 0 ≡ unwrap_or (value_in pairs.now (lowest + k)) (lowest + k)) }
 {
-    let mut cells = Vec::with_capacity(alloc, count)?;
-    let mut at = 0;
-    for place in 0..count {
-        let glyph = lowest + place as u16;
-        at = walk_to(pairs, at, glyph as u32);
-        cells.push(value_here(pairs, at, glyph).unwrap_or(glyph))?;
+    let mut cells = glyphs_from(alloc, lowest, count)?;
+    for i in 0..pairs.len() {
+        let pair = pairs[i];
+        cells[(pair.0 - lowest) as usize] = pair.1;
     }
     Ok(cells)
 }
 
-/// Which of so many glyphs from the lowest on have themselves as value by rising pairs: no marks where none has. Fails
-/// where the marks get no memory.
+/// So many glyphs from the lowest on. Fails where they get no memory.
+fn glyphs_from<A: Allocator>(alloc: A, lowest: u16, count: usize) -> Result<Vec<u16, A>, AllocError>
+    requires small { lowest + count ≤ 65536 }
+    ensures long { IfOk result (λ glyphs. length glyphs.items ≡ count) }
+    ensures each { IfOk result (λ glyphs. (k : ℕ) → k < count → slice_index_or glyphs.items k 0 ≡ lowest + k) }
+{
+    let mut glyphs = vec![in alloc; 0; count]?;
+    for place in 0..count {
+        glyphs[place] = lowest + place as u16;
+    }
+    Ok(glyphs)
+}
+
+/// Which of so many glyphs from the lowest on have themselves as value by rising pairs, up to the last one that has: no
+/// marks where none has. Fails where the marks get no memory.
 fn kept_marks<A: Allocator>(
     alloc: A,
     pairs: &[(u16, u16)],
@@ -148,36 +159,36 @@ fn kept_marks<A: Allocator>(
 ) -> Result<Vec<bool, A>, AllocError>
     requires rising { IsRising first pairs.now }
     requires small { lowest + count ≤ 65536 }
+    requires within { PairsWithin lowest count pairs.now }
     ensures few { IfOk result (λ kept. length kept.items ≤ count) }
     ensures marks { IfOk result (λ kept. (k : ℕ) → k < count
         → slice_index_or kept.items k false ≡ is_own (value_in pairs.now (lowest + k)) (lowest + k)) }
 {
-    if !keeps_one(pairs) {
+    let own = own_end(pairs);
+    if own == 0 {
         return Ok(Vec::new(alloc));
     }
-    let mut kept = Vec::with_capacity(alloc, count)?;
-    let mut at = 0;
-    for place in 0..count {
-        let glyph = lowest + place as u16;
-        at = walk_to(pairs, at, glyph as u32);
-        kept.push(is_own(value_here(pairs, at, glyph), glyph))?;
+    let marks = (pairs[own - 1].0 - lowest) as usize + 1;
+    let mut kept = vec![in alloc; false; marks]?;
+    for i in 0..own {
+        let pair = pairs[i];
+        kept[(pair.0 - lowest) as usize] = pair.1 == pair.0;
     }
     Ok(kept)
 }
 
-/// Whether a value is that of its own glyph.
-fn is_own(value: Option<u16>, glyph: u16) -> bool
-    ensures { result ≡ is_own value glyph }
+/// The number of pairs up to the last one that has its glyph as value.
+fn own_end(pairs: &[(u16, u16)]) -> usize
+    ensures within { result ≤ length pairs.now }
+    ensures others { keeps_one (drop result pairs.now) ≡ false }
 {
-    match value {
-        Some(value) => value == glyph,
-        None => false,
+    let mut count = pairs.len();
+    while count > 0 {
+        let pair = pairs[count - 1];
+        if pair.1 == pair.0 {
+            return count;
+        }
+        count -= 1;
     }
-}
-
-/// Whether a pair has its glyph as value.
-fn keeps_one(pairs: &[(u16, u16)]) -> bool
-    ensures { result ≡ keeps_one pairs.now }
-{
-    pairs.iter().any(|pair| pair.1 == pair.0)
+    count
 }

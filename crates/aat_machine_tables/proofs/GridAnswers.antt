@@ -2,8 +2,7 @@
 use Rattle.std.proofs.Common.{◌≡◌, ℕ, zero, suc, ◌+◌, ◌-◌, ◌*◌, ◌/◌, ◌%◌, ◌<◌, ◌≤◌, ◌⊎◌, inl, inr, List, length, get_or, Bool, Option, option_map, ◌∙◌, ap, sym, le_refl, arith}
 use Rattle.std.proofs.lemmas.Bool.{cases_lt}
 use Rattle.std.proofs.lemmas.List.{get_or_past, get_or_read}
-use Rattle.std.proofs.lemmas.Nat.{div-mul-add, mod-mul-add, mod_below, mul-add-lt, mul-le}
-use Rattle.std.proofs.Math.Nat.{div-add-mod, suc-mul}
+use Rattle.std.proofs.lemmas.Nat.{div-mul-add, mod-mul-add, mul-add-lt, mul-le}
 use Rattle.aat_lookup.specs.Keys.{IsRising}
 use Rattle.aat_machine_tables.specs.Table.{Rule, rule_key}
 use Rattle.aat_machine_tables.specs.declared.judged.JudgedEntry.{JudgedEntry}
@@ -40,27 +39,6 @@ module _ {T : Type 0} (acts : GenericStateEntry T → Bool) (count states : ℕ)
   -- a grid with the entry of each class of all states that have a rule, judged
   pub grid_answers : AnswersAsRules acts count cells rules
   grid_answers some s k lt = ruled s k lt (positive states count (omega (arith, long))) (cases_lt s states)
-
--- the cell behind one of a row, which may be the first of the next row
-next_cell :
-    (q r c : ℕ) → r < c → c ≤ 65536 → (r + 1 < c) ⊎ (c ≤ r + 1)
-    → q * 65536 + r ≤ (q * c + r + 1) / c * 65536 + (q * c + r + 1) % c
-next_cell q r c lt small (inl more) =
-    let row : (q * c + (r + 1)) / c ≡ q = div-mul-add q c (r + 1) more in
-    let column : (q * c + (r + 1)) % c ≡ r + 1 = mod-mul-add q c (r + 1) more in
-    let same : q * c + r + 1 ≡ q * c + (r + 1) = omega arith in
-    omega (arith, row, column, ap (λ n. n / c) same, ap (λ n. n % c) same)
-next_cell q r c lt small (inr last) =
-    let row : ((q + 1) * c + 0) / c ≡ q + 1 = div-mul-add (q + 1) c 0 (omega arith) in
-    let same : q * c + r + 1 ≡ (q + 1) * c + 0 = omega (arith, suc-mul q c) in
-    omega (arith, row, ap (λ n. n / c) same)
-
--- the keys of a grid's cells rise
-pub cell_key_rises : (n c : ℕ) → 0 < c → c ≤ 65536 → n / c * 65536 + n % c ≤ (n + 1) / c * 65536 + (n + 1) % c
-cell_key_rises n c some small =
-    let parts : n / c * c + n % c ≡ n = omega (arith, div-add-mod n c) in
-    let rises = next_cell (n / c) (n % c) c (mod_below n c some) small (cases_lt (n % c + 1) c) in
-    omega (arith, rises, ap (λ k. (k + 1) / c) parts, ap (λ k. (k + 1) % c) parts)
 
 module _ {E : Type 0} where
   -- each rule is of a state below a number that is above the state of the last one

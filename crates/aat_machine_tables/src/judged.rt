@@ -1,7 +1,7 @@
 //! Whether the line gets a mark before a glyph, by HarfBuzz's test, where entries act whatever the registers hold.
 ghost use Rattle.std.specs.Prelude.{◌≡◌};
 ghost use Rattle.aat_machine_tables.specs.Judged.{entry_in, is_judged_safe};
-ghost use Rattle.aat_lookup.specs.Keys.{IsRising};
+ghost use Rattle.aat_lookup.specs.Keys.{IsRising, at_key};
 ghost use Rattle.aat_machine_tables.specs.Table.{rule_key};
 ghost use Rattle.aat_machine_tables.specs.inside.Grid.{judged_rule, ruled_entry};
 
@@ -9,7 +9,7 @@ use crate::entries::{ContextualEntryData, EntryData, InsertionEntryData, KernEnt
 use crate::entry_bits::{NO_INDEX, insertion, ligature, rearrangement};
 use crate::safe_turn::{Turns, is_safe_turn};
 use crate::state_table::{GenericStateEntry, rule_key};
-use aat_lookup::keys::row_at;
+use aat_lookup::keys::{Keyed, row_at};
 
 /// What the entries of a kind of machine hold beside a state and flags, and whether one of them may act: `()` is of
 /// rearrangement, and `u16` of ligatures. Each answer is right of a context whose `acts_by_entries` is false.
@@ -123,23 +123,26 @@ impl<T: Copy> JudgedEntry<T> {
     }
 }
 
-/// The entry that rising rules have for a state and a class, found by bisection, and judged.
+/// The entry that rising rules of so many classes have for a state and a class, judged.
 pub(crate) fn judged_rule<T: Acting>(
     rules: &[(u16, u16, GenericStateEntry<T>)],
+    class_count: u16,
     state: u16,
     class: u16,
 ) -> JudgedEntry<T>
     requires { IsRising rule_key rules.now }
     ensures { result ≡ judged_rule T.may_act rules.now state class }
 {
-    judged(rules, state, class, ruled_entry(rules, state, class))
+    let entry = ruled_entry(rules, class_count, state, class);
+    judged(rules, class_count, state, class, entry)
 }
 
-/// The entry that rising rules have for a state and a class, judged. An entry that it is held against is searched only
-/// where it can decide.
+/// The entry that rising rules have for a state and a class, judged. An entry that it is held against is looked for
+/// only where it can decide.
 #[tactic(auto, unfolding(crate::specs::Judged::is_safe_by))]
-pub(crate) fn judged<T: Acting>(
+fn judged<T: Acting>(
     rules: &[(u16, u16, GenericStateEntry<T>)],
+    class_count: u16,
     state: u16,
     class: u16,
     entry: Option<GenericStateEntry<T>>,
@@ -151,17 +154,18 @@ pub(crate) fn judged<T: Acting>(
     let Some(entry) = entry else {
         return JudgedEntry::Missing;
     };
-    if is_safe_turn(&RuledTurns { rules }, state, class, &entry) {
+    if is_safe_turn(&RuledTurns { rules, class_count }, state, class, &entry) {
         JudgedEntry::Safe(entry)
     } else {
         JudgedEntry::Unsafe(entry)
     }
 }
 
-/// Rising rules, which tell what entries do by themselves.
+/// Rising rules of so many classes, which tell what entries do by themselves.
 #[derive(Drop)]
 struct RuledTurns<'a, T: Acting> {
     rules: &'a [(u16, u16, GenericStateEntry<T>)],
+    class_count: u16,
     ghost rising: { IsRising rule_key rules.now },
 }
 
@@ -184,18 +188,39 @@ impl<'a, T: Acting> Turns<T> for RuledTurns<'a, T> {
     }
 
     fn entry(&self, state: u16, class: u16) -> Option<GenericStateEntry<T>> {
-        ruled_entry(self.rules, state, class)
+        ruled_entry(self.rules, self.class_count, state, class)
     }
 }
 
-/// The entry that rising rules have for a state and a class, found by bisection.
+/// A copy of the rule that has a number, if there is one. It is looked for at a place, and else found by bisection.
+fn rule_near<T: Copy>(
+    rules: &[(u16, u16, GenericStateEntry<T>)],
+    place: usize,
+    key: u32,
+) -> Option<(u16, u16, GenericStateEntry<T>)>
+    requires { IsRising rule_key rules.now }
+    ensures { result ≡ at_key rule_key rules.now key }
+{
+    if place < rules.len() {
+        let rule = rules[place];
+        if rule.key() == key {
+            return Some(rule);
+        }
+    }
+    row_at(rules, key)
+}
+
+/// The entry that rising rules have for a state and a class. Where they are one for each of so many classes of each
+/// state, as those of a font's bytes, it stands at a known place.
 pub(crate) fn ruled_entry<T: Copy>(
     rules: &[(u16, u16, GenericStateEntry<T>)],
+    class_count: u16,
     state: u16,
     class: u16,
 ) -> Option<GenericStateEntry<T>>
     requires { IsRising rule_key rules.now }
     ensures { result ≡ ruled_entry rules.now state class }
 {
-    row_at(rules, rule_key(state, class)).map(|rule| rule.2)
+    let place = state as usize * class_count as usize + class as usize;
+    rule_near(rules, place, rule_key(state, class)).map(|rule| rule.2)
 }

@@ -8,12 +8,10 @@ ghost use Rattle.aat_machine_tables.specs.Table.{first_out_of_range, count_and_r
 ghost use Rattle.aat_lookup.specs.TableErrors.{RefusesFault};
 ghost use Rattle.aat_machine_tables.specs.declared.judged.JudgedEntry.TheVariants.{Missing};
 ghost use Rattle.aat_machine_tables.specs.inside.Grid.{judged_rule, ruled_entry, state_count, states_to, AnswersAsRules, RulesBelow};
-ghost use Rattle.aat_lookup.specs.inside.Walks.{AreBelow, AreNotBelow};
 
 use crate::entry_bits::{DONT_ADVANCE, anchor, class, stack};
-use crate::judged::{Acting, JudgedEntry, judged, judged_rule, ruled_entry};
+use crate::judged::{Acting, JudgedEntry, judged_rule, ruled_entry};
 use aat_lookup::keys::{Keyed, first_fall};
-use aat_lookup::walk::{row_here, walk_to};
 use aat_lookup::{GlyphId, Lookup, TableError};
 use std::alloc::{AllocError, Allocator, Global};
 use std::marker::Model;
@@ -229,8 +227,9 @@ impl<T: Acting, A: Allocator> ExtendedStateTable<T, A> {
     }
 
     /// The entry of a state and a class, if there is a rule for them, found in a grid of states by classes up to the
-    /// highest state with a rule, where that has at most 65,536 cells; by bisection where it has more, and for a state
-    /// above it. A class that is not below the number of classes is taken as 1.
+    /// highest state with a rule, where that has at most 65,536 cells; where it has more, and for a state above it, at
+    /// the place of its cell among the rules, where these have one for each cell, and else by bisection. A class that
+    /// is not below the number of classes is taken as 1.
     pub fn entry(&self, state: u16, class: u16) -> Option<GenericStateEntry<T>>
         ensures { result ≡ entry_of self.now state class }
     {
@@ -238,7 +237,7 @@ impl<T: Acting, A: Allocator> ExtendedStateTable<T, A> {
         let row = state as usize * self.class_count as usize;
         match self.grid.get(row + class as usize) {
             Some(cell) => cell.entry(),
-            None => ruled_entry(&self.rules, state, class),
+            None => ruled_entry(&self.rules, self.class_count, state, class),
         }
     }
 
@@ -254,7 +253,7 @@ impl<T: Acting, A: Allocator> ExtendedStateTable<T, A> {
         let place = state as usize * self.class_count as usize + class as usize;
         match self.grid.get(place) {
             Some(cell) => *cell,
-            None => judged_rule(&self.rules, state, class),
+            None => judged_rule(&self.rules, self.class_count, state, class),
         }
     }
 }
@@ -315,8 +314,7 @@ fn states_to(class_count: u16, key: u32) -> usize
     states
 }
 
-/// The judged entries that rising rules have for each class of so many states, state by state. Each is found in one
-/// walk over the rules, and what it is held against by bisection.
+/// The judged entries that rising rules have for each class of so many states, state by state.
 fn cells_of<T: Acting, A: Allocator>(
     alloc: A,
     class_count: u16,
@@ -334,31 +332,12 @@ fn cells_of<T: Acting, A: Allocator>(
     let width = class_count as usize;
     let count = states * width;
     let mut cells = Vec::with_capacity(alloc, count)?;
-    let mut at = 0;
     for place in 0..count {
         let state = (place / width) as u16;
         let class = (place % width) as u16;
-        at = walk_to(rules, at, rule_key(state, class));
-        let entry = entry_here(rules, at, state, class);
-        cells.push(judged(rules, state, class, entry))?;
+        cells.push(judged_rule(rules, class_count, state, class))?;
     }
     Ok(cells)
-}
-
-/// The entry that rising rules have for a state and a class, if they have one, at the place to which a walk to these
-/// has come.
-fn entry_here<T: Copy>(
-    rules: &[(u16, u16, GenericStateEntry<T>)],
-    place: usize,
-    state: u16,
-    class: u16,
-) -> Option<GenericStateEntry<T>>
-    requires rising { IsRising rule_key rules.now }
-    requires below { AreBelow rule_key rules.now place (state * 65536 + class) }
-    requires above { AreNotBelow rule_key rules.now place (state * 65536 + class) }
-    ensures { result ≡ ruled_entry rules.now state class }
-{
-    row_here(rules, place, rule_key(state, class)).map(|rule| rule.2)
 }
 
 /// The number by which rules rise.

@@ -20,8 +20,7 @@ use aat_read_pairs::{KERN, KERX};
 use aat_read_sfnt::tags::{CMAP, GDEF, HEAD, HHEA, HMTX, MAXP, NAME};
 use aat_write_kern::write_kern;
 use aat_write_kerx::{write_ankr, write_kerx};
-use aat_write_machine::{append_longs, append_words};
-use aat_write_morx::write_morx;
+use aat_write_machine::{append_longs, append_words, write_morx};
 use aat_write_sfnt::{
     EnglishName, FontTable, write_cmap, write_font, write_gdef, write_head, write_hhea, write_maxp,
     write_name, write_trak,

@@ -5,9 +5,11 @@ pub mod FoundUnits
 pub mod KeptCounts
 pub mod KeptPairs
 pub mod LayoutsRise
+pub mod NoOffsets
 pub mod ReadLayouts
 pub mod Rises
 pub mod RisingUnits
+pub mod SingleUnits
 pub mod SizeBounds
 pub mod SoundUnits
 pub mod Spans

@@ -1,10 +1,10 @@
 //! What is kept of the values of a lookup, and lookups that are kept as segments.
-ghost use Rattle.std.specs.Prelude.{◌≡◌, ◌++◌, ◌<◌, ◌≤◌, ◌^◌, length, map, IfOk, OnOk};
+ghost use Rattle.std.specs.Prelude.{◌≡◌, ◌++◌, ◌<◌, ◌≤◌, ◌^◌, length, map, IfOk, IsTrue, OnOk};
 ghost use Rattle.std.specs.List.{flat_map, range_with_len};
 ghost use Rattle.aat_read_lookup.specs.Kept.{kept_count, kept_segments, kept_value, layout_segments, row_of, single_segment, whole_segment};
 ghost use Rattle.aat_read_lookup.specs.Layouts.{unit_segments};
 ghost use Rattle.aat_read_lookup.specs.Segments.{pairs_by};
-ghost use Rattle.aat_read_lookup.specs.inside.Sound.{AreSound, CanKeep, Fits, IsSound};
+ghost use Rattle.aat_read_lookup.specs.inside.Sound.{AreSound, CanKeep, DoRise, Fits, IsSound, Rises};
 ghost use Rattle.aat_read_lookup.specs.declared.kept.Keep.TheVariants.{Value};
 ghost use Rattle.aat_read_lookup.specs.declared.layout.Layout.TheVariants.{Searched};
 
@@ -133,13 +133,16 @@ impl Segment {
 
 impl Units {
     /// How many segments the units are kept as.
-    fn segment_count(self, bytes: &[u8]) -> usize
-        requires { AreSound bytes.now self }
+    fn segment_count(self, bytes: &[u8], rise: bool) -> usize
+        requires sound { AreSound bytes.now self }
+        requires rise { IsTrue rise → DoRise bytes.now self }
         ensures is { result ≡ length (layout_segments bytes.now Value (Searched self)) }
         ensures few { result < 2 ^ 32 }
     {
+        if self.are_singles(rise) {
+            return self.count as usize;
+        }
         let mut count = 0;
-        let rise = self.do_rise(bytes);
         for i in 0..self.count {
             count += self.segment(i, bytes, rise).kept_count();
         }
@@ -150,15 +153,16 @@ impl Units {
     fn append_kept<A: Allocator>(
         self,
         bytes: &[u8],
+        rise: bool,
         keep: Keep,
         segments: &mut Vec<LookupSegment, A>,
     ) -> Result<(), AllocError>
         requires can { CanKeep keep }
         requires sound { AreSound bytes.now self }
+        requires rise { IsTrue rise → DoRise bytes.now self }
         ensures { OnOk result (segments.new.items
             ≡ segments.old.items ++ flat_map (kept_segments bytes.now keep) (unit_segments bytes.now self)) }
     {
-        let rise = self.do_rise(bytes);
         for i in 0..self.count {
             self.segment(i, bytes, rise)
                 .append_kept(bytes, keep, segments)?;
@@ -169,14 +173,15 @@ impl Units {
 
 impl Layout {
     /// The number of segments that the layout is kept as.
-    pub(crate) fn segment_count(self, bytes: &[u8]) -> usize
-        requires { IsSound bytes.now self }
+    pub(crate) fn segment_count(self, bytes: &[u8], rise: bool) -> usize
+        requires sound { IsSound bytes.now self }
+        requires rise { IsTrue rise → Rises bytes.now self }
         ensures is { result ≡ length (layout_segments bytes.now Value self) }
         ensures few { result < 2 ^ 32 }
     {
         match self {
             Layout::Array(segment) => segment.kept_count(),
-            Layout::Searched(units) => units.segment_count(bytes),
+            Layout::Searched(units) => units.segment_count(bytes, rise),
         }
     }
 
@@ -185,16 +190,18 @@ impl Layout {
         self,
         alloc: A,
         bytes: &[u8],
+        rise: bool,
         keep: Keep,
     ) -> Result<Vec<LookupSegment, A>, AllocError>
         requires can { CanKeep keep }
         requires sound { IsSound bytes.now self }
+        requires rise { IsTrue rise → Rises bytes.now self }
         ensures { IfOk result (λ segments. segments.items ≡ layout_segments bytes.now keep self) }
     {
-        let mut segments = Vec::with_capacity(alloc, self.segment_count(bytes))?;
+        let mut segments = Vec::with_capacity(alloc, self.segment_count(bytes, rise))?;
         match self {
             Layout::Array(segment) => segment.append_kept(bytes, keep, &mut segments)?,
-            Layout::Searched(units) => units.append_kept(bytes, keep, &mut segments)?,
+            Layout::Searched(units) => units.append_kept(bytes, rise, keep, &mut segments)?,
         }
         Ok(segments)
     }

@@ -1,11 +1,11 @@
 //! Lookups from bytes.
-ghost use Rattle.std.specs.Prelude.{◌≡◌, ◌++◌, None, Ok, IfOk, OnOk, MatchResult};
+ghost use Rattle.std.specs.Prelude.{◌≡◌, ◌++◌, None, Ok, IfOk, IsTrue, OnOk, MatchResult};
 ghost use Rattle.std.specs.List.{flat_map};
 ghost use Rattle.aat_lookup.specs.Keys.{first};
 ghost use Rattle.aat_lookup.specs.Segments.{first_segment_fall, pairs_of_segments};
 ghost use Rattle.aat_read_lookup.specs.Kept.{kept_pairs};
 ghost use Rattle.aat_read_lookup.specs.Lookups.{Gives, Refuses, lookup_at};
-ghost use Rattle.aat_read_lookup.specs.inside.Sound.{AreSound, CanKeep, IsSound};
+ghost use Rattle.aat_read_lookup.specs.inside.Sound.{AreSound, CanKeep, DoRise, IsSound, Rises};
 ghost use Rattle.aat_read_lookup.specs.declared.layout.Layout.TheVariants.{Searched};
 
 use crate::kept::Keep;
@@ -20,14 +20,15 @@ use std::alloc::{AllocError, Allocator};
 fn append_units<A: Allocator>(
     units: Units,
     bytes: &[u8],
+    rise: bool,
     keep: Keep,
     pairs: &mut Vec<(u16, u16), A>,
 ) -> Result<(), AllocError>
     requires can { CanKeep keep }
     requires sound { AreSound bytes.now units }
+    requires rise { IsTrue rise → DoRise bytes.now units }
     ensures { OnOk result (pairs.new.items ≡ pairs.old.items ++ kept_pairs bytes.now keep (Searched units)) }
 {
-    let rise = units.do_rise(bytes);
     for i in 0..units.count {
         units.segment(i, bytes, rise).append(bytes, keep, pairs)?;
     }
@@ -39,16 +40,18 @@ fn pairs_of<A: Allocator>(
     alloc: A,
     layout: Layout,
     bytes: &[u8],
+    rise: bool,
     keep: Keep,
 ) -> Result<Vec<(u16, u16), A>, AllocError>
     requires can { CanKeep keep }
     requires sound { IsSound bytes.now layout }
+    requires rise { IsTrue rise → Rises bytes.now layout }
     ensures { IfOk result (λ pairs. pairs.items ≡ kept_pairs bytes.now keep layout) }
 {
-    let mut pairs = Vec::with_capacity(alloc, layout.glyphs(bytes))?;
+    let mut pairs = Vec::with_capacity(alloc, layout.glyphs(bytes, rise))?;
     match layout {
         Layout::Array(segment) => segment.append(bytes, keep, &mut pairs)?,
-        Layout::Searched(units) => append_units(units, bytes, keep, &mut pairs)?,
+        Layout::Searched(units) => append_units(units, bytes, rise, keep, &mut pairs)?,
     }
     Ok(pairs)
 }
@@ -73,13 +76,15 @@ fn listed_lookup<A: Allocator + Copy>(
     alloc: A,
     layout: Layout,
     bytes: &[u8],
+    rise: bool,
     keep: Keep,
 ) -> Result<Lookup<A>, AllocError>
     requires can { CanKeep keep }
     requires sound { IsSound bytes.now layout }
+    requires rise { IsTrue rise → Rises bytes.now layout }
     ensures { IfOk result (λ lookup. lookup ≡ kept_pairs bytes.now keep layout) }
 {
-    let pairs = pairs_of(alloc, layout, bytes, keep)?;
+    let pairs = pairs_of(alloc, layout, bytes, rise, keep)?;
     Lookup::of_rising(alloc, &pairs)
 }
 
@@ -88,13 +93,15 @@ pub(crate) fn spread_lookup<A: Allocator + Copy>(
     alloc: A,
     layout: Layout,
     bytes: &[u8],
+    rise: bool,
     keep: Keep,
 ) -> Result<Lookup<A>, AllocError>
     requires can { CanKeep keep }
     requires sound { IsSound bytes.now layout }
+    requires rise { IsTrue rise → Rises bytes.now layout }
     ensures { IfOk result (λ lookup. lookup ≡ kept_pairs bytes.now keep layout) }
 {
-    let segments = layout.segments(alloc, bytes, keep)?;
+    let segments = layout.segments(alloc, bytes, rise, keep)?;
     lookup_of_segments(alloc, &segments)
 }
 
@@ -109,10 +116,11 @@ pub(crate) fn lookup_of<A: Allocator + Copy>(
     requires sound { IsSound bytes.now layout }
     ensures { IfOk result (λ lookup. lookup ≡ kept_pairs bytes.now keep layout) }
 {
-    if layout.is_spread(bytes) {
-        return spread_lookup(alloc, layout, bytes, keep);
+    let rise = layout.does_rise(bytes);
+    if layout.is_spread(bytes, rise) {
+        return spread_lookup(alloc, layout, bytes, rise, keep);
     }
-    listed_lookup(alloc, layout, bytes, keep)
+    listed_lookup(alloc, layout, bytes, rise, keep)
 }
 
 /// Reads the pairs of the lookup that starts at a place of a table, as `read_lookup` does, with the same faults.
@@ -127,7 +135,8 @@ pub fn read_pairs<A: Allocator>(
         MatchResult result (λ pairs. read ≡ Ok pairs.items) (Refuses read) }
 {
     let layout = Layout::read(table, bytes, place, glyph_count, ValueKind::Word)?;
-    Ok(pairs_of(alloc, layout, bytes, Keep::Value)?)
+    let rise = layout.does_rise(bytes);
+    Ok(pairs_of(alloc, layout, bytes, rise, Keep::Value)?)
 }
 
 /// Reads the lookup that starts at a place of a table, in bytes from the start of the table. `bytes` is the whole

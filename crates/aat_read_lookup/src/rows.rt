@@ -38,7 +38,8 @@ fn long_rows_of<A: Allocator + Copy>(
     requires sound { IsSound bytes.now layout }
     ensures { IfOk result (λ lookup. lookup ≡ map (in_long_row width) (long_pairs_of bytes.now layout)) }
 {
-    spread_lookup(alloc, layout, bytes, Keep::LongRow(width))
+    let rise = layout.does_rise(bytes);
+    spread_lookup(alloc, layout, bytes, rise, Keep::LongRow(width))
 }
 
 /// Reads the lookup that starts at a place of a table, as `read_lookup` does, with the same faults, and gives each glyph

@@ -1,5 +1,5 @@
 //! How much memory a lookup that is read takes, and how many bytes it is read from.
-ghost use Rattle.std.specs.Prelude.{◌≡◌, ◌+◌, ◌*◌, ◌^◌, ◌≤◌, ◌<◌};
+ghost use Rattle.std.specs.Prelude.{◌≡◌, ◌+◌, ◌*◌, ◌^◌, ◌≤◌, ◌<◌, IsTrue};
 ghost use Rattle.aat_lookup.specs.Keys.{first};
 ghost use Rattle.aat_lookup.specs.GlyphSpans.{glyph_span};
 ghost use Rattle.aat_read_lookup.specs.LongSizes.{long_bytes_at};
@@ -7,7 +7,7 @@ ghost use Rattle.aat_read_lookup.specs.Lookups.{pairs_of};
 ghost use Rattle.aat_read_lookup.specs.Sizes.{bytes_of, cells_beside, is_spread, layout_size, lookup_bytes_at, lookup_size_at, pairs_size};
 ghost use Rattle.aat_read_lookup.specs.Layouts.{glyphs_of};
 ghost use Rattle.aat_read_lookup.specs.inside.Ends.{ends_with};
-ghost use Rattle.aat_read_lookup.specs.inside.Sound.{AreSound, IsSound};
+ghost use Rattle.aat_read_lookup.specs.inside.Sound.{AreSound, DoRise, IsSound, Rises};
 ghost use Rattle.aat_read_lookup.specs.declared.layout.Layout.TheVariants.{Searched};
 
 use crate::layout::Layout;
@@ -61,14 +61,19 @@ fn ends_with(ends: (usize, usize), segment: Segment) -> (usize, usize)
 
 impl Units {
     /// The number of glyphs from the first to the last by which the units are found.
-    fn span(self, bytes: &[u8]) -> usize
+    fn span(self, bytes: &[u8], rise: bool) -> usize
         requires sound { AreSound bytes.now self }
+        requires rise { IsTrue rise → DoRise bytes.now self }
         requires some { 0 < glyphs_of bytes.now self }
         ensures is { result ≡ glyph_span first (0, 0) (pairs_of bytes.now (Searched self)) }
         ensures short { result ≤ 65536 }
     {
+        if self.are_singles(rise) {
+            let lowest = self.unit(0, bytes).first;
+            let highest = self.unit(self.count - 1, bytes).first;
+            return highest - lowest + 1;
+        }
         let mut ends = (0, 0);
-        let rise = self.do_rise(bytes);
         for i in 0..self.count {
             ends = ends_with(ends, self.segment(i, bytes, rise));
         }
@@ -76,15 +81,16 @@ impl Units {
     }
 
     /// The bytes of the pairs of the units, and of the cells beside them.
-    fn pairs_size(self, bytes: &[u8]) -> usize
-        requires { AreSound bytes.now self }
+    fn pairs_size(self, bytes: &[u8], rise: bool) -> usize
+        requires sound { AreSound bytes.now self }
+        requires rise { IsTrue rise → DoRise bytes.now self }
         ensures { result ≡ pairs_size (pairs_of bytes.now (Searched self)) }
     {
-        let glyphs = self.glyphs(bytes);
+        let glyphs = self.glyphs(bytes, rise);
         if glyphs == 0 {
             return 0;
         }
-        size_of_pairs(glyphs, self.span(bytes))
+        size_of_pairs(glyphs, self.span(bytes, rise))
     }
 }
 
@@ -102,22 +108,24 @@ impl Layout {
     }
 
     /// The bytes of the pairs of the layout, and of the cells beside them.
-    fn pairs_size(self, bytes: &[u8]) -> usize
-        requires { IsSound bytes.now self }
+    fn pairs_size(self, bytes: &[u8], rise: bool) -> usize
+        requires sound { IsSound bytes.now self }
+        requires rise { IsTrue rise → Rises bytes.now self }
         ensures { result ≡ pairs_size (pairs_of bytes.now self) }
     {
         match self {
             Layout::Array(segment) => size_of_pairs(segment.count, segment.count),
-            Layout::Searched(units) => units.pairs_size(bytes),
+            Layout::Searched(units) => units.pairs_size(bytes, rise),
         }
     }
 
     /// Whether the layout is kept as segments.
-    pub(crate) fn is_spread(self, bytes: &[u8]) -> bool
-        requires { IsSound bytes.now self }
+    pub(crate) fn is_spread(self, bytes: &[u8], rise: bool) -> bool
+        requires sound { IsSound bytes.now self }
+        requires rise { IsTrue rise → Rises bytes.now self }
         ensures { result ≡ is_spread bytes.now self }
     {
-        MEMORY_A_BYTE * self.bytes(bytes) < self.pairs_size(bytes)
+        MEMORY_A_BYTE * self.bytes(bytes) < self.pairs_size(bytes, rise)
     }
 
     /// The bytes of the lookup of the layout.
@@ -125,10 +133,11 @@ impl Layout {
         requires { IsSound bytes.now self }
         ensures { result ≡ layout_size bytes.now self }
     {
-        if self.is_spread(bytes) {
-            return self.segment_count(bytes) * size_of::<LookupSegment>();
+        let rise = self.does_rise(bytes);
+        if self.is_spread(bytes, rise) {
+            return self.segment_count(bytes, rise) * size_of::<LookupSegment>();
         }
-        self.pairs_size(bytes)
+        self.pairs_size(bytes, rise)
     }
 }
 

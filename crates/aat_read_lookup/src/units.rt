@@ -260,11 +260,14 @@ impl Units {
         None
     }
 
-    /// The first fault of the units.
+    /// The first fault of the units. Without an offset they have none, since a value stands in the record of its unit.
     fn fault(self, table: Tag, bytes: &[u8]) -> Option<Fault>
         requires { AreInside bytes.now self }
         ensures { result ≡ units_fault table bytes.now self }
     {
+        if !self.kind.has_offset() {
+            return None;
+        }
         for i in 0..self.count {
             if let Some(fault) = self.unit_fault(table, bytes, i) {
                 return Some(fault);

@@ -1,9 +1,10 @@
 -- The number of states.
-use Rattle.std.proofs.Common.{◌≡◌, ℕ, ◌+◌, ◌*◌, ◌<◌, ◌≤◌, ◌⊎◌, inl, inr, Bool, true, false, not, Option, Some, None, Ok, Err, refl, sym, ap, ◌∙◌, subst, zero-add, arith}
+use Rattle.std.proofs.Common.{◌≡◌, ℕ, ◌+◌, ◌*◌, ◌<◌, ◌≤◌, ◌⊎◌, inl, inr, Bool, true, false, not, Option, Some, None, Ok, Err, length, nat_le, refl, sym, ap, ◌∙◌, subst, zero-add, le_refl, arith}
 use Rattle.std.proofs.Math.Nat.{le_trans, le_antisymm}
 use Rattle.std.proofs.Math.Nat.{mul-le-mul_right, mul-le-mul}
 use Rattle.std.proofs.lemmas.Bool.{leb-true, le-leb}
-use Rattle.aat_read_machine.specs.StateArray.{StateArray, has_entry, has_index, is_closed, missing_entry, missing_index, row_fault, state_count, states_named, states_of}
+use Rattle.aat_bytes.specs.Numbers.{be16}
+use Rattle.aat_read_machine.specs.StateArray.{StateArray, has_entry, has_index, index_place, is_closed, missing_entry, missing_index, row_fault, state_count, states_named, states_of}
 use Rattle.aat_bytes.specs.facts.Ranges.{all_pass, each_passes, found_first, none_each, none_found}
 use Rattle.aat_read_machine.specs.facts.Least.{Least, is_least}
 
@@ -109,3 +110,19 @@ module _ (m : StateArray) where
   pub none_missing : (cells : ℕ) → missing_entry m cells ≡ None → (cell : ℕ) → cell < cells → has_entry m cell ≡ true
   none_missing cells none cell below =
       not_false (has_entry m cell) (none_each _ 0 cells none cell (omega arith) (rw zero-add below))
+
+  -- where the entry of an index is there, that of a cell with no greater one is
+  pub entry_by :
+      (cell index : ℕ) → be16 m.bytes (index_place m cell) ≤ index
+      → m.entries + m.entry_size * index + m.entry_size ≤ length m.bytes → has_entry m cell ≡ true
+  unfolding has_entry
+  entry_by cell index low fits =
+      let le : m.entry_size * be16 m.bytes (index_place m cell) ≤ m.entry_size * index = mul-le-mul (le_refl m.entry_size) low in
+      le-leb _ _ (omega (arith, le, fits))
+
+  -- where the entry of the greatest index of cells is there, none is missing
+  pub none_past :
+      (cells index : ℕ) → ((cell : ℕ) → cell < cells → be16 m.bytes (index_place m cell) ≤ index)
+      → nat_le (m.entries + m.entry_size * index + m.entry_size) (length m.bytes) ≡ true → missing_entry m cells ≡ None
+  none_past cells index greatest fits =
+      none_found _ 0 cells (λ cell from below. ap not (entry_by cell index (greatest cell (rw zero-add at below)) (leb-true _ _ fits)))

@@ -1,5 +1,6 @@
 //! The state array and the entries of a state table.
-ghost use Rattle.std.specs.Prelude.{◌≡◌, ◌+◌, ◌*◌, ◌^◌, ◌<◌, ◌≤◌, ℕ, true, IfOk, IfSome, length};
+ghost use Rattle.std.specs.Prelude.{◌≡◌, ◌+◌, ◌*◌, ◌^◌, ◌<◌, ◌≤◌, ℕ, true, IfOk, IfSome, length, nat_le};
+ghost use Rattle.aat_bytes.specs.Numbers.{be16};
 ghost use Rattle.aat_read_machine.specs.Lookups.{lookup_count, lookups_named, lookups_to};
 ghost use Rattle.aat_read_machine.specs.Room.{room_left};
 ghost use Rattle.aat_read_machine.specs.StateArray.{AreIndexed, AreWhole, cells_of, class_place, entry_place, has_entry, has_index, header_at, index_place, missing_entry, past_end, row_fault, rule_of, rules_of, state_array_at, states_named, states_of};
@@ -136,6 +137,16 @@ impl<'a> StateArray<'a> {
         self.index_place(cell) + 2 <= self.bytes.len()
     }
 
+    /// The index of a cell.
+    #[tactic(auto, unfolding(crate::specs::StateArray::has_index))]
+    fn index(&self, cell: usize) -> u16
+        requires small { cell < 2 ^ 33 }
+        requires indexed { has_index self.now cell ≡ true }
+        ensures { result ≡ be16 self.now.bytes (index_place self.now cell) }
+    {
+        be16(self.bytes, self.index_place(cell))
+    }
+
     /// The place of the entry of a cell.
     #[tactic(auto, unfolding(crate::specs::StateArray::has_index))]
     fn entry_place(&self, cell: usize) -> usize
@@ -144,8 +155,7 @@ impl<'a> StateArray<'a> {
         ensures place { result ≡ entry_place self.now cell }
         ensures small { result < 2 ^ 33 }
     {
-        let index = be16(self.bytes, self.index_place(cell));
-        self.entries as usize + self.entry_size as usize * index as usize
+        self.entries as usize + self.entry_size as usize * self.index(cell) as usize
     }
 
     /// Whether the entry of a cell stands inside.
@@ -208,13 +218,39 @@ impl<'a> StateArray<'a> {
         Ok(count)
     }
 
-    /// The first of so many cells whose entry reaches past the end.
+    /// The greatest index of so many cells.
+    fn greatest_index(&self, cells: usize) -> u16
+        requires small { cells < 2 ^ 33 }
+        requires indexed { AreIndexed self.now cells }
+        ensures { (cell : ℕ) → cell < cells → be16 self.now.bytes (index_place self.now cell) ≤ result }
+    {
+        let mut greatest = 0;
+        for cell in 0..cells {
+            greatest = greatest.max(self.index(cell));
+        }
+        greatest
+    }
+
+    /// Whether the entry of an index stands inside.
+    fn has_entry_of(&self, index: u16) -> bool
+        ensures { result ≡ nat_le (self.now.entries + self.now.entry_size * index + self.now.entry_size)
+            (length self.now.bytes) }
+    {
+        let place = self.entries as usize + self.entry_size as usize * index as usize;
+        place + self.entry_size as usize <= self.bytes.len()
+    }
+
+    /// The first of so many cells whose entry reaches past the end. None does where that of the greatest index does
+    /// not.
     fn missing_entry(&self, cells: usize) -> Option<usize>
         requires small { cells < 2 ^ 33 }
         requires indexed { AreIndexed self.now cells }
         ensures first { result ≡ missing_entry self.now cells }
         ensures below { IfSome result (λ cell. cell < cells) }
     {
+        if self.has_entry_of(self.greatest_index(cells)) {
+            return None;
+        }
         (0..cells).find(|cell| !self.has_entry(*cell))
     }
 

@@ -118,6 +118,9 @@ pub struct ShapedGlyph {
     pub is_mark: bool,
     /// The kind of the character of the glyph of the text that it came from.
     pub kind: CharacterKind,
+    /// Whether the text may be broken between the glyph that is drawn before it and this one: its two parts then look
+    /// by themselves as they do here. Where it is `false` nothing is said. It is `false` at the first glyph.
+    pub may_break_before: bool,
     /// How far the pen moves to the right.
     pub x_advance: i32,
     /// How far the pen moves up: in vertical text it is usually below 0.
@@ -129,7 +132,4 @@ pub struct ShapedGlyph {
     /// The place, among the glyphs that are drawn, of the glyph that it is attached to, if any. That one stands before
     /// it. There is none where that glyph was deleted.
     pub attached_to: Option<usize>,
-    /// Whether the text may be broken between the glyph that is drawn before it and this one: its two parts then look
-    /// by themselves as they do here. Where it is `false` nothing is said. It is `false` at the first glyph.
-    pub may_break_before: bool,
 }

@@ -1,3 +1,4 @@
+pub mod Arenas
 pub mod Exposed
 pub mod Stops
 pub mod Stretches

@@ -14,6 +14,7 @@ mod lines;
 mod memory;
 mod names;
 mod shaper;
+mod workspace;
 /// Worked examples of whether a font has a feature, as a theorem.
 #[doc(hidden)]
 pub mod worked;

@@ -1,4 +1,5 @@
 //! What a shaper keeps between texts.
+use crate::workspace::Workspace;
 use aat_layout::font::Feature;
 use aat_shaped_text::ShapedGlyph;
 use std::alloc::{Allocator, Global};
@@ -9,6 +10,7 @@ use std::alloc::{Allocator, Global};
 pub struct ShaperMemory<A: Allocator + Copy = Global> {
     pub(crate) alloc: A,
     pub(crate) features: Vec<Feature>,
+    pub(crate) workspace: Workspace<A>,
     pub(crate) glyphs: Vec<ShapedGlyph, A>,
 }
 
@@ -18,6 +20,7 @@ impl<A: Allocator + Copy> ShaperMemory<A> {
         ShaperMemory {
             alloc,
             features: Vec::new(global),
+            workspace: Workspace::new(alloc),
             glyphs: Vec::new(alloc),
         }
     }

@@ -1,5 +1,5 @@
 -- What is known of plain characters.
-use Rattle.std.proofs.Common.{◌≡◌, ℕ, Bool, true, false, not, ◌&&◌, ◌||◌, ◌==◌, Option, Some, None, refl, sym, ap, ap₂, ◌∙◌, eqb-true}
+use Rattle.std.proofs.Common.{◌≡◌, ℕ, Bool, true, false, not, ◌&&◌, ◌||◌, ◌==◌, nat_le, List, [], ◌∷◌, Option, Some, None, refl, sym, ap, ap₂, ◌∙◌, eqb-true, true≢false}
 use Rattle.std.proofs.lemmas.Bool.{not-true}
 use Rattle.std.specs.Option.{option_map_or}
 use Rattle.std.specs.Prelude.{if◌then◌else◌, unwrap_or}
@@ -29,11 +29,15 @@ use Rattle.ucd_table.proofs.Computing.{tables}
 use Rattle.ucd_table.proofs.Facts.{Stepped-everywhere}
 use Rattle.ucd_table.proofs.Stepped.{Stepped, of_ranges, zip_stepped}
 use Rattle.unicode_segmentation.specs.Grapheme.{break_by_pair, is_consonant, is_zwj}
+use Rattle.aat_characters.specs.Apart.{is_apart}
 use Rattle.aat_characters.specs.Marks.{is_nonspacing, mark_class, placing_class}
+use Rattle.ucd_table.specs.Rows.{Range, in_ranges}
 use Rattle.aat_face.specs.Faces.{FaceValue, glyph_of_character}
 use Rattle.aat_shaped_text.specs.declared.text.CharacterKind.TheVariants as Kind
 use Rattle.aat_text.specs.IgnorableCharacters.{is_shown_character}
-use Rattle.aat_text.specs.Kinds.{character_kind}
+use Rattle.aat_text.specs.Kinds.{character_kind, space_kind}
+use Rattle.aat_text.specs.Prepared.{placed_glyph}
+use Rattle.aat_characters.specs.declared.placed_character.PlacedCharacter.{PlacedCharacter}
 use Rattle.aat_text.specs.TextGlyphs.{is_mark_of, text_glyph}
 use Rattle.aat_text.specs.inside.ClusterStarts.{begins_at, goes_on_linked, is_joined, is_prepend, known_behind, known_behind_plain}
 use Rattle.aat_text.specs.inside.Plain.{is_plain, plain_ranges}
@@ -147,3 +151,58 @@ plain_glyph face cluster c h =
     ap₂ (λ ignorable mark. record { glyph_id = option_map_or (λ glyph. glyph.0) (glyph_of_character face c) 0; cluster = cluster; is_ignorable = ignorable; is_mark = mark; kind = Kind.Other })
     shown (sym (no_mark (general_category c) c (plain_mark c h)))
     ∙ ap (λ kind. record (text_glyph face cluster c) { kind = kind }) (plain_kind c h)
+
+-- so is the glyph of one that stands for no space
+pub plain_placed : (face : FaceValue) (c : PlacedCharacter) → c.space ≡ None → is_plain c.character ≡ true → record {
+  glyph_id = option_map_or (λ glyph. glyph.0) (glyph_of_character face c.character) 0;
+  cluster = c.place;
+  is_ignorable = false;
+  is_mark = false;
+  kind = Kind.Other;
+} ≡ placed_glyph face c
+plain_placed face c e h =
+    plain_glyph face c.place c.character h
+    ∙ ap (λ space. record (text_glyph face c.place c.character) { kind = option_map_or space_kind space (character_kind c.character) }) (sym e)
+
+-- ---- a plain character is a cluster by itself
+
+-- what continues a cluster beside marks, and the halves of flags
+abbrev continuing : List Range
+continuing = (0x200D, 0x200D) ∷ (0xFF9E, 0xFF9F) ∷ (0x1F1E6, 0x1F1FF) ∷ (0x1F3FB, 0x1F3FF) ∷ (0xE0020, 0xE007F) ∷ []
+
+unfoldable continuing_stepped : Stepped (in_ranges continuing)
+unfolding tables
+continuing_stepped = of_ranges continuing refl
+
+plain_ends : (c : ℕ) → is_plain c ≡ true → in_ranges continuing c ≡ false
+unfolding plain_stepped continuing_stepped
+plain_ends c h =
+    let fits = λ (plain other : Bool). not plain || not other in
+    let steps = zip_stepped fits is_plain (in_ranges continuing) plain_stepped continuing_stepped in
+    let known = Stepped-everywhere (λ c. fits (is_plain c) (in_ranges continuing c)) steps refl c in
+    not-true _ (ap (λ plain. not plain || not (in_ranges continuing c)) (sym h) ∙ known)
+
+neither : (a b : Bool) → (a || b) ≡ false → (a ≡ false) × (b ≡ false)
+neither false b h = (refl, h)
+neither true b h = cc
+
+no_joiner : (c : ℕ) → (nat_le 0x200D c && nat_le c 0x200D) ≡ false → (c == 0x200D) ≡ false
+no_joiner c h = by (c == 0x200D) refl
+  where
+    by : (b : Bool) → (c == 0x200D) ≡ b → (c == 0x200D) ≡ false
+    by false e = e
+    by true e = absurd (true≢false (sym (ap (λ n. nat_le 0x200D n && nat_le n 0x200D) (eqb-true c 0x200D e)) ∙ h))
+
+none_of : (m e j k t r : Bool) → m ≡ false → e ≡ false → j ≡ false → k ≡ false → t ≡ false → r ≡ false
+    → not ((m || e || j || k || t) || r) ≡ true
+none_of m e j k t r m₀ e₀ j₀ k₀ t₀ r₀ = rw m₀ (rw e₀ (rw j₀ (rw k₀ (rw t₀ (rw r₀ refl)))))
+
+pub plain_apart : (c : ℕ) → is_plain c ≡ true → true ≡ is_apart c
+unfolding in_ranges
+plain_apart c h =
+    let joiner = neither (nat_le 0x200D c && nat_le c 0x200D) _ (plain_ends c h) in
+    let sound = neither (nat_le 0xFF9E c && nat_le c 0xFF9F) _ joiner.1 in
+    let flag = neither (nat_le 0x1F1E6 c && nat_le c 0x1F1FF) _ sound.1 in
+    let modifier = neither (nat_le 0x1F3FB c && nat_le c 0x1F3FF) _ flag.1 in
+    let tag = neither (nat_le 0xE0020 c && nat_le c 0xE007F) _ modifier.1 in
+    sym (none_of _ _ _ _ _ _ (plain_mark c h) modifier.0 (no_joiner c joiner.0) sound.0 tag.0 flag.0)

@@ -66,9 +66,13 @@ pub(crate) fn placed_glyph(
     ensures glyph { result ≡ placed_glyph face.now character }
     ensures known { AreKnown face.now known.new }
 {
-    TextGlyph {
-        kind: placed_kind(character),
-        ..text_glyph(face, known, character.place, character.character)
+    let glyph = text_glyph(face, known, character.place, character.character);
+    match character.space {
+        None => glyph,
+        Some(_) => TextGlyph {
+            kind: placed_kind(character),
+            ..glyph
+        },
     }
 }
 

@@ -5,11 +5,12 @@ ghost use Rattle.aat_text.specs.inside.KnownGlyphs.{glyph_id_in, AreKnown};
 
 use aat_face::Face;
 
-/// How many characters are kept: as many as the letters of an alphabet.
+/// How many characters are kept: more than an alphabet of one case has letters.
 const KEPT: usize = 64;
 
 /// The glyphs of the characters past ASCII that a text had last, one for each place that a character may have among so
-/// many. A text has few different characters, and a font takes long to find one; those of ASCII the face keeps.
+/// many. A text has few different characters, and a font takes long to find one. Those of ASCII are asked of the face, which
+/// mostly has them in a row.
 #[derive(Drop)]
 pub(crate) struct KnownGlyphs {
     /// The number of each character, 0 where there is none.

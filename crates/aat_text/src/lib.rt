@@ -39,5 +39,5 @@ pub use error::TextError;
 pub use glyphs::text_of;
 pub use lines::{LineEnd, line_ends};
 pub use missing::{MissingCharacter, missing_characters};
-pub use prepared::{PreparedText, prepare_text};
+pub use prepared::{PreparedText, prepare_text, prepare_text_in};
 pub use unit::ClusterUnit;

@@ -1,16 +1,17 @@
 //! The glyphs of a text in which each character is a cluster by itself, as in most texts without marks: no character is
 //! merged with others, composed or put in order, so that each is written as it comes.
-ghost use Rattle.std.specs.Prelude.{◌≡◌, ◌<◌, ◌^◌, ◌++◌, ◌&&◌, flat_map, length, map, IfOk, OnOk};
+ghost use Rattle.std.specs.Prelude.{◌≡◌, ◌<◌, ◌^◌, ◌++◌, ◌&&◌, [], flat_map, length, map, IfOk, OnOk};
 ghost use Rattle.aat_characters.specs.PlacedCharacters.{placed};
 ghost use Rattle.aat_characters.specs.Apart.{is_apart};
 ghost use Rattle.aat_characters.specs.Decomposed.{has_glyph};
-ghost use Rattle.aat_text.specs.Prepared.{exchanged, own_characters, placed_glyph};
+ghost use Rattle.aat_text.specs.Prepared.{exchanged, exchanged_at, own_characters, placed_glyph};
 ghost use Rattle.aat_text.specs.inside.KnownGlyphs.{AreKnown};
 ghost use Rattle.aat_text.specs.inside.Lone.{exchanged_glyphs, lone_glyphs, stand_apart};
 
 use crate::clusters::{exchanged, exchanged_at};
 use crate::glyphs::placed_glyph;
 use crate::known_glyphs::KnownGlyphs;
+use crate::plain::is_plain;
 use crate::unit::ClusterUnit;
 use aat_characters::{PlacedCharacter, extends, is_regional_indicator, normalized};
 use aat_face::Face;
@@ -20,9 +21,13 @@ use std::alloc::{AllocError, Allocator};
 
 /// Whether a character continues no cluster and is no half of a flag: in a text of such characters each is a cluster by
 /// itself, and none is a mark.
+#[tactic(auto, using(crate::proofs::PlainCharacters::plain_apart))]
 fn is_apart(character: char) -> bool
     ensures { result ≡ is_apart character }
 {
+    if is_plain(character) {
+        return true;
+    }
     !extends(character) && !is_regional_indicator(character)
 }
 
@@ -33,8 +38,13 @@ fn is_apart_in(face: &Face, direction: Direction, character: char) -> bool
     if !is_apart(character) {
         return false;
     }
-    let seen = exchanged(face, direction, character);
-    seen == character || is_apart(seen)
+    match direction {
+        Direction::LeftToRight => true,
+        _ => {
+            let seen = exchanged(face, direction, character);
+            seen == character || is_apart(seen)
+        }
+    }
 }
 
 /// Whether each character of a text that runs in a direction is a cluster by itself.
@@ -63,8 +73,8 @@ fn put_placed<A: Allocator>(
 }
 
 /// Puts the glyphs of a character by itself behind others: one, if the font has it.
-fn put_lone<A: Allocator + Copy>(
-    alloc: A,
+fn put_lone<B: Allocator + Copy, A: Allocator>(
+    scratch: B,
     face: &Face,
     known: &mut KnownGlyphs,
     character: PlacedCharacter,
@@ -74,38 +84,58 @@ fn put_lone<A: Allocator + Copy>(
     ensures known { AreKnown face.now known.new }
     ensures glyphs { OnOk result (glyphs.new.items ≡ glyphs.old.items ++ lone_glyphs face.now character) }
 {
+    if character.space.is_none() && is_plain(character.character) {
+        let glyph_id = known.glyph_id(face, character.character);
+        if glyph_id != 0 {
+            glyphs.push(TextGlyph::new(glyph_id, character.place))?;
+            return Ok(());
+        }
+    }
     let glyph = placed_glyph(face, known, character);
     if glyph.glyph_id != 0 {
         glyphs.push(glyph)?;
         return Ok(());
     }
     let alone = [character];
-    let written = normalized(alloc, face, &alone)?;
+    let written = normalized(scratch, face, &alone)?;
     put_placed(face, known, &written, glyphs)
 }
 
-/// For how many characters of a text there is room at once, if it has as many bytes.
+/// A character of a text that runs in a direction, exchanged, at its place. From left to right none is exchanged.
+fn seen_at(face: &Face, direction: Direction, character: PlacedCharacter) -> PlacedCharacter
+    ensures { result ≡ exchanged_at (has_glyph face.now) direction character }
+{
+    match direction {
+        Direction::LeftToRight => character,
+        _ => exchanged_at(face, direction, character),
+    }
+}
+
+/// How many glyphs there is room for at first, or as many as the text has bytes, if these are fewer.
 const ROOM: usize = 64;
 
-/// The glyphs of the characters of a text that runs in a direction, each by itself.
-pub(crate) fn lone_glyphs<A: Allocator + Copy>(
-    alloc: A,
+/// The glyphs of the characters of a text that runs in a direction, each by itself, in the memory of an empty vector.
+pub(crate) fn lone_glyphs<B: Allocator + Copy, A: Allocator>(
+    scratch: B,
+    room: Vec<TextGlyph, A>,
     face: &Face,
     direction: Direction,
     unit: ClusterUnit,
     text: &str,
 ) -> Result<Vec<TextGlyph, A>, AllocError>
-    requires { length text.now < 2 ^ 32 }
+    requires short { length text.now < 2 ^ 32 }
+    requires empty { room.items ≡ [] }
     ensures { IfOk result (λ glyphs. glyphs.items
         ≡ flat_map (exchanged_glyphs face.now direction) (own_characters unit text.now)) }
 {
-    let mut glyphs = Vec::with_capacity(alloc, text.len().min(ROOM))?;
+    let mut glyphs = room;
+    glyphs.reserve(text.len().min(ROOM))?;
     let mut known = KnownGlyphs::none();
     let mut place = 0;
     for character in text.chars() {
         let own = PlacedCharacter::new(place as u32, character);
-        let seen = exchanged_at(face, direction, own);
-        put_lone(alloc, face, &mut known, seen, &mut glyphs)?;
+        let seen = seen_at(face, direction, own);
+        put_lone(scratch, face, &mut known, seen, &mut glyphs)?;
         place += unit.width_of(character);
     }
     Ok(glyphs)

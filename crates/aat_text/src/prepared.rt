@@ -1,5 +1,5 @@
 //! A text as HarfBuzz hands it to the layer.
-ghost use Rattle.std.specs.Prelude.{◌≡◌, ◌<◌, ◌≤◌, ◌^◌, ◌↔◌, length, map, IfOk, IsErrOf};
+ghost use Rattle.std.specs.Prelude.{◌≡◌, ◌<◌, ◌≤◌, ◌^◌, ◌↔◌, [], length, map, IfOk, IsErrOf};
 ghost use Rattle.aat_characters.specs.Native.{native_direction, told_script};
 ghost use Rattle.aat_characters.specs.Decomposed.{has_glyph};
 ghost use Rattle.aat_text.specs.Prepared.{is_turned, placed_glyph, prepared_glyphs, told_direction};
@@ -66,15 +66,17 @@ fn shaped_characters<A: Allocator + Copy>(
     }
 }
 
-/// The glyphs of characters.
+/// The glyphs of characters, in the memory of an empty vector.
 fn glyphs_of<A: Allocator>(
-    alloc: A,
+    room: Vec<TextGlyph, A>,
     face: &Face,
     characters: &[PlacedCharacter],
 ) -> Result<Vec<TextGlyph, A>, AllocError>
+    requires { room.items ≡ [] }
     ensures { IfOk result (λ glyphs. glyphs.items ≡ map (placed_glyph face.now) characters.now) }
 {
-    let mut glyphs = Vec::with_capacity(alloc, characters.len())?;
+    let mut glyphs = room;
+    glyphs.reserve(characters.len())?;
     let mut known = KnownGlyphs::none();
     for character in characters {
         glyphs.push(placed_glyph(face, &mut known, *character))?;
@@ -82,10 +84,11 @@ fn glyphs_of<A: Allocator>(
     Ok(glyphs)
 }
 
-/// The glyphs of a text that runs in a direction.
+/// The glyphs of a text that runs in a direction, in the memory of an empty vector.
 #[tactic(auto, using(crate::proofs::LoneTexts::lone_text))]
-fn prepared_glyphs<A: Allocator + Copy>(
-    alloc: A,
+fn prepared_glyphs<B: Allocator + Copy, A: Allocator>(
+    scratch: B,
+    room: Vec<TextGlyph, A>,
     face: &Face,
     unit: ClusterUnit,
     level: ClusterLevel,
@@ -93,15 +96,16 @@ fn prepared_glyphs<A: Allocator + Copy>(
     direction: Direction,
     text: &str,
 ) -> Result<Vec<TextGlyph, A>, AllocError>
-    requires { length text.now < 2 ^ 32 }
+    requires short { length text.now < 2 ^ 32 }
+    requires empty { room.items ≡ [] }
     ensures { IfOk result (λ glyphs. glyphs.items
         ≡ map (placed_glyph face.now) (characters_when (has_glyph face.now) is_turned direction level unit text.now)) }
 {
     if !is_turned && stand_apart(face, direction, text) {
-        return lone_glyphs(alloc, face, direction, unit, text);
+        return lone_glyphs(scratch, room, face, direction, unit, text);
     }
-    let characters = shaped_characters(alloc, face, unit, level, is_turned, direction, text)?;
-    glyphs_of(alloc, face, &characters)
+    let characters = shaped_characters(scratch, face, unit, level, is_turned, direction, text)?;
+    glyphs_of(room, face, &characters)
 }
 
 /// The text that a `Shaper` takes for a text in a face, as HarfBuzz has it for a font whose `morx`, `kerx` or `kern`
@@ -161,6 +165,41 @@ pub fn prepare_text<A: Allocator + Copy>(
         ≡ is_turned own (told_direction direction own) text.now) }
     ensures too_long { IsErrOf result TextError.TooLong ↔ (2 ^ 32 ≤ length text.now) }
 {
+    prepare_text_in(
+        alloc,
+        Vec::new(alloc),
+        face,
+        unit,
+        level,
+        script,
+        direction,
+        text,
+    )
+}
+
+/// The same in memory that is there: the glyphs of the result in that of `room`, whose own glyphs go, and what is needed
+/// on the way from `scratch`.
+///
+/// Refused as [`prepare_text`] is.
+pub fn prepare_text_in<B: Allocator + Copy, A: Allocator>(
+    scratch: B,
+    room: Vec<TextGlyph, A>,
+    face: &Face,
+    unit: ClusterUnit,
+    level: ClusterLevel,
+    script: Option<Script>,
+    direction: Option<Direction>,
+    text: &str,
+) -> Result<PreparedText<A>, TextError>
+    ensures glyphs { IfOk result (λ prepared. let own = told_script script text.now in prepared.glyphs.items
+        ≡ prepared_glyphs face.now unit level own (told_direction direction own) text.now) }
+    ensures script { IfOk result (λ prepared. prepared.script ≡ told_script script text.now) }
+    ensures direction { IfOk result (λ prepared. let own = told_script script text.now in prepared.direction
+        ≡ native_direction own text.now (told_direction direction own)) }
+    ensures turned { IfOk result (λ prepared. let own = told_script script text.now in prepared.is_turned
+        ≡ is_turned own (told_direction direction own) text.now) }
+    ensures too_long { IsErrOf result TextError.TooLong ↔ (2 ^ 32 ≤ length text.now) }
+{
     if text.len() > LONGEST_TEXT {
         return Err(TextError::TooLong);
     }
@@ -168,8 +207,10 @@ pub fn prepare_text<A: Allocator + Copy>(
     let direction = direction.unwrap_or(natural_direction(script));
     let native = native_direction(script, text, direction);
     let is_turned = is_turned(direction, native);
+    let mut room = room;
+    room.clear();
     Ok(PreparedText {
-        glyphs: prepared_glyphs(alloc, face, unit, level, is_turned, direction, text)?,
+        glyphs: prepared_glyphs(scratch, room, face, unit, level, is_turned, direction, text)?,
         script,
         direction: native,
         is_turned,

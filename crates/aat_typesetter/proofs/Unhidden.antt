@@ -6,7 +6,7 @@ use Rattle.std.proofs.lemmas.Bool.{or_parts}
 use Rattle.aat_glyph.specs.declared.glyph.Direction.{Direction}
 use Rattle.aat_lookup.specs.declared.glyph_id.GlyphId.{GlyphId}
 use Rattle.aat_shaped_text.specs.declared.text.ShapedGlyph.{ShapedGlyph}
-use Rattle.aat_showing.specs.Ignorables.{as_space, drawn_without_ignorables, space_for}
+use Rattle.aat_showing.specs.Ignorables.{as_space, drawn_without_ignorables}
 
 pub unhidden :
     (d : Direction) (space : Option GlyphId) (glyphs : List ShapedGlyph) → is_some space ≡ true

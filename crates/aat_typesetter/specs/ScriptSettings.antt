@@ -1,5 +1,5 @@
 -- What HarfBuzz does around the layer by the script of a text. (No chapter of the manual: these rules are HarfBuzz's.)
-use Rattle.std.specs.Prelude.{ℕ, ◌&&◌, ◌||◌, ◌++◌, Bool, not, true, false, List, [], ◌∷◌, Option, Some, None, is_none, is_some, if◌then◌else◌}
+use Rattle.std.specs.Prelude.{◌&&◌, ◌||◌, ◌++◌, Bool, not, true, false, List, [], ◌∷◌, Option, Some, None, is_none, is_some, if◌then◌else◌}
 use Rattle.std.specs.List.{list_any}
 use Rattle.aat_characters.specs.ScriptRules.{applies_kern, mark_widths}
 use Rattle.aat_characters.specs.declared.script_rules.MarkWidths.{MarkWidths}

@@ -1,5 +1,6 @@
 //! What a typesetter keeps between texts.
-use aat_shaped_text::ShapedGlyph;
+use aat_font::Feature;
+use aat_shaped_text::{ShapedGlyph, TextGlyph};
 use aat_shaper::ShaperMemory;
 use std::alloc::{Allocator, Global};
 
@@ -10,6 +11,8 @@ pub struct TypesetterMemory<A: Allocator + Copy = Global> {
     pub(crate) global: Global,
     pub(crate) alloc: A,
     pub(crate) shaper: ShaperMemory<A>,
+    pub(crate) text: Vec<TextGlyph, A>,
+    pub(crate) asked: Vec<Feature, A>,
     pub(crate) glyphs: Vec<ShapedGlyph, A>,
 }
 
@@ -27,6 +30,8 @@ impl<A: Allocator + Copy> TypesetterMemory<A> {
             global,
             alloc,
             shaper: ShaperMemory::new_in(global, alloc),
+            text: Vec::new(alloc),
+            asked: Vec::new(alloc),
             glyphs: Vec::new(alloc),
         }
     }

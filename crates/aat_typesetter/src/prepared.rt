@@ -7,7 +7,7 @@ use aat_characters::{ScriptRules, native_direction, natural_direction, told_scri
 use aat_face::Face;
 use aat_glyph::Direction;
 use aat_shaped_text::TextGlyph;
-use aat_text::{TextError, prepare_text};
+use aat_text::{TextError, prepare_text_in};
 use std::alloc::{Allocator, Global};
 use std::marker::Model;
 
@@ -31,21 +31,34 @@ impl<A: Allocator> Model for PreparedText<A> {
 }
 
 impl<A: Allocator> PreparedText<A> {
-    /// No text.
-    pub(crate) fn none(alloc: A) -> PreparedText<A>
+    /// No text, in the memory of a vector whose own glyphs go.
+    pub(crate) fn none_in(room: Vec<TextGlyph, A>) -> PreparedText<A>
         ensures { result ≡ no_text }
     {
+        let mut glyphs = room;
+        glyphs.clear();
         PreparedText {
-            glyphs: Vec::new(alloc),
+            glyphs,
             rules: None,
             direction: Direction::LeftToRight,
         }
     }
+
+    /// Leaves nothing of the text.
+    pub(crate) fn forget(&mut self)
+        ensures { self.new ≡ no_text }
+    {
+        self.glyphs.clear();
+        self.rules = None;
+        self.direction = Direction::LeftToRight;
+    }
 }
 
-/// A text made ready in a face.
-pub(crate) fn prepare<A: Allocator + Copy>(
-    alloc: A,
+/// A text made ready in a face, in the memory of a vector whose own glyphs go. What is needed on the way comes from
+/// `scratch`.
+pub(crate) fn prepare<B: Allocator + Copy, A: Allocator>(
+    scratch: B,
+    room: Vec<TextGlyph, A>,
     face: &Face,
     options: &TextOptions<'_>,
     text: &str,
@@ -53,8 +66,9 @@ pub(crate) fn prepare<A: Allocator + Copy>(
     ensures ok { IfOk result (λ ready. ready ≡ prepared face.now options.now text.now) }
     ensures too_long { IsErrOf result TextError.TooLong ↔ (2 ^ 32 ≤ length text.now) }
 {
-    let ready = prepare_text(
-        alloc,
+    let ready = prepare_text_in(
+        scratch,
+        room,
         face,
         options.unit,
         options.level,

@@ -1,5 +1,5 @@
 //! What HarfBuzz does around the layer by the script of a text.
-ghost use Rattle.std.specs.Prelude.{◌≡◌, IfOk};
+ghost use Rattle.std.specs.Prelude.{◌≡◌, OnOk};
 ghost use Rattle.std.specs.List.{list_any};
 ghost use Rattle.aat_font.specs.Face.{kern_in, tables_of};
 ghost use Rattle.aat_typesetter.specs.ScriptSettings.{are_zeroed, boxes_for, features_for, is_machine, kern_off, kerns_across, kerns_by_machine, marks_for, moves_marks, places_marks, zeroes_marks};
@@ -25,23 +25,24 @@ fn kern_off() -> Feature
     }
 }
 
-/// The features with which a text is shaped, given the rules of its script, if it has any: where the font has no
-/// `kerx`, and the script does not take `kern`, that is off.
-pub(crate) fn features_for<A: Allocator>(
-    alloc: A,
+/// Puts the features with which a text is shaped in the place of others, given the rules of its script, if it has any:
+/// where the font has no `kerx`, and the script does not take `kern`, that is off.
+pub(crate) fn put_features<A: Allocator>(
     font: &hb_font_t,
     rules: Option<ScriptRules>,
     features: &[Feature],
-) -> Result<Vec<Feature, A>, AllocError>
-    ensures { IfOk result (λ all. all.items ≡ features_for font.now rules features.now) }
+    asked: &mut Vec<Feature, A>,
+) -> Result<(), AllocError>
+    ensures { OnOk result (asked.new.items ≡ features_for font.now rules features.now) }
 {
-    let mut all = Vec::from_slice(alloc, features)?;
+    asked.clear();
+    asked.extend_from_slice(features)?;
     if let Some(rules) = rules {
         if font.tables().kerx.is_none() && !rules.applies_kern() {
-            all.push(kern_off())?;
+            asked.push(kern_off())?;
         }
     }
-    Ok(all)
+    Ok(())
 }
 
 /// Whether widths of marks are made zero, early or late.

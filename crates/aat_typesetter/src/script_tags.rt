@@ -183,7 +183,8 @@ const SCRIPTS: [(u32, Script); 175] = [
     (0x5A7A_7A7A, Script::Unknown),
 ];
 
-/// The script of a tag of ISO 15924, of four letters in whatever case, the first of which counts most.
+/// The script of a tag of ISO 15924, of four letters in any case, the first in the high byte. `None` where it is no script
+/// of Unicode 17.0.0, as `Hans`.
 pub fn script_of_tag(tag: u32) -> Option<Script>
     ensures { result ≡ script_of_tag tag }
 {

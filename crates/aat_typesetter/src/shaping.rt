@@ -10,7 +10,7 @@ ghost use Rattle.aat_typesetter.specs.inside.Inside.{setting_by};
 use crate::error::TypesetError;
 use crate::lines::{TypesetLine, set_lines};
 use crate::prepared::PreparedText;
-use crate::script_settings::features_for;
+use crate::script_settings::put_features;
 use crate::showing::{Drawn, show, shown_for};
 use crate::stops::stops_for;
 use aat_face::Face;
@@ -53,13 +53,14 @@ pub(crate) fn track_at<'f, A: Allocator + Copy>(
 }
 
 /// Shapes a text, and answers what is drawn of what the shaper has then, in the memory of a vector whose own glyphs are
-/// dropped.
+/// dropped. The features with which it is shaped are put into `asked`.
 #[tactic(auto, unfolding(crate::specs::Typeset::shaped_setting, crate::specs::Typeset::drawn_setting, crate::specs::Typeset::uses_up, crate::specs::Typeset::RefusesSetting))]
 pub(crate) fn draw<A: Allocator + Copy>(
     alloc: A,
     room: Vec<ShapedGlyph, A>,
     face: &Face<'_>,
     shaper: &mut Shaper<'_, A>,
+    asked: &mut Vec<Feature, A>,
     features: &[Feature],
     text: &PreparedText<A>,
 ) -> Result<Drawn<A>, TypesetError>
@@ -76,20 +77,22 @@ pub(crate) fn draw<A: Allocator + Copy>(
     ensures fits { OnOk result (IsWithinLimits (setting_by face.now shaper.old features.now text.now)) }
 {
     let font = shaper.font();
-    let asked = features_for(alloc, font, text.rules, features)?;
-    shaper.shape(text.direction, &text.glyphs, &asked)?;
+    put_features(font, text.rules, features, asked)?;
+    shaper.shape(text.direction, &text.glyphs, asked)?;
     let showing = shown_for(face, font, text.rules, text.direction);
     let drawn = show(alloc, room, face, showing, shaper.glyphs())?;
     Ok(drawn)
 }
 
-/// Shapes a text in lines of a width, which may end at places of its characters, and answers what is drawn of them.
+/// Shapes a text in lines of a width, which may end at places of its characters, and answers what is drawn of them. The
+/// features with which it is shaped are put into `asked`.
 #[tactic(auto, unfolding(crate::specs::Typeset::shaped_setting, crate::specs::Typeset::uses_up, crate::specs::TypesetLines::RefusesParts))]
 pub(crate) fn draw_lines<A: Allocator + Copy>(
     global: Global,
     alloc: A,
     face: &Face<'_>,
     shaper: &mut Shaper<'_, A>,
+    asked: &mut Vec<Feature, A>,
     features: &[Feature],
     text: &PreparedText<A>,
     ends: &[LineEnd],
@@ -109,14 +112,14 @@ pub(crate) fn draw_lines<A: Allocator + Copy>(
     ensures fits { OnOk result (IsWithinLimits (setting_by face.now shaper.old features.now text.now)) }
 {
     let font = shaper.font();
-    let asked = features_for(alloc, font, text.rules, features)?;
+    put_features(font, text.rules, features, asked)?;
     let stops = stops_for(alloc, face.glyph_of(' '), &text.glyphs, ends)?;
     let lines = shaper.shape_lines(
         global,
         alloc,
         text.direction,
         &text.glyphs,
-        &asked,
+        asked,
         &stops,
         true,
         width,

@@ -117,7 +117,7 @@ fn hide<A: Allocator + Copy>(
 /// What is drawn of glyphs that were shaped.
 #[derive(Drop)]
 pub(crate) struct Drawn<A: Allocator> {
-    /// Whether they are drawn as they are, so that `glyphs` has none.
+    /// Whether they are drawn as they are. `glyphs` does not count then.
     pub(crate) is_as_shaped: bool,
     /// What is drawn, where they are not.
     pub(crate) glyphs: Vec<ShapedGlyph, A>,
@@ -176,8 +176,8 @@ fn shown_in<A: Allocator + Copy>(
     hide(alloc, showing.direction, showing.space, positioned)
 }
 
-/// Glyphs as they are shown, in the memory of a vector whose own glyphs are dropped. Where they are known to be drawn as
-/// they are, there is no copy of them.
+/// Glyphs as they are shown, in the memory of `room`, whose own glyphs do not count. Where they are known to be drawn as
+/// they are, nothing is copied.
 pub(crate) fn show<A: Allocator + Copy>(
     alloc: A,
     room: Vec<ShapedGlyph, A>,

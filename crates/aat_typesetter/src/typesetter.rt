@@ -14,11 +14,12 @@ use crate::prepared::{PreparedText, options_for_lines, prepare};
 use crate::shaping::{draw, draw_lines, track_at};
 use crate::showing::Drawn;
 use aat_face::Face;
+use aat_font::Feature;
 use aat_glyph::Direction;
 use aat_shaped_text::{ShapedGlyph, TextGlyph};
 use aat_shaper::Shaper;
 use aat_showing::laws::breaks_hold_as_shown;
-use aat_text::{LineEnd, line_ends};
+use aat_text::{LineEnd, TextError, line_ends};
 use std::alloc::{Allocator, Global};
 use std::marker::Model;
 use std::mem;
@@ -40,6 +41,8 @@ pub struct Typesetter<'f, A: Allocator + Copy = Global> {
     alloc: A,
     shaper: Shaper<'f, A>,
     text: PreparedText<A>,
+    /// The features with which the last text was shaped.
+    asked: Vec<Feature, A>,
     /// What is drawn of what the shaper has shaped last.
     drawn: Drawn<A>,
     /// Whether the text is that which the shaper has shaped last.
@@ -79,7 +82,7 @@ impl<'f, A: Allocator + Copy> Typesetter<'f, A> {
         Typesetter::with_memory(face, TypesetterMemory::new_in(global, alloc))
     }
 
-    /// A typesetter of texts of a face in the memory of another one.
+    /// A typesetter of texts of a face, in the memory of another typesetter, whose texts it does not show.
     pub fn with_memory(face: &'f Face<'f>, memory: TypesetterMemory<A>) -> Typesetter<'f, A>
         ensures face { result.face ≡ face.now }
         ensures font { font_value result.font ≡ face.now.font }
@@ -89,6 +92,8 @@ impl<'f, A: Allocator + Copy> Typesetter<'f, A> {
             global,
             alloc,
             shaper,
+            text,
+            asked,
             mut glyphs,
         } = memory;
         glyphs.clear();
@@ -97,7 +102,8 @@ impl<'f, A: Allocator + Copy> Typesetter<'f, A> {
             global,
             alloc,
             shaper: Shaper::with_memory(face.font(), shaper),
-            text: PreparedText::none(alloc),
+            text: PreparedText::none_in(text),
+            asked,
             drawn: Drawn {
                 is_as_shaped: false,
                 glyphs,
@@ -106,12 +112,14 @@ impl<'f, A: Allocator + Copy> Typesetter<'f, A> {
         }
     }
 
-    /// Its memory, for another typesetter, but that of its text and that in which texts are shaped.
+    /// Its memory, for another typesetter.
     pub fn into_memory(self) -> TypesetterMemory<A> {
         let Typesetter {
             global,
             alloc,
             shaper,
+            text,
+            asked,
             drawn,
             ..
         } = self;
@@ -119,6 +127,8 @@ impl<'f, A: Allocator + Copy> Typesetter<'f, A> {
             global,
             alloc,
             shaper: shaper.into_memory(),
+            text: text.glyphs,
+            asked,
             glyphs: drawn.glyphs,
         }
     }
@@ -181,10 +191,25 @@ impl<'f, A: Allocator + Copy> Typesetter<'f, A> {
     fn forget(&mut self)
         ensures { self.new ≡ nothing_set self.old }
     {
-        self.text = PreparedText::none(self.alloc);
+        self.text.forget();
         self.drawn.is_as_shaped = false;
         self.drawn.glyphs.clear();
         self.is_set = false;
+    }
+
+    /// A text made ready, in the memory of the last one, of which nothing is left.
+    fn prepare(
+        &mut self,
+        options: &TextOptions<'_>,
+        text: &str,
+    ) -> Result<PreparedText<A>, TextError>
+        ensures ok { IfOk result (λ ready. ready ≡ prepared self.old.face options.now text.now) }
+        ensures too_long { IsErrOf result TextError.TooLong ↔ (2 ^ 32 ≤ length text.now) }
+        ensures left { self.new ≡ nothing_set self.old }
+    {
+        self.forget();
+        let room = mem::replace(&mut self.text.glyphs, Vec::new(self.alloc));
+        prepare(self.shaper.scratch(), room, self.face, options, text)
     }
 
     /// Typesets a text that is ready, in one line.
@@ -209,7 +234,15 @@ impl<'f, A: Allocator + Copy> Typesetter<'f, A> {
             &mut self.shaper,
         );
         let room = mem::replace(&mut self.drawn.glyphs, Vec::new(self.alloc));
-        match draw(self.alloc, room, face, &mut self.shaper, features, &text) {
+        match draw(
+            self.alloc,
+            room,
+            face,
+            &mut self.shaper,
+            &mut self.asked,
+            features,
+            &text,
+        ) {
             Ok(drawn) => {
                 self.drawn = drawn;
                 self.text = text;
@@ -258,8 +291,7 @@ impl<'f, A: Allocator + Copy> Typesetter<'f, A> {
         ensures fits { OnOk result (IsWithinLimits (setting self.old options.now text.now)) }
         ensures empty { OnErr result (self.new ≡ nothing_set self.old) }
     {
-        self.forget();
-        let ready = prepare(self.alloc, self.face, options, text)?;
+        let ready = self.prepare(options, text)?;
         self.set(ready, options)?;
         breaks_hold_as_shown();
         Ok(())
@@ -336,6 +368,7 @@ impl<'f, A: Allocator + Copy> Typesetter<'f, A> {
             self.alloc,
             face,
             &mut self.shaper,
+            &mut self.asked,
             features,
             &text,
             ends,
@@ -392,9 +425,8 @@ impl<'f, A: Allocator + Copy> Typesetter<'f, A> {
         ensures fits { OnOk result (IsWithinLimits (setting_for_lines self.old options.now text.now)) }
         ensures empty { OnErr result (self.new ≡ nothing_set self.old) }
     {
-        self.forget();
         let told = options_for_lines(options, text);
-        let ready = prepare(self.alloc, self.face, &told, text)?;
+        let ready = self.prepare(&told, text)?;
         let ends = line_ends(self.alloc, options.unit, text)?;
         self.set_in_lines(ready, &ends, width, &told)
     }

@@ -1,14 +1,20 @@
+pub mod Appended
 pub mod Begins
+pub mod ChainRefusals
+pub mod ChainsAgain
 pub mod ClassTables
 pub mod ContextualAgain
 pub mod Counted
+pub mod EachWritten
 pub mod EntryPlaces
 pub mod FeatAgain
+pub mod FeaturesAgain
 pub mod Joined
 pub mod KindsAgain
 pub mod ListsAgain
 pub mod MachineAgain
 pub mod MachineParts
+pub mod MorxAgain
 pub mod NoFall
 pub mod Places
 pub mod ReadAgain
@@ -16,4 +22,6 @@ pub mod Refused
 pub mod RowFacts
 pub mod Rows
 pub mod Substituted
+pub mod SubtablesAgain
 pub mod TablePlaces
+pub mod TablesAgain

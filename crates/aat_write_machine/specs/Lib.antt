@@ -1,3 +1,7 @@
+pub mod ChainBytes
+pub mod ChainExamples
+pub mod ChainLaws
+pub mod ChainWriteErrors
 pub mod Contextual
 pub mod EntryLaws
 pub mod EntryWords
@@ -11,6 +15,8 @@ pub mod MachineExamples
 pub mod MachineLaws
 pub mod MachineRefusals
 pub mod Machines
+pub mod MorxBytes
+pub mod MorxLaws
 pub mod MorxWriteErrors
 pub mod SubtableKindLaws
 pub mod SubtableKinds

@@ -1,7 +1,9 @@
 //! Laws of writing as theorems. These calls do nothing: what is proved is their contracts.
+ghost use Rattle.aat_write_machine.specs.ChainLaws.{WrittenChainsAreRead};
 ghost use Rattle.aat_write_machine.specs.FeatLaws.{WrittenFeatsAreRead};
 ghost use Rattle.aat_write_machine.specs.KindLaws.{InsertionsAreRead, LigaturesAreRead};
 ghost use Rattle.aat_write_machine.specs.LookupLaws.{WrittenLookupsAreRead};
+ghost use Rattle.aat_write_machine.specs.MorxLaws.{WrittenMorxIsRead};
 ghost use Rattle.aat_write_machine.specs.SubtableKindLaws.{ContextualsAreRead, SubtableKindsAreRead};
 ghost use Rattle.aat_write_machine.specs.MachineLaws.{MachinesAreRead};
 
@@ -56,4 +58,17 @@ pub fn subtable_kinds_are_read()
     contextuals_are_read();
     ligatures_are_read();
     insertions_are_read();
+}
+
+/// Chains that are written are read again, where each kind is known and each body is read at any place of a table.
+pub fn written_chains_are_read()
+    ensures { WrittenChainsAreRead }
+{}
+
+/// A table of chains that is written is read again: the same chains, features, flags and machines in their order, and
+/// lists that begin with those that were written.
+pub fn written_morx_is_read()
+    ensures { WrittenMorxIsRead }
+{
+    subtable_kinds_are_read();
 }

@@ -38,6 +38,11 @@ abbrev pub IsSound : List ℕ → Layout → Type 0
 IsSound bytes (Array segment) = Fits bytes segment
 IsSound bytes (Searched units) = AreSound bytes units
 
+-- units rise, if there are any
+abbrev pub Rises : List ℕ → Layout → Type 0
+Rises bytes (Array segment) = Unit
+Rises bytes (Searched units) = DoRise bytes units
+
 -- rows have values
 abbrev pub CanKeep : Keep → Type 0
 CanKeep Value = Unit

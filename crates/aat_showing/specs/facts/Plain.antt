@@ -21,7 +21,7 @@ abbrev pub is_other : CharacterKind → Bool
 is_other Other = true
 is_other _ = false
 
--- in rows a glyph is drawn as it is
+-- a glyph is neither ignorable nor a mark, and its character neither a mark nor a space that the font lacks
 abbrev pub is_plain : ShapedGlyph → Bool
 is_plain g = not g.is_ignorable && not g.is_mark && is_other g.kind
 

@@ -8,7 +8,7 @@ use Rattle.aat_text.specs.declared.known_glyphs.KnownGlyphs.{KnownGlyphs}
 abbrev pub glyph_id_in : FaceValue → ℕ → ℕ
 glyph_id_in face character = option_map_or (λ glyph. glyph.0) (glyph_of_character face character) 0
 
--- what is kept at a place, if it is a character, has its glyph
+-- a character that is kept at a place has its glyph kept there too
 abbrev pub IsKnown : FaceValue → KnownGlyphs → ℕ → Type 0
 IsKnown face known i =
     0 < slice_index known.characters i → slice_index known.glyphs i ≡ glyph_id_in face (slice_index known.characters i)

@@ -19,6 +19,6 @@ stand_apart has direction text = list_all (λ c. is_apart c && is_apart (exchang
 abbrev pub lone_glyphs : FaceValue → PlacedCharacter → List TextGlyph
 lone_glyphs face c = map (placed_glyph face) (normalized (has_glyph face) (c ∷ []))
 
--- and of one of a text that runs in a direction
+-- the glyphs of a character by itself in a text that runs in a direction
 abbrev pub exchanged_glyphs : FaceValue → Direction → PlacedCharacter → List TextGlyph
 exchanged_glyphs face direction c = lone_glyphs face (exchanged_at (has_glyph face) direction c)

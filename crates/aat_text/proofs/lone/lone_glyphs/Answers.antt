@@ -18,7 +18,7 @@ loop-character-preserved g c =
     let step = c.in-Some.ensures.steps.0 in
     let f = exchanged_glyphs c.args.face.now c.args.direction in
     let put : c.put_lone.new.glyphs.items ≡ c.loop-character.glyphs.items ++ f (placed (c.loop-character.place, c.in-Some.character)) =
-    c.in_ok-put_lone.ensures.glyphs ∙ ap (λ one. c.loop-character.glyphs.items ++ lone_glyphs c.args.face.now one) (c.exchanged_at-seen.ensures ∙ ap (exchanged_at (has_glyph c.args.face.now) c.args.direction) c.new-own.ensures) in
+    c.in_ok-put_lone.ensures.glyphs ∙ ap (λ one. c.loop-character.glyphs.items ++ lone_glyphs c.args.face.now one) (c.seen_at-seen.ensures ∙ ap (exchanged_at (has_glyph c.args.face.now) c.args.direction) c.new-own.ensures) in
     record {
       known = c.put_lone.ensures.known;
       text = IsUtf8-past_char _ _ c.in-Some.character held.text step;

@@ -22,7 +22,7 @@ returns-clause-shaped g c =
     let text = c.args.text.now in
     let asked : c.deref-2.result.now ≡ features_for shaper.font text.rules c.args.features.now =
     c.deref-2.ensures.value
-    ∙ (c.in_ok-asked.ensures
+    ∙ (c.in_ok-put_features.ensures
     ∙ ap₂ (λ (f : hb_font_t) (r : Option ScriptRules). features_for f r c.args.features.now) c.font-font.ensures
     (ap (λ (p : Prepared). p.rules) c.text.view_is))
     in

@@ -22,7 +22,7 @@ returns-clause-shaped g c =
     let text = c.args.text.now in
     let asked : c.deref-3.result.now ≡ features_for shaper.font text.rules c.args.features.now =
     c.deref-3.ensures.value
-    ∙ (c.in_ok-asked.ensures
+    ∙ (c.in_ok-put_features.ensures
     ∙ ap₂ (λ (f : hb_font_t) (r : Option ScriptRules). features_for f r c.args.features.now) c.font-font.ensures
     (ap (λ (p : Prepared). p.rules) c.text.view_is))
     in
@@ -46,7 +46,7 @@ returns-in_err-lines-clause-refused g c =
     let error = c.in_err-lines.field-0.0 in
     let asked : c.deref-3.result.now ≡ features_for shaper.font text.rules c.args.features.now =
     c.deref-3.ensures.value
-    ∙ (c.in_ok-asked.ensures
+    ∙ (c.in_ok-put_features.ensures
     ∙ ap₂ (λ (f : hb_font_t) (r : Option ScriptRules). features_for f r c.args.features.now) c.font-font.ensures
     (ap (λ (p : Prepared). p.rules) c.text.view_is))
     in

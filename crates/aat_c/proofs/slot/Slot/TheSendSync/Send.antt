@@ -16,7 +16,7 @@ use Rattle.std.specs.declared.option.Option.{Option}
 use Rattle.std.specs.declared.option.Option.TheVariants.{None, Some}
 use Rattle.aat_c.specs.declared.held.Held.{Held}
 use Rattle.aat_c.specs.contracts.held.Held.{the_row as held_row}
-use Rattle.aat_c.proofs.held.Held.TheSendSync.{the_send as held}
+use Rattle.aat_c.proofs.HeldCrosses.{held_send}
 use Rattle.aat_c.specs.Slots.{slot_owns}
 use Rattle.aat_c.specs.contracts.slot.Slot.{the_row, the_type}
 
@@ -29,7 +29,7 @@ lies R s (block_ptr b o) x = part_keyless R s full_share x b o
 lies R s null_ptr x = tt
 
 owns : (o : Option Held) (a : Global) (p : Ptr) → Keyless (slot_owns o a p)
-owns (Some v) a p = (lies held_row held p v, heap.frees.frees a (raw (lone held_row.mir)) p)
+owns (Some v) a p = (lies held_row held_send p v, heap.frees.frees a (raw (lone held_row.mir)) p)
 owns None a p = tt
 
 pub send : IsSend the_row

@@ -1,8 +1,7 @@
-use Rattle.std.proofs.Common.{◌≡◌, ◌∙◌, ◌≤◌, ◌^◌, List, ap, ap₂, length, rules, subst, sym}
-use Rattle.aat_face.specs.Faces.{FaceValue}
+use Rattle.std.proofs.Common.{◌≡◌, ◌≤◌, ◌^◌, List, ap₂, length, rules, subst, sym}
 use Rattle.aat_shaped_text.specs.declared.text.ShapedGlyph.{ShapedGlyph}
 use Rattle.aat_typesetter.specs.Typeset.{BreaksHoldIn, IsWithinLimits, RefusesSetting, Setting, TypesetterValue, drawn_setting, setting, setting_of}
-use Rattle.aat_typesetter.specs.Prepared.{Prepared, prepared}
+use Rattle.aat_typesetter.specs.Prepared.{Prepared}
 use Rattle.aat_typesetter.specs.TypesetErrors.{RefusesTypesetting}
 use Rattle.aat_typesetter.proofs.BreaksHeld.{breaks_hold}
 use Rattle.aat_typesetter.proofs.Refusals.{refused_besides}
@@ -19,12 +18,8 @@ pub returns-in_err-set-clause-refused : goal.returns-in_err-set-clause-refused
 returns-in_err-set-clause-refused g c =
     let options = c.args.options.now in
     let text = c.args.text.now in
-    let face : c.self.inside.face.now ≡ c.args.self.now.face =
-    ap (λ (t : TypesetterValue). t.face) c.self.view_is ∙ ap (λ (t : TypesetterValue). t.face) c.forget.ensures
-    in
-    let same : setting_of c.forget.new.self options c.in_ok-ready.ready ≡ setting c.args.self.now options text =
-    ap₂ (λ (t : TypesetterValue) (p : Prepared). setting_of t options p) c.forget.ensures
-    (c.in_ok-ready.ensures.ok ∙ ap (λ (f : FaceValue). prepared f options text) face)
+    let same : setting_of c.prepare.new.self options c.in_ok-ready.ready ≡ setting c.args.self.now options text =
+    ap₂ (λ (t : TypesetterValue) (p : Prepared). setting_of t options p) c.in_ok-ready.ensures.left c.in_ok-ready.ensures.ok
     in
     let refused : RefusesTypesetting (2 ^ 32 ≤ length text) (RefusesSetting (setting c.args.self.now options text)) c.in_err-set.field-0.0 =
     refused_besides (2 ^ 32 ≤ length text) (RefusesSetting (setting c.args.self.now options text)) c.in_err-set.field-0.0

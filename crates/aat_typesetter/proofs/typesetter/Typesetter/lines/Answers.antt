@@ -1,6 +1,5 @@
-use Rattle.std.proofs.Common.{◌≡◌, ◌∙◌, ◌≤◌, ◌^◌, ℕ, List, ap, ap₂, length, subst}
+use Rattle.std.proofs.Common.{◌≡◌, ◌∙◌, ◌≤◌, ◌^◌, ℕ, List, ap, length, subst}
 use Rattle.std.specs.Prelude.{IfErr, IfOk, OnOk}
-use Rattle.aat_face.specs.Faces.{FaceValue}
 use Rattle.aat_text.specs.LineEnds.{line_ends}
 use Rattle.aat_text.specs.declared.lines.LineEnd.{LineEnd}
 use Rattle.aat_typesetter.specs.Prepared.{Prepared, options_for_lines, prepared}
@@ -13,30 +12,27 @@ use Rattle.aat_typesetter.proofs.typesetter.Typesetter.lines.Goals as goal
 
 -- what is broken into lines is that of the definition
 same_setting :
-    (t u : TypesetterValue) (face : FaceValue) (told asked : TextOptions) (ready : Prepared) (text : List ℕ)
-    → u ≡ nothing_set t → face ≡ t.face → told ≡ asked
-    → ready ≡ prepared face told text → setting_of u told ready ≡ setting_of t asked (prepared t.face asked text)
-same_setting t u face told asked ready text forgot same_face same_told made =
+    (t u : TypesetterValue) (told asked : TextOptions) (ready : Prepared) (text : List ℕ)
+    → u ≡ nothing_set t → told ≡ asked → ready ≡ prepared t.face told text
+    → setting_of u told ready ≡ setting_of t asked (prepared t.face asked text)
+same_setting t u told asked ready text forgot same_told made =
     ap (λ (v : TypesetterValue). setting_of v told ready) forgot
     ∙ (ap (λ (o : TextOptions). setting_of t o ready) same_told
     ∙ ap (λ (p : Prepared). setting_of t asked p)
-    (made ∙ ap₂ (λ (f : FaceValue) (o : TextOptions). prepared f o text) same_face same_told))
+    (made ∙ ap (λ (o : TextOptions). prepared t.face o text) same_told))
 
 pub returns-clause-lines : goal.returns-clause-lines
 returns-clause-lines g c =
     let options = c.args.options.now in
     let text = c.args.text.now in
     let told = c.options_for_lines-told.result in
-    let face : c.self.inside.face.now ≡ c.args.self.now.face =
-    ap (λ (t : TypesetterValue). t.face) c.self.view_is ∙ ap (λ (t : TypesetterValue). t.face) c.forget.ensures
-    in
-    let same : setting_of c.forget.new.self told c.in_ok-ready.ready ≡ setting_for_lines c.args.self.now options text =
-    same_setting c.args.self.now c.forget.new.self c.self.inside.face.now told (options_for_lines options text) c.in_ok-ready.ready text c.forget.ensures face c.options_for_lines-told.ensures c.in_ok-ready.ensures.ok
+    let same : setting_of c.prepare.new.self told c.in_ok-ready.ready ≡ setting_for_lines c.args.self.now options text =
+    same_setting c.args.self.now c.prepare.new.self told (options_for_lines options text) c.in_ok-ready.ready text c.in_ok-ready.ensures.left c.options_for_lines-told.ensures c.in_ok-ready.ensures.ok
     in
     let ends : c.deref.result.now ≡ line_ends options.unit text = c.deref.ensures.value ∙ c.in_ok-ends.ensures.ok in
     subst (λ (s : Setting). IfOk c.set_in_lines.result (λ r. AreSetLines s (line_ends options.unit text) c.args.width r.items)) same
     (subst (λ (e : List LineEnd).
-    IfOk c.set_in_lines.result (λ r. AreSetLines (setting_of c.forget.new.self told c.in_ok-ready.ready) e c.args.width r.items))
+    IfOk c.set_in_lines.result (λ r. AreSetLines (setting_of c.prepare.new.self told c.in_ok-ready.ready) e c.args.width r.items))
     ends c.set_in_lines.ensures.lines)
 
 pub returns-clause-refused : goal.returns-clause-refused
@@ -44,11 +40,8 @@ returns-clause-refused g c =
     let options = c.args.options.now in
     let text = c.args.text.now in
     let told = c.options_for_lines-told.result in
-    let face : c.self.inside.face.now ≡ c.args.self.now.face =
-    ap (λ (t : TypesetterValue). t.face) c.self.view_is ∙ ap (λ (t : TypesetterValue). t.face) c.forget.ensures
-    in
-    let same : setting_of c.forget.new.self told c.in_ok-ready.ready ≡ setting_for_lines c.args.self.now options text =
-    same_setting c.args.self.now c.forget.new.self c.self.inside.face.now told (options_for_lines options text) c.in_ok-ready.ready text c.forget.ensures face c.options_for_lines-told.ensures c.in_ok-ready.ensures.ok
+    let same : setting_of c.prepare.new.self told c.in_ok-ready.ready ≡ setting_for_lines c.args.self.now options text =
+    same_setting c.args.self.now c.prepare.new.self told (options_for_lines options text) c.in_ok-ready.ready text c.in_ok-ready.ensures.left c.options_for_lines-told.ensures c.in_ok-ready.ensures.ok
     in
     results_besides (2 ^ 32 ≤ length text) (RefusesParts (setting_for_lines c.args.self.now options text)) c.set_in_lines.result
     (subst (λ (s : Setting). IfErr c.set_in_lines.result (RefusesTypesetting ⊥ (RefusesParts s))) same c.set_in_lines.ensures.refused)
@@ -58,10 +51,7 @@ returns-clause-fits g c =
     let options = c.args.options.now in
     let text = c.args.text.now in
     let told = c.options_for_lines-told.result in
-    let face : c.self.inside.face.now ≡ c.args.self.now.face =
-    ap (λ (t : TypesetterValue). t.face) c.self.view_is ∙ ap (λ (t : TypesetterValue). t.face) c.forget.ensures
-    in
-    let same : setting_of c.forget.new.self told c.in_ok-ready.ready ≡ setting_for_lines c.args.self.now options text =
-    same_setting c.args.self.now c.forget.new.self c.self.inside.face.now told (options_for_lines options text) c.in_ok-ready.ready text c.forget.ensures face c.options_for_lines-told.ensures c.in_ok-ready.ensures.ok
+    let same : setting_of c.prepare.new.self told c.in_ok-ready.ready ≡ setting_for_lines c.args.self.now options text =
+    same_setting c.args.self.now c.prepare.new.self told (options_for_lines options text) c.in_ok-ready.ready text c.in_ok-ready.ensures.left c.options_for_lines-told.ensures c.in_ok-ready.ensures.ok
     in
     subst (λ (s : Setting). OnOk c.set_in_lines.result (IsWithinLimits s)) same c.set_in_lines.ensures.fits

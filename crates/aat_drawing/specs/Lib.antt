@@ -1,0 +1,2 @@
+pub mod FontOutlines
+pub mod HalfPoints

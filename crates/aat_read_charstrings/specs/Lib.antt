@@ -1,0 +1,15 @@
+pub mod Dicts
+pub mod Examples
+pub mod Files
+pub mod FontDicts
+pub mod Fonts
+pub mod Indexes
+pub mod Integers
+pub mod Machines
+pub mod Operators
+pub mod Paths
+pub mod Programs
+pub mod Reading
+pub mod Runs
+pub mod Steps
+pub mod Tokens

@@ -1,0 +1,9 @@
+pub mod Decoded
+pub mod Examples
+pub mod Failures
+pub mod Lines
+pub mod Names
+pub mod Options
+pub mod Places
+pub mod Records
+pub mod Texts

@@ -1,5 +1,0 @@
-use Rattle.aat_write_morx.proofs.TablesAgain.{written_chains_are_read}
-use Rattle.aat_write_morx.proofs.laws.written_chains_are_read.Goals as goal
-
-pub returns : goal.returns
-returns c = written_chains_are_read
