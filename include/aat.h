@@ -24,8 +24,8 @@
  * - A font is used by one call at a time. It may move between threads, if what one thread did to it happens before what
  *   the next one does.
  *
- * A font keeps the memory in which it shapes: a text of UTF-8 without features that is no longer than the one before it
- * mostly asks for none.
+ * A font keeps the memory in which it shapes. aat_shape_utf8() without features, of a text that is no longer than the one
+ * before it, mostly asks for none; other calls that shape ask for some.
  */
 #ifndef AAT_H
 #define AAT_H
@@ -109,7 +109,7 @@ typedef enum { AAT_CLUSTER_LEVEL_GRAPHEMES = 0, AAT_CLUSTER_LEVEL_CHARACTERS = 1
 /**
  * aat_font_t:
  *
- * A font, or none. It keeps room for glyphs between texts; what else a call takes it gives back. Make it AAT_FONT_NONE
+ * A font, or none. It keeps the memory in which it shapes until it is freed or another one is read. Make it AAT_FONT_NONE
  * (all zeros) where it is declared, and give it back by aat_font_free(). Do not look into it, and never use two copies
  * of it.
  */
@@ -371,7 +371,8 @@ uint32_t aat_file_fault(const uint8_t *bytes, size_t length, uint32_t index, aat
  * @out_size: how many
  * @count: (out) how many bytes the name has; it may be more than there is room for
  *
- * Puts the English text of a name into room, without an end mark.
+ * Puts the English text of a name into room, without an end mark; U+FFFD stands for what is no UTF-16 and, of Mac Roman,
+ * no ASCII.
  *
  * Return value: AAT_OK, AAT_NO_FONT, AAT_NOT_THERE or AAT_OUT_OF_MEMORY
  */
@@ -429,9 +430,9 @@ uint32_t aat_feature_from_string(const uint8_t *text, size_t length, aat_feature
  * Shapes a text as one line. Glyphs come in drawing order: from left to right, or from top to bottom. Clusters, also
  * those of features, count bytes.
  *
- * Return value: AAT_OK, or the first that applies of AAT_NO_FONT, AAT_BAD_TEXT, AAT_BAD_OPTION, and then
- * AAT_TEXT_TOO_LONG, AAT_ALTERNATE_TOO_LARGE or AAT_LINE_TOO_LONG. AAT_OUT_OF_MEMORY may come in place of any but
- * AAT_NO_FONT and, of UTF-8, AAT_BAD_TEXT.
+ * Return value: AAT_OK, or the first that applies of AAT_NO_FONT, AAT_BAD_TEXT, AAT_BAD_OPTION, AAT_TEXT_TOO_LONG,
+ * AAT_LINE_TOO_LONG for more than 2^24 glyphs, AAT_ALTERNATE_TOO_LARGE, and AAT_LINE_TOO_LONG of substitution.
+ * AAT_OUT_OF_MEMORY may come in place of any but AAT_NO_FONT and, of UTF-8, AAT_BAD_TEXT.
  */
 uint32_t aat_shape_utf8(aat_font_t *font, const aat_options_t *options, const aat_feature_t *features,
                         size_t feature_count, const uint8_t *text, size_t length, aat_glyph_t *out, size_t out_size,
@@ -459,7 +460,8 @@ uint32_t aat_shape_utf32(aat_font_t *font, const aat_options_t *options, const a
  * aat_shape_glyphs:
  *
  * As aat_shape_utf8(), of glyphs with clusters of their own. It runs from left to right where the options tell no
- * direction. Script and cluster level do not count, and marks are not placed.
+ * direction. Script and cluster level do not count, but where they stand for nothing it is AAT_BAD_OPTION, and marks
+ * are not placed.
  */
 uint32_t aat_shape_glyphs(aat_font_t *font, const aat_options_t *options, const aat_feature_t *features,
                           size_t feature_count, const aat_text_glyph_t *text, size_t length, aat_glyph_t *out,
@@ -468,7 +470,7 @@ uint32_t aat_shape_glyphs(aat_font_t *font, const aat_options_t *options, const 
 /**
  * aat_lines_utf8:
  * @font: a handle
- * @options: how the text is shaped; the direction does not count
+ * @options: how the text is shaped; the direction does not count, but has to be one
  * @features: features over ranges of clusters
  * @feature_count: how many
  * @text: a text of UTF-8
@@ -487,7 +489,7 @@ uint32_t aat_shape_glyphs(aat_font_t *font, const aat_options_t *options, const 
  * the newline of a line belong to it and have glyphs, and an empty text has no line. Where it is refused both counts
  * are 0.
  *
- * Return value: as of aat_shape_utf8()
+ * Return value: as of aat_shape_utf8(), of the text or a part of it
  */
 uint32_t aat_lines_utf8(aat_font_t *font, const aat_options_t *options, const aat_feature_t *features,
                         size_t feature_count, const uint8_t *text, size_t length, uint64_t width, aat_glyph_t *out,

@@ -61,7 +61,8 @@ pub record AreSet (text : List ℕ) (width : ℕ) (setter : TypesetterValue) (op
   pub lines : List SetLine
   pub fits : IsWithinLimits (sets_lines text setter options)
   pub typeset : AreLinesOf text width setter options lines
-  pub put_all : AreLinesPut lines (sets_lines text setter options).text.glyphs (length text) room put rows put_rows counts
+  pub put_all : AreLinesPut lines (sets_lines text setter options).text.glyphs (length text)
+      room put rows put_rows counts
 
 -- rooms have the lines in which a typesetter of the face typesets a text
 pub record AreBroken (text : List ℕ) (width : ℕ) (face : FaceValue) (told : OptionsRecord) (unit : ClusterUnit)

@@ -41,9 +41,9 @@ pub(crate) fn finish(outcome: Result<usize, Failure>, count: &mut usize) -> u32
 
 /// Shapes a text of UTF-8. Clusters count bytes.
 ///
-/// Refused as 1, `NoFont`; then as 4, `BadText`, exactly where the text is no UTF-8; then as 9, `BadOption`; and then as
-/// the typesetter refuses it: 5, `TextTooLong`, 6, `AlternateTooLarge`, 7, `LineTooLong`. Behind 1 and 4 it may be refused
-/// as 2, `OutOfMemory`. The count is 0 then, and the room stays.
+/// Refused as 1, `NoFont`; then as 4, `BadText`, exactly where the text is no UTF-8; then as 9, `BadOption`; and then
+/// as the typesetter refuses it: 5, `TextTooLong`; 7, `LineTooLong`, for more than 2^24 glyphs; 6, `AlternateTooLarge`;
+/// 7 of substitution. Behind 1 and 4 it may be refused as 2, `OutOfMemory`. The count is 0 then, and the room stays.
 #[unsafe(no_mangle)]
 pub extern "C" fn aat_shape_utf8(
     alloc: Global,
@@ -146,8 +146,8 @@ pub extern "C" fn aat_shape_utf32(
     }
 }
 
-/// Shapes a text of glyphs with clusters of their own. Script and level of the options do not count. Refused as
-/// `aat_shape_utf8` is, but not as 4 or 5.
+/// Shapes a text of glyphs with clusters of their own. Script and level of the options do not count, but have to be ones.
+/// Refused as `aat_shape_utf8` is, but not as 4 or 5.
 #[unsafe(no_mangle)]
 pub extern "C" fn aat_shape_glyphs(
     alloc: Global,
@@ -205,7 +205,7 @@ fn finish_lines(
 }
 
 /// Breaks a text of UTF-8 into lines of a width, in units of the font. Clusters count bytes. Refused as
-/// `aat_shape_utf8` is: both counts are 0 then.
+/// `aat_shape_utf8` is, of the text or a part of it: both counts are 0 then, and the rooms stay.
 #[unsafe(no_mangle)]
 pub extern "C" fn aat_lines_utf8(
     alloc: Global,
