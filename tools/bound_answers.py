@@ -9,6 +9,7 @@ import os
 import subprocess
 import sys
 import tempfile
+from decimal import Decimal
 
 from compare import CRATE, Request, bytes_of, changed
 
@@ -42,7 +43,7 @@ def words_for(folder, request):
         "bytes" if told.get("--clusters") == "bytes" else "characters",
         str(DIRECTIONS.get(told.get("--direction"), 0)),
         str(int.from_bytes(told["--script"].encode(), "big") if "--script" in told else 0),
-        "0" if size is None else str(int(size) << 16 or 0xFFFF_FFFF),
+        "0" if size is None else str(int(Decimal(size) * 65536) or 0xFFFF_FFFF),
         told.get("--cluster-level", "0"), "1" if "--show-flags" in told else "0", told.get("--features", ""),
         " ".join(numbers),
     ]

@@ -42,7 +42,7 @@ class Request:
         words = iter(words_of(line))
         for word in words:
             name, sign, value = word.partition("=")
-            if word in ("--trace", "--show-flags"):
+            if word in ("--trace", "--show-flags", "--remove-default-ignorables", "--json"):
                 self.options[word] = True
             elif word.startswith("--"):
                 self.options[name] = value if sign else next(words, "")
@@ -50,7 +50,7 @@ class Request:
                 self.plain.append(word)
 
     def is_compared(self):
-        passed = {"--width", "--file", "--help"} & set(self.options)
+        passed = {"--width", "--file", "--help", "--unicodes", "--remove-default-ignorables"} & set(self.options)
         return self.plain[:1] == ["shape"] and not passed and self.options.get("--output", "glyphs") == "glyphs"
 
     def text(self):

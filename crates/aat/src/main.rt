@@ -10,6 +10,9 @@ use std::{env, io};
 /// The status of a command that failed.
 const FAILED: u8 = 1;
 
+/// The status of a command that was run, and found an error or a warning in a font.
+const TROUBLE: u8 = 3;
+
 /// Runs the command line that the program was started with.
 fn answer(rt: &HostRuntime) -> Result<Answer> {
     let alloc = rt.alloc();
@@ -21,6 +24,7 @@ fn answer(rt: &HostRuntime) -> Result<Answer> {
 fn main(rt: HostRuntime) -> Result<ExitCode> {
     match answer(&rt) {
         Ok(Answer::Done) => Ok(ExitCode::SUCCESS),
+        Ok(Answer::Trouble) => Ok(ExitCode::from(TROUBLE)),
         Ok(Answer::Words(error)) => {
             error.print(&rt)?;
             Ok(ExitCode::from(error.exit_code() as u8))

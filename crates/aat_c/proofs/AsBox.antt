@@ -6,8 +6,8 @@ use Rattle.std.proofs.BoxSteps.Form.{Bx}
 use Rattle.std.specs.contracts.alloc.Global as Heap
 use Rattle.std.specs.contracts.impls.GlobalAllocator.TheImpl.{ghosts, dict}
 use Rattle.std.proofs.alloc.Global.TheLaws as heap
-use Rattle.aat_c.specs.contracts.held.Held as Held
-use Rattle.aat_c.proofs.held.Held.TheLaws as held
+use Rattle.aat_records.specs.contracts.held.Held as Held
+use Rattle.aat_records.proofs.held.Held.TheLaws as held
 use Rattle.aat_c.specs.contracts.slot.parts.Parts as Parts
 use Rattle.aat_c.specs.contracts.slot.Slot as Slotted
 

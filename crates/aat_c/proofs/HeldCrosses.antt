@@ -12,7 +12,7 @@ use Rattle.aat_shaper.specs.contracts.memory.ShaperMemory as shaper
 use Rattle.aat_typesetter.specs.contracts.memory.TypesetterMemory as setter
 use Rattle.aat_face.specs.contracts.face.Face as face
 use Rattle.aat_face.proofs.face.Face.TheSendSync as F
-use Rattle.aat_c.specs.contracts.held.Held as held
+use Rattle.aat_records.specs.contracts.held.Held as held
 
 shaper_send : IsSend (shaper.the_field heap.the_row ghosts).row
 shaper_send = struct_send (S.shape (shaper.the_type heap.the_row ghosts)) (Crossing.send, (search (sendable, crosses) depth 40, (workspace_field_send, (search (sendable, crosses) depth 40, tt))))

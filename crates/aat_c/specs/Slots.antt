@@ -10,8 +10,8 @@ use Rattle.std.specs.declared.option.Option.{Option}
 use Rattle.std.specs.declared.option.Option.TheVariants.{None, Some}
 use Rattle.std.specs.contracts.option.Option as option
 use Rattle.std.specs.contracts.impls.GlobalAllocator.TheImpl.{ghosts}
-use Rattle.aat_c.specs.declared.held.Held.{Held}
-use Rattle.aat_c.specs.contracts.held.Held.{the_row}
+use Rattle.aat_records.specs.declared.held.Held.{Held}
+use Rattle.aat_records.specs.contracts.held.Held.{the_row}
 
 -- the box at p with its value, or nothing
 abbrev pub slot_owns : Option Held → Global → Ptr → Fml

@@ -1,39 +1,20 @@
 //! What C asks of a font.
-ghost use Rattle.std.specs.Prelude.{◌≡◌, ◌≢◌, ◌<◌, ◌≤◌, IfErr, IfOk, OnOk, None, Ok, length, slice_get};
+ghost use Rattle.std.specs.Prelude.{◌≡◌, ◌≢◌, None, length};
 ghost use Rattle.aat_records.specs.Failures.{number_of_outcome};
-ghost use Rattle.aat_records.specs.Names.{PutsName, by_short};
-ghost use Rattle.aat_c.specs.Names.{IsNamePut, feature_name_told, name_told, setting_by_shorts, setting_name_told};
-ghost use Rattle.aat_c.specs.Refused.{EndsName};
-ghost use Rattle.aat_c.specs.Handles.{EndsReading, HoldsFile, RefusesFile, TellsFeature, TellsFeatureOf, asked, directory_fault, fault_told, glyph_in, held_in, told_fault, told_or};
-ghost use Rattle.aat_face.specs.Faces.{face_of, feature_text, name_of};
+ghost use Rattle.aat_records.specs.Asked.{EndsReading, HoldsFile, TellsFeatureOf, asked, directory_fault, fault_told, glyph_in};
+ghost use Rattle.aat_records.specs.AskedNames.{IsNamePut, feature_name_told, name_told, setting_name_told};
+ghost use Rattle.aat_records.specs.Refused.{EndsName};
+ghost use Rattle.aat_c.specs.Handles.{held_in, told_or};
+ghost use Rattle.aat_face.specs.Faces.{face_of};
 ghost use Rattle.aat_read_sfnt.specs.Directory.{directory_of};
 
 use crate::handle::Handle;
-use crate::held::Held;
 use crate::shape_calls::finish;
-use aat_bytes::ReadError;
-use aat_face::Face;
-use aat_font::hb_tag_t;
-use aat_read_sfnt::FontFile;
-use aat_records::{DONE, Failure, FaultRecord, put_name};
-use aat_shaper::Shaper;
-use aat_typesetter::TypesetterMemory;
+use aat_records::{
+    DONE, Failure, FaultRecord, fault_in, fault_of_file, glyph_in, has_feature_in, let_go,
+    put_feature_name, put_name_of, put_setting_name, read_held,
+};
 use std::alloc::Global;
-
-/// A font of bytes in a box.
-fn read_held(alloc: Global, bytes: &'static [u8], index: u32) -> Result<Box<Held>, Failure>
-    ensures ok { IfOk result (λ b. face_of bytes.now index ≡ Ok b.value.face) }
-    ensures refused { IfErr result (RefusesFile (face_of bytes.now index)) }
-{
-    match Face::read(alloc, bytes, index) {
-        Ok(face) => {
-            let memory = TypesetterMemory::new(alloc);
-            Ok(Box::new(alloc, Held { face, memory })?)
-        }
-        Err(ReadError::Fault(_)) => Err(Failure::BadFont),
-        Err(ReadError::OutOfMemory) => Err(Failure::OutOfMemory),
-    }
-}
 
 /// Has the handle hold the font at an index of a file, whose bytes stay as they are as long as it does. What it held
 /// before goes. Where the call is refused, it holds nothing.
@@ -51,8 +32,7 @@ pub extern "C" fn aat_font_read(
     ensures read { result ≡ 0 → HoldsFile bytes.now index (held_in font.new) }
     ensures empty { result ≢ 0 → held_in font.new ≡ None }
 {
-    let before = font.take(alloc);
-    drop(before);
+    let_go(font.take(alloc));
     match read_held(alloc, bytes, index) {
         Ok(held) => {
             font.put(held);
@@ -67,8 +47,7 @@ pub extern "C" fn aat_font_read(
 pub extern "C" fn aat_font_free(alloc: Global, font: &mut Handle)
     ensures empty { held_in font.new ≡ None }
 {
-    let before = font.take(alloc);
-    drop(before);
+    let_go(font.take(alloc));
 }
 
 /// The number of glyphs, 0 where there is no font.
@@ -103,18 +82,6 @@ pub extern "C" fn aat_font_units_per_em(alloc: Global, font: &mut Handle) -> u32
     }
 }
 
-/// The glyph of a character in a face, 0 where there is none.
-fn glyph_in(face: &Face<'_>, character: u32) -> u32
-    ensures { result ≡ glyph_in character face.now }
-{
-    match char::from_u32(character) {
-        Some(character) => face
-            .glyph_of(character)
-            .map_or(0, |glyph| u32::from(glyph.0)),
-        None => 0,
-    }
-}
-
 /// The glyph of a character, 0 where there is none.
 #[unsafe(no_mangle)]
 pub extern "C" fn aat_font_glyph(alloc: Global, font: &mut Handle, character: u32) -> u32
@@ -129,13 +96,6 @@ pub extern "C" fn aat_font_glyph(alloc: Global, font: &mut Handle, character: u3
         }
         None => 0,
     }
-}
-
-/// Whether a face has a feature.
-fn has_feature_in(alloc: Global, face: &Face<'_>, tag: u32) -> bool
-    ensures { TellsFeature face.now tag result }
-{
-    Shaper::new(alloc, face.font()).has_feature(hb_tag_t(tag))
 }
 
 /// Whether the font has a feature. It has none where there is no font.
@@ -167,16 +127,6 @@ pub extern "C" fn aat_font_fault_count(alloc: Global, font: &mut Handle) -> usiz
             count
         }
         None => 0,
-    }
-}
-
-/// A fault of a face, by its number from 0.
-fn fault_in(face: &Face<'_>, number: usize) -> Result<FaultRecord, Failure>
-    ensures { result ≡ told_fault (slice_get face.now.faults number) }
-{
-    match face.faults().get(number) {
-        Some(fault) => Ok(FaultRecord::of(*fault)),
-        None => Err(Failure::NotThere),
     }
 }
 
@@ -217,16 +167,6 @@ pub extern "C" fn aat_font_fault(
     }
 }
 
-/// The fault of a file's directory.
-fn fault_of_file(bytes: &[u8], index: u32) -> Result<FaultRecord, Failure>
-    ensures { result ≡ directory_fault (directory_of bytes.now index) }
-{
-    match FontFile::read(bytes, index) {
-        Ok(_) => Err(Failure::NotThere),
-        Err(fault) => Ok(FaultRecord::of(fault)),
-    }
-}
-
 /// Puts the fault of a file's directory, for which `aat_font_read` refuses it. Refused as 10, `NotThere`, where it has
 /// none. `fault` stays then.
 #[unsafe(no_mangle)]
@@ -235,54 +175,6 @@ pub extern "C" fn aat_file_fault(bytes: &[u8], index: u32, fault: &mut FaultReco
     ensures put { fault.new ≡ told_or fault.old (directory_fault (directory_of bytes.now index)) }
 {
     put_fault(fault_of_file(bytes, index), fault)
-}
-
-/// A number of 16 bits, of which others are not there.
-fn short(number: u32) -> Result<u16, Failure>
-    ensures short { IfOk result (λ short. short ≡ number) }
-    ensures small { OnOk result (number < 65536) }
-    ensures large { IfErr result (λ failure. (failure ≡ Failure.NotThere) × (65536 ≤ number)) }
-{
-    match u16::try_from(number) {
-        Ok(number) => Ok(number),
-        Err(_) => Err(Failure::NotThere),
-    }
-}
-
-/// Puts the name of a face with a number.
-fn put_name_of(alloc: Global, face: &Face<'_>, name: u32, out: &mut [u8]) -> Result<usize, Failure>
-    ensures { PutsName (by_short name (name_of face.now)) out.old out.new result }
-{
-    let name = short(name)?;
-    put_name(alloc, face.name(name), out)
-}
-
-/// Puts the name of a feature type of a face.
-fn put_feature_name(
-    alloc: Global,
-    face: &Face<'_>,
-    kind: u32,
-    out: &mut [u8],
-) -> Result<usize, Failure>
-    ensures { PutsName (by_short kind (feature_text face.now)) out.old out.new result }
-{
-    let kind = short(kind)?;
-    put_name(alloc, face.feature_name(kind), out)
-}
-
-/// Puts the name of a setting of a feature type of a face.
-fn put_setting_name(
-    alloc: Global,
-    face: &Face<'_>,
-    kind: u32,
-    setting: u32,
-    out: &mut [u8],
-) -> Result<usize, Failure>
-    ensures { PutsName (setting_by_shorts face.now kind setting) out.old out.new result }
-{
-    let kind = short(kind)?;
-    let setting = short(setting)?;
-    put_name(alloc, face.setting_name(kind, setting), out)
 }
 
 /// Puts the English text of a name into room, as UTF-8, and tells how many bytes it has. Refused as 1, `NoFont`, as 10,

@@ -2,8 +2,8 @@
 ghost use Rattle.std.specs.Prelude.{◌≡◌, true, false, Some, None};
 ghost use Rattle.aat_c.specs.Slots.{holds, taken_from};
 
-use crate::held::Held;
 use crate::slot::Slot;
+use aat_records::Held;
 use std::alloc::Global;
 use std::mem::replace;
 

@@ -10,15 +10,13 @@ ghost use Rattle.aat_records.specs.Places.{placed};
 ghost use Rattle.aat_records.specs.declared.places.Places.TheVariants.{Own};
 ghost use Rattle.aat_records.specs.Records.{feature_of, text_glyph_of};
 ghost use Rattle.aat_c.specs.Handles.{face_in, held_in};
-ghost use Rattle.aat_c.specs.Refused.{IsOfFailure, IsOrNoMemory, WhyNotShaped, WhyRefused, refuses_glyphs, refuses_lines, refuses_text};
-ghost use Rattle.aat_c.specs.Shaped.{AreBrokenBy, IsDrawnBy, sets_glyphs, sets_text};
+ghost use Rattle.aat_records.specs.Refused.{IsOfFailure, IsOrNoMemory, WhyNotShaped, WhyRefused, refuses_glyphs, refuses_lines, refuses_text};
+ghost use Rattle.aat_records.specs.Shaped.{AreBrokenBy, IsDrawnBy, sets_glyphs, sets_text};
 
 use crate::handle::Handle;
-use crate::lines::break_utf8;
-use crate::shape::{shape_glyphs, shape_utf8, shape_utf16, shape_utf32};
 use aat_records::{
     DONE, Failure, FeatureRecord, GlyphRecord, LineCounts, LineRecord, OptionsRecord,
-    TextGlyphRecord,
+    TextGlyphRecord, break_utf8, shape_glyphs, shape_utf8, shape_utf16, shape_utf32,
 };
 use std::alloc::Global;
 

@@ -1,11 +1,11 @@
 //! A place of C's memory that holds a box, or nothing.
 ghost use Rattle.std.specs.Prelude.{◌≡◌, Option, true, false, Some, None};
-ghost use Rattle.aat_c.specs.declared.held.Held.{Held};
+ghost use Rattle.aat_records.specs.declared.held.Held.{Held};
 ghost use Rattle.aat_c.specs.Slots.{held_coded, holds, slot_owns};
 
 mod parts;
 
-use crate::held::Held;
+use aat_records::Held;
 use parts::Parts;
 use std::alloc::Global;
 use std::marker::Model;

@@ -2,6 +2,7 @@
 
 use crate::batch::batch;
 use crate::bench::bench;
+use crate::check::check;
 use crate::dump::dump;
 use crate::example::write_glyphs_of;
 use crate::faults::faults;
@@ -24,6 +25,8 @@ use std::io::Write;
 pub enum Answer {
     /// The command was run, and all of its output is written.
     Done,
+    /// The command was run, all of its output is written, and a font that it checked has an error or a warning.
+    Trouble,
     /// The words are none of a command, or ask for help. The error has the text, its stream and the status.
     Words(Error),
 }
@@ -48,6 +51,7 @@ pub(crate) fn run_command<W: Write>(
         "inspect" => inspect(rt, out, session, matches),
         "dump" => dump(rt, out, session, matches),
         "faults" => faults(rt, out, session, matches),
+        "check" => check(rt, out, session, matches),
         "settled" => settled(rt, out, session, matches),
         "bench" => bench(rt, out, session, matches),
         "make" => make(rt, out, session, matches),
@@ -68,10 +72,16 @@ pub fn run<S: AsStr, W: Write>(rt: &HostRuntime, words: &[S], out: &mut W) -> Re
     let arena = Bump::new(rt.alloc());
     let mut session = Session::new(rt.alloc(), &arena);
     match matches.subcommand() {
-        Some(("batch", _)) => batch(rt, out, &mut session)?,
+        Some(("batch", _)) => {
+            batch(rt, out, &mut session)?;
+            session.has_trouble = false;
+        }
         Some((name, matches)) => run_command(rt, out, &mut session, name, matches)?,
         None => {}
     }
     out.flush().context(OUTPUT)?;
+    if session.has_trouble {
+        return Ok(Answer::Trouble);
+    }
     Ok(Answer::Done)
 }

@@ -9,6 +9,7 @@
 mod batch;
 mod bench;
 mod change;
+mod check;
 mod command_line;
 mod dump;
 mod example;
@@ -17,6 +18,7 @@ mod fonts;
 mod glyph_list;
 mod inspect;
 mod line;
+mod looks;
 mod make;
 mod missing;
 mod output;

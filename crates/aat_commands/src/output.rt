@@ -37,6 +37,28 @@ pub(crate) fn show_line<W: Write>(
     line: SetLine<'_>,
     kept: &mut Vec<DrawnLine>,
 ) -> Result<()> {
+    if !context.request.removes_ignorables {
+        return show_glyphs(alloc, out, context, line, kept);
+    }
+    let mut seen = Vec::new(alloc);
+    for glyph in line.glyphs.iter().filter(|glyph| !glyph.is_ignorable) {
+        seen.push(*glyph)?;
+    }
+    let line = SetLine {
+        glyphs: seen.as_slice(),
+        ..line
+    };
+    show_glyphs(alloc, out, context, line, kept)
+}
+
+/// Writes the glyphs of a line in the form that is asked, or keeps them for a picture.
+fn show_glyphs<W: Write>(
+    alloc: Global,
+    out: &mut W,
+    context: &Context<'_, '_>,
+    line: SetLine<'_>,
+    kept: &mut Vec<DrawnLine>,
+) -> Result<()> {
     match context.request.output {
         Output::Glyphs => write_plain(out, context, line.glyphs).context(OUTPUT),
         Output::Trace => {
@@ -71,6 +93,7 @@ pub(crate) fn write_picture<W: Write>(
         outlines: outlines.as_ref(),
         lines,
         subtables: context.subtables.as_slice(),
+        paint: context.request.paint,
     };
     match write_svg(alloc, out, &picture) {
         Err(DrawError::Outline(glyph, fault)) => bail!("{path}: glyph {glyph}: {fault}"),

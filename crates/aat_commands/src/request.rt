@@ -1,5 +1,7 @@
 //! What a command line asks of `aat shape`.
 
+use crate::looks::paint_of;
+use aat_drawing::Paint;
 use aat_typesetter::{
     ClusterLevel, ClusterUnit, Direction, Feature, FeatureListError, Script, TextOptions,
     parse_features, script_of_tag,
@@ -47,8 +49,8 @@ pub(crate) struct Request {
     pub(crate) features: Vec<Feature>,
     /// The direction, where the command line has one.
     pub(crate) direction: Option<Direction>,
-    /// The size in points, where the text is tracked.
-    pub(crate) size: Option<u16>,
+    /// The size, where the text is tracked: a point counts 65536.
+    pub(crate) size: Option<u32>,
     /// The width of a line, in units of the font, where lines are broken.
     pub(crate) width: Option<u32>,
     /// What clusters count.
@@ -61,6 +63,10 @@ pub(crate) struct Request {
     pub(crate) output: Output,
     /// Whether flags of glyphs are shown.
     pub(crate) shows_flags: bool,
+    /// Whether the glyphs of characters that are not seen are left out.
+    pub(crate) removes_ignorables: bool,
+    /// How a picture looks.
+    pub(crate) paint: Paint,
 }
 
 /// The direction of a word.
@@ -93,8 +99,11 @@ fn output_of(word: &str) -> Output {
     }
 }
 
-/// The features of a list, parted by commas.
+/// The features of a list, parted by commas. An empty list has none.
 fn features_of(alloc: Global, list: &str) -> Result<Vec<Feature>> {
+    if list.is_empty() {
+        return Ok(Vec::new(alloc));
+    }
     match parse_features(alloc, list) {
         Err(FeatureListError::NoFeature(number, error)) => {
             let text = list.split(',').nth(number).unwrap_or(list);
@@ -104,13 +113,32 @@ fn features_of(alloc: Global, list: &str) -> Result<Vec<Feature>> {
     }
 }
 
+/// How many parts of a point a digit behind the point counts, by how many digits there are.
+const PARTS: [u64; 7] = [1, 10, 100, 1_000, 10_000, 100_000, 1_000_000];
+
+/// A size in points, as 12 or 10.5, where a point counts 65536.
+fn size_of(text: &str) -> Result<u32> {
+    let (points, digits) = text.split_once('.').unwrap_or((text, ""));
+    let points = points.parse::<u16>()?;
+    let is_decimal = digits.bytes().all(|digit| digit.is_ascii_digit());
+    let parts = PARTS.get(digits.len()).filter(|_| is_decimal);
+    let parts = *parts.context("at most six digits stand behind the point")?;
+    let part = if digits.is_empty() {
+        0
+    } else {
+        u64::from(digits.parse::<u32>()?)
+    };
+    let part = part.saturating_mul(65536).checked_div(parts).unwrap_or(0);
+    Ok((u32::from(points) << 16) | u32::try_from(part)?)
+}
+
 impl Request {
     /// How a text is typeset.
     pub(crate) fn options(&self) -> TextOptions<'_> {
         TextOptions {
             direction: self.direction,
             features: &self.features,
-            size: self.size.map(|size| u32::from(size) << 16),
+            size: self.size,
             unit: self.unit,
             script: self.script,
             level: self.level,
@@ -149,13 +177,18 @@ impl Request {
         Ok(Request {
             features,
             direction,
-            size: matches.get_one::<u16>("size"),
+            size: match matches.get_str("size") {
+                Some(text) => Some(size_of(text).with_context(|| anyhow!("size \"{text}\""))?),
+                None => None,
+            },
             width: matches.get_one::<u32>("width"),
             unit,
             script,
             level,
             output,
             shows_flags,
+            removes_ignorables: matches.get_flag("ignorables"),
+            paint: paint_of(alloc, matches)?,
         })
     }
 }

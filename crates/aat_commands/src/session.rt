@@ -37,6 +37,8 @@ pub(crate) struct Session<'b> {
     pub(crate) fonts: Fonts<'b>,
     /// Who speaks on the error stream.
     pub(crate) speaker: Speaker,
+    /// Whether a font that was checked has an error or a warning.
+    pub(crate) has_trouble: bool,
 }
 
 impl<'b> Session<'b> {
@@ -45,6 +47,7 @@ impl<'b> Session<'b> {
         Session {
             fonts: Fonts::new(alloc, arena),
             speaker: Speaker::Program,
+            has_trouble: false,
         }
     }
 }

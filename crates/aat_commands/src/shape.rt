@@ -1,13 +1,13 @@
 //! The command `aat shape`.
 
 use crate::fonts::Font;
-use crate::glyph_list::glyphs_of;
+use crate::glyph_list::{characters_of, glyphs_of};
 use crate::line::{Context, SetLine};
 use crate::missing::tell_missing;
 use crate::output::{show_line, write_picture};
 use crate::progress::Progress;
 use crate::request::Request;
-use crate::session::Session;
+use crate::session::{Session, Speaker};
 use crate::source::{FontSource, text_of_file};
 use aat_calls::subtable_names;
 use aat_drawing::DrawnLine;
@@ -16,6 +16,7 @@ use aat_typesetter::{TextGlyph, TypesetLine, Typesetter};
 use anyhow::{Context as _, Result, anyhow};
 use clap::ArgMatches;
 use std::alloc::Global;
+use std::fs;
 use std::io::Write;
 
 /// Writes the line that was typeset last, or keeps it for a picture.
@@ -223,28 +224,47 @@ fn shape_text<W: Write>(
     shape_in(rt, out, font, &context, text)
 }
 
-/// Shapes the text that a command line gives.
+/// Shapes the text that a command line gives, and writes what is shown to a file where that is asked.
 pub(crate) fn shape<W: Write>(
     rt: &HostRuntime,
     out: &mut W,
     session: &mut Session<'_>,
     matches: &ArgMatches<'_>,
 ) -> Result<()> {
-    let request = Request::of_matches(rt.alloc(), matches)?;
-    if let Some(path) = matches.get_str("file") {
-        let text = text_of_file(rt, session.speaker, path)?;
-        return shape_text(
-            rt,
-            out,
-            session,
-            matches,
-            request,
-            Text::Lines(text.as_str()),
-        );
-    }
-    let text = match matches.get_str("glyphs") {
-        Some(list) => Text::Glyphs(list),
-        None => Text::Lines(matches.get_str("text").unwrap_or("")),
+    let Some(path) = matches.get_str("output-file") else {
+        return shape_given(rt, out, session, matches);
     };
+    let mut text = Vec::new(rt.alloc());
+    shape_given(rt, &mut text, session, matches)?;
+    fs::write(rt, path, text).with_context(|| anyhow!("{path}"))
+}
+
+/// The text that a command line gives: that of a file, that of numbers of characters, or itself.
+fn text_given(rt: &HostRuntime, speaker: Speaker, matches: &ArgMatches<'_>) -> Result<String> {
+    if let Some(path) = matches.get_str("file") {
+        return text_of_file(rt, speaker, path);
+    }
+    match matches.get_str("unicodes") {
+        Some(list) => characters_of(rt.alloc(), list),
+        None => {
+            let text = matches.get_str("text").unwrap_or("");
+            Ok(String::from_str(rt.alloc(), text)?)
+        }
+    }
+}
+
+/// Shapes the text or the glyphs that a command line gives.
+fn shape_given<W: Write>(
+    rt: &HostRuntime,
+    out: &mut W,
+    session: &mut Session<'_>,
+    matches: &ArgMatches<'_>,
+) -> Result<()> {
+    let request = Request::of_matches(rt.alloc(), matches)?;
+    if let Some(list) = matches.get_str("glyphs") {
+        return shape_text(rt, out, session, matches, request, Text::Glyphs(list));
+    }
+    let text = text_given(rt, session.speaker, matches)?;
+    let text = Text::Lines(text.as_str());
     shape_text(rt, out, session, matches, request, text)
 }

@@ -5,7 +5,7 @@ use crate::metrics::LineMetrics;
 use aat_layout::buffer::Direction;
 
 /// The room that lines take in a picture, in units of the font. Text in columns stands from right to left.
-#[derive(Clone, Copy, PartialEq, Eq, Debug)]
+#[derive(Clone, Copy)]
 pub(crate) struct Extent {
     /// How wide the picture is.
     pub(crate) width: i64,
@@ -34,9 +34,8 @@ fn longest(lines: &[DrawnLine]) -> i64 {
 const MOST_LINES: usize = 1 << 20;
 
 impl Extent {
-    /// The room of lines.
-    pub(crate) fn new(metrics: &LineMetrics, lines: &[DrawnLine]) -> Extent {
-        let margin = i64::from(metrics.units_per_em / 2);
+    /// The room of lines, with so much left free on each side.
+    pub(crate) fn new(metrics: &LineMetrics, margin: i64, lines: &[DrawnLine]) -> Extent {
         let step = metrics.height();
         let length = longest(lines).saturating_add(margin.saturating_mul(2));
         let count = lines.len().clamp(1, MOST_LINES) as i64;

@@ -1,21 +1,19 @@
 //! The colours of a picture, and what they stand for.
 
 use crate::line::DrawnLine;
+use crate::paint::{Colour, Paint};
 use std::io::{self, Write};
 
 /// The colours of glyphs that a subtable changed, each for every eighth one.
-const COLOURS: [&str; 8] = [
-    "#1668bd", "#c2410c", "#15803d", "#7e22ce", "#a16207", "#be185d", "#0e7490", "#4d7c0f",
+const COLOURS: [u32; 8] = [
+    0x1668BD, 0xC2410C, 0x15803D, 0x7E22CE, 0xA16207, 0xBE185D, 0x0E7490, 0x4D7C0F,
 ];
 
-/// The colour of glyphs that no subtable changed.
-const UNCHANGED: &str = "#222222";
-
 /// The colour of a glyph by the subtable that changed it last.
-pub(crate) fn colour_of(changed_by: Option<usize>) -> &'static str {
+pub(crate) fn colour_of(paint: &Paint, changed_by: Option<usize>) -> Colour {
     match changed_by {
-        None => UNCHANGED,
-        Some(number) => COLOURS[number % 8],
+        None => paint.foreground,
+        Some(number) => Colour::opaque(COLOURS[number % 8]),
     }
 }
 
@@ -33,7 +31,7 @@ pub(crate) fn write_entry<W: Write>(
     out: &mut W,
     top: i64,
     size: i64,
-    colour: &str,
+    colour: Colour,
     text: &str,
 ) -> io::Result<()> {
     writeln!(

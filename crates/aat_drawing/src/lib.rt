@@ -17,6 +17,7 @@ mod line;
 mod marks;
 mod metrics;
 mod outlines;
+mod paint;
 mod paths;
 mod picture;
 
@@ -28,4 +29,5 @@ pub use json::write_json;
 pub use line::{DrawnGlyph, DrawnLine, LineBreak};
 pub use metrics::LineMetrics;
 pub use outlines::FontOutlines;
+pub use paint::{Colour, Paint};
 pub use picture::{Picture, write_svg};

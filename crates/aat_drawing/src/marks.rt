@@ -2,6 +2,7 @@
 
 use crate::line::{DrawnGlyph, DrawnLine, LineBreak, advance_along};
 use crate::metrics::LineMetrics;
+use crate::paint::Colour;
 use std::io::{self, Write};
 
 /// Twice a length, since pictures are drawn in half units of the font.
@@ -17,7 +18,7 @@ pub(crate) fn write_box<W: Write>(
     line: &DrawnLine,
     place: (i64, i64),
     drawn: &DrawnGlyph,
-    colour: &str,
+    colour: Colour,
 ) -> io::Result<()> {
     let (ascent, descent) = (i64::from(metrics.ascent), i64::from(metrics.descent));
     let advance = advance_along(line.direction, &drawn.glyph);

@@ -7,6 +7,7 @@ use crate::line::{DrawnGlyph, DrawnLine};
 use crate::marks::{half_units, write_bar, write_box};
 use crate::metrics::LineMetrics;
 use crate::outlines::FontOutlines;
+use crate::paint::{Colour, Paint};
 use crate::paths::write_outlines;
 use std::alloc::Global;
 use std::io::{self, Write};
@@ -22,6 +23,8 @@ pub struct Picture<'a> {
     pub lines: &'a [DrawnLine],
     /// What each subtable of `morx` is called in the legend, through all chains. A text without `<` and `&`.
     pub subtables: &'a [String],
+    /// How it looks.
+    pub paint: Paint,
 }
 
 /// The pixels of an em.
@@ -35,7 +38,7 @@ fn write_use<W: Write>(
     out: &mut W,
     place: (i64, i64),
     glyph_id: u16,
-    colour: &str,
+    colour: Colour,
 ) -> io::Result<()> {
     let (x, y) = (half_units(place.0), half_units(place.1));
     writeln!(
@@ -54,7 +57,7 @@ fn write_glyph<W: Write>(
     drawn: &DrawnGlyph,
 ) -> io::Result<()> {
     let glyph = drawn.glyph;
-    let colour = colour_of(drawn.changed_by);
+    let colour = colour_of(&picture.paint, drawn.changed_by);
     let place = (
         pen.0.saturating_add(i64::from(glyph.x_offset)),
         pen.1.saturating_add(i64::from(glyph.y_offset)),
@@ -125,7 +128,7 @@ fn write_legend<W: Write>(out: &mut W, picture: &Picture<'_>, top: i64) -> io::R
     for (number, name) in picture.subtables.iter().enumerate() {
         if is_shown(picture.lines, number) {
             top = top.saturating_add(entry_height(picture));
-            let colour = colour_of(Some(number));
+            let colour = colour_of(&picture.paint, Some(number));
             write_entry(out, top, letter_size(picture), colour, name.as_str())?;
         }
     }
@@ -152,9 +155,25 @@ fn pixels(length: i64, units_per_em: u16) -> i64 {
     length.saturating_mul(EM_PIXELS) / em
 }
 
+/// What is left free on each side of a picture, in units of the font: half an em where nothing is asked.
+fn margin_of(picture: &Picture<'_>) -> i64 {
+    let em = i64::from(picture.metrics.units_per_em);
+    match picture.paint.margin {
+        Some(margin) => i64::from(margin).saturating_mul(em) / EM_PIXELS,
+        None => em / 2,
+    }
+}
+
 /// Writes the head of a picture of a width and a height, and its ground.
-fn write_head<W: Write>(out: &mut W, em: u16, width: i64, height: i64) -> io::Result<()> {
+fn write_head<W: Write>(
+    out: &mut W,
+    picture: &Picture<'_>,
+    width: i64,
+    height: i64,
+) -> io::Result<()> {
+    let em = picture.metrics.units_per_em;
     let (wide, high) = (pixels(width, em), pixels(height, em));
+    let ground = picture.paint.background;
     writeln!(
         out,
         "<svg xmlns=\"http://www.w3.org/2000/svg\" viewBox=\"0 0 {width} {height}\" width=\"{wide}\" height=\"{high}\">"
@@ -162,7 +181,7 @@ fn write_head<W: Write>(out: &mut W, em: u16, width: i64, height: i64) -> io::Re
     writeln!(out, "{STYLE}")?;
     writeln!(
         out,
-        "<path d=\"M0 0H{width}V{height}H0Z\" fill=\"#ffffff\"/>"
+        "<path d=\"M0 0H{width}V{height}H0Z\" fill=\"{ground}\"/>"
     )
 }
 
@@ -190,9 +209,9 @@ pub fn write_svg<W: Write>(
     out: &mut W,
     picture: &Picture<'_>,
 ) -> Result<(), DrawError> {
-    let extent = Extent::new(&picture.metrics, picture.lines);
+    let extent = Extent::new(&picture.metrics, margin_of(picture), picture.lines);
     let (width, height) = size_of(picture, &extent);
-    write_head(out, picture.metrics.units_per_em, width, height)?;
+    write_head(out, picture, width, height)?;
     let written = match picture.outlines {
         Some(outlines) => write_outlines(alloc, out, outlines, picture.lines)?,
         None => Vec::new(alloc),

@@ -22,16 +22,16 @@ use Rattle.aat_lookup.specs.GlyphSpans.{glyph_span}
 use Rattle.aat_read_kern.specs.Kern.{KernValue, kern_of}
 use Rattle.aat_read_kern.specs.Weights.{kern_weight}
 use Rattle.aat_read_kern.proofs.TableBounded.{kern_bounded}
-use Rattle.aat_read_kerx.specs.AnchorLaws.{points_weight}
-use Rattle.aat_read_kerx.specs.KerxTables.{KerxValue}
-use Rattle.aat_read_kerx.specs.Weights.{kerx_weight}
-use Rattle.aat_read_kerx.proofs.AnchorRows.{points_bounded}
-use Rattle.aat_read_kerx.proofs.TableBounded.{kerx_bounded}
+use Rattle.aat_read_extended.specs.kerx.AnchorLaws.{points_weight}
+use Rattle.aat_read_extended.specs.kerx.KerxTables.{KerxValue}
+use Rattle.aat_read_extended.specs.kerx.Weights.{kerx_weight}
+use Rattle.aat_read_extended.proofs.kerx.AnchorRows.{points_bounded}
+use Rattle.aat_read_extended.proofs.kerx.TableBounded.{kerx_bounded}
 use Rattle.aat_read_lookup.specs.Features.{feat_of, feature_count, feature_name, feature_names, kind_at}
 use Rattle.aat_read_lookup.specs.Sizes.{cells_beside, pairs_size}
 use Rattle.aat_read_lookup.specs.facts.FoundRows.{keeps_few}
-use Rattle.aat_read_morx.specs.Weights.{morx_weight}
-use Rattle.aat_read_morx.proofs.Bounded.{memory_bounded}
+use Rattle.aat_read_extended.specs.morx.Weights.{morx_weight}
+use Rattle.aat_read_extended.proofs.morx.Bounded.{memory_bounded}
 use Rattle.aat_read_sfnt.specs.Metrics.{advance_of}
 use Rattle.aat_read_sfnt.specs.declared.gdef.GlyphClasses.{GlyphClasses}
 use Rattle.aat_read_sfnt.specs.Directory.{Directory, cut_table_of, directory_at, directory_of, directory_place, is_font_version, part_of_record, record_of}

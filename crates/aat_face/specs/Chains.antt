@@ -2,7 +2,7 @@
 use Rattle.std.specs.Prelude.{ℕ, List, Option, Result}
 use Rattle.aat_bytes.specs.declared.error.Fault.{Fault}
 use Rattle.aat_bytes.specs.declared.tags.TheConstants.{MORX}
-use Rattle.aat_read_morx.specs.Chains.{ChainValue, morx_of}
+use Rattle.aat_read_extended.specs.morx.Chains.{ChainValue, morx_of}
 use Rattle.aat_read_sfnt.specs.Directory.{Directory}
 use Rattle.aat_read_metrics.specs.Tables.{table_in}
 

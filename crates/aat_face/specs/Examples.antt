@@ -7,7 +7,7 @@ use Rattle.aat_bytes.specs.declared.tags.TheConstants.{HEAD, KERN, SFNT, TRAK}
 use Rattle.aat_machine_tables.specs.declared.morx.Subtable.{Subtable}
 use Rattle.aat_machine_tables.specs.declared.morx.SubtableKind.TheVariants.{NonContextual}
 use Rattle.aat_read_lookup.specs.FeatureExamples.{example_feat}
-use Rattle.aat_read_morx.specs.MorxExamples.{example_chain, example_table}
+use Rattle.aat_read_extended.specs.morx.MorxExamples.{example_chain, example_table}
 use Rattle.aat_read_sfnt.specs.Directory.{Directory}
 use Rattle.aat_read_sfnt.specs.Examples.{example_file, example_metrics, example_profile}
 use Rattle.aat_read_sfnt.specs.Metrics.{metrics_of}

@@ -12,7 +12,7 @@ use Rattle.aat_kerning_tables.specs.declared.kerx.KerxSubtable.{KerxSubtable}
 use Rattle.aat_lookup.specs.declared.glyph_id.GlyphId.{GlyphId}
 use Rattle.aat_read_pairs.specs.declared.left_out.LeftOutSubtable.{LeftOutSubtable}
 use Rattle.aat_read_lookup.specs.Features.{feature_name_id, setting_name_id}
-use Rattle.aat_read_morx.specs.Chains.{ChainValue, values_of_morx}
+use Rattle.aat_read_extended.specs.morx.Chains.{ChainValue, values_of_morx}
 use Rattle.aat_read_sfnt.specs.Characters.{mapped_glyph}
 use Rattle.aat_read_sfnt.specs.Directory.{Directory, directory_of}
 use Rattle.aat_read_sfnt.specs.declared.cmap.CharacterMap.{CharacterMap}

@@ -6,8 +6,8 @@ use Rattle.aat_bytes.specs.declared.error.Fault.{Fault}
 use Rattle.aat_bytes.specs.declared.tags.TheConstants.{ANKR, GPOS, KERN, KERX, STAT}
 use Rattle.aat_kerning_tables.specs.AnchorPoints.{Points}
 use Rattle.aat_read_kern.specs.Kern.{KernValue, kern_of}
-use Rattle.aat_read_kerx.specs.Anchors.{ankr_of}
-use Rattle.aat_read_kerx.specs.KerxTables.{KerxValue, kerx_of}
+use Rattle.aat_read_extended.specs.kerx.Anchors.{ankr_of}
+use Rattle.aat_read_extended.specs.kerx.KerxTables.{KerxValue, kerx_of}
 use Rattle.aat_read_pairs.specs.declared.left_out.LeftOutSubtable.{LeftOutSubtable}
 use Rattle.aat_read_sfnt.specs.Directory.{Directory, table_of}
 use Rattle.aat_read_metrics.specs.Tables.{found_in, table_in}

@@ -11,11 +11,11 @@ use Rattle.aat_kerning_tables.specs.declared.kern.KernSubtable.{KernSubtable}
 use Rattle.aat_kerning_tables.specs.declared.kerx.KerxSubtable.{KerxSubtable}
 use Rattle.aat_read_kern.specs.Weights.{kern_weight}
 use Rattle.aat_read_pairs.specs.declared.left_out.LeftOutSubtable.{LeftOutSubtable}
-use Rattle.aat_read_kerx.specs.AnchorLaws.{points_weight}
-use Rattle.aat_read_kerx.specs.Weights.{kerx_weight}
+use Rattle.aat_read_extended.specs.kerx.AnchorLaws.{points_weight}
+use Rattle.aat_read_extended.specs.kerx.Weights.{kerx_weight}
 use Rattle.aat_read_lookup.specs.Sizes.{pairs_size}
-use Rattle.aat_read_morx.specs.Chains.{ChainValue}
-use Rattle.aat_read_morx.specs.Weights.{morx_weight}
+use Rattle.aat_read_extended.specs.morx.Chains.{ChainValue}
+use Rattle.aat_read_extended.specs.morx.Weights.{morx_weight}
 use Rattle.aat_read_sfnt.specs.Directory.{cut_table_of, directory_of}
 use Rattle.aat_placement.specs.Tracks.{TrackingTable}
 use Rattle.aat_read_metrics.specs.TrakLaws.{table_size}

@@ -1,6 +1,6 @@
 //! The table `morx` as its chains.
 ghost use Rattle.std.specs.Prelude.{◌≡◌, None, Some, IfOk, option_map};
-ghost use Rattle.aat_read_morx.specs.Chains.{values_of_morx};
+ghost use Rattle.aat_read_extended.specs.morx.Chains.{values_of_morx};
 ghost use Rattle.aat_face.specs.Chains.{chain_values_of, chains_in};
 ghost use Rattle.aat_face.specs.Features.{feature_tables};
 ghost use Rattle.aat_read_metrics.specs.Tables.{found_in, read_if_found};
@@ -8,9 +8,9 @@ ghost use Rattle.aat_read_metrics.specs.Tables.{found_in, read_if_found};
 use crate::features::{Features, feature_tables};
 use aat_bytes::{Fault, ReadError};
 use aat_font::{FaceTables, Morx};
+use aat_read_extended::read_morx;
 use aat_read_machine::MORX;
 use aat_read_metrics::{found_in, optional_table};
-use aat_read_morx::read_morx;
 use aat_read_sfnt::FontFile;
 use std::alloc::{AllocError, Global};
 use std::marker::Model;
@@ -25,7 +25,7 @@ pub struct Chains {
 
 impl Model for Chains {
     ghost use Rattle.std.specs.Prelude.{List};
-    ghost use Rattle.aat_read_morx.specs.Chains.{ChainValue, values_of_morx};
+    ghost use Rattle.aat_read_extended.specs.morx.Chains.{ChainValue, values_of_morx};
 
     ghost Value = { List ChainValue };
 

@@ -319,6 +319,9 @@ impl<'a> Face<'a> {
         self.font
     }
 
+    /// Lets go of the face.
+    pub fn let_go(self) {}
+
     /// The table `trak`, if it is there and has no fault: how much wider or tighter a text is set at a point size.
     /// `with_tracking` of `Shaper` takes it; the font of the layer does not have it.
     ///

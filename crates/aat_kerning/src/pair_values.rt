@@ -16,6 +16,7 @@ pub enum PairValues<'a> {
 
 /// The kerning value of two glyphs, in units of the font: 0 where the table has none. Each glyph id has to be at most
 /// 0xFFFF. It takes a search of the pairs, or two look-ups of classes.
+#[inline(always)]
 pub fn value_of(values: PairValues, left: u32, right: u32) -> i16
     requires left_id { left ≤ 65535 }
     requires right_id { right ≤ 65535 }

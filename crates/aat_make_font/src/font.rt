@@ -11,20 +11,20 @@ use aat_font::Morx;
 use aat_kerning_tables::{Ankr, Kern, KernSubtable, Kerx, KerxSubtable, Point};
 use aat_machine_tables::Chain;
 use aat_placement::Tracking;
-use aat_read_kerx::ANKR;
+use aat_read_extended::ANKR;
 use aat_read_lookup::FEAT;
 use aat_read_machine::MORX;
 use aat_read_metrics::TRAK;
 use aat_read_outlines::tags::{GLYF, LOCA};
 use aat_read_pairs::{KERN, KERX};
 use aat_read_sfnt::tags::{CMAP, GDEF, HEAD, HHEA, HMTX, MAXP, NAME};
-use aat_write_kern::write_kern;
 use aat_write_kerx::{write_ankr, write_kerx};
 use aat_write_machine::{append_longs, append_words, write_morx};
 use aat_write_sfnt::{
     EnglishName, FontTable, write_cmap, write_font, write_gdef, write_head, write_hhea, write_maxp,
     write_name, write_trak,
 };
+use aat_write_truetype::write_kern;
 use anyhow::{Context, Result};
 use serde_json::Value;
 use std::alloc::Global;

@@ -3,7 +3,7 @@
 use crate::known::Known;
 use crate::values::{Members, Told, items, maybe};
 use aat_read_outlines::{Outline, OutlinePoint};
-use aat_write_outlines::write_outlines;
+use aat_write_truetype::write_outlines;
 use anyhow::{Context, Result, bail};
 use serde_json::Value;
 use std::slice;

@@ -1,4 +1,5 @@
 pub mod Encoded
+pub mod Ends
 pub mod Filled
 pub mod LinesPut
 pub mod NameUnits

@@ -1,3 +1,5 @@
+pub mod Asked
+pub mod AskedNames
 pub mod Decoded
 pub mod Examples
 pub mod Failures
@@ -6,4 +8,6 @@ pub mod Names
 pub mod Options
 pub mod Places
 pub mod Records
+pub mod Refused
+pub mod Shaped
 pub mod Texts

@@ -95,8 +95,8 @@ fn put_rows(lines: &[TypesetLine], text: &[TextGlyph], size: usize, rows: &mut [
     }
 }
 
-/// Puts lines of a text of a length and their glyphs into room. Refused as `OutOfMemory` where there are more glyphs
-/// than memory has; then nothing is put.
+/// Puts lines of a text of a length and their glyphs into room. Refused as `OutOfMemory` where there are too many
+/// glyphs to be counted; then nothing is put.
 #[tactic(auto, using(crate::proofs::LinesPut::record_count, crate::proofs::LinesPut::put_count))]
 pub fn put_lines(
     lines: &[TypesetLine],

@@ -137,7 +137,8 @@ impl<'f, A: Allocator + Copy> Shaper<'f, A> {
         }
     }
 
-    /// Memory for what is made of a text before it is shaped. It is given up when that has been shaped.
+    /// Memory for what is made of a text before it is shaped. It is given up when that has been
+    /// shaped, or is refused for another reason than memory.
     pub fn scratch(&self) -> &Bump<A> {
         self.workspace.arena()
     }
@@ -324,6 +325,7 @@ impl<'f, A: Allocator + Copy> Shaper<'f, A> {
         self.glyphs.clear();
         self.is_budget_used_up = false;
         if text.len() > LONGEST_TEXT {
+            self.workspace.reset();
             return Err(AatError::TooLong);
         }
         take_features(&mut self.plan, features)?;
@@ -344,6 +346,7 @@ impl<'f, A: Allocator + Copy> Shaper<'f, A> {
             Ok(is_used_up) => self.is_budget_used_up = is_used_up,
             Err(error) => {
                 self.glyphs.clear();
+                self.workspace.reset();
                 return Err(error);
             }
         }

@@ -8,7 +8,7 @@ pub(crate) struct Workspace<A: Allocator + Copy = Global> {
     arena: Bump<A>,
 }
 
-// An arena that nothing borrows may go to another thread.
+// An arena that nothing borrows may go where its allocator may, and its memory may be freed anywhere (`workspace_send`).
 unsafe impl<A: Allocator + Copy + Send> Send for Workspace<A> {}
 
 impl<A: Allocator + Copy> Workspace<A> {
@@ -33,6 +33,11 @@ impl<A: Allocator + Copy> Workspace<A> {
             self.arena = Bump::try_with_capacity(alloc, room)?;
         }
         Ok(())
+    }
+
+    /// Empties the arena, which keeps the last of its memory.
+    pub(crate) fn reset(&mut self) {
+        let _kept = self.arena.reset();
     }
 
     /// Empties the arena. One that took more than so many bytes, in several chunks, has as much in one from now on. Where

@@ -177,8 +177,8 @@ pub fn prepare_text<A: Allocator + Copy>(
     )
 }
 
-/// The same in memory that is there: the glyphs of the result in that of `room`, whose own glyphs go, and what is needed
-/// on the way from `scratch`.
+/// What [`prepare_text`] makes of a text, in memory that is there: the glyphs of the result in that of `room`, whose own
+/// glyphs go, and what is needed on the way from `scratch`.
 ///
 /// Refused as [`prepare_text`] is.
 pub fn prepare_text_in<B: Allocator + Copy, A: Allocator>(

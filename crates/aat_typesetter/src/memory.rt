@@ -24,7 +24,7 @@ impl TypesetterMemory {
 }
 
 impl<A: Allocator + Copy> TypesetterMemory<A> {
-    /// No memory yet: it will be taken from `alloc`, but that for the features, which comes from `global`.
+    /// No memory yet: it will be taken from `alloc`, but that for the features of the shaper, from `global`.
     pub fn new_in(global: Global, alloc: A) -> TypesetterMemory<A> {
         TypesetterMemory {
             global,
@@ -35,4 +35,7 @@ impl<A: Allocator + Copy> TypesetterMemory<A> {
             glyphs: Vec::new(alloc),
         }
     }
+
+    /// Lets go of the memory.
+    pub fn let_go(self) {}
 }

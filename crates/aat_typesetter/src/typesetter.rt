@@ -72,8 +72,8 @@ impl<'f> Typesetter<'f> {
 }
 
 impl<'f, A: Allocator + Copy> Typesetter<'f, A> {
-    /// A typesetter of texts of a face that takes its memory from `alloc`, but that for the features, which it takes
-    /// from `global`. It takes no memory before the first text.
+    /// A typesetter of texts of a face that takes its memory from `alloc`, but that for the features of its
+    /// shaper, which it takes from `global`. It takes no memory before the first text.
     pub fn new_in(global: Global, alloc: A, face: &'f Face<'f>) -> Typesetter<'f, A>
         ensures face { result.face ≡ face.now }
         ensures font { font_value result.font ≡ face.now.font }

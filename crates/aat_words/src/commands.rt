@@ -55,26 +55,26 @@ fn file_arguments<'a>(alloc: Global, command: Command<'a>) -> Result<Command<'a>
 
 /// The text by itself.
 fn text_argument<'a>(alloc: Global) -> Result<Arg<'a>, AllocError> {
+    let others: [&'a str; 3] = ["file", "glyphs", "unicodes"];
     Ok(
         Arg::new(alloc, "text")
             .value_name("TEXT")
             .action(ArgAction::Set)
-            .required_unless_present("file")?
-            .required_unless_present("glyphs")?
-            .conflicts_with("file")?
-            .conflicts_with("glyphs")?
+            .required_unless_present_any(&others)?
+            .conflicts_with_all(&others)?
             .help("The text. Each of its lines is shaped by itself"),
     )
 }
 
 /// The text in a file.
 fn text_file_argument<'a>(alloc: Global) -> Result<Arg<'a>, AllocError> {
+    let others: [&'a str; 2] = ["glyphs", "unicodes"];
     Ok(
         Arg::new(alloc, "file")
             .long("file")
             .value_name("PATH")
             .action(ArgAction::Set)
-            .conflicts_with("glyphs")?
+            .conflicts_with_all(&others)?
             .help("Takes the text from a file, or from the standard input where it is -"),
     )
 }
@@ -88,6 +88,28 @@ fn glyphs_argument<'a>(alloc: Global) -> Arg<'a> {
         .help("Takes a line of glyphs for the text, by their numbers with spaces between, as 4 5 7")
 }
 
+/// The text as characters.
+fn unicodes_argument<'a>(alloc: Global) -> Result<Arg<'a>, AllocError> {
+    Ok(
+        Arg::new(alloc, "unicodes")
+            .long("unicodes")
+            .value_name("LIST")
+            .action(ArgAction::Set)
+            .conflicts_with("glyphs")?
+            .help("Takes characters for the text, by their hexadecimal numbers, as U+66,U+69"),
+    )
+}
+
+/// An option of hb-shape that changes nothing here.
+fn idle_argument<'a>(alloc: Global, name: &'a str) -> Arg<'a> {
+    Arg::new(alloc, name)
+        .long(name)
+        .value_name("TEXT")
+        .action(ArgAction::Set)
+        .allow_hyphen_values(true)
+        .help("Taken and passed over: no table that is read here asks for it")
+}
+
 /// Adds an argument that may be refused memory.
 fn add_argument<'a>(
     command: Command<'a>,
@@ -96,11 +118,16 @@ fn add_argument<'a>(
     command.arg(argument?)
 }
 
-/// The text: by itself, in a file, or as glyphs.
+/// The text: by itself, in a file, as characters, or as glyphs.
 fn text_arguments<'a>(alloc: Global, command: Command<'a>) -> Result<Command<'a>, AllocError> {
     let command = add_argument(command, text_argument(alloc))?;
     let command = add_argument(command, text_file_argument(alloc))?;
-    command.arg(glyphs_argument(alloc))
+    let command = add_argument(command, unicodes_argument(alloc))?;
+    command
+        .arg(glyphs_argument(alloc))?
+        .arg(idle_argument(alloc, "text-before"))?
+        .arg(idle_argument(alloc, "text-after"))?
+        .arg(idle_argument(alloc, "language"))
 }
 
 /// The features of a text.
@@ -153,8 +180,8 @@ fn size_argument<'a>(alloc: Global) -> Arg<'a> {
     Arg::new(alloc, "size")
         .long("point-size")
         .value_name("N")
-        .value_parser(value_parser!(u16))
-        .help("Tracks the text by the table trak at so many points")
+        .action(ArgAction::Set)
+        .help("Tracks the text by the table trak at so many points, as 12 or 10.5")
 }
 
 /// The width of lines.
@@ -209,6 +236,62 @@ fn flags_argument<'a>(alloc: Global) -> Arg<'a> {
         )
 }
 
+/// Whether ignorable glyphs are left out.
+fn ignorables_argument<'a>(alloc: Global) -> Arg<'a> {
+    Arg::new(alloc, "ignorables")
+        .long("remove-default-ignorables")
+        .action(ArgAction::SetTrue)
+        .help(
+            "Leaves out the glyphs of characters that are not seen, in place of showing them as spaces",
+        )
+}
+
+/// A colour of a picture.
+fn colour_argument<'a>(alloc: Global, name: &'a str, help: &'a str) -> Arg<'a> {
+    Arg::new(alloc, name)
+        .long(name)
+        .value_name("RRGGBB")
+        .action(ArgAction::Set)
+        .help(help)
+}
+
+/// What is left free around a picture.
+fn margin_argument<'a>(alloc: Global) -> Arg<'a> {
+    Arg::new(alloc, "margin")
+        .long("margin")
+        .value_name("N")
+        .value_parser(value_parser!(u16))
+        .help(
+            "Leaves so many pixels free at the ends of lines in a picture, and half as many beside them",
+        )
+}
+
+/// The file that the output goes to.
+fn output_file_argument<'a>(alloc: Global) -> Arg<'a> {
+    Arg::new(alloc, "output-file")
+        .long("output-file")
+        .value_name("PATH")
+        .action(ArgAction::Set)
+        .help("Writes to a file in place of the standard output")
+}
+
+/// How a picture looks, and where the output goes.
+fn picture_arguments<'a>(alloc: Global, command: Command<'a>) -> Result<Command<'a>, AllocError> {
+    command
+        .arg(colour_argument(
+            alloc,
+            "background",
+            "The colour behind a picture, by six or eight hexadecimal digits",
+        ))?
+        .arg(colour_argument(
+            alloc,
+            "foreground",
+            "The colour of glyphs that no subtable changed",
+        ))?
+        .arg(margin_argument(alloc))?
+        .arg(output_file_argument(alloc))
+}
+
 /// What is shown of a text, and at which size and width.
 fn output_arguments<'a>(alloc: Global, command: Command<'a>) -> Result<Command<'a>, AllocError> {
     let command = command
@@ -219,7 +302,9 @@ fn output_arguments<'a>(alloc: Global, command: Command<'a>) -> Result<Command<'
         .arg(script_argument(alloc))?
         .arg(level_argument(alloc))?;
     let command = add_argument(command, trace_argument(alloc))?;
-    command.arg(flags_argument(alloc))
+    command
+        .arg(flags_argument(alloc))?
+        .arg(ignorables_argument(alloc))
 }
 
 /// The command that shapes a text.
@@ -230,7 +315,8 @@ fn shape_command<'a>(alloc: Global) -> Result<Command<'a>, AllocError> {
         .arg(font_argument(alloc))?;
     let command = text_arguments(alloc, command)?;
     let command = shaping_arguments(alloc, command)?;
-    file_arguments(alloc, output_arguments(alloc, command)?)
+    let command = picture_arguments(alloc, output_arguments(alloc, command)?)?;
+    file_arguments(alloc, command)
 }
 
 /// The command that tells of a font.
@@ -285,6 +371,26 @@ fn settled_command<'a>(alloc: Global) -> Result<Command<'a>, AllocError> {
         .about("Tells of each subtable of morx whether it is settled for cuts, or why it is not")
         .after_help("Example: aat settled font.ttf")
         .arg(font_argument(alloc))?;
+    file_arguments(alloc, command)
+}
+
+/// Whether findings are written as JSON.
+fn json_argument<'a>(alloc: Global) -> Arg<'a> {
+    Arg::new(alloc, "json")
+        .long("json")
+        .action(ArgAction::SetTrue)
+        .help("Writes an array of objects, one a line")
+}
+
+/// The command that checks a font.
+fn check_command<'a>(alloc: Global) -> Result<Command<'a>, AllocError> {
+    let command = Command::new(alloc, "check")
+        .about("Tells what is wrong in a font, or of no use: for who makes fonts")
+        .after_help(
+            "Example: aat check font.ttf\nThe status is 3 where there is an error or a warning",
+        )
+        .arg(font_argument(alloc))?
+        .arg(json_argument(alloc))?;
     file_arguments(alloc, command)
 }
 
@@ -359,6 +465,7 @@ pub(crate) fn shown_command<'a>(alloc: Global) -> Result<Command<'a>, AllocError
     let command = add_command(command, dump_command(alloc))?;
     let command = add_command(command, faults_command(alloc))?;
     let command = add_command(command, settled_command(alloc))?;
+    let command = add_command(command, check_command(alloc))?;
     let command = add_command(command, bench_command(alloc))?;
     command.subcommand(batch_command(alloc))
 }

@@ -7,7 +7,7 @@ use Rattle.aat_bytes.specs.Numbers.{be16, be32}
 use Rattle.aat_bytes.specs.declared.error.Fault.{Fault}
 use Rattle.aat_kerning_tables.specs.Classes.{ClassValues}
 use Rattle.aat_kerning_tables.specs.declared.kerx.KerxFormat.TheVariants.{Format6Classes}
-use Rattle.aat_read_kerx.specs.Formats.{arrays_format_at, as_format}
+use Rattle.aat_read_extended.specs.kerx.Formats.{arrays_format_at, as_format}
 use Rattle.aat_read_pairs.specs.KerxClasses.{grid_pairs, kerx_arrays_at}
 use Rattle.aat_write_machine.specs.LookupLaws.{WrittenLookupsAreRead}
 use Rattle.aat_write_machine.specs.Lookups.{lookup_written}

@@ -4,7 +4,7 @@ use Rattle.std.specs.Prelude.{◌==◌}
 use Rattle.std.proofs.lemmas.Bool.Decides.{nat_tests}
 use Rattle.aat_kerning_tables.specs.declared.kerx.KerxFormat.{KerxFormat}
 use Rattle.aat_kerning_tables.specs.declared.kerx.KerxFormat.TheVariants.{Format0, Format1, Format2, Format2Classes, Format4, Format6, Format6Classes}
-use Rattle.aat_read_kerx.specs.Formats.{as_format, format_at}
+use Rattle.aat_read_extended.specs.kerx.Formats.{as_format, format_at}
 use Rattle.aat_write_machine.specs.LookupLaws.{WrittenLookupsAreRead}
 use Rattle.aat_write_kerx.specs.KerxBytes.{format_number, without_tuples}
 use Rattle.aat_write_kerx.specs.KerxLaws.{IsFormat, WrittenFormatsAreRead}

@@ -11,7 +11,7 @@ use Rattle.aat_bytes.specs.declared.tags.TheConstants.{ANKR}
 use Rattle.aat_kerning_tables.specs.AnchorPoints.{Points}
 use Rattle.aat_kerning_tables.specs.declared.ankr.Point.{Point}
 use Rattle.aat_read_lookup.specs.Lookups.{lookup_at}
-use Rattle.aat_read_kerx.specs.Anchors.{ankr_of, point_at, points_at, points_within, row_size, rows_within}
+use Rattle.aat_read_extended.specs.kerx.Anchors.{ankr_of, point_at, points_at, points_within, row_size, rows_within}
 use Rattle.aat_write_machine.specs.LookupLaws.{IsPair, WrittenLookupsAreRead}
 use Rattle.aat_write_machine.specs.Lookups.{lookup_written}
 use Rattle.aat_write_machine.specs.Words.{long_bytes, word_bytes}

@@ -16,8 +16,8 @@ use Rattle.aat_machine_tables.specs.declared.state_table.GenericStateEntry.{Gene
 use Rattle.aat_read_machine.specs.Entries.{action_at, stack_action_at, value_index}
 use Rattle.aat_read_machine.specs.Kinds.{list_place}
 use Rattle.aat_read_machine.specs.Machine.{machine_at}
-use Rattle.aat_read_kerx.specs.Formats.{anchor_format_at, as_format}
-use Rattle.aat_read_kerx.specs.Machines.{action_type, pairs_place, point_pairs_from, stack_tables_at, values_from}
+use Rattle.aat_read_extended.specs.kerx.Formats.{anchor_format_at, as_format}
+use Rattle.aat_read_extended.specs.kerx.Machines.{action_type, pairs_place, point_pairs_from, stack_tables_at, values_from}
 use Rattle.aat_kerning_tables.specs.declared.kerx.KerxFormat.TheVariants.{Format4}
 use Rattle.aat_write_machine.specs.LookupLaws.{IsPair, WrittenLookupsAreRead}
 use Rattle.aat_write_machine.specs.Lookups.{pair_words}

@@ -12,9 +12,9 @@ use Rattle.aat_bytes.specs.declared.error.Fault.{Fault}
 use Rattle.aat_kerning_tables.specs.declared.kerx.KerxFormat.{KerxFormat}
 use Rattle.aat_kerning_tables.specs.declared.kerx.KerxSubtable.{KerxSubtable}
 use Rattle.aat_read_machine.specs.InTurn.{in_turn}
-use Rattle.aat_read_kerx.specs.Formats.{as_format, format_at}
-use Rattle.aat_read_kerx.specs.KerxSubtables.{KerxStart, end_at, format_of, format_up_to, has_coverage, is_variable, read_and_next, subtable_at, subtable_of, subtable_read, tuple_count_of, used_bytes}
-use Rattle.aat_read_kerx.specs.KerxTables.{KerxValue, kerning_of, kerx_of, kerx_value, left_out_of}
+use Rattle.aat_read_extended.specs.kerx.Formats.{as_format, format_at}
+use Rattle.aat_read_extended.specs.kerx.KerxSubtables.{KerxStart, end_at, format_of, format_up_to, has_coverage, is_variable, read_and_next, subtable_at, subtable_of, subtable_read, tuple_count_of, used_bytes}
+use Rattle.aat_read_extended.specs.kerx.KerxTables.{KerxValue, kerning_of, kerx_of, kerx_value, left_out_of}
 use Rattle.aat_read_pairs.specs.declared.left_out.LeftOutSubtable.{LeftOutSubtable}
 use Rattle.aat_write_machine.specs.Words.{long_bytes, word_bytes}
 use Rattle.aat_write_machine.specs.facts.LongPlaces.{length_longs, long_at}

@@ -4,7 +4,7 @@ use Rattle.std.specs.Int.{w16}
 use Rattle.std.specs.Int.RustNames.{FitsSigned}
 use Rattle.aat_kerning_tables.specs.AnchorPoints.{Points}
 use Rattle.aat_kerning_tables.specs.declared.ankr.Point.{Point}
-use Rattle.aat_read_kerx.specs.Anchors.{ankr_of}
+use Rattle.aat_read_extended.specs.kerx.Anchors.{ankr_of}
 use Rattle.aat_write_kerx.specs.AnkrBytes.{ankr_written}
 
 -- a signed number has 16 bits

@@ -4,8 +4,8 @@ use Rattle.aat_kerning_tables.specs.Classes.{ClassValues}
 use Rattle.aat_kerning_tables.specs.declared.kerx.KerxFormat.{KerxFormat}
 use Rattle.aat_kerning_tables.specs.declared.kerx.KerxFormat.TheVariants.{Format0, Format1, Format2, Format2Classes, Format4, Format6, Format6Classes}
 use Rattle.aat_kerning_tables.specs.declared.kerx.KerxSubtable.{KerxSubtable}
-use Rattle.aat_read_kerx.specs.Formats.{as_format, format_at}
-use Rattle.aat_read_kerx.specs.KerxTables.{kerx_of}
+use Rattle.aat_read_extended.specs.kerx.Formats.{as_format, format_at}
+use Rattle.aat_read_extended.specs.kerx.KerxTables.{kerx_of}
 use Rattle.aat_write_machine.specs.LookupLaws.{IsPair}
 use Rattle.aat_write_machine.specs.MachineLaws.{IsLong, IsMachine, IsWord}
 use Rattle.aat_write_kerx.specs.AnkrLaws.{IsSigned}

@@ -5,7 +5,7 @@ use Rattle.aat_kerning_tables.specs.Classes.{ClassValues}
 use Rattle.aat_kerning_tables.specs.declared.kerx.KerxFormat.{KerxFormat}
 use Rattle.aat_kerning_tables.specs.declared.kerx.KerxFormat.TheVariants.{Format0, Format1, Format2Classes, Format6, Format6Classes}
 use Rattle.aat_kerning_tables.specs.declared.kerx.KerxSubtable.{KerxSubtable}
-use Rattle.aat_read_kerx.specs.KerxExamples.{machine_with}
+use Rattle.aat_read_extended.specs.kerx.KerxExamples.{machine_with}
 use Rattle.aat_write_kerx.specs.AnkrBytes.{ankr_written}
 use Rattle.aat_write_kerx.specs.KerxBytes.{kerx_written}
 use Rattle.aat_write_kerx.specs.declared.kerx_error.KerxWriteError.{KerxWriteError}

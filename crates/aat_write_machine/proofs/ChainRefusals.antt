@@ -2,7 +2,7 @@
 use Rattle.std.proofs.Common.{ℕ, List, map, Result, Ok, Err, sym, ap, subst}
 use Rattle.std.specs.declared.vec.Vec.{Vec}
 use Rattle.aat_machine_tables.specs.declared.morx.Chain.{Chain}
-use Rattle.aat_read_morx.specs.Chains.{value_of_chain}
+use Rattle.aat_read_extended.specs.morx.Chains.{value_of_chain}
 use Rattle.aat_write_machine.specs.MorxWriteErrors as subtables
 use Rattle.aat_write_machine.specs.declared.error.MorxWriteError.{MorxWriteError}
 use Rattle.aat_write_machine.specs.declared.error.MorxWriteError.TheVariants.{FewClasses, TooManyRules, OutOfPlace, NoRow, NotNamed, NotRising, TooManyPairs, LookupCount, TooManyLookups, TooLong, OutOfMemory}

@@ -9,12 +9,12 @@ use Rattle.std.proofs.lemmas.Slice.Zip.{AllZip-long}
 use Rattle.aat_bytes.specs.Numbers.{be32}
 use Rattle.aat_machine_tables.specs.declared.morx.ChainFeature.{ChainFeature}
 use Rattle.aat_machine_tables.specs.declared.morx.Subtable.{Subtable}
-use Rattle.aat_read_morx.specs.ChainFeatures.{whole_features}
-use Rattle.aat_read_morx.specs.ChainSubtables.{subtable_at}
-use Rattle.aat_read_morx.specs.Chains.{ChainStart, ChainValue, chain_at, chain_value_at, start_behind}
+use Rattle.aat_read_extended.specs.morx.ChainFeatures.{whole_features}
+use Rattle.aat_read_extended.specs.morx.ChainSubtables.{subtable_at}
+use Rattle.aat_read_extended.specs.morx.Chains.{ChainStart, ChainValue, chain_at, chain_value_at, start_behind}
 use Rattle.aat_read_machine.specs.InTurn.{in_turn}
-use Rattle.aat_read_morx.specs.InTurn.{end_at}
-use Rattle.aat_read_morx.specs.Reaches.{allowance}
+use Rattle.aat_read_extended.specs.morx.InTurn.{end_at}
+use Rattle.aat_read_extended.specs.morx.Reaches.{allowance}
 use Rattle.aat_write_machine.specs.ChainBytes.{ChainContent, chain_bytes, chain_header, chain_size, count_subtables, feature_bytes, subtable_bytes, subtable_size}
 use Rattle.aat_write_machine.specs.MachineLaws.{IsLong}
 use Rattle.aat_write_machine.specs.ChainLaws.{DoesAsRead, IsChain, IsReadable, IsSameChain, IsSameSubtable}

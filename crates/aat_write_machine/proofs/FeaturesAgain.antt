@@ -6,7 +6,7 @@ use Rattle.std.proofs.lemmas.List.{length-append}
 use Rattle.std.proofs.lemmas.List.FromFn.{fill_by_all}
 use Rattle.aat_bytes.specs.Numbers.{be16, be32}
 use Rattle.aat_machine_tables.specs.declared.morx.ChainFeature.{ChainFeature}
-use Rattle.aat_read_morx.specs.ChainFeatures.{feature_at, features_at, whole_features}
+use Rattle.aat_read_extended.specs.morx.ChainFeatures.{feature_at, features_at, whole_features}
 use Rattle.aat_write_machine.specs.Words.{long_bytes, word_bytes}
 use Rattle.aat_write_machine.specs.facts.WordPlaces.{AreWords, length_words, word_at}
 use Rattle.aat_write_machine.specs.ChainBytes.{feature_bytes}

@@ -5,8 +5,8 @@ use Rattle.aat_bytes.specs.facts.Parts.{ok_parts as same_parts}
 use Rattle.aat_machine_tables.specs.declared.morx.Subtable.{Subtable}
 use Rattle.aat_machine_tables.specs.declared.morx.SubtableKind.{SubtableKind}
 use Rattle.aat_machine_tables.specs.declared.morx.SubtableKind.TheVariants.{Rearrangement, Contextual, Ligature, NonContextual, Insertion}
-use Rattle.aat_read_morx.specs.ChainSubtables.{is_known}
-use Rattle.aat_read_morx.specs.Chains.{ChainValue, morx_of}
+use Rattle.aat_read_extended.specs.morx.ChainSubtables.{is_known}
+use Rattle.aat_read_extended.specs.morx.Chains.{ChainValue, morx_of}
 use Rattle.aat_write_machine.specs.SubtableKindLaws.{ReadsAs, SubtableKindsAreRead}
 use Rattle.aat_write_machine.specs.SubtableKinds.{kind_number, kind_written}
 use Rattle.aat_write_machine.specs.declared.error.MorxWriteError.{MorxWriteError}

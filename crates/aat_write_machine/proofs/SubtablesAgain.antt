@@ -13,9 +13,9 @@ use Rattle.aat_machine_tables.specs.declared.morx.Coverage.{Coverage}
 use Rattle.aat_machine_tables.specs.declared.morx.Subtable.{Subtable}
 use Rattle.aat_machine_tables.specs.declared.morx.SubtableKind.{SubtableKind}
 use Rattle.aat_read_machine.specs.SubtableKinds.{subtable_kind_at}
-use Rattle.aat_read_morx.specs.ChainSubtables.{coverage_at, flags_at, is_known, kind_at, subtable_at}
+use Rattle.aat_read_extended.specs.morx.ChainSubtables.{coverage_at, flags_at, is_known, kind_at, subtable_at}
 use Rattle.aat_read_machine.specs.InTurn.{in_turn}
-use Rattle.aat_read_morx.specs.InTurn.{end_at}
+use Rattle.aat_read_extended.specs.morx.InTurn.{end_at}
 use Rattle.aat_write_machine.specs.ChainBytes.{SubtableContent, coverage_number, subtable_bytes, subtable_header, subtable_size}
 use Rattle.aat_write_machine.specs.MachineLaws.{IsLong}
 use Rattle.aat_write_machine.specs.ChainLaws.{DoesAsRead, IsReadable, IsSameSubtable, IsSubtable}

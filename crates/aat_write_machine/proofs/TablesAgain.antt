@@ -5,7 +5,7 @@ use Rattle.std.specs.List.{AllZip, flat_map}
 use Rattle.std.proofs.lemmas.Bool.{le-ltb, leb-false, ltb-false}
 use Rattle.std.proofs.lemmas.List.{append-nil, length-append}
 use Rattle.aat_bytes.specs.Numbers.{be16, be32}
-use Rattle.aat_read_morx.specs.Chains.{ChainValue, chain_at, first_chain, morx_of}
+use Rattle.aat_read_extended.specs.morx.Chains.{ChainValue, chain_at, first_chain, morx_of}
 use Rattle.aat_read_machine.specs.InTurn.{in_turn}
 use Rattle.aat_write_machine.specs.Words.{long_bytes, word_bytes}
 use Rattle.aat_write_machine.specs.facts.WordPlaces.{AreWords, length_words, word_at}

@@ -1,6 +1,6 @@
 -- Worked examples of chains as bytes. Apple's TrueType Reference Manual, "The 'morx' table".
 use Rattle.std.specs.Prelude.{◌≡◌, [], ◌∷◌, drop, Ok}
-use Rattle.aat_read_morx.specs.MorxExamples.{example_subtable, first_feature, one_chain}
+use Rattle.aat_read_extended.specs.morx.MorxExamples.{example_subtable, first_feature, one_chain}
 use Rattle.aat_write_machine.specs.ChainBytes.{ChainContent, chains_written}
 
 -- a chain with default flags of 1, the feature of the reader's example and a noncontextual subtable for vertical text,

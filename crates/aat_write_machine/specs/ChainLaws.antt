@@ -5,8 +5,8 @@ use Rattle.aat_machine_tables.specs.declared.morx.ChainFeature.{ChainFeature}
 use Rattle.aat_machine_tables.specs.declared.morx.Subtable.{Subtable}
 use Rattle.aat_machine_tables.specs.declared.morx.SubtableKind.{SubtableKind}
 use Rattle.aat_read_machine.specs.SubtableKinds.{subtable_kind_at}
-use Rattle.aat_read_morx.specs.ChainSubtables.{is_known}
-use Rattle.aat_read_morx.specs.Chains.{ChainValue, morx_of}
+use Rattle.aat_read_extended.specs.morx.ChainSubtables.{is_known}
+use Rattle.aat_read_extended.specs.morx.Chains.{ChainValue, morx_of}
 use Rattle.aat_write_machine.specs.MachineLaws.{IsLong, IsWord}
 use Rattle.aat_write_machine.specs.ChainBytes.{ChainContent, SubtableContent, chains_written}
 

@@ -1,7 +1,7 @@
 -- A table of chains as bytes. Apple's TrueType Reference Manual, "The 'morx' table".
 use Rattle.std.specs.Prelude.{ℕ, List, [], ◌∷◌, Result, Ok, Err}
 use Rattle.aat_machine_tables.specs.declared.morx.Subtable.{Subtable}
-use Rattle.aat_read_morx.specs.Chains.{ChainValue}
+use Rattle.aat_read_extended.specs.morx.Chains.{ChainValue}
 use Rattle.aat_write_machine.specs.MorxWriteErrors.{after_written}
 use Rattle.aat_write_machine.specs.SubtableKinds.{kind_number, kind_written}
 use Rattle.aat_write_machine.specs.declared.error.MorxWriteError.{MorxWriteError}

@@ -2,7 +2,7 @@
 use Rattle.std.specs.Prelude.{◌≡◌, ℕ, List, All, Ok}
 use Rattle.std.specs.List.{AllZip}
 use Rattle.aat_machine_tables.specs.declared.morx.Subtable.{Subtable}
-use Rattle.aat_read_morx.specs.Chains.{ChainValue, morx_of}
+use Rattle.aat_read_extended.specs.morx.Chains.{ChainValue, morx_of}
 use Rattle.aat_write_machine.specs.SubtableKindLaws.{IsSubtableKind, ReadsAs}
 use Rattle.aat_write_machine.specs.MachineLaws.{IsLong}
 use Rattle.aat_write_machine.specs.ChainLaws.{IsCoverage, IsFeature}

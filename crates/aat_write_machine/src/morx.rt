@@ -1,6 +1,6 @@
 //! The extended glyph metamorphosis table to bytes.
 ghost use Rattle.std.specs.Prelude.{◌≡◌, MatchResult, Ok};
-ghost use Rattle.aat_read_morx.specs.Chains.{value_of_chain, values_of_morx};
+ghost use Rattle.aat_read_extended.specs.morx.Chains.{value_of_chain, values_of_morx};
 ghost use Rattle.aat_write_machine.specs.MorxWriteErrors.{RefusesWithin};
 ghost use Rattle.aat_write_machine.specs.ChainWriteErrors.{WritesWithin};
 ghost use Rattle.aat_write_machine.specs.MorxBytes.{chain_content, each_written, morx_written, subtable_content};

@@ -1,4 +1,4 @@
-use Rattle.aat_read_morx.specs.Chains.{value_of_chain}
+use Rattle.aat_read_extended.specs.morx.Chains.{value_of_chain}
 use Rattle.aat_write_machine.specs.MorxBytes.{chain_content}
 use Rattle.aat_write_machine.proofs.EachWritten.{is_pushed}
 use Rattle.aat_write_machine.proofs.morx.chain_contents.Goals as goal

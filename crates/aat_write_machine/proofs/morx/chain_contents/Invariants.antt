@@ -1,5 +1,5 @@
 use Rattle.std.proofs.Common.{◌≡◌, drop}
-use Rattle.aat_read_morx.specs.Chains.{value_of_chain}
+use Rattle.aat_read_extended.specs.morx.Chains.{value_of_chain}
 use Rattle.aat_write_machine.specs.MorxBytes.{chain_content, each_written}
 use Rattle.aat_write_machine.proofs.EachWritten.{behind}
 use Rattle.aat_write_machine.proofs.morx.chain_contents.Given as goal

@@ -1,6 +1,6 @@
 use Rattle.std.proofs.Common.{rules, ◌≡◌, ℕ, List, map, Result, Ok, sym, ap, ◌∙◌, subst}
 use Rattle.aat_machine_tables.specs.declared.morx.Chain.{Chain}
-use Rattle.aat_read_morx.specs.Chains.{value_of_chain, values_of_morx}
+use Rattle.aat_read_extended.specs.morx.Chains.{value_of_chain, values_of_morx}
 use Rattle.aat_write_machine.specs.ChainBytes.{chains_written}
 use Rattle.aat_write_machine.specs.ChainWriteErrors.{RefusesWithin, WritesWithin, error_of_subtable}
 use Rattle.aat_write_machine.specs.MorxBytes.{chain_content, contents_written, each_written, morx_written}

@@ -14,8 +14,8 @@ use Rattle.std.proofs.alloc.Global.TheSendSync as handle
 use Rattle.std.specs.Global.{Global}
 use Rattle.std.specs.declared.option.Option.{Option}
 use Rattle.std.specs.declared.option.Option.TheVariants.{None, Some}
-use Rattle.aat_c.specs.declared.held.Held.{Held}
-use Rattle.aat_c.specs.contracts.held.Held.{the_row as held_row}
+use Rattle.aat_records.specs.declared.held.Held.{Held}
+use Rattle.aat_records.specs.contracts.held.Held.{the_row as held_row}
 use Rattle.aat_c.proofs.HeldCrosses.{held_send}
 use Rattle.aat_c.specs.Slots.{slot_owns}
 use Rattle.aat_c.specs.contracts.slot.Slot.{the_row, the_type}

@@ -3,7 +3,7 @@ use mathlib.Core.Path.{◌≡◌, refl, sym, subst}
 use mathlib.Core.Bool.{true, true≢false}
 use Rattle.std.specs.declared.option.Option.{Option}
 use Rattle.std.specs.declared.option.Option.TheVariants.{None, Some}
-use Rattle.aat_c.specs.declared.held.Held.{Held}
+use Rattle.aat_records.specs.declared.held.Held.{Held}
 use Rattle.aat_c.specs.Slots.{holds, slot_owns}
 use contract.Monad.{fact}
 use mathlib.Core.List.{List, [], ◌∷◌, ◌++◌}

@@ -1,0 +1,159 @@
+//! What there is to find.
+ghost use Rattle.std.specs.Prelude.{◌≡◌};
+ghost use Rattle.aat_check.specs.Numbers.{number_of, severity_of, is_trouble};
+
+use aat_bytes::Fault;
+use aat_cuts::Unsettled;
+
+/// How much harm a finding tells of.
+#[derive(Clone, Copy, Debug)]
+pub enum Severity {
+    /// The font does not do what it is made for.
+    Error,
+    /// A part of the font does nothing.
+    Warning,
+    /// It may be meant so.
+    Note,
+}
+
+/// What is found at a place. Where a place has it more than once, the first is told, and `count` says how often.
+#[derive(Clone, Copy, Debug)]
+pub enum Fact {
+    /// 1: a table has a fault, and is not read.
+    TableFault(Fault),
+    /// 2: a subtable of `kerx` or `kern` is left out.
+    LeftOut(Fault),
+    /// 3: the font has `GPOS` and `kern`, and no `kerx`: HarfBuzz then kerns by `GPOS`, and not by `kern`.
+    KernBesideGpos,
+    /// 10: a machine that comes to the state at a glyph of the class stays there, and leaves the glyphs as they are.
+    Stays,
+    /// 11: a line reaches the state, which has no entry for the class.
+    MissingEntry,
+    /// 12: the subtable is not settled for cuts.
+    NotSettled(Unsettled),
+    /// 13: no line reaches the state.
+    UnreachedState {
+        /// How many states no line reaches.
+        count: usize,
+    },
+    /// 14: no line comes to the rule of the state and the class.
+    UnusedRule {
+        /// How many rules no line comes to.
+        count: usize,
+    },
+    /// 15: each state has the same entry for the class as for another one.
+    ClassesAlike {
+        /// The other class.
+        other: u16,
+        /// How many classes have one before them to which they are alike.
+        count: usize,
+    },
+    /// 16: no entry names a lookup of a contextual subtable.
+    UnnamedLookup {
+        /// The place of the lookup.
+        lookup: usize,
+        /// How many lookups no entry names.
+        count: usize,
+    },
+    /// 17: entries that act and do not advance lead from the state back to it for the class. A machine that comes to it at
+    /// a glyph of the class stays there unless the glyph becomes one of another class.
+    MayStay,
+    /// 20: nothing switches the subtable on.
+    NeverOn,
+    /// 21: `feat` names a feature type of which no chain has a setting.
+    NameWithoutChain,
+    /// 22: `feat` has no name for the type of a setting of the chain, and it is not type 0, of all features.
+    SettingWithoutName {
+        /// The setting.
+        setting: u16,
+        /// How many settings of the chain are so.
+        count: usize,
+    },
+    /// 23: a setting is on by default beside another one of its type, and the two exclude one another.
+    ExclusiveSettings {
+        /// The setting.
+        setting: u16,
+        /// How many settings of the chain are so.
+        count: usize,
+    },
+    /// 30: the glyph is replaced by one that the font does not have.
+    ValuePast {
+        /// The glyph that takes its place.
+        value: u16,
+        /// How many glyphs are replaced so.
+        count: usize,
+    },
+    /// 31: the glyph has a value or a class, and the font does not have it.
+    KeyPast {
+        /// How many glyphs are listed so.
+        count: usize,
+    },
+    /// 32: the classes list the deleted glyph, 65535.
+    ListsDeleted,
+}
+
+impl Fact {
+    /// Its number, by which it is looked up: 1 to 3 are of tables, 10 to 17 of machines, 20 to 23 of chains and names,
+    /// and 30 to 32 of glyphs.
+    pub fn number(&self) -> u8
+        ensures { result ≡ number_of self.now }
+    {
+        match self {
+            Fact::TableFault(_) => 1,
+            Fact::LeftOut(_) => 2,
+            Fact::KernBesideGpos => 3,
+            Fact::Stays => 10,
+            Fact::MissingEntry => 11,
+            Fact::NotSettled(_) => 12,
+            Fact::UnreachedState { .. } => 13,
+            Fact::UnusedRule { .. } => 14,
+            Fact::ClassesAlike { .. } => 15,
+            Fact::UnnamedLookup { .. } => 16,
+            Fact::MayStay => 17,
+            Fact::NeverOn => 20,
+            Fact::NameWithoutChain => 21,
+            Fact::SettingWithoutName { .. } => 22,
+            Fact::ExclusiveSettings { .. } => 23,
+            Fact::ValuePast { .. } => 30,
+            Fact::KeyPast { .. } => 31,
+            Fact::ListsDeleted => 32,
+        }
+    }
+
+    /// How much harm it tells of: numbers 1, 10, 11, 23 and 30 are errors, 2, 13, 16, 20 and 31 warnings, and the others
+    /// notes.
+    pub fn severity(&self) -> Severity
+        ensures { result ≡ severity_of (number_of self.now) }
+    {
+        match self {
+            Fact::TableFault(_)
+            | Fact::Stays
+            | Fact::MissingEntry
+            | Fact::ExclusiveSettings { .. }
+            | Fact::ValuePast { .. } => Severity::Error,
+            Fact::LeftOut(_)
+            | Fact::UnreachedState { .. }
+            | Fact::UnnamedLookup { .. }
+            | Fact::NeverOn
+            | Fact::KeyPast { .. } => Severity::Warning,
+            Fact::KernBesideGpos
+            | Fact::NotSettled(_)
+            | Fact::UnusedRule { .. }
+            | Fact::ClassesAlike { .. }
+            | Fact::MayStay
+            | Fact::NameWithoutChain
+            | Fact::SettingWithoutName { .. }
+            | Fact::ListsDeleted => Severity::Note,
+        }
+    }
+
+    /// Whether it is an error or a warning.
+    pub fn is_trouble(&self) -> bool
+        ensures { result ≡ is_trouble self.now }
+    {
+        match self.severity() {
+            Severity::Error | Severity::Warning => true,
+            Severity::Note => false,
+        }
+    }
+}

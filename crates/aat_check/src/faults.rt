@@ -1,0 +1,65 @@
+//! Tables that are not read, and subtables that are left out.
+
+use crate::fact::Fact;
+use crate::finding::{Finding, Place, push_fact};
+use aat_bytes::Tag;
+use aat_bytes::tags::GPOS;
+use aat_face::Face;
+use aat_read_pairs::LeftOutSubtable;
+use std::alloc::AllocError;
+
+/// Whether a table has a fault, and is not read.
+pub(crate) fn has_fault(face: &Face<'_>, table: Tag) -> bool {
+    face.faults().iter().any(|fault| fault.table == table)
+}
+
+/// Adds the faults of tables.
+pub(crate) fn check_faults(face: &Face<'_>, found: &mut Vec<Finding>) -> Result<(), AllocError> {
+    for fault in face.faults() {
+        push_fact(
+            found,
+            Place::of_table(fault.table),
+            Fact::TableFault(*fault),
+        )?;
+    }
+    Ok(())
+}
+
+/// Adds the subtables of a table that are left out.
+pub(crate) fn check_left_out(
+    table: Tag,
+    left_out: &[LeftOutSubtable],
+    found: &mut Vec<Finding>,
+) -> Result<(), AllocError> {
+    for subtable in left_out {
+        let place = Place {
+            subtable: Some(subtable.number as usize),
+            ..Place::of_table(table)
+        };
+        push_fact(found, place, Fact::LeftOut(subtable.fault))?;
+    }
+    Ok(())
+}
+
+/// The number in its table of a subtable that has a place among those that are not left out.
+pub(crate) fn number_in_table(left_out: &[LeftOutSubtable], place: usize) -> usize {
+    let mut number = place;
+    for subtable in left_out {
+        if subtable.number as usize <= number {
+            number = number.saturating_add(1);
+        }
+    }
+    number
+}
+
+/// Adds that `GPOS` takes the place of `kern`, where it does.
+pub(crate) fn check_beside_gpos(
+    face: &Face<'_>,
+    found: &mut Vec<Finding>,
+) -> Result<(), AllocError> {
+    let tables = face.font().tables();
+    if face.has_gpos() && tables.kern.is_some() && tables.kerx.is_none() {
+        push_fact(found, Place::of_table(GPOS), Fact::KernBesideGpos)?;
+    }
+    Ok(())
+}

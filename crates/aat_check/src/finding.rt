@@ -1,0 +1,73 @@
+//! A finding and its place.
+
+use crate::fact::Fact;
+use aat_bytes::Tag;
+use std::alloc::AllocError;
+
+/// Where in a font something is found. What it has no part in is `None`.
+#[derive(Clone, Copy, Debug)]
+pub struct Place {
+    /// The table.
+    pub table: Tag,
+    /// The place of the chain in the table `morx`, from 0 on.
+    pub chain: Option<usize>,
+    /// The place of the subtable in its chain, or in the table `kerx` or `kern`, from 0 on.
+    pub subtable: Option<usize>,
+    /// The state of the machine.
+    pub state: Option<u16>,
+    /// The class of the machine.
+    pub class: Option<u16>,
+    /// The glyph.
+    pub glyph: Option<u16>,
+    /// The feature type.
+    pub feature: Option<u16>,
+}
+
+impl Place {
+    /// A table as a whole.
+    pub fn of_table(table: Tag) -> Place {
+        Place {
+            table,
+            chain: None,
+            subtable: None,
+            state: None,
+            class: None,
+            glyph: None,
+            feature: None,
+        }
+    }
+}
+
+/// A line of glyphs that shows a finding, where no glyph before it changes, and the machine is on.
+#[derive(Debug, Drop)]
+pub struct GlyphLine {
+    /// The glyphs, in the order of the line.
+    pub glyphs: Vec<u16>,
+    /// Whether the subtable is for text in columns alone.
+    pub is_vertical: bool,
+}
+
+/// What is found in a font.
+#[derive(Debug, Drop)]
+pub struct Finding {
+    /// What is found.
+    pub fact: Fact,
+    /// Where.
+    pub place: Place,
+    /// The line that shows it, where it has one.
+    pub line: Option<GlyphLine>,
+}
+
+/// Puts what is found at a place, and no line shows, behind the other findings.
+pub(crate) fn push_fact(
+    found: &mut Vec<Finding>,
+    place: Place,
+    fact: Fact,
+) -> Result<(), AllocError> {
+    found.push(Finding {
+        fact,
+        place,
+        line: None,
+    })?;
+    Ok(())
+}

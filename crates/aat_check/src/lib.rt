@@ -1,0 +1,29 @@
+//! What is wrong in a font by Apple Advanced Typography, or of no use there: for who makes fonts.
+//!
+//! ```
+//! let found = findings(alloc, &face)?;
+//! write_findings(&mut out, "font.ttf", &found)?;
+//! ```
+#![tactic(auto)]
+
+mod all_findings;
+mod chains;
+mod fact;
+mod faults;
+mod finding;
+mod glyphs;
+mod json;
+mod kerning;
+mod lines;
+mod machines;
+mod names;
+mod search;
+mod sentences;
+mod subtables;
+mod text;
+
+pub use all_findings::{findings, has_trouble};
+pub use fact::{Fact, Severity};
+pub use finding::{Finding, GlyphLine, Place};
+pub use json::write_findings_as_json;
+pub use text::write_findings;

@@ -1,0 +1,112 @@
+//! Lines of glyphs that show a finding.
+ghost use Rattle.std.specs.Prelude.{◌≡◌};
+ghost use Rattle.aat_check.specs.Lines.{taken_as};
+
+use crate::finding::GlyphLine;
+use crate::search::way_to;
+use aat_lookup::GlyphId;
+use aat_machine_tables::entry_bits::class;
+use aat_machine_tables::{Acting, ExtendedStateTable};
+use std::alloc::{AllocError, Global};
+
+/// The deleted glyph, which is no glyph of a text.
+const DELETED_GLYPH: u32 = 0xFFFF;
+
+/// How a subtable goes over a line.
+#[derive(Clone, Copy)]
+pub(crate) struct Order {
+    /// Whether from its end to its start.
+    pub(crate) is_backwards: bool,
+    /// Whether it goes over text in columns alone.
+    pub(crate) is_vertical: bool,
+}
+
+/// The class as which a machine takes a glyph.
+fn class_of<T: Acting>(table: &ExtendedStateTable<T>, glyph: u16) -> u16
+    ensures { result ≡ taken_as table.now glyph }
+{
+    let known = table.class_or_out_of_bounds(GlyphId(glyph));
+    if known < table.class_count() {
+        known
+    } else {
+        class::OUT_OF_BOUNDS
+    }
+}
+
+/// The least glyph of each class, of those below a number.
+fn shown_classes<T: Acting>(
+    alloc: Global,
+    table: &ExtendedStateTable<T>,
+    glyph_count: u32,
+) -> Result<Vec<Option<u16>>, AllocError> {
+    let mut shown = vec![in alloc; None; table.class_count() as usize]?;
+    for glyph in 0..glyph_count.min(DELETED_GLYPH) as u16 {
+        let class = class_of(table, glyph);
+        if let Some(slot) = shown.get_mut(class as usize)
+            && slot.is_none()
+        {
+            *slot = Some(glyph);
+        }
+    }
+    Ok(shown)
+}
+
+/// The glyphs that show classes, if there is one for each.
+fn glyphs_of(
+    alloc: Global,
+    shown: &[Option<u16>],
+    classes: &[u16],
+) -> Result<Option<Vec<u16>>, AllocError> {
+    let mut glyphs = Vec::new(alloc);
+    for class in classes {
+        let Some(glyph) = shown.get(*class as usize).copied().flatten() else {
+            return Ok(None);
+        };
+        glyphs.push(glyph)?;
+    }
+    Ok(Some(glyphs))
+}
+
+/// The glyphs of a line that brings a machine to a state at a glyph of a class. The end of the text, class 0, is the end
+/// of the line.
+fn glyphs_to<T: Acting>(
+    alloc: Global,
+    table: &ExtendedStateTable<T>,
+    glyph_count: u32,
+    cell: (u16, u16),
+) -> Result<Option<Vec<u16>>, AllocError> {
+    let shown = shown_classes(alloc, table, glyph_count)?;
+    let Some(way) = way_to(alloc, table, &shown, cell)? else {
+        return Ok(None);
+    };
+    let mut classes = way.before;
+    if cell.1 != class::END_OF_TEXT {
+        classes.push(cell.1)?;
+    }
+    glyphs_of(alloc, &shown, &classes)
+}
+
+/// A shortest line of glyphs that brings a machine to a state at a glyph of a class, where a line of at least one glyph
+/// is found that does.
+pub(crate) fn line_to<T: Acting>(
+    alloc: Global,
+    table: &ExtendedStateTable<T>,
+    glyph_count: u32,
+    order: Order,
+    cell: (u16, u16),
+) -> Result<Option<GlyphLine>, AllocError> {
+    let Some(mut glyphs) = glyphs_to(alloc, table, glyph_count, cell)? else {
+        return Ok(None);
+    };
+    if glyphs.is_empty() {
+        return Ok(None);
+    }
+    if order.is_backwards {
+        glyphs.reverse();
+    }
+    let is_vertical = order.is_vertical;
+    Ok(Some(GlyphLine {
+        glyphs,
+        is_vertical,
+    }))
+}

@@ -1,0 +1,211 @@
+//! The machines of subtables.
+
+use crate::fact::Fact;
+use crate::finding::{Finding, Place, push_fact};
+use crate::lines::{Order, line_to};
+use aat_findings::{Same, classes_alike, missing_reached, stays, unreached_states, unused_entries};
+use aat_machine_tables::ExtendedStateTable;
+use aat_machine_tables::entry_bits::state::START_OF_LINE;
+use aat_machine_tables::entry_bits::{DONT_ADVANCE, class};
+use std::alloc::{AllocError, Global};
+
+/// What is known of a machine beside its table.
+#[derive(Clone, Copy)]
+pub(crate) struct Machine {
+    /// Where its subtable is.
+    pub(crate) place: Place,
+    /// The font has the glyphs below this number.
+    pub(crate) glyph_count: u32,
+    /// How the subtable goes over a line.
+    pub(crate) order: Order,
+    /// Whether its entries may change glyphs.
+    pub(crate) changes_glyphs: bool,
+    /// Why it is not settled, if it is not.
+    pub(crate) unsettled: Option<Fact>,
+    /// The lookups that its entries do not name, if there are any.
+    pub(crate) unnamed: Option<Fact>,
+}
+
+impl Machine {
+    /// A state and a class of it.
+    fn cell(&self, state: u16, class: u16) -> Place {
+        Place {
+            state: Some(state),
+            class: Some(class),
+            ..self.place
+        }
+    }
+}
+
+/// Adds what is found at a state and a class, with the line that leads there.
+fn add_cell<T: Same>(
+    alloc: Global,
+    table: &ExtendedStateTable<T>,
+    machine: Machine,
+    cell: Option<(u16, u16)>,
+    fact: Fact,
+    found: &mut Vec<Finding>,
+) -> Result<(), AllocError> {
+    let Some((state, class)) = cell else {
+        return Ok(());
+    };
+    let place = machine.cell(state, class);
+    let line = line_to(
+        alloc,
+        table,
+        machine.glyph_count,
+        machine.order,
+        (state, class),
+    )?;
+    found.push(Finding { fact, place, line })?;
+    Ok(())
+}
+
+/// Adds what is found of a subtable, if it is.
+fn add_fact(place: Place, fact: Option<Fact>, found: &mut Vec<Finding>) -> Result<(), AllocError> {
+    match fact {
+        Some(fact) => push_fact(found, place, fact),
+        None => Ok(()),
+    }
+}
+
+/// The table in which entries that may act advance.
+fn resting_table<T: Same>(
+    alloc: Global,
+    table: &ExtendedStateTable<T>,
+) -> Result<ExtendedStateTable<T>, AllocError> {
+    let mut rules = Vec::new(alloc);
+    for (state, class, entry) in table.rules() {
+        let mut entry = *entry;
+        if T::acts(&entry) {
+            entry.flags &= !DONT_ADVANCE;
+        }
+        rules.push((*state, *class, entry))?;
+    }
+    let resting = ExtendedStateTable::new(alloc, table.class_count(), &[], &rules);
+    resting.map_err(|_| AllocError)
+}
+
+/// A cell at which a machine stays and leaves the glyphs as they are, if it stays at one at all.
+fn resting_cell<T: Same>(
+    alloc: Global,
+    table: &ExtendedStateTable<T>,
+    machine: Machine,
+    staying: Option<(u16, u16)>,
+) -> Result<Option<(u16, u16)>, AllocError> {
+    if staying.is_none() || !machine.changes_glyphs {
+        return Ok(staying);
+    }
+    let resting = resting_table(alloc, table)?;
+    stays(alloc, &resting)
+}
+
+/// The first cell that is missing, unless it is one of state 1, where lines begin, and no entry leads there: no run here
+/// begins in it, and the readers read no row for it then.
+fn missing_cell<T: Same>(
+    alloc: Global,
+    table: &ExtendedStateTable<T>,
+) -> Result<Option<(u16, u16)>, AllocError> {
+    let missing = missing_reached(alloc, table)?;
+    match missing {
+        Some((START_OF_LINE, _))
+            if !table
+                .rules()
+                .iter()
+                .any(|rule| rule.2.new_state == START_OF_LINE) => { Ok(None) }
+        missing => Ok(missing),
+    }
+}
+
+/// Adds the first state that no line reaches.
+fn check_states<T: Same>(
+    alloc: Global,
+    table: &ExtendedStateTable<T>,
+    machine: Machine,
+    found: &mut Vec<Finding>,
+) -> Result<(), AllocError> {
+    let states = unreached_states(alloc, table)?;
+    let Some(first) = states.first().copied() else {
+        return Ok(());
+    };
+    let place = Place {
+        state: Some(first),
+        ..machine.place
+    };
+    let count = states.len();
+    push_fact(found, place, Fact::UnreachedState { count })
+}
+
+/// Adds the first rule that no line comes to.
+fn check_rules<T: Same>(
+    alloc: Global,
+    table: &ExtendedStateTable<T>,
+    machine: Machine,
+    found: &mut Vec<Finding>,
+) -> Result<(), AllocError> {
+    let rules = unused_entries(alloc, table)?;
+    let Some(first) = rules.first().copied() else {
+        return Ok(());
+    };
+    let place = machine.cell(first.0, first.1);
+    let count = rules.len();
+    push_fact(found, place, Fact::UnusedRule { count })
+}
+
+/// The classes of the font's own that are alike to one before them, each behind that one, if that is one of these too, or
+/// what is out of bounds is alike to it. `pairs` are all that are alike, rising.
+fn own_pairs(alloc: Global, pairs: &[(u16, u16)]) -> Result<Vec<(u16, u16)>, AllocError> {
+    let out = match pairs.first() {
+        Some((least, class::OUT_OF_BOUNDS)) => *least,
+        _ => class::OUT_OF_BOUNDS,
+    };
+    pairs
+        .iter()
+        .filter(|pair| pair.1 > class::END_OF_LINE
+            && (pair.0 > class::END_OF_LINE || pair.0 == out))
+        .copied()
+        .collect(alloc)
+}
+
+/// Adds the first class that no rule tells from one before it.
+fn check_classes<T: Same>(
+    alloc: Global,
+    table: &ExtendedStateTable<T>,
+    machine: Machine,
+    found: &mut Vec<Finding>,
+) -> Result<(), AllocError> {
+    let pairs = classes_alike(alloc, table)?;
+    let pairs = own_pairs(alloc, &pairs)?;
+    let Some((other, class)) = pairs.first().copied() else {
+        return Ok(());
+    };
+    let place = Place {
+        class: Some(class),
+        ..machine.place
+    };
+    // the least class that is alike to out of bounds stands for it
+    let other = other.max(class::OUT_OF_BOUNDS);
+    let count = pairs.len();
+    push_fact(found, place, Fact::ClassesAlike { other, count })
+}
+
+/// Adds what is found in a machine.
+pub(crate) fn check_machine<T: Same>(
+    alloc: Global,
+    table: &ExtendedStateTable<T>,
+    machine: Machine,
+    found: &mut Vec<Finding>,
+) -> Result<(), AllocError> {
+    let staying = stays(alloc, table)?;
+    let resting = resting_cell(alloc, table, machine, staying)?;
+    add_cell(alloc, table, machine, resting, Fact::Stays, found)?;
+    let missing = missing_cell(alloc, table)?;
+    add_cell(alloc, table, machine, missing, Fact::MissingEntry, found)?;
+    add_fact(machine.place, machine.unsettled, found)?;
+    check_states(alloc, table, machine, found)?;
+    check_rules(alloc, table, machine, found)?;
+    check_classes(alloc, table, machine, found)?;
+    add_fact(machine.place, machine.unnamed, found)?;
+    let acting = if resting.is_none() { staying } else { None };
+    add_cell(alloc, table, machine, acting, Fact::MayStay, found)
+}

@@ -1,0 +1,114 @@
+//! The names of features, and the settings of chains.
+
+use crate::fact::Fact;
+use crate::faults::has_fault;
+use crate::finding::{Finding, Place, push_fact};
+use aat_bytes::tags::{FEAT, MORX};
+use aat_face::Face;
+use aat_findings::{exclusive_settings, features_without_name, names_without_chain};
+use aat_lookup::Feat;
+use aat_machine_tables::{Chain, ChainFeature};
+use std::alloc::{AllocError, Global};
+
+/// The feature type of all features: its settings turn the others on and off.
+const ALL_FEATURES: u16 = 0;
+
+/// Adds the names of features of which no chain has a setting, unless the chains are not read.
+pub(crate) fn check_names(
+    alloc: Global,
+    face: &Face<'_>,
+    found: &mut Vec<Finding>,
+) -> Result<(), AllocError> {
+    let font = face.font();
+    let Some(feat) = &font.tables().feat else {
+        return Ok(());
+    };
+    if has_fault(face, MORX) {
+        return Ok(());
+    }
+    let names = names_without_chain(alloc, feat.names(), font.chains())?;
+    for name in &names {
+        let place = Place {
+            feature: Some(name.kind),
+            ..Place::of_table(FEAT)
+        };
+        push_fact(found, place, Fact::NameWithoutChain)?;
+    }
+    Ok(())
+}
+
+/// The settings of other types than that of all features, which no tag asks for, and fonts leave without a name.
+fn own_settings(alloc: Global, settings: &[ChainFeature]) -> Result<Vec<ChainFeature>, AllocError> {
+    settings
+        .iter()
+        .filter(|setting| setting.kind != ALL_FEATURES)
+        .copied()
+        .collect(alloc)
+}
+
+/// Adds the first of the settings of a chain that have no name.
+fn add_unnamed(
+    alloc: Global,
+    place: Place,
+    unnamed: &[ChainFeature],
+    found: &mut Vec<Finding>,
+) -> Result<(), AllocError> {
+    let unnamed = own_settings(alloc, unnamed)?;
+    let Some(first) = unnamed.first() else {
+        return Ok(());
+    };
+    let place = Place {
+        feature: Some(first.kind),
+        ..place
+    };
+    let (setting, count) = (first.setting, unnamed.len());
+    push_fact(found, place, Fact::SettingWithoutName { setting, count })
+}
+
+/// Adds the first of the settings of a chain, at their places, that are on by default and exclude another one.
+fn add_exclusive(
+    place: Place,
+    features: &[ChainFeature],
+    exclusive: &[usize],
+    found: &mut Vec<Finding>,
+) -> Result<(), AllocError> {
+    let first = exclusive.first().and_then(|first| features.get(*first));
+    let Some(first) = first else {
+        return Ok(());
+    };
+    let place = Place {
+        feature: Some(first.kind),
+        ..place
+    };
+    let (setting, count) = (first.setting, exclusive.len());
+    push_fact(found, place, Fact::ExclusiveSettings { setting, count })
+}
+
+/// Adds what is found of the settings of a chain by the names of features.
+fn check_named(
+    alloc: Global,
+    feat: &Feat,
+    chain: &Chain,
+    place: Place,
+    found: &mut Vec<Finding>,
+) -> Result<(), AllocError> {
+    let features = chain.features.as_slice();
+    let unnamed = features_without_name(alloc, feat, features)?;
+    add_unnamed(alloc, place, &unnamed, found)?;
+    let exclusive = exclusive_settings(alloc, feat, chain.default_flags, features)?;
+    add_exclusive(place, features, &exclusive, found)
+}
+
+/// Adds what is found of the settings of a chain. Without `feat` none of them has a name.
+pub(crate) fn check_settings(
+    alloc: Global,
+    feat: Option<&Feat>,
+    chain: &Chain,
+    place: Place,
+    found: &mut Vec<Finding>,
+) -> Result<(), AllocError> {
+    match feat {
+        Some(feat) => check_named(alloc, feat, chain, place, found),
+        None => add_unnamed(alloc, place, &chain.features, found),
+    }
+}

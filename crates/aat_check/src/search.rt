@@ -1,0 +1,221 @@
+//! A shortest line that brings a machine to a state at a glyph of a class.
+ghost use Rattle.std.specs.Prelude.{◌≡◌, IfOk, IfSome, Some};
+ghost use Rattle.aat_findings.specs.Reached.{state_after};
+
+use aat_findings::state_after;
+use aat_machine_tables::{Acting, ExtendedStateTable};
+use std::alloc::{AllocError, Global};
+
+/// How many states a table can have.
+const STATES: usize = 65536;
+
+/// The most entries at one glyph that are followed: a line that needs more is not told.
+const MOST_TURNS: usize = 64;
+
+/// How a line came to a state: from which one, by a glyph of which class.
+#[derive(Clone, Copy)]
+struct Step {
+    state: u16,
+    class: u16,
+}
+
+/// The states to which lines came so far.
+#[derive(Drop)]
+pub(crate) struct Search {
+    /// How a line came to each state first.
+    steps: Vec<Option<Step>>,
+    /// The states, in the order in which lines came to them.
+    order: Vec<u16>,
+}
+
+/// The state in which a machine leaves a glyph of a class to which it comes in a state, if it leaves it soon.
+fn state_behind<T: Acting>(table: &ExtendedStateTable<T>, start: u16, class: u16) -> Option<u16> {
+    let mut state = start;
+    for _turn in 0..MOST_TURNS {
+        let entry = table.entry(state, class)?;
+        if entry.has_advance() {
+            return Some(entry.new_state);
+        }
+        state = entry.new_state;
+    }
+    None
+}
+
+/// After how many entries that stay at a glyph of a class a machine that comes there in a state is in another one, if
+/// it is there soon.
+pub(crate) fn turns_to<T: Acting>(
+    table: &ExtendedStateTable<T>,
+    start: u16,
+    class: u16,
+    end: u16,
+) -> Option<usize> {
+    let mut state = start;
+    for turns in 0..MOST_TURNS {
+        if state == end {
+            return Some(turns);
+        }
+        let entry = table.entry(state, class)?;
+        if entry.has_advance() {
+            return None;
+        }
+        state = entry.new_state;
+    }
+    None
+}
+
+impl Search {
+    /// A search in which lines came to state 0 alone.
+    fn new(alloc: Global) -> Result<Search, AllocError> {
+        let mut steps = vec![in alloc; None; STATES]?;
+        let mut order = Vec::new(alloc);
+        order.push(0)?;
+        if let Some(first) = steps.first_mut() {
+            *first = Some(Step { state: 0, class: 0 });
+        }
+        Ok(Search { steps, order })
+    }
+
+    /// Notes how a line came to a state, unless one did before.
+    fn note(&mut self, state: u16, step: Step) -> Result<(), AllocError> {
+        let Some(slot) = self.steps.get_mut(state as usize) else {
+            return Ok(());
+        };
+        if slot.is_none() {
+            self.order.push(state)?;
+            *slot = Some(step);
+        }
+        Ok(())
+    }
+
+    /// Notes the states to which the classes that glyphs show lead from one.
+    fn follow<T: Acting>(
+        &mut self,
+        table: &ExtendedStateTable<T>,
+        shown: &[Option<u16>],
+        state: u16,
+    ) -> Result<(), AllocError> {
+        for class in 0..table.class_count() {
+            if is_shown(shown, class)
+                && let Some(next) = state_behind(table, state, class)
+            {
+                self.note(next, Step { state, class })?;
+            }
+        }
+        Ok(())
+    }
+
+    /// Goes on until a line comes to a state from which the machine comes to the state of a cell at a glyph of its class,
+    /// and answers that state, if there is one.
+    fn run<T: Acting>(
+        &mut self,
+        table: &ExtendedStateTable<T>,
+        shown: &[Option<u16>],
+        cell: (u16, u16),
+    ) -> Result<Option<u16>, AllocError> {
+        for place in 0..STATES {
+            let Some(state) = self.order.get(place).copied() else {
+                return Ok(None);
+            };
+            if turns_to(table, state, cell.1, cell.0).is_some() {
+                return Ok(Some(state));
+            }
+            self.follow(table, shown, state)?;
+        }
+        Ok(None)
+    }
+
+    /// The classes of the line that came to a state first.
+    fn classes_to(&self, alloc: Global, end: u16) -> Result<Vec<u16>, AllocError> {
+        let mut classes = Vec::new(alloc);
+        let mut state = end;
+        for _step in 0..STATES {
+            let step = self.steps.get(state as usize).copied().flatten();
+            match step {
+                Some(step) if state != 0 => {
+                    classes.push(step.class)?;
+                    state = step.state;
+                }
+                _ => break,
+            }
+        }
+        classes.reverse();
+        Ok(classes)
+    }
+}
+
+/// Whether a glyph shows a class.
+fn is_shown(shown: &[Option<u16>], class: u16) -> bool {
+    matches!(shown.get(class as usize), Some(Some(_)))
+}
+
+/// Follows the entries that a machine takes at a glyph of a class, at most so many of them, until it leaves the glyph. It
+/// adds the class once for each, and answers the state then, if there is an entry for each.
+fn push_turns<T: Acting>(
+    table: &ExtendedStateTable<T>,
+    taken: &mut Vec<u16>,
+    start: u16,
+    class: u16,
+    most: usize,
+) -> Result<Option<u16>, AllocError> {
+    let mut state = start;
+    for _turn in 0..most {
+        let Some(entry) = table.entry(state, class) else {
+            return Ok(None);
+        };
+        taken.push(class)?;
+        state = entry.new_state;
+        if entry.has_advance() {
+            return Ok(Some(state));
+        }
+    }
+    Ok(Some(state))
+}
+
+/// The class of each entry that a machine takes over a line of classes, and then at a glyph of the class of a cell until
+/// it is in its state.
+fn taken_over<T: Acting>(
+    alloc: Global,
+    table: &ExtendedStateTable<T>,
+    line: &[u16],
+    cell: (u16, u16),
+) -> Result<Vec<u16>, AllocError> {
+    let mut taken = Vec::new(alloc);
+    let mut state = 0;
+    for class in line {
+        state = push_turns(table, &mut taken, state, *class, MOST_TURNS)?.unwrap_or(0);
+    }
+    let turns = turns_to(table, state, cell.1, cell.0).unwrap_or(0);
+    push_turns(table, &mut taken, state, cell.1, turns)?;
+    Ok(taken)
+}
+
+/// A line of classes that brings a machine to a state at a glyph of a class.
+#[derive(Drop)]
+pub(crate) struct Way {
+    /// The class of each glyph before that one.
+    pub(crate) before: Vec<u16>,
+    /// The class of each entry that the machine takes on the way, one glyph's more than once where it stays there.
+    pub(crate) taken: Vec<u16>,
+}
+
+/// A shortest line of classes that glyphs show, from state 0 on, that brings a machine to the state of a cell at a glyph
+/// of its class, if one is found. Fails where memory is wanting.
+pub(crate) fn way_to<T: Acting>(
+    alloc: Global,
+    table: &ExtendedStateTable<T>,
+    shown: &[Option<u16>],
+    cell: (u16, u16),
+) -> Result<Option<Way>, AllocError>
+    ensures { IfOk result (λ found. IfSome found (λ way. state_after table.now 0 way.taken.items ≡ Some cell.0)) }
+{
+    let mut search = Search::new(alloc)?;
+    let Some(state) = search.run(table, shown, cell)? else {
+        return Ok(None);
+    };
+    let before = search.classes_to(alloc, state)?;
+    let taken = taken_over(alloc, table, &before, cell)?;
+    if state_after(table, 0, &taken) == Some(cell.0) {
+        return Ok(Some(Way { before, taken }));
+    }
+    Ok(None)
+}

@@ -1,0 +1,121 @@
+//! What findings say, and where they are.
+
+use crate::fact::{Fact, Severity};
+use crate::finding::Place;
+use std::fmt;
+
+impl fmt::Display for Severity {
+    fn fmt<W: fmt::Write>(&self, f: &mut fmt::Formatter<W>) -> fmt::Result {
+        let word = match self {
+            Severity::Error => "error",
+            Severity::Warning => "warning",
+            Severity::Note => "note",
+        };
+        write!(f, "{word}")
+    }
+}
+
+/// Writes a word and a number behind a space, where the number is there.
+fn write_part<W: fmt::Write>(f: &mut W, word: &str, number: Option<usize>) -> fmt::Result {
+    match number {
+        Some(number) => write!(f, " {word} {number}"),
+        None => Ok(()),
+    }
+}
+
+impl fmt::Display for Place {
+    fn fmt<W: fmt::Write>(&self, f: &mut fmt::Formatter<W>) -> fmt::Result {
+        let table = self.table;
+        write!(f, "{table}")?;
+        write_part(f, "chain", self.chain)?;
+        write_part(f, "subtable", self.subtable)?;
+        write_part(f, "feature", self.feature.map(usize::from))?;
+        write_part(f, "state", self.state.map(usize::from))?;
+        write_part(f, "class", self.class.map(usize::from))?;
+        write_part(f, "glyph", self.glyph.map(usize::from))
+    }
+}
+
+/// Writes that what is told is the first of so many, where there are more.
+fn write_count<W: fmt::Write>(f: &mut W, count: usize) -> fmt::Result {
+    if count > 1 {
+        return write!(f, " (the first of {count})");
+    }
+    Ok(())
+}
+
+/// Writes the sentence of what is told once.
+fn write_single<W: fmt::Write>(f: &mut W, fact: &Fact) -> fmt::Result {
+    match fact {
+        Fact::TableFault(fault) => write!(f, "the table is not read: {fault}"),
+        Fact::LeftOut(fault) => write!(f, "the subtable is left out: {fault}"),
+        Fact::KernBesideGpos => write!(f, "HarfBuzz kerns by GPOS, and not by kern without kerx"),
+        Fact::Stays => write!(
+            f,
+            "entries that do not advance stay here until the budget is used up"
+        ),
+        Fact::MissingEntry => write!(f, "a line comes here, and ends the run: there is no entry"),
+        Fact::NotSettled(reason) => write!(f, "few places to break a line are seen: {reason}"),
+        Fact::MayStay => write!(
+            f,
+            "entries that act and do not advance may stay here for ever"
+        ),
+        Fact::NeverOn => write!(f, "no default flag and no feature switches it on"),
+        Fact::NameWithoutChain => write!(f, "it has a name, and no chain has a setting of it"),
+        _ => write!(f, "the classes list the deleted glyph, whose class is 2"),
+    }
+}
+
+/// Writes the sentence of the first of what is counted.
+fn write_first<W: fmt::Write>(f: &mut W, fact: &Fact) -> fmt::Result {
+    match fact {
+        Fact::UnreachedState { .. } => write!(f, "no line reaches this state"),
+        Fact::UnusedRule { .. } => write!(f, "no line comes to this rule"),
+        Fact::ClassesAlike { other, .. } => write!(f, "no rule tells it from class {other}"),
+        Fact::UnnamedLookup { lookup, .. } => write!(f, "no entry names lookup {lookup}"),
+        Fact::SettingWithoutName { setting, .. } => {
+            write!(
+                f,
+                "feat has no name for the type of setting {setting}, so no tag asks for it"
+            )
+        },
+        Fact::ExclusiveSettings { setting, .. } => {
+            write!(
+                f,
+                "setting {setting} is on by default, and excludes another one that is"
+            )
+        }
+        Fact::ValuePast { value, .. } => write!(
+            f,
+            "it becomes glyph {value}, which the font lacks"
+        ),
+        _ => write!(f, "it is listed, and the font lacks it"),
+    }
+}
+
+/// How often what is told is there, where it is counted.
+fn count_of(fact: &Fact) -> Option<usize> {
+    match fact {
+        Fact::UnreachedState { count }
+        | Fact::UnusedRule { count }
+        | Fact::ClassesAlike { count, .. }
+        | Fact::UnnamedLookup { count, .. }
+        | Fact::SettingWithoutName { count, .. }
+        | Fact::ExclusiveSettings { count, .. }
+        | Fact::ValuePast { count, .. }
+        | Fact::KeyPast { count } => Some(*count),
+        _ => None,
+    }
+}
+
+impl fmt::Display for Fact {
+    fn fmt<W: fmt::Write>(&self, f: &mut fmt::Formatter<W>) -> fmt::Result {
+        match count_of(self) {
+            Some(count) => {
+                write_first(f, self)?;
+                write_count(f, count)
+            }
+            None => write_single(f, self),
+        }
+    }
+}

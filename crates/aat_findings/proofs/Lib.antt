@@ -1,0 +1,7 @@
+mod Exactly
+mod Marking
+mod Naming
+mod Reaching
+mod Staying
+mod Twins
+mod Wanting

@@ -1,0 +1,2 @@
+pub mod kerx
+pub mod morx

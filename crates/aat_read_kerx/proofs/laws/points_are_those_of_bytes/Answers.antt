@@ -1,5 +1,0 @@
-use Rattle.aat_read_kerx.proofs.AnchorRows.{points_of_bytes}
-use Rattle.aat_read_kerx.proofs.laws.points_are_those_of_bytes.Goals as goal
-
-pub returns : goal.returns
-returns c = points_of_bytes

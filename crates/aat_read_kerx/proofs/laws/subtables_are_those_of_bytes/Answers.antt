@@ -1,5 +1,0 @@
-use Rattle.aat_read_kerx.proofs.ReadSubtables.{subtables_of_bytes}
-use Rattle.aat_read_kerx.proofs.laws.subtables_are_those_of_bytes.Goals as goal
-
-pub returns : goal.returns
-returns c = subtables_of_bytes

@@ -1,5 +1,0 @@
-use Rattle.aat_write_outlines.proofs.Near.{near_at}
-use Rattle.aat_write_outlines.proofs.bounds.bounds_of.Goals as goal
-
-pub widened-bounds-requires-clause-point : goal.widened-bounds-requires-clause-point
-widened-bounds-requires-clause-point c = near_at c.args.points.now c.loop-point.point-index _ c.loop-point-test.true c.requires

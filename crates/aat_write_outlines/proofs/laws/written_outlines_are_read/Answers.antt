@@ -1,5 +1,0 @@
-use Rattle.aat_write_outlines.proofs.OutlinesAgain.{written_outlines_are_read}
-use Rattle.aat_write_outlines.proofs.laws.written_outlines_are_read.Goals as goal
-
-pub returns : goal.returns
-returns c = written_outlines_are_read

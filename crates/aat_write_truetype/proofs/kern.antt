@@ -1,0 +1,17 @@
+pub mod Chunks
+pub mod ClassFacts
+pub mod ClassLists
+pub mod ClassesAgain
+pub mod DenseFacts
+pub mod EachWritten
+pub mod FlagsAgain
+pub mod KernAgain
+pub mod KindsAgain
+pub mod MachineAgain
+pub mod Opened
+pub mod PairsAgain
+pub mod Readers
+pub mod RuleFacts
+pub mod StatesAgain
+pub mod SubtablesAgain
+pub mod Values

@@ -1,0 +1,2 @@
+pub mod kern
+pub mod outlines
