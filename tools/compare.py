@@ -42,7 +42,7 @@ class Request:
         words = iter(words_of(line))
         for word in words:
             name, sign, value = word.partition("=")
-            if word in ("--trace", "--show-flags", "--remove-default-ignorables", "--json"):
+            if word in ("--trace", "--show-flags", "--remove-default-ignorables", "--json", "--glyph-names", "--no-glyph-names"):
                 self.options[word] = True
             elif word.startswith("--"):
                 self.options[name] = value if sign else next(words, "")
@@ -152,7 +152,8 @@ class HarfBuzz:
         return self.files[data]
 
     def words(self, request, data):
-        words = [self.file(data), "--shapers=ot", "--no-glyph-names"]
+        words = [self.file(data), "--shapers=ot"]
+        words += [] if "--glyph-names" in request.options else ["--no-glyph-names"]
         words += ["--direction=" + request.direction()] if request.is_told() else []
         words += ["--script=" + request.script()] if request.script() else []
         words += ["--cluster-level=" + request.options["--cluster-level"]] if "--cluster-level" in request.options else []

@@ -14,6 +14,7 @@ bytes are built here, and stand in the place of those that were written.
 - cmap_N.ttf: the characters of noncontextual.ttf in format N, of 0, 4, 6 and 12. cmap_symbol.ttf: from U+F000 on, for
   symbols. cmap_macintosh.ttf: for the Macintosh, which has U+00C4, U+20AC and U+F8FF too.
 - kerx_4_points.ttf, kerx_4_coordinates.ttf: the machine of kerx_4.ttf with the two other types of actions.
+- names.ttf, check_values_names.ttf: sample.ttf and check_values.ttf with names of glyphs, in `post`.
 - charstrings.ttf, charstrings_cid.ttf: outlines.ttf with other outlines, in `CFF `; the second one with two Font DICTs.
 - steps_1100.ttf: steps.ttf with a chain of 1,100 subtables. That of the number N has glyph N + 2 in the place of N + 1,
   but each seventh one inserts it behind that glyph.
@@ -382,6 +383,20 @@ def with_charstrings(font, table):
     return font_of({**tables, b"CFF ": table})
 
 
+# Names
+
+# Numbers of standard names and texts of own ones, for all glyphs but the last one of the sample.
+SAMPLE_NAMES = [0, 3, 16, 68, 73, 76, 79, "f_l", "f_i", 141, "a.sc", "f.sc"]
+VALUES_NAMES = [0, 68, "b.alt", 70]
+
+
+def post(names, strings):
+    """The table of version 2 of these names, whose own ones stand in this order."""
+    numbers = [name if isinstance(name, int) else 258 + strings.index(name) for name in names]
+    texts = b"".join(bytes([len(text)]) + text.encode() for text in strings)
+    return longs(0x00020000, 0, 0, 0, 0, 0, 0, 0) + words(len(numbers), *numbers) + texts
+
+
 def variants(fonts):
     """The fonts with tables in other formats, by their names."""
     made, plain = {}, fonts["noncontextual"]
@@ -402,6 +417,9 @@ def variants(fonts):
     made["kern_old_2"] = with_table(classes, b"kern", old_kern(arrays, 2))
     made["kern_3"] = with_table(classes, b"kern", kern_3(arrays, count))
     made["steps_1100"] = with_steps(fonts["steps"], 1100)
+    made["names"] = font_of({**tables_of(fonts["sample"]), b"post": post(SAMPLE_NAMES, ["f_i", "f_l", "a.sc", "f.sc"])})
+    named = {b"post": post(VALUES_NAMES, ["b.alt"])}
+    made["check_values_names"] = font_of({**tables_of(fonts["check_values"]), **named})
     made["charstrings"] = with_charstrings(fonts["outlines"], cff(GLYPHS, GLOBALS, [LOCALS]))
     made["charstrings_cid"] = with_charstrings(fonts["outlines"], cff(CID_GLYPHS, [], CID_LOCALS, [0, 3]))
     made["kerx_4_points"] = with_action_type(fonts["kerx_4"], 0)

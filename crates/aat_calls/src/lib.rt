@@ -2,7 +2,7 @@
 //!
 //! ```
 //! let font = read_face(alloc, &arena, &bytes, 0)?.font();
-//! write_trace(&mut out, font, &trace_of(alloc, font, direction, &text, &features)?)?;
+//! write_trace(&mut out, font, None, &trace_of(alloc, font, direction, &text, &features)?)?;
 //! ```
 #![tactic(auto)]
 

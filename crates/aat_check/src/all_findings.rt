@@ -15,9 +15,9 @@ use std::alloc::{AllocError, Global};
 /// Finds what is wrong in a font, or of no use.
 ///
 /// In this order: the faults of tables; the names of `feat` that no chain has; for each chain of `morx` its settings, and
-/// each of its subtables by the number of what is found; the subtables of `kerx` that are left out, and its machines; the
-/// same of `kern`; and whether `GPOS` takes the place of `kern`. Of what a subtable or a chain has more than once the
-/// first is told.
+/// each of its subtables by the number of what is found; the subtables of `kerx` that are left out, and its machines and
+/// pairs; the same of `kern`; and whether `GPOS` takes the place of `kern`. Of what a subtable or a chain has more than
+/// once the first is told.
 ///
 /// Each machine is searched over up to 65,536 states, for each class. Fails where memory is wanting.
 ///

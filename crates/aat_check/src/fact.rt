@@ -25,6 +25,9 @@ pub enum Fact {
     LeftOut(Fault),
     /// 3: the font has `GPOS` and `kern`, and no `kerx`: HarfBuzz then kerns by `GPOS`, and not by `kern`.
     KernBesideGpos,
+    /// 4: a subtable of `kerx` attaches glyphs by anchor points, and the font has no `ankr`. HarfBuzz then takes each point
+    /// as the origin, and here the glyphs stay.
+    PointsWithoutAnkr,
     /// 10: a machine that comes to the state at a glyph of the class stays there, and leaves the glyphs as they are.
     Stays,
     /// 11: a line reaches the state, which has no entry for the class.
@@ -58,6 +61,9 @@ pub enum Fact {
     /// 17: entries that act and do not advance lead from the state back to it for the class. A machine that comes to it at
     /// a glyph of the class stays there unless the glyph becomes one of another class.
     MayStay,
+    /// 18: a machine of insertion that comes to the state at a glyph of the class puts glyphs in and comes back there, until
+    /// the budget is used up or the line is too long.
+    Grows,
     /// 20: nothing switches the subtable on.
     NeverOn,
     /// 21: `feat` names a feature type of which no chain has a setting.
@@ -90,11 +96,35 @@ pub enum Fact {
     },
     /// 32: the classes list the deleted glyph, 65535.
     ListsDeleted,
+    /// 33: the glyph becomes the deleted one. HarfBuzz deletes it behind ligatures alone.
+    DeletedStays {
+        /// How many glyphs become it.
+        count: usize,
+    },
+    /// 34: the deleted glyph becomes another one. With HarfBuzz it does not.
+    DeletedReturns {
+        /// The glyph that takes its place.
+        value: u16,
+    },
+    /// 35: the entry puts the deleted glyph in, which is taken out again.
+    DeletedGoesIn {
+        /// How many entries put it in.
+        count: usize,
+    },
+    /// 40: a pair has a mark, and pairs skip marks.
+    MarkInPair {
+        /// The left glyph.
+        left: u16,
+        /// The right glyph.
+        right: u16,
+        /// How many pairs are so.
+        count: usize,
+    },
 }
 
 impl Fact {
-    /// Its number, by which it is looked up: 1 to 3 are of tables, 10 to 17 of machines, 20 to 23 of chains and names,
-    /// and 30 to 32 of glyphs.
+    /// Its number, by which it is looked up: 1 to 4 are of tables, 10 to 18 of machines, 20 to 23 of chains and names,
+    /// 30 to 35 of glyphs, and 40 of pairs.
     pub fn number(&self) -> u8
         ensures { result ≡ number_of self.now }
     {
@@ -102,6 +132,7 @@ impl Fact {
             Fact::TableFault(_) => 1,
             Fact::LeftOut(_) => 2,
             Fact::KernBesideGpos => 3,
+            Fact::PointsWithoutAnkr => 4,
             Fact::Stays => 10,
             Fact::MissingEntry => 11,
             Fact::NotSettled(_) => 12,
@@ -110,6 +141,7 @@ impl Fact {
             Fact::ClassesAlike { .. } => 15,
             Fact::UnnamedLookup { .. } => 16,
             Fact::MayStay => 17,
+            Fact::Grows => 18,
             Fact::NeverOn => 20,
             Fact::NameWithoutChain => 21,
             Fact::SettingWithoutName { .. } => 22,
@@ -117,10 +149,14 @@ impl Fact {
             Fact::ValuePast { .. } => 30,
             Fact::KeyPast { .. } => 31,
             Fact::ListsDeleted => 32,
+            Fact::DeletedStays { .. } => 33,
+            Fact::DeletedReturns { .. } => 34,
+            Fact::DeletedGoesIn { .. } => 35,
+            Fact::MarkInPair { .. } => 40,
         }
     }
 
-    /// How much harm it tells of: numbers 1, 10, 11, 23 and 30 are errors, 2, 13, 16, 20 and 31 warnings, and the others
+    /// How much harm it tells of: numbers 1, 10, 11, 18, 23 and 30 are errors, 2, 13, 16, 20 and 31 warnings, and the others
     /// notes.
     pub fn severity(&self) -> Severity
         ensures { result ≡ severity_of (number_of self.now) }
@@ -129,6 +165,7 @@ impl Fact {
             Fact::TableFault(_)
             | Fact::Stays
             | Fact::MissingEntry
+            | Fact::Grows
             | Fact::ExclusiveSettings { .. }
             | Fact::ValuePast { .. } => Severity::Error,
             Fact::LeftOut(_)
@@ -137,13 +174,18 @@ impl Fact {
             | Fact::NeverOn
             | Fact::KeyPast { .. } => Severity::Warning,
             Fact::KernBesideGpos
+            | Fact::PointsWithoutAnkr
             | Fact::NotSettled(_)
             | Fact::UnusedRule { .. }
             | Fact::ClassesAlike { .. }
             | Fact::MayStay
             | Fact::NameWithoutChain
             | Fact::SettingWithoutName { .. }
-            | Fact::ListsDeleted => Severity::Note,
+            | Fact::ListsDeleted
+            | Fact::DeletedStays { .. }
+            | Fact::DeletedReturns { .. }
+            | Fact::DeletedGoesIn { .. }
+            | Fact::MarkInPair { .. } => Severity::Note,
         }
     }
 

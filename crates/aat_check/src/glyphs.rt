@@ -1,14 +1,15 @@
-//! Glyphs that a font does not have.
+//! Glyphs that a font does not have, and the deleted glyph.
 
 use crate::fact::Fact;
 use crate::faults::has_fault;
 use crate::finding::{Finding, Place, push_fact};
 use aat_bytes::tags::MAXP;
 use aat_face::Face;
-use aat_findings::{keys_past, lists_deleted, values_past};
+use aat_findings::{InsertionKind, PairKind, inserting_entries, lists_deleted, pairs_of};
 use aat_lookup::Lookup;
-use aat_machine_tables::{ContextualSubtable, SubtableKind};
+use aat_machine_tables::{InsertionSubtable, SubtableKind};
 use std::alloc::{AllocError, Global};
+use std::slice;
 
 /// The number below which the font has its glyphs: that of `maxp`, or more than any glyph's where `maxp` has a fault.
 pub(crate) fn glyph_bound(face: &Face<'_>) -> u32 {
@@ -18,113 +19,120 @@ pub(crate) fn glyph_bound(face: &Face<'_>) -> u32 {
     face.glyph_count() as u32
 }
 
-/// Adds the first of the glyphs that become one which the font does not have.
-fn add_values(
+/// What a subtable lists.
+#[derive(Clone, Copy)]
+pub(crate) struct Listed<'a> {
+    /// The lookups of glyphs that take the place of others.
+    pub(crate) lookups: &'a [Lookup],
+    /// The classes of a machine, if it has one.
+    pub(crate) classes: Option<&'a Lookup>,
+    /// The font has the glyphs below this number.
+    pub(crate) glyph_count: u32,
+}
+
+/// What a subtable of `morx` lists, in a font of so many glyphs.
+fn listed_of(kind: &SubtableKind, glyph_count: u32) -> Listed<'_> {
+    let (lookups, classes): (&[Lookup], Option<&Lookup>) = match kind {
+        SubtableKind::NonContextual(lookup) => (slice::from_ref(lookup), None),
+        SubtableKind::Contextual(subtable) => (&subtable.lookups, Some(subtable.state.classes())),
+        SubtableKind::Rearrangement(table) => (&[], Some(table.classes())),
+        SubtableKind::Ligature(subtable) => (&[], Some(subtable.state.classes())),
+        SubtableKind::Insertion(subtable) => (&[], Some(subtable.state.classes())),
+    };
+    Listed {
+        lookups,
+        classes,
+        glyph_count,
+    }
+}
+
+/// The pairs of lookups that are of a kind, and of classes those whose glyph the font does not have.
+fn pairs_listed(
+    alloc: Global,
+    listed: Listed<'_>,
+    kind: PairKind,
+) -> Result<Vec<(u16, u16)>, AllocError> {
+    let glyph_count = listed.glyph_count;
+    let mut found = match (kind, listed.classes) {
+        (PairKind::GlyphPast, Some(classes)) => pairs_of(alloc, classes, kind, glyph_count)?,
+        _ => Vec::new(alloc),
+    };
+    for lookup in listed.lookups {
+        let pairs = pairs_of(alloc, lookup, kind, glyph_count)?;
+        found.extend_from_slice(&pairs)?;
+    }
+    Ok(found)
+}
+
+/// What is told of the first of so many pairs of a kind, which has a value.
+fn fact_of(kind: PairKind, value: u16, count: usize) -> Fact {
+    match kind {
+        PairKind::GlyphPast => Fact::KeyPast { count },
+        PairKind::ValuePast => Fact::ValuePast { value, count },
+        PairKind::Deletes => Fact::DeletedStays { count },
+        PairKind::Restores => Fact::DeletedReturns { value },
+    }
+}
+
+/// Adds the first of the pairs that are of a kind.
+fn add_pairs(
+    alloc: Global,
+    listed: Listed<'_>,
+    kind: PairKind,
     place: Place,
-    values: &[(u16, u16)],
     found: &mut Vec<Finding>,
 ) -> Result<(), AllocError> {
-    let Some((glyph, value)) = values.first().copied() else {
+    let pairs = pairs_listed(alloc, listed, kind)?;
+    let Some((glyph, value)) = pairs.first().copied() else {
         return Ok(());
     };
     let place = Place {
         glyph: Some(glyph),
         ..place
     };
-    let count = values.len();
-    push_fact(found, place, Fact::ValuePast { value, count })
+    push_fact(found, place, fact_of(kind, value, pairs.len()))
 }
 
-/// Adds the first of the glyphs that are listed, and that the font does not have.
-fn add_keys(place: Place, keys: &[(u16, u16)], found: &mut Vec<Finding>) -> Result<(), AllocError> {
-    let Some((glyph, _)) = keys.first().copied() else {
+/// Adds what is found in what a subtable lists.
+pub(crate) fn check_listed(
+    alloc: Global,
+    listed: Listed<'_>,
+    place: Place,
+    found: &mut Vec<Finding>,
+) -> Result<(), AllocError> {
+    add_pairs(alloc, listed, PairKind::ValuePast, place, found)?;
+    add_pairs(alloc, listed, PairKind::GlyphPast, place, found)?;
+    if let Some(classes) = listed.classes
+        && lists_deleted(classes)
+    {
+        push_fact(found, place, Fact::ListsDeleted)?;
+    }
+    add_pairs(alloc, listed, PairKind::Deletes, place, found)?;
+    add_pairs(alloc, listed, PairKind::Restores, place, found)
+}
+
+/// Adds the first entry that puts the deleted glyph in.
+fn add_inserted(
+    alloc: Global,
+    subtable: &InsertionSubtable,
+    place: Place,
+    found: &mut Vec<Finding>,
+) -> Result<(), AllocError> {
+    let (table, glyphs) = (&subtable.state, subtable.glyphs.as_slice());
+    let entries = inserting_entries(alloc, table, glyphs, InsertionKind::PutsDeleted)?;
+    let Some((state, class, _)) = entries.first().copied() else {
         return Ok(());
     };
     let place = Place {
-        glyph: Some(glyph),
+        state: Some(state),
+        class: Some(class),
         ..place
     };
-    let count = keys.len();
-    push_fact(found, place, Fact::KeyPast { count })
+    let count = entries.len();
+    push_fact(found, place, Fact::DeletedGoesIn { count })
 }
 
-/// Adds what is found in a lookup of glyphs that take the place of others.
-fn check_noncontextual(
-    alloc: Global,
-    lookup: &Lookup,
-    glyph_count: u32,
-    place: Place,
-    found: &mut Vec<Finding>,
-) -> Result<(), AllocError> {
-    let values = values_past(alloc, lookup, glyph_count)?;
-    add_values(place, &values, found)?;
-    let keys = keys_past(alloc, lookup, glyph_count)?;
-    add_keys(place, &keys, found)
-}
-
-/// Adds what is found in the classes of a machine.
-pub(crate) fn check_glyph_classes(
-    alloc: Global,
-    classes: &Lookup,
-    glyph_count: u32,
-    place: Place,
-    found: &mut Vec<Finding>,
-) -> Result<(), AllocError> {
-    let keys = keys_past(alloc, classes, glyph_count)?;
-    add_keys(place, &keys, found)?;
-    if lists_deleted(classes) {
-        push_fact(found, place, Fact::ListsDeleted)?;
-    }
-    Ok(())
-}
-
-/// The pairs of lookups whose value is a glyph that the font does not have.
-fn values_of_lookups(
-    alloc: Global,
-    lookups: &[Lookup],
-    glyph_count: u32,
-) -> Result<Vec<(u16, u16)>, AllocError> {
-    let mut values = Vec::new(alloc);
-    for lookup in lookups {
-        let past = values_past(alloc, lookup, glyph_count)?;
-        values.extend_from_slice(&past)?;
-    }
-    Ok(values)
-}
-
-/// The pairs of the classes of a machine and of lookups whose glyph the font does not have.
-fn keys_of_contextual(
-    alloc: Global,
-    subtable: &ContextualSubtable,
-    glyph_count: u32,
-) -> Result<Vec<(u16, u16)>, AllocError> {
-    let mut keys = keys_past(alloc, subtable.state.classes(), glyph_count)?;
-    for lookup in &subtable.lookups {
-        let past = keys_past(alloc, lookup, glyph_count)?;
-        keys.extend_from_slice(&past)?;
-    }
-    Ok(keys)
-}
-
-/// Adds what is found in the classes and the lookups of a contextual machine.
-fn check_contextual(
-    alloc: Global,
-    subtable: &ContextualSubtable,
-    glyph_count: u32,
-    place: Place,
-    found: &mut Vec<Finding>,
-) -> Result<(), AllocError> {
-    let values = values_of_lookups(alloc, &subtable.lookups, glyph_count)?;
-    add_values(place, &values, found)?;
-    let keys = keys_of_contextual(alloc, subtable, glyph_count)?;
-    add_keys(place, &keys, found)?;
-    if lists_deleted(subtable.state.classes()) {
-        push_fact(found, place, Fact::ListsDeleted)?;
-    }
-    Ok(())
-}
-
-/// Adds what is found in the lookups and the classes of a subtable of `morx`.
+/// Adds what is found in what a subtable of `morx` lists.
 pub(crate) fn check_kind(
     alloc: Global,
     kind: &SubtableKind,
@@ -132,16 +140,9 @@ pub(crate) fn check_kind(
     place: Place,
     found: &mut Vec<Finding>,
 ) -> Result<(), AllocError> {
-    let classes = match kind {
-        SubtableKind::NonContextual(lookup) => {
-            return check_noncontextual(alloc, lookup, glyph_count, place, found);
-        }
-        SubtableKind::Contextual(subtable) => {
-            return check_contextual(alloc, subtable, glyph_count, place, found);
-        }
-        SubtableKind::Rearrangement(table) => table.classes(),
-        SubtableKind::Ligature(subtable) => subtable.state.classes(),
-        SubtableKind::Insertion(subtable) => subtable.state.classes(),
-    };
-    check_glyph_classes(alloc, classes, glyph_count, place, found)
+    check_listed(alloc, listed_of(kind, glyph_count), place, found)?;
+    match kind {
+        SubtableKind::Insertion(subtable) => add_inserted(alloc, subtable, place, found),
+        _ => Ok(()),
+    }
 }

@@ -2,6 +2,7 @@
 
 use crate::fact::Fact;
 use crate::finding::{Finding, GlyphLine, Place};
+use aat_read_metrics::GlyphNames;
 use serde_json::Value;
 use std::alloc::{AllocError, Global};
 use std::io::{self, Write};
@@ -20,14 +21,23 @@ fn write_number<W: Write>(out: &mut W, key: &str, number: Option<usize>) -> io::
     }
 }
 
+/// Writes the member of the name of a glyph, where it has one. A name stands for itself in JSON.
+fn write_name<W: Write>(out: &mut W, names: &GlyphNames<'_>, glyph: Option<u16>) -> io::Result<()> {
+    match glyph.and_then(|glyph| names.name_of(glyph)) {
+        Some(name) => write!(out, ",\"name\":\"{name}\""),
+        None => Ok(()),
+    }
+}
+
 /// Writes the members of a place behind its table.
-fn write_place<W: Write>(out: &mut W, place: &Place) -> io::Result<()> {
+fn write_place<W: Write>(out: &mut W, names: &GlyphNames<'_>, place: &Place) -> io::Result<()> {
     write_number(out, "chain", place.chain)?;
     write_number(out, "subtable", place.subtable)?;
     write_number(out, "feature", place.feature.map(usize::from))?;
     write_number(out, "state", place.state.map(usize::from))?;
     write_number(out, "class", place.class.map(usize::from))?;
-    write_number(out, "glyph", place.glyph.map(usize::from))
+    write_number(out, "glyph", place.glyph.map(usize::from))?;
+    write_name(out, names, place.glyph)
 }
 
 /// Writes the members of the line that shows a finding.
@@ -47,6 +57,7 @@ fn write_object<W: Write>(
     alloc: Global,
     out: &mut W,
     before: &str,
+    names: &GlyphNames<'_>,
     finding: &Finding,
 ) -> io::Result<()> {
     let sentence = quoted(alloc, finding.fact)?;
@@ -57,7 +68,7 @@ fn write_object<W: Write>(
         "{before}{{\"number\":{number},\"severity\":\"{severity}\""
     )?;
     write!(out, ",\"table\":\"{table}\"")?;
-    write_place(out, &finding.place)?;
+    write_place(out, names, &finding.place)?;
     write!(out, ",\"sentence\":{sentence}")?;
     if let Some(line) = &finding.line {
         write_line(out, line)?;
@@ -66,18 +77,19 @@ fn write_object<W: Write>(
 }
 
 /// Writes findings in their order as an array of objects, a line each. An object has `number`, `severity`, `table`, and
-/// those of `chain`, `subtable`, `feature`, `state`, `class` and `glyph` that its place has, then `sentence`, and where a
-/// line shows it `direction` and `glyphs`.
+/// those of `chain`, `subtable`, `feature`, `state`, `class` and `glyph` that its place has, `name` where that glyph has one,
+/// then `sentence`, and where a line shows it `direction` and `glyphs`.
 ///
 /// An error is that of the writer, or `OutOfMemory`. A part of the text may be written then.
 pub fn write_findings_as_json<W: Write>(
     alloc: Global,
     out: &mut W,
+    names: &GlyphNames<'_>,
     findings: &[Finding],
 ) -> io::Result<()> {
     let mut before = "[";
     for finding in findings {
-        write_object(alloc, out, before, finding)?;
+        write_object(alloc, out, before, names, finding)?;
         before = ",\n";
     }
     let end = if findings.is_empty() { "[]" } else { "]" };

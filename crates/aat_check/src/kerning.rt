@@ -1,13 +1,16 @@
-//! The machines of `kerx` and of `kern`.
+//! The machines and the pairs of `kerx` and of `kern`.
 
+use crate::fact::Fact;
 use crate::faults::{check_left_out, number_in_table};
-use crate::finding::{Finding, Place};
-use crate::glyphs::check_glyph_classes;
+use crate::finding::{Finding, Place, push_fact};
+use crate::glyphs::{Listed, check_listed};
 use crate::lines::Order;
 use crate::machines::{Machine, check_machine};
+use crate::pairs::check_pairs;
 use aat_bytes::tags::{KERN, KERX};
 use aat_face::Face;
 use aat_findings::Same;
+use aat_font::hb_font_t;
 use aat_kerning_tables::{KernKind, KernSubtable, KerxFormat, KerxSubtable};
 use aat_machine_tables::ExtendedStateTable;
 use std::alloc::{AllocError, Global};
@@ -20,13 +23,18 @@ fn check_kerning<T: Same>(
     found: &mut Vec<Finding>,
 ) -> Result<(), AllocError> {
     check_machine(alloc, table, machine, found)?;
-    let classes = table.classes();
-    check_glyph_classes(alloc, classes, machine.glyph_count, machine.place, found)
+    let listed = Listed {
+        lookups: &[],
+        classes: Some(table.classes()),
+        glyph_count: machine.glyph_count,
+    };
+    check_listed(alloc, listed, machine.place, found)
 }
 
 /// Adds what is found in a subtable of `kerx`.
 fn check_extended(
     alloc: Global,
+    font: &hb_font_t,
     subtable: &KerxSubtable,
     place: Place,
     glyph_count: u32,
@@ -43,10 +51,17 @@ fn check_extended(
         changes_glyphs: false,
         unsettled: None,
         unnamed: None,
+        growing: None,
     };
     match &subtable.format {
+        KerxFormat::Format0(pairs) => check_pairs(alloc, font, pairs.pairs(), place, found),
         KerxFormat::Format1(stack) => check_kerning(alloc, &stack.state_table, machine, found),
-        KerxFormat::Format4(anchors) => check_kerning(alloc, &anchors.state_table, machine, found),
+        KerxFormat::Format4(anchors) => {
+            if font.tables().ankr.is_none() {
+                push_fact(found, place, Fact::PointsWithoutAnkr)?;
+            }
+            check_kerning(alloc, &anchors.state_table, machine, found)
+        }
         _ => Ok(()),
     }
 }
@@ -60,12 +75,13 @@ pub(crate) fn check_kerx(
 ) -> Result<(), AllocError> {
     let left_out = face.left_out();
     check_left_out(KERX, left_out, found)?;
-    for (number, subtable) in face.font().kerx_subtables().iter().enumerate() {
+    let font = face.font();
+    for (number, subtable) in font.kerx_subtables().iter().enumerate() {
         let place = Place {
             subtable: Some(number_in_table(left_out, number)),
             ..Place::of_table(KERX)
         };
-        check_extended(alloc, subtable, place, glyph_count, found)?;
+        check_extended(alloc, font, subtable, place, glyph_count, found)?;
     }
     Ok(())
 }
@@ -73,13 +89,18 @@ pub(crate) fn check_kerx(
 /// Adds what is found in a subtable of `kern`.
 fn check_plain(
     alloc: Global,
+    font: &hb_font_t,
     subtable: &KernSubtable,
     place: Place,
     glyph_count: u32,
     found: &mut Vec<Finding>,
 ) -> Result<(), AllocError> {
-    let KernKind::Machine(stack) = &subtable.kind else {
-        return Ok(());
+    let stack = match &subtable.kind {
+        KernKind::Machine(stack) => stack,
+        KernKind::Pairs(pairs) => {
+            return check_pairs(alloc, font, pairs.pairs(), place, found);
+        }
+        KernKind::Classes(_) => return Ok(()),
     };
     let order = Order {
         is_backwards: false,
@@ -92,6 +113,7 @@ fn check_plain(
         changes_glyphs: false,
         unsettled: None,
         unnamed: None,
+        growing: None,
     };
     check_kerning(alloc, &stack.state_table, machine, found)
 }
@@ -105,12 +127,13 @@ pub(crate) fn check_kern(
 ) -> Result<(), AllocError> {
     let left_out = face.left_out_of_kern();
     check_left_out(KERN, left_out, found)?;
-    for (number, subtable) in face.font().kern_subtables().iter().enumerate() {
+    let font = face.font();
+    for (number, subtable) in font.kern_subtables().iter().enumerate() {
         let place = Place {
             subtable: Some(number_in_table(left_out, number)),
             ..Place::of_table(KERN)
         };
-        check_plain(alloc, subtable, place, glyph_count, found)?;
+        check_plain(alloc, font, subtable, place, glyph_count, found)?;
     }
     Ok(())
 }

@@ -17,6 +17,7 @@ mod kerning;
 mod lines;
 mod machines;
 mod names;
+mod pairs;
 mod search;
 mod sentences;
 mod subtables;

@@ -1,9 +1,8 @@
 //! Lines of glyphs that show a finding.
-ghost use Rattle.std.specs.Prelude.{◌≡◌};
-ghost use Rattle.aat_check.specs.Lines.{taken_as};
 
 use crate::finding::GlyphLine;
 use crate::search::way_to;
+use aat_findings::taken_as;
 use aat_lookup::GlyphId;
 use aat_machine_tables::entry_bits::class;
 use aat_machine_tables::{Acting, ExtendedStateTable};
@@ -21,18 +20,6 @@ pub(crate) struct Order {
     pub(crate) is_vertical: bool,
 }
 
-/// The class as which a machine takes a glyph.
-fn class_of<T: Acting>(table: &ExtendedStateTable<T>, glyph: u16) -> u16
-    ensures { result ≡ taken_as table.now glyph }
-{
-    let known = table.class_or_out_of_bounds(GlyphId(glyph));
-    if known < table.class_count() {
-        known
-    } else {
-        class::OUT_OF_BOUNDS
-    }
-}
-
 /// The least glyph of each class, of those below a number.
 fn shown_classes<T: Acting>(
     alloc: Global,
@@ -41,7 +28,7 @@ fn shown_classes<T: Acting>(
 ) -> Result<Vec<Option<u16>>, AllocError> {
     let mut shown = vec![in alloc; None; table.class_count() as usize]?;
     for glyph in 0..glyph_count.min(DELETED_GLYPH) as u16 {
-        let class = class_of(table, glyph);
+        let class = taken_as(table, GlyphId(glyph));
         if let Some(slot) = shown.get_mut(class as usize)
             && slot.is_none()
         {

@@ -24,6 +24,8 @@ pub(crate) struct Machine {
     pub(crate) unsettled: Option<Fact>,
     /// The lookups that its entries do not name, if there are any.
     pub(crate) unnamed: Option<Fact>,
+    /// A state and a class at which it puts glyphs in without end, if there are any.
+    pub(crate) growing: Option<(u16, u16)>,
 }
 
 impl Machine {
@@ -206,6 +208,11 @@ pub(crate) fn check_machine<T: Same>(
     check_rules(alloc, table, machine, found)?;
     check_classes(alloc, table, machine, found)?;
     add_fact(machine.place, machine.unnamed, found)?;
-    let acting = if resting.is_none() { staying } else { None };
-    add_cell(alloc, table, machine, acting, Fact::MayStay, found)
+    let growing = machine.growing;
+    let acting = match (resting, growing) {
+        (None, None) => staying,
+        _ => None,
+    };
+    add_cell(alloc, table, machine, acting, Fact::MayStay, found)?;
+    add_cell(alloc, table, machine, growing, Fact::Grows, found)
 }

@@ -2,6 +2,7 @@
 
 use crate::fact::{Fact, Severity};
 use crate::finding::Place;
+use aat_bytes::tags::GDEF;
 use std::fmt;
 
 impl fmt::Display for Severity {
@@ -47,9 +48,19 @@ fn write_count<W: fmt::Write>(f: &mut W, count: usize) -> fmt::Result {
 /// Writes the sentence of what is told once.
 fn write_single<W: fmt::Write>(f: &mut W, fact: &Fact) -> fmt::Result {
     match fact {
+        Fact::TableFault(fault) if fault.table == GDEF => {
+            write!(f, "the classes with the fault are not read: {fault}")
+        }
         Fact::TableFault(fault) => write!(f, "the table is not read: {fault}"),
         Fact::LeftOut(fault) => write!(f, "the subtable is left out: {fault}"),
-        Fact::KernBesideGpos => write!(f, "HarfBuzz kerns by GPOS, and not by kern without kerx"),
+        Fact::KernBesideGpos => write!(
+            f,
+            "where GPOS has the feature kern, HarfBuzz kerns by it, and not by kern without kerx"
+        ),
+        Fact::PointsWithoutAnkr => write!(
+            f,
+            "there is no ankr for its points, and HarfBuzz attaches each glyph by its origin"
+        ),
         Fact::Stays => write!(
             f,
             "entries that do not advance stay here until the budget is used up"
@@ -60,8 +71,16 @@ fn write_single<W: fmt::Write>(f: &mut W, fact: &Fact) -> fmt::Result {
             f,
             "entries that act and do not advance may stay here for ever"
         ),
+        Fact::Grows => write!(
+            f,
+            "entries that do not advance put glyphs in here until the budget is used up or the line is too long"
+        ),
         Fact::NeverOn => write!(f, "no default flag and no feature switches it on"),
         Fact::NameWithoutChain => write!(f, "it has a name, and no chain has a setting of it"),
+        Fact::DeletedReturns { value } => write!(
+            f,
+            "the deleted glyph becomes glyph {value}, but not with HarfBuzz"
+        ),
         _ => write!(f, "the classes list the deleted glyph, whose class is 2"),
     }
 }
@@ -89,6 +108,18 @@ fn write_first<W: fmt::Write>(f: &mut W, fact: &Fact) -> fmt::Result {
             f,
             "it becomes glyph {value}, which the font lacks"
         ),
+        Fact::DeletedStays { .. } => write!(
+            f,
+            "the deleted glyph comes of it, which HarfBuzz leaves in the line"
+        ),
+        Fact::DeletedGoesIn { .. } => write!(
+            f,
+            "the deleted glyph goes in here, and is taken out again"
+        ),
+        Fact::MarkInPair { left, right, .. } => write!(
+            f,
+            "the pair of glyphs {left} and {right} has a mark, and pairs skip marks"
+        ),
         _ => write!(f, "it is listed, and the font lacks it"),
     }
 }
@@ -103,7 +134,10 @@ fn count_of(fact: &Fact) -> Option<usize> {
         | Fact::SettingWithoutName { count, .. }
         | Fact::ExclusiveSettings { count, .. }
         | Fact::ValuePast { count, .. }
-        | Fact::KeyPast { count } => Some(*count),
+        | Fact::KeyPast { count }
+        | Fact::DeletedStays { count }
+        | Fact::DeletedGoesIn { count }
+        | Fact::MarkInPair { count, .. } => Some(*count),
         _ => None,
     }
 }

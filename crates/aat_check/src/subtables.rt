@@ -6,7 +6,7 @@ use crate::glyphs::check_kind;
 use crate::lines::Order;
 use crate::machines::{Machine, check_machine};
 use aat_cuts::{Unsettled, find_unsettled};
-use aat_findings::unnamed_lookups;
+use aat_findings::{InsertionKind, inserting_entries, unnamed_lookups};
 use aat_machine_tables::{Subtable, SubtableKind};
 use std::alloc::{AllocError, Global};
 
@@ -43,6 +43,16 @@ fn unnamed_of(alloc: Global, kind: &SubtableKind) -> Result<Option<Fact>, AllocE
     Ok(Some(Fact::UnnamedLookup { lookup, count }))
 }
 
+/// The first state and class at which a machine of insertion puts glyphs in without end.
+fn growing_of(alloc: Global, kind: &SubtableKind) -> Result<Option<(u16, u16)>, AllocError> {
+    let SubtableKind::Insertion(subtable) = kind else {
+        return Ok(None);
+    };
+    let (table, glyphs) = (&subtable.state, subtable.glyphs.as_slice());
+    let growing = inserting_entries(alloc, table, glyphs, InsertionKind::Grows)?;
+    Ok(growing.first().map(|rule| (rule.0, rule.1)))
+}
+
 /// Adds what is found in the machine of a subtable, if it has one.
 fn check_machine_of(
     alloc: Global,
@@ -62,6 +72,7 @@ fn check_machine_of(
         changes_glyphs: true,
         unsettled: unsettled_of(alloc, &subtable.kind)?,
         unnamed: unnamed_of(alloc, &subtable.kind)?,
+        growing: growing_of(alloc, &subtable.kind)?,
     };
     match &subtable.kind {
         SubtableKind::Rearrangement(table) => check_machine(alloc, table, machine, found),

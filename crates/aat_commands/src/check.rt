@@ -18,10 +18,11 @@ pub(crate) fn check<W: Write>(
     let source = FontSource::of_matches(matches)?;
     let font = session.fonts.font(rt, &source)?;
     let found = findings(rt.alloc(), font.face)?;
+    let names = font.names(rt.alloc())?;
     session.has_trouble |= has_trouble(&found);
     if matches.get_flag("json") {
-        write_findings_as_json(rt.alloc(), out, &found).context(OUTPUT)
+        write_findings_as_json(rt.alloc(), out, names, &found).context(OUTPUT)
     } else {
-        write_findings(out, source.path, &found).context(OUTPUT)
+        write_findings(out, source.path, names, &found).context(OUTPUT)
     }
 }

@@ -3,11 +3,12 @@
 use crate::session::Speaker;
 use crate::source::FontSource;
 use aat_face::Face;
+use aat_read_metrics::GlyphNames;
 use aat_read_sfnt::FontFile;
-use anyhow::Result;
+use anyhow::{Context, Result};
 use bumpalo::Bump;
 use std::alloc::Global;
-use std::cell::Cell;
+use std::cell::{Cell, OnceCell};
 
 /// A font, with what it was read from.
 #[derive(Drop)]
@@ -18,6 +19,8 @@ pub(crate) struct Font<'b> {
     pub(crate) bytes: &'b [u8],
     /// What is read of it.
     pub(crate) face: &'b Face<'b>,
+    /// The names of its glyphs, once they are asked.
+    names: OnceCell<GlyphNames<'b>>,
     /// Whether its faults are told.
     is_told: Cell<bool>,
 }
@@ -26,6 +29,16 @@ impl<'b> Font<'b> {
     /// The directory of the font.
     pub(crate) fn file(&self) -> Result<FontFile<'b>> {
         self.source.file(self.bytes)
+    }
+
+    /// The names of its glyphs, which are read once.
+    pub(crate) fn names(&self, alloc: Global) -> Result<&GlyphNames<'b>> {
+        if let Some(names) = self.names.get() {
+            return Ok(names);
+        }
+        let names = GlyphNames::of_file(alloc, &self.file()?)?;
+        let _ = self.names.set(names);
+        self.names.get().context("out of memory")
     }
 
     /// Tells on the error stream which tables are not read, once in a run.
@@ -77,6 +90,7 @@ impl<'b> Fonts<'b> {
             source,
             bytes,
             face,
+            names: OnceCell::new(),
             is_told: Cell::new(false),
         };
         Ok(arena.try_alloc(font)?)

@@ -22,12 +22,15 @@ mod looks;
 mod make;
 mod missing;
 mod output;
+mod pictures;
 mod progress;
 mod request;
 mod rows;
 mod session;
 mod settled;
 mod shape;
+mod size;
 mod source;
+mod verify;
 
 pub use command_line::{Answer, run};

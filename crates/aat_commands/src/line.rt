@@ -1,9 +1,11 @@
 //! What is told of a line that is typeset is put together.
 
+use crate::fonts::Font;
 use crate::request::Request;
 use crate::session::Speaker;
 use aat_calls::trace_of;
 use aat_drawing::{DrawnLine, drawn_changes, drawn_glyphs};
+use aat_read_metrics::GlyphNames;
 use aat_text::LineEnd;
 use aat_trace::Trace;
 use aat_typesetter::{Direction, Face, ShapedGlyph, TextGlyph};
@@ -15,6 +17,10 @@ use std::alloc::Global;
 pub(crate) struct Context<'a, 'f> {
     /// The font.
     pub(crate) face: &'a Face<'f>,
+    /// The names of glyphs, where they are written in place of numbers.
+    pub(crate) names: Option<&'a GlyphNames<'f>>,
+    /// The font with what it was read from.
+    pub(crate) font: &'a Font<'f>,
     /// What is asked.
     pub(crate) request: Request,
     /// What the subtables of `morx` are called, where a picture is asked.

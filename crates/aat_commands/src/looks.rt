@@ -1,7 +1,8 @@
 //! How a picture looks, as a command line asks.
 
+use crate::size::size_asked;
 use aat_drawing::{Colour, Paint};
-use anyhow::{Context, Result, anyhow, bail};
+use anyhow::{Context, Result, anyhow, bail, ensure};
 use clap::ArgMatches;
 use std::alloc::Global;
 
@@ -32,9 +33,12 @@ fn colour_or(
 /// How a picture looks, as a command line asks.
 pub(crate) fn paint_of(alloc: Global, matches: &ArgMatches<'_>) -> Result<Paint> {
     let plain = Paint::plain();
+    let em = size_asked(matches, "font-size")?.unwrap_or(plain.em);
+    ensure!(em > 0, "font-size: an em of no pixels shows nothing");
     Ok(Paint {
         background: colour_or(alloc, matches, "background", plain.background)?,
         foreground: colour_or(alloc, matches, "foreground", plain.foreground)?,
+        em,
         margin: matches.get_one::<u16>("margin"),
     })
 }

@@ -1,11 +1,12 @@
 //! Lines are shown in the form that is asked.
 
 use crate::line::{Context, SetLine, drawn_line, line_trace};
+use crate::pictures::draw_trace;
 use crate::request::Output;
 use aat_calls::write_trace;
 use aat_drawing::{
     DrawError, DrawnLine, FontOutlines, LineMetrics, Picture, write_flagged_glyphs, write_glyphs,
-    write_json, write_svg,
+    write_json, write_named_glyphs, write_svg,
 };
 use aat_read_sfnt::FontFile;
 use aat_typesetter::ShapedGlyph;
@@ -16,13 +17,16 @@ use std::io::{self, Write};
 /// What an error of a writer is told of.
 pub(crate) const OUTPUT: &str = "the output";
 
-/// Writes the glyphs of a line, with their flags where these are asked.
+/// Writes the glyphs of a line, with their names or flags where these are asked.
 fn write_plain<W: Write>(
     out: &mut W,
     context: &Context<'_, '_>,
     glyphs: &[ShapedGlyph],
 ) -> io::Result<()> {
-    if context.request.shows_flags {
+    let shows_flags = context.request.shows_flags;
+    if let Some(names) = context.names {
+        write_named_glyphs(out, names, glyphs, shows_flags)
+    } else if shows_flags {
         write_flagged_glyphs(out, glyphs)
     } else {
         write_glyphs(out, glyphs)
@@ -63,12 +67,13 @@ fn show_glyphs<W: Write>(
         Output::Glyphs => write_plain(out, context, line.glyphs).context(OUTPUT),
         Output::Trace => {
             let trace = line_trace(alloc, context, line)?;
-            write_trace(out, context.face.font(), &trace).context(OUTPUT)?;
+            write_trace(out, context.face.font(), context.names, &trace).context(OUTPUT)?;
             write_plain(out, context, line.glyphs).context(OUTPUT)
         }
+        Output::TracePicture => draw_trace(alloc, out, context, line),
         Output::Json => {
             let drawn = drawn_line(alloc, context, line)?;
-            write_json(alloc, out, &drawn).context(OUTPUT)
+            write_json(alloc, out, context.names, &drawn).context(OUTPUT)
         }
         Output::Svg | Output::Boxes => Ok(kept.push(drawn_line(alloc, context, line)?)?),
     }

@@ -1,6 +1,7 @@
 //! What a command line asks of `aat shape`.
 
 use crate::looks::paint_of;
+use crate::size::size_asked;
 use aat_drawing::Paint;
 use aat_typesetter::{
     ClusterLevel, ClusterUnit, Direction, Feature, FeatureListError, Script, TextOptions,
@@ -23,12 +24,19 @@ pub(crate) enum Output {
     Boxes,
     /// What each subtable changed.
     Trace,
+    /// What each subtable changed, as a picture.
+    TracePicture,
 }
 
 impl Output {
     /// Whether all lines are shown as one picture.
     pub(crate) fn is_picture(self) -> bool {
         self == Output::Svg || self == Output::Boxes
+    }
+
+    /// Whether subtables are named.
+    pub(crate) fn names_subtables(self) -> bool {
+        self == Output::TracePicture || self.is_picture()
     }
 
     /// Whether it is told where the text may be broken, and by which subtable a glyph was changed.
@@ -63,8 +71,12 @@ pub(crate) struct Request {
     pub(crate) output: Output,
     /// Whether flags of glyphs are shown.
     pub(crate) shows_flags: bool,
+    /// Whether glyphs are written by their names.
+    pub(crate) shows_names: bool,
     /// Whether the glyphs of characters that are not seen are left out.
     pub(crate) removes_ignorables: bool,
+    /// Whether each line is compared with its parts.
+    pub(crate) verifies: bool,
     /// How a picture looks.
     pub(crate) paint: Paint,
 }
@@ -99,6 +111,15 @@ fn output_of(word: &str) -> Output {
     }
 }
 
+/// The form of a word in which what each subtable changed is shown.
+fn traced_output_of(word: &str) -> Result<Output> {
+    match output_of(word) {
+        Output::Glyphs => Ok(Output::Trace),
+        Output::Svg => Ok(Output::TracePicture),
+        _ => bail!("a trace is shown in the forms glyphs and svg"),
+    }
+}
+
 /// The features of a list, parted by commas. An empty list has none.
 fn features_of(alloc: Global, list: &str) -> Result<Vec<Feature>> {
     if list.is_empty() {
@@ -111,25 +132,6 @@ fn features_of(alloc: Global, list: &str) -> Result<Vec<Feature>> {
         }
         features => Ok(features?),
     }
-}
-
-/// How many parts of a point a digit behind the point counts, by how many digits there are.
-const PARTS: [u64; 7] = [1, 10, 100, 1_000, 10_000, 100_000, 1_000_000];
-
-/// A size in points, as 12 or 10.5, where a point counts 65536.
-fn size_of(text: &str) -> Result<u32> {
-    let (points, digits) = text.split_once('.').unwrap_or((text, ""));
-    let points = points.parse::<u16>()?;
-    let is_decimal = digits.bytes().all(|digit| digit.is_ascii_digit());
-    let parts = PARTS.get(digits.len()).filter(|_| is_decimal);
-    let parts = *parts.context("at most six digits stand behind the point")?;
-    let part = if digits.is_empty() {
-        0
-    } else {
-        u64::from(digits.parse::<u32>()?)
-    };
-    let part = part.saturating_mul(65536).checked_div(parts).unwrap_or(0);
-    Ok((u32::from(points) << 16) | u32::try_from(part)?)
 }
 
 impl Request {
@@ -164,30 +166,35 @@ impl Request {
             Some("1") => ClusterLevel::Characters,
             _ => ClusterLevel::Graphemes,
         };
+        let word = matches.get_str("output").unwrap_or("glyphs");
         let output = if matches.get_flag("trace") {
-            Output::Trace
+            traced_output_of(word)?
         } else {
-            matches.get_str("output").map_or(Output::Glyphs, output_of)
+            output_of(word)
         };
         let shows_flags = matches.get_flag("flags");
         ensure!(
             !shows_flags || output.has_flags(),
             "flags are shown in the form glyphs alone"
         );
+        let shows_names = matches.get_flag("names");
+        ensure!(
+            !shows_names || !output.is_picture(),
+            "names are shown in the forms glyphs and json alone"
+        );
         Ok(Request {
             features,
             direction,
-            size: match matches.get_str("size") {
-                Some(text) => Some(size_of(text).with_context(|| anyhow!("size \"{text}\""))?),
-                None => None,
-            },
+            size: size_asked(matches, "size")?,
             width: matches.get_one::<u32>("width"),
             unit,
             script,
             level,
             output,
             shows_flags,
+            shows_names,
             removes_ignorables: matches.get_flag("ignorables"),
+            verifies: matches.get_flag("verify"),
             paint: paint_of(alloc, matches)?,
         })
     }

@@ -6,14 +6,15 @@ use crate::line::{Context, SetLine};
 use crate::missing::tell_missing;
 use crate::output::{show_line, write_picture};
 use crate::progress::Progress;
-use crate::request::Request;
+use crate::request::{Output, Request};
 use crate::session::{Session, Speaker};
 use crate::source::{FontSource, text_of_file};
+use crate::verify::{Whole, verify};
 use aat_calls::subtable_names;
 use aat_drawing::DrawnLine;
 use aat_text::{LineEnd, line_ends};
 use aat_typesetter::{TextGlyph, TypesetLine, Typesetter};
-use anyhow::{Context as _, Result, anyhow};
+use anyhow::{Context as _, Result, anyhow, ensure};
 use clap::ArgMatches;
 use std::alloc::Global;
 use std::fs;
@@ -94,6 +95,9 @@ fn shape_text_line<W: Write>(
         return show_lines(alloc, out, context, typesetter, &ends, &lines, kept);
     }
     typesetter.line(text, &options)?;
+    if context.request.verifies {
+        verify(alloc, context, Whole::Text(text), typesetter.glyphs())?;
+    }
     show_whole(alloc, out, context, typesetter, &ends, kept)
 }
 
@@ -166,6 +170,10 @@ fn shape_glyphs<W: Write>(
     let mut typesetter = Typesetter::new(alloc, context.face);
     let mut kept = Vec::new(alloc);
     typesetter.line_of_glyphs(glyphs_of(alloc, list)?, &context.request.options())?;
+    if context.request.verifies {
+        let whole = Whole::Glyphs(typesetter.text());
+        verify(alloc, context, whole, typesetter.glyphs())?;
+    }
     show_whole(alloc, out, context, &typesetter, &[], &mut kept)?;
     Ok(kept)
 }
@@ -210,13 +218,20 @@ fn shape_text<W: Write>(
     let alloc = rt.alloc();
     let font = session.fonts.font(rt, &FontSource::of_matches(matches)?)?;
     font.tell_faults(rt, session.speaker)?;
-    let subtables = if request.output.is_picture() {
+    let subtables = if request.output.names_subtables() {
         subtable_names(alloc, font.face.font())?
     } else {
         Vec::new(alloc)
     };
+    let names = if request.shows_names {
+        Some(font.names(alloc)?)
+    } else {
+        None
+    };
     let context = Context {
         face: font.face,
+        names,
+        font,
         request,
         subtables,
         speaker: session.speaker,
@@ -265,6 +280,10 @@ fn shape_given<W: Write>(
         return shape_text(rt, out, session, matches, request, Text::Glyphs(list));
     }
     let text = text_given(rt, session.speaker, matches)?;
+    if request.output == Output::TracePicture {
+        ensure!(text.lines().count() <= 1, "a trace is drawn of one line");
+        ensure!(request.width.is_none(), "a trace is drawn of a whole line");
+    }
     let text = Text::Lines(text.as_str());
     shape_text(rt, out, session, matches, request, text)
 }

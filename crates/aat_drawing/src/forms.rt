@@ -1,6 +1,7 @@
 //! Glyphs in the form of `hb-shape`.
 ghost use Rattle.std.specs.Prelude.{◌≡◌, ◌+◌, ◌<◌, ◌≤◌};
 
+use aat_read_metrics::{GlyphNames, WrittenGlyph};
 use aat_shaper::ShapedGlyph;
 use itoa::write_digits;
 use std::io::{self, Write};
@@ -91,16 +92,24 @@ fn offset_before(text: &mut GlyphText, end: usize, x: i32, y: i32) -> usize
     byte_before(text, start, b'@')
 }
 
-/// Puts a glyph at the end of its room: its number and its cluster, its offset unless that is 0, and its advance.
-/// Answers where it begins.
-fn glyph_text(text: &mut GlyphText, glyph: &ShapedGlyph) -> usize
-    ensures before { 0 < result }
+/// Puts what stands behind the number of a glyph at the end of its room: its cluster, its offset unless that is 0, and
+/// its advance. Answers where it begins.
+fn behind_number(text: &mut GlyphText, glyph: &ShapedGlyph) -> usize
+    ensures room { 10 < result }
     ensures inside { result ≤ 72 }
 {
     let end = advance_before(text, LONGEST, glyph.x_advance, glyph.y_advance);
     let end = offset_before(text, end, glyph.x_offset, glyph.y_offset);
     let end = number_before(text, end, glyph.cluster);
-    let end = byte_before(text, end, b'=');
+    byte_before(text, end, b'=')
+}
+
+/// Puts a glyph at the end of its room: its number, and what stands behind it. Answers where it begins.
+fn glyph_text(text: &mut GlyphText, glyph: &ShapedGlyph) -> usize
+    ensures before { 0 < result }
+    ensures inside { result ≤ 72 }
+{
+    let end = behind_number(text, glyph);
     number_before(text, end, u32::from(glyph.glyph_id))
 }
 
@@ -112,11 +121,35 @@ fn write_glyph<W: Write>(out: &mut W, before: u8, glyph: &ShapedGlyph) -> io::Re
     out.write_all(&text[start..])
 }
 
-/// Writes the glyphs of a line, with their flags where these are asked, and the end of the line.
-fn write_line<W: Write>(out: &mut W, glyphs: &[ShapedGlyph], shows_flags: bool) -> io::Result<()> {
+/// Writes a glyph by its name behind the byte that stands before it.
+fn write_named_glyph<W: Write>(
+    out: &mut W,
+    before: u8,
+    names: &GlyphNames<'_>,
+    glyph: &ShapedGlyph,
+) -> io::Result<()> {
+    let written = WrittenGlyph::new(Some(names), u32::from(glyph.glyph_id));
+    out.write_all(&[before])?;
+    write!(out, "{written}")?;
+    let mut text = [0u8; LONGEST];
+    let start = behind_number(&mut text, glyph);
+    out.write_all(&text[start..])
+}
+
+/// Writes the glyphs of a line, by their names where these are given and with their flags where these are asked, and the
+/// end of the line.
+fn write_line<W: Write>(
+    out: &mut W,
+    names: Option<&GlyphNames<'_>>,
+    glyphs: &[ShapedGlyph],
+    shows_flags: bool,
+) -> io::Result<()> {
     let mut before = b'[';
     for glyph in glyphs {
-        write_glyph(out, before, glyph)?;
+        match names {
+            Some(names) => write_named_glyph(out, before, names, glyph)?,
+            None => write_glyph(out, before, glyph)?,
+        }
         if shows_flags && before == BEHIND && !glyph.may_break_before {
             out.write_all(b"#1")?;
         }
@@ -133,7 +166,7 @@ fn write_line<W: Write>(out: &mut W, glyphs: &[ShapedGlyph], shows_flags: bool) 
 ///
 /// An error is that of the writer. A part of the text may be written then.
 pub fn write_glyphs<W: Write>(out: &mut W, glyphs: &[ShapedGlyph]) -> io::Result<()> {
-    write_line(out, glyphs, false)
+    write_line(out, None, glyphs, false)
 }
 
 /// Writes the glyphs of a line as [`write_glyphs`] does, and `#1` behind each but the first one before which the text may
@@ -141,5 +174,18 @@ pub fn write_glyphs<W: Write>(out: &mut W, glyphs: &[ShapedGlyph]) -> io::Result
 ///
 /// An error is that of the writer. A part of the text may be written then.
 pub fn write_flagged_glyphs<W: Write>(out: &mut W, glyphs: &[ShapedGlyph]) -> io::Result<()> {
-    write_line(out, glyphs, true)
+    write_line(out, None, glyphs, true)
+}
+
+/// Writes the glyphs of a line as [`write_glyphs`] or [`write_flagged_glyphs`] does, but each by its name, or as `gidN`
+/// where it has none, as `hb-shape` does.
+///
+/// An error is that of the writer. A part of the text may be written then.
+pub fn write_named_glyphs<W: Write>(
+    out: &mut W,
+    names: &GlyphNames<'_>,
+    glyphs: &[ShapedGlyph],
+    shows_flags: bool,
+) -> io::Result<()> {
+    write_line(out, Some(names), glyphs, shows_flags)
 }

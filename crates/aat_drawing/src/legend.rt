@@ -1,19 +1,14 @@
 //! The colours of a picture, and what they stand for.
 
 use crate::line::DrawnLine;
-use crate::paint::{Colour, Paint};
+use aat_pictures::{Colour, Paint, colour_by};
 use std::io::{self, Write};
-
-/// The colours of glyphs that a subtable changed, each for every eighth one.
-const COLOURS: [u32; 8] = [
-    0x1668BD, 0xC2410C, 0x15803D, 0x7E22CE, 0xA16207, 0xBE185D, 0x0E7490, 0x4D7C0F,
-];
 
 /// The colour of a glyph by the subtable that changed it last.
 pub(crate) fn colour_of(paint: &Paint, changed_by: Option<usize>) -> Colour {
     match changed_by {
         None => paint.foreground,
-        Some(number) => Colour::opaque(COLOURS[number % 8]),
+        Some(number) => colour_by(number),
     }
 }
 

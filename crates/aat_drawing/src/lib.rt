@@ -8,7 +8,6 @@
 
 mod breaks;
 mod changes;
-mod error;
 mod extent;
 mod forms;
 mod json;
@@ -16,18 +15,13 @@ mod legend;
 mod line;
 mod marks;
 mod metrics;
-mod outlines;
-mod paint;
-mod paths;
 mod picture;
 
+pub use aat_pictures::{Colour, DrawError, FontOutlines, Paint};
 pub use breaks::drawn_glyphs;
 pub use changes::drawn_changes;
-pub use error::DrawError;
-pub use forms::{write_flagged_glyphs, write_glyphs};
+pub use forms::{write_flagged_glyphs, write_glyphs, write_named_glyphs};
 pub use json::write_json;
 pub use line::{DrawnGlyph, DrawnLine, LineBreak};
 pub use metrics::LineMetrics;
-pub use outlines::FontOutlines;
-pub use paint::{Colour, Paint};
 pub use picture::{Picture, write_svg};

@@ -2,7 +2,7 @@
 
 use crate::line::{DrawnGlyph, DrawnLine, LineBreak, advance_along};
 use crate::metrics::LineMetrics;
-use crate::paint::Colour;
+use aat_pictures::Colour;
 use std::io::{self, Write};
 
 /// Twice a length, since pictures are drawn in half units of the font.

@@ -1,15 +1,12 @@
 //! Pictures of lines, in SVG.
 
-use crate::error::DrawError;
 use crate::extent::Extent;
 use crate::legend::{colour_of, is_shown, write_entry};
 use crate::line::{DrawnGlyph, DrawnLine};
 use crate::marks::{half_units, write_bar, write_box};
 use crate::metrics::LineMetrics;
-use crate::outlines::FontOutlines;
-use crate::paint::{Colour, Paint};
-use crate::paths::write_outlines;
-use std::alloc::Global;
+use aat_pictures::{Colour, DrawError, FontOutlines, Paint, write_outlines};
+use std::alloc::{AllocError, Global};
 use std::io::{self, Write};
 
 /// What a picture shows.
@@ -27,8 +24,8 @@ pub struct Picture<'a> {
     pub paint: Paint,
 }
 
-/// The pixels of an em.
-const EM_PIXELS: i64 = 64;
+/// What a pixel counts in the size of an em.
+const PIXEL: i64 = 1 << 16;
 
 /// How boxes and bars are drawn.
 const STYLE: &str = "<style>rect{fill:none}.bar{fill:none;stroke:#dc2626}</style>";
@@ -150,17 +147,18 @@ fn size_of(picture: &Picture<'_>, extent: &Extent) -> (i64, i64) {
 }
 
 /// A length of so many units of the font, in pixels.
-fn pixels(length: i64, units_per_em: u16) -> i64 {
-    let em = i64::from(units_per_em).max(1);
-    length.saturating_mul(EM_PIXELS) / em
+fn pixels(picture: &Picture<'_>, length: i64) -> i64 {
+    let units = i64::from(picture.metrics.units_per_em).max(1);
+    length.saturating_mul(i64::from(picture.paint.em)) / (units * PIXEL)
 }
 
 /// What is left free on each side of a picture, in units of the font: half an em where nothing is asked.
 fn margin_of(picture: &Picture<'_>) -> i64 {
-    let em = i64::from(picture.metrics.units_per_em);
+    let units = i64::from(picture.metrics.units_per_em);
+    let em = i64::from(picture.paint.em).max(1);
     match picture.paint.margin {
-        Some(margin) => i64::from(margin).saturating_mul(em) / EM_PIXELS,
-        None => em / 2,
+        Some(margin) => i64::from(margin).saturating_mul(units * PIXEL) / em,
+        None => units / 2,
     }
 }
 
@@ -171,8 +169,7 @@ fn write_head<W: Write>(
     width: i64,
     height: i64,
 ) -> io::Result<()> {
-    let em = picture.metrics.units_per_em;
-    let (wide, high) = (pixels(width, em), pixels(height, em));
+    let (wide, high) = (pixels(picture, width), pixels(picture, height));
     let ground = picture.paint.background;
     writeln!(
         out,
@@ -197,9 +194,26 @@ fn write_shown<W: Write>(
     writeln!(out, "</svg>")
 }
 
-/// Writes a picture of lines as a file of SVG, 64 pixels an em: each glyph by its outline, or without one as the box of
-/// its advance, in the colour of the subtable that changed it last; a bar where the text may be broken; and below what
-/// each colour stands for. A glyph whose charstring has a fault has no outline.
+/// Adds the numbers of the glyphs of a line.
+fn add_glyphs(glyphs: &mut Vec<u16>, line: &DrawnLine) -> Result<(), AllocError> {
+    for drawn in &line.glyphs {
+        glyphs.push(drawn.glyph.glyph_id)?;
+    }
+    Ok(())
+}
+
+/// The numbers of the glyphs of all lines.
+fn glyphs_of(alloc: Global, lines: &[DrawnLine]) -> Result<Vec<u16>, AllocError> {
+    let mut glyphs = Vec::new(alloc);
+    for line in lines {
+        add_glyphs(&mut glyphs, line)?;
+    }
+    Ok(glyphs)
+}
+
+/// Writes a picture of lines as a file of SVG: each glyph by its outline, or without one as the box of its advance, in
+/// the colour of the subtable that changed it last; a bar where the text may be broken; and below what each colour
+/// stands for. A glyph whose charstring has a fault has no outline.
 ///
 /// Refused as 1, `Outline`, where the outline of a glyph of `glyf` has a fault, in the order of the numbers of the
 /// glyphs; as 2, `Writer`, where the writer fails; and as 3, `OutOfMemory`, where memory is wanting. A part of the
@@ -213,7 +227,7 @@ pub fn write_svg<W: Write>(
     let (width, height) = size_of(picture, &extent);
     write_head(out, picture, width, height)?;
     let written = match picture.outlines {
-        Some(outlines) => write_outlines(alloc, out, outlines, picture.lines)?,
+        Some(outlines) => write_outlines(alloc, out, outlines, glyphs_of(alloc, picture.lines)?)?,
         None => Vec::new(alloc),
     };
     Ok(write_shown(out, picture, written.as_slice(), &extent)?)

@@ -5,7 +5,7 @@ use Rattle.std.proofs.lemmas.List.{length-map}
 use Rattle.std.proofs.lemmas.List.FromFn.{length-map-range_with_len, map-range_with_len_more}
 use Rattle.std.specs.List.{range_with_len}
 use Rattle.std.specs.Prelude.{IfSome, filter}
-use Rattle.aat_placement.specs.Attachments.{drawn}
+use Rattle.aat_glyph.specs.placement.Attachments.{drawn}
 use Rattle.aat_buffer.specs.Buffer.{Buffer, glyph_at, position_at, position_list, zero_position}
 use Rattle.aat_buffer.specs.Clusters.{ids}
 use Rattle.aat_buffer.specs.Removal.{deleted_glyph, is_deleted, removed}

@@ -42,7 +42,7 @@ use Rattle.aat_shaped_text.specs.declared.breaks.BreakRules.{BreakRules}
 use Rattle.aat_shaped_text.specs.declared.text.ShapedGlyph.{ShapedGlyph}
 use Rattle.aat_shaped_text.specs.declared.text.TextGlyph.{TextGlyph}
 use Rattle.aat_kerning.proofs.KerningLawsHold.{kerning_changes_little}
-use Rattle.aat_placement.specs.Attachments.{IsUnattached}
+use Rattle.aat_glyph.specs.placement.Attachments.{IsUnattached}
 use Rattle.aat_shaped_text.proofs.KernedApart.{Plain}
 use Rattle.aat_shaped_text.proofs.KernedText.{text_changes_little}
 use Rattle.aat_shaped_text.proofs.LineRuns.{text_plain}

@@ -14,8 +14,8 @@ use Rattle.aat_glyph.specs.declared.glyph.hb_glyph_info_t.{hb_glyph_info_t}
 use Rattle.aat_kerning.specs.Cut.{ordered_positions}
 use Rattle.aat_kerning.specs.Positioning.{in_processing_order}
 use Rattle.aat_kerning.specs.Zeroing.{without_room, zeroed, zeroed_positions}
-use Rattle.aat_placement.specs.Attachments.{IsUnattached}
-use Rattle.aat_placement.specs.TrackedLines.{begins, plus, tracked, tracked_behind, widened}
+use Rattle.aat_glyph.specs.placement.Attachments.{IsUnattached}
+use Rattle.aat_glyph.specs.placement.TrackedLines.{begins, plus, tracked, tracked_behind, widened}
 use Rattle.aat_shaped_text.specs.Breaks.{is_unchained}
 use Rattle.aat_shaped_text.specs.ShapedText.{drawn_clusters, tracked_by, tracked_line}
 use Rattle.aat_shaped_text.proofs.ChainsSplit.{link, same_links}

@@ -6,8 +6,8 @@ use Rattle.aat_glyph.specs.Directions.{is_forward}
 use Rattle.aat_glyph.specs.declared.glyph.Direction.{Direction}
 use Rattle.aat_glyph.specs.declared.glyph.GlyphPosition.{GlyphPosition}
 use Rattle.aat_buffer.specs.Buffer.{Buffer, position_at, position_list, zero_position}
-use Rattle.aat_placement.proofs.AttachmentLawsHold.{unattached_lines_stay}
-use Rattle.aat_placement.specs.Attachments.{IsUnattached, added_up, at, drawn, drawn_chain, earlier, no_position, parent}
+use Rattle.aat_glyph.proofs.placement.AttachmentLawsHold.{unattached_lines_stay}
+use Rattle.aat_glyph.specs.placement.Attachments.{IsUnattached, added_up, at, drawn, drawn_chain, earlier, no_position, parent}
 use Rattle.aat_shaped_text.specs.ShapedText.{drawn_position}
 
 -- a glyph without an attach type has no chain

@@ -1,7 +1,7 @@
 //! What is drawn of a line.
 ghost use Rattle.std.specs.Prelude.{◌≡◌, ◌<◌, ◌≤◌, [], IfErr, IfOk, IfSome, MatchOption, OnOk, length, map, true};
 ghost use Rattle.std.specs.List.{range_with_len};
-ghost use Rattle.aat_placement.specs.Attachments.{IsUnattached, added_up, parent};
+ghost use Rattle.aat_glyph.specs.placement.Attachments.{IsUnattached, added_up, parent};
 ghost use Rattle.aat_buffer.specs.Buffer.{Buffer, position_list};
 ghost use Rattle.aat_buffer.specs.Clusters.{IsSmall, KeepsOrder};
 ghost use Rattle.aat_kerning_machines.specs.Positions.{IsPlaced};
@@ -13,9 +13,9 @@ ghost use Rattle.aat_shaped_text.specs.ShapedText.{drawn_glyph, drawn_glyphs, dr
 use crate::kerned::OpenPlaces;
 use crate::kinds::kind_of_number;
 use crate::line::{KIND, MARK};
+use aat_glyph::{add_up_attachments, parent_of};
 use aat_layout::buffer::{GlyphPosition, hb_buffer_t, hb_glyph_info_t};
 use aat_layout::{AatError, hb_aat_layout_remove_deleted_glyphs, is_solid};
-use aat_placement::{add_up_attachments, parent_of};
 use aat_shaped_text::{
     BreakRules, CharacterKind, ShapedGlyph, close_chained, front_of, is_kept, may_break_at,
 };

@@ -4,8 +4,8 @@ ghost use Rattle.aat_buffer.specs.Clusters.{IsSmall};
 ghost use Rattle.aat_kerning_machines.specs.Positions.{IsPlaced};
 ghost use Rattle.aat_shaped_text.specs.ShapedText.{drawn_cluster, drawn_clusters, tracked_line};
 
+use aat_glyph::track;
 use aat_layout::buffer::{hb_buffer_t, hb_glyph_info_t};
-use aat_placement::track;
 use aat_shaped_text::is_kept;
 use aat_shaped_text::laws::untracked_lines_stay;
 use std::alloc::{AllocError, Allocator};

@@ -13,7 +13,7 @@ use Rattle.aat_read_sfnt.specs.Examples.{example_file, example_metrics, example_
 use Rattle.aat_read_sfnt.specs.Metrics.{metrics_of}
 use Rattle.aat_read_sfnt.specs.declared.class_definition.ClassDefinition.TheVariants.{Array, Ranges}
 use Rattle.aat_read_sfnt.specs.declared.gdef.GlyphClasses.{GlyphClasses}
-use Rattle.aat_placement.specs.Tracks.{TrackingTable}
+use Rattle.aat_glyph.specs.placement.Tracks.{TrackingTable}
 use Rattle.aat_read_metrics.specs.TrakExamples.{sizes_and_values, trak_header, two_tracks}
 use Rattle.aat_face.specs.English.{english_text, text_in}
 use Rattle.aat_face.specs.Faces.{FaceValue, FontValue, face_of, feature_text, setting_text}

@@ -16,7 +16,7 @@ use Rattle.aat_read_extended.specs.morx.Chains.{ChainValue, values_of_morx}
 use Rattle.aat_read_sfnt.specs.Characters.{mapped_glyph}
 use Rattle.aat_read_sfnt.specs.Directory.{Directory, directory_of}
 use Rattle.aat_read_sfnt.specs.declared.cmap.CharacterMap.{CharacterMap}
-use Rattle.aat_placement.specs.Tracks.{TrackingTable}
+use Rattle.aat_glyph.specs.placement.Tracks.{TrackingTable}
 use Rattle.aat_face.specs.Chains.{chains_in}
 use Rattle.aat_face.specs.English.{Text, english_text}
 use Rattle.aat_face.specs.Features.{feature_bytes, feature_tables, features_in}

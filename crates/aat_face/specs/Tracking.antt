@@ -3,7 +3,7 @@ use Rattle.std.specs.Prelude.{Option, Result}
 use Rattle.aat_bytes.specs.declared.error.Fault.{Fault}
 use Rattle.aat_bytes.specs.declared.tags.TheConstants.{TRAK}
 use Rattle.aat_read_sfnt.specs.Directory.{Directory}
-use Rattle.aat_placement.specs.Tracks.{TrackingTable}
+use Rattle.aat_glyph.specs.placement.Tracks.{TrackingTable}
 use Rattle.aat_read_metrics.specs.Trak.{trak_of}
 use Rattle.aat_read_metrics.specs.Tables.{table_in}
 

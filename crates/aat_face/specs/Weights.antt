@@ -17,7 +17,7 @@ use Rattle.aat_read_lookup.specs.Sizes.{pairs_size}
 use Rattle.aat_read_extended.specs.morx.Chains.{ChainValue}
 use Rattle.aat_read_extended.specs.morx.Weights.{morx_weight}
 use Rattle.aat_read_sfnt.specs.Directory.{cut_table_of, directory_of}
-use Rattle.aat_placement.specs.Tracks.{TrackingTable}
+use Rattle.aat_glyph.specs.placement.Tracks.{TrackingTable}
 use Rattle.aat_read_metrics.specs.TrakLaws.{table_size}
 use Rattle.aat_face.specs.Faces.{FaceValue}
 use Rattle.aat_face.specs.declared.weights.TheConstants.{FACE_SIZE, FAULT_SIZE, FEATURE_NAME_SIZE}

@@ -18,8 +18,8 @@ use crate::text::{NameText, english_text};
 use crate::tracking::trak_in;
 use aat_bytes::{Fault, ReadError};
 use aat_font::hb_font_t;
+use aat_glyph::Tracking;
 use aat_lookup::{GlyphId, Lookup};
-use aat_placement::Tracking;
 use aat_read_lookup::{feature_name_id, setting_name_id};
 use aat_read_metrics::{
     GlyphBox, Origin, em_in, found_in, glyph_box_in, glyph_count_in, number_in, row_metrics,

@@ -5,8 +5,8 @@ ghost use Rattle.aat_face.specs.Tables.{characters_in, classes_fault, classes_in
 use crate::chains::Chains;
 use crate::features::Features;
 use aat_bytes::Fault;
+use aat_glyph::Tracking;
 use aat_kerning_tables::Ankr;
-use aat_placement::Tracking;
 use aat_read_extended::KerxRead;
 use aat_read_kern::KernRead;
 use aat_read_metrics::optional_table;

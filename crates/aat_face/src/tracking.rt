@@ -5,7 +5,7 @@ ghost use Rattle.aat_read_metrics.specs.Trak.{trak_of};
 ghost use Rattle.aat_face.specs.Tracking.{trak_in};
 
 use aat_bytes::{Fault, ReadError};
-use aat_placement::Tracking;
+use aat_glyph::Tracking;
 use aat_read_metrics::{TRAK, optional_table, read_trak};
 use aat_read_sfnt::FontFile;
 use std::alloc::{AllocError, Global};

@@ -1,4 +1,5 @@
 mod Exactly
+mod Growing
 mod Marking
 mod Naming
 mod Reaching

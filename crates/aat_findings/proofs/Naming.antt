@@ -19,15 +19,15 @@ is_not : (b : Bool) → b ≡ false → not b ≡ true
 is_not false is = refl
 is_not true is = cc
 
-and_both : (a b : Bool) → a ≡ true → b ≡ true → a && b ≡ true
+pub and_both : (a b : Bool) → a ≡ true → b ≡ true → a && b ≡ true
 and_both true b here there = there
 and_both false b here there = cc
 
-and_first : (a b : Bool) → a && b ≡ true → a ≡ true
+pub and_first : (a b : Bool) → a && b ≡ true → a ≡ true
 and_first true b is = refl
 and_first false b is = cc
 
-and_second : (a b : Bool) → a && b ≡ true → b ≡ true
+pub and_second : (a b : Bool) → a && b ≡ true → b ≡ true
 and_second true b is = is
 and_second false b is = cc
 

@@ -1,12 +1,14 @@
 -- Worked examples of findings.
-use Rattle.std.specs.Prelude.{◌≡◌, ℕ, [], ◌∷◌, Some, None, true, false}
+use Rattle.std.specs.Prelude.{◌≡◌, ℕ, Bool, [], ◌∷◌, Some, None, true, false}
 use Rattle.aat_lookup.specs.declared.feat.FeatureName.{FeatureName}
 use Rattle.aat_machine_tables.specs.Table.{TableValue}
 use Rattle.aat_machine_tables.specs.declared.state_table.GenericStateEntry.{GenericStateEntry}
 use Rattle.aat_machine_tables.specs.declared.morx.ChainFeature.{ChainFeature}
 use Rattle.aat_findings.specs.Chained.{has_feature, is_clash, is_nameless, sets_none}
-use Rattle.aat_findings.specs.Glyphs.{is_key_past, is_value_past, lists_deleted}
+use Rattle.aat_findings.specs.Glyphs.{is_of, lists_deleted}
+use Rattle.aat_findings.specs.Growth.{Entry as InsertionEntry, grows, puts_deleted}
 use Rattle.aat_findings.specs.Named.{is_of_place}
+use Rattle.aat_findings.specs.declared.glyphs.PairKind.TheVariants.{GlyphPast, ValuePast, Deletes, Restores}
 use Rattle.aat_findings.specs.Reached.{next_state, state_after, state_count}
 use Rattle.aat_findings.specs.Stays.{IsCycle, stay_after}
 
@@ -80,13 +82,65 @@ FeaturesAreTold =
 -- glyphs are past their number from it on, but for the deleted one, which a lookup may list; 0xFFFF names no lookup
 abbrev pub GlyphsArePast : Type 0
 GlyphsArePast =
-    (is_value_past 10 (3, 9) ≡ false)
-    × (is_value_past 10 (3, 10) ≡ true)
-    × (is_value_past 10 (3, 0xFFFF) ≡ false)
-    × (is_key_past 10 (9, 30) ≡ false)
-    × (is_key_past 10 (10, 3) ≡ true)
-    × (is_key_past 10 (0xFFFF, 3) ≡ false)
+    (is_of ValuePast 10 (3, 9) ≡ false)
+    × (is_of ValuePast 10 (3, 10) ≡ true)
+    × (is_of ValuePast 10 (3, 0xFFFF) ≡ false)
+    × (is_of GlyphPast 10 (9, 30) ≡ false)
+    × (is_of GlyphPast 10 (10, 3) ≡ true)
+    × (is_of GlyphPast 10 (0xFFFF, 3) ≡ false)
     × (lists_deleted ((9, 3) ∷ (0xFFFF, 3) ∷ []) ≡ true)
     × (lists_deleted ((9, 3) ∷ []) ≡ false)
     × (is_of_place 2 2 ≡ true)
     × (is_of_place 0xFFFF 0xFFFF ≡ false)
+
+-- a pair deletes a glyph, or brings the deleted one back
+abbrev pub GlyphsAreDeleted : Type 0
+GlyphsAreDeleted =
+    (is_of Deletes 10 (3, 0xFFFF) ≡ true)
+    × (is_of Deletes 10 (3, 30) ≡ false)
+    × (is_of Deletes 10 (0xFFFF, 0xFFFF) ≡ false)
+    × (is_of Restores 10 (0xFFFF, 3) ≡ true)
+    × (is_of Restores 10 (3, 0xFFFF) ≡ false)
+
+-- the entry of insertion that goes to a state, with flags, and puts glyphs in from indexes on
+abbrev pub puts : ℕ → ℕ → ℕ → ℕ → InsertionEntry
+puts state flags current marked = record {
+  new_state = state;
+  flags = flags;
+  extra = record { current_insert_index = current; marked_insert_index = marked };
+}
+
+-- a machine of insertion over the glyphs 1 and 2, of the classes 4 and 5, with a rule of state 0 at each of them
+abbrev pub inserting : InsertionEntry → InsertionEntry → TableValue InsertionEntry
+inserting first second = record {
+  class_count = 6;
+  classes = (1, 4) ∷ (2, 5) ∷ [];
+  rules = (0, 4, first) ∷ (0, 5, second) ∷ [];
+}
+
+-- whether a line grows at glyph 1, where glyphs 1 and 2 go in
+abbrev pub grows_at_first : InsertionEntry → InsertionEntry → Bool
+grows_at_first first second = grows (inserting first second) (record { 0 = 1 } ∷ record { 0 = 2 } ∷ []) (0, 4, first)
+
+-- a line grows where an entry that stays puts a glyph in behind the one there, or before it one of its class; or one of
+-- another class, from which an entry leads back. It does not where the entry advances, puts none in, leads to a class
+-- without a rule that stays, or puts some in behind the mark
+abbrev pub LinesGrow : Type 0
+LinesGrow =
+    (grows_at_first (puts 0 0x4020 1 0xFFFF) (puts 0 0 0xFFFF 0xFFFF) ≡ true)
+    × (grows_at_first (puts 0 0x4820 0 0xFFFF) (puts 0 0 0xFFFF 0xFFFF) ≡ true)
+    × (grows_at_first (puts 0 0x4820 1 0xFFFF) (puts 0 0x4820 0 0xFFFF) ≡ true)
+    × (grows_at_first (puts 0 0x4401 0xFFFF 1) (puts 0 0 0xFFFF 0xFFFF) ≡ true)
+    × (grows_at_first (puts 0 0x0020 1 0xFFFF) (puts 0 0 0xFFFF 0xFFFF) ≡ false)
+    × (grows_at_first (puts 0 0x4020 2 0xFFFF) (puts 0 0 0xFFFF 0xFFFF) ≡ false)
+    × (grows_at_first (puts 0 0x4820 1 0xFFFF) (puts 0 0 0xFFFF 0xFFFF) ≡ false)
+    × (grows_at_first (puts 1 0x4020 1 0xFFFF) (puts 0 0 0xFFFF 0xFFFF) ≡ false)
+    × (grows_at_first (puts 0 0x4001 0xFFFF 1) (puts 0 0 0xFFFF 0xFFFF) ≡ false)
+
+-- an entry puts the deleted glyph in where that is among the glyphs that go in, all of which the list has
+abbrev pub DeletedGoesIn : Type 0
+DeletedGoesIn =
+    (puts_deleted (record { 0 = 1 } ∷ record { 0 = 0xFFFF } ∷ []) (puts 0 0x0040 0 0xFFFF) ≡ true)
+    × (puts_deleted (record { 0 = 1 } ∷ record { 0 = 0xFFFF } ∷ []) (puts 0 0x0001 0xFFFF 1) ≡ true)
+    × (puts_deleted (record { 0 = 1 } ∷ record { 0 = 0xFFFF } ∷ []) (puts 0 0x0020 0 0xFFFF) ≡ false)
+    × (puts_deleted (record { 0 = 1 } ∷ record { 0 = 0xFFFF } ∷ []) (puts 0 0x0060 0 0xFFFF) ≡ false)

@@ -1,15 +1,17 @@
--- Glyphs that a font does not have. Apple's TrueType Reference Manual, "Font Tables", section on lookup tables, and
--- "The 'maxp' table".
+-- Pairs of a glyph and its value that do harm, or are of no use. Apple's TrueType Reference Manual, "Font Tables",
+-- section on lookup tables, and "The 'maxp' table".
 use Rattle.std.specs.Prelude.{ℕ, ◌==◌, ◌&&◌, Bool, not, nat_le, is_some, List}
 use Rattle.aat_lookup.specs.Keys.{value_in}
+use Rattle.aat_findings.specs.declared.glyphs.PairKind.{PairKind}
+use Rattle.aat_findings.specs.declared.glyphs.PairKind.TheVariants.{GlyphPast, ValuePast, Deletes, Restores}
 
--- a pair lists a value for a glyph that is not below a number of glyphs, and is not the deleted glyph
-abbrev pub is_key_past : ℕ → ℕ × ℕ → Bool
-is_key_past count p = nat_le count p.0 && not (p.0 == 0xFFFF)
-
--- the value of a pair is a glyph that is not below a number of glyphs, and is not the deleted glyph
-abbrev pub is_value_past : ℕ → ℕ × ℕ → Bool
-is_value_past count p = nat_le count p.1 && not (p.1 == 0xFFFF)
+-- a pair is of a kind, in a font of so many glyphs: its glyph or its value is not below their number, and is not the
+-- deleted glyph, 0xFFFF; or one of the two is that glyph, and not the other
+abbrev pub is_of : PairKind → ℕ → ℕ × ℕ → Bool
+is_of GlyphPast count p = nat_le count p.0 && not (p.0 == 0xFFFF)
+is_of ValuePast count p = nat_le count p.1 && not (p.1 == 0xFFFF)
+is_of Deletes _ p = (p.1 == 0xFFFF) && not (p.0 == 0xFFFF)
+is_of Restores _ p = (p.0 == 0xFFFF) && not (p.1 == 0xFFFF)
 
 -- pairs list a value for the deleted glyph, which a state table does not ask: its class is 2
 abbrev pub lists_deleted : List (ℕ × ℕ) → Bool

@@ -2,6 +2,7 @@ pub mod Alike
 pub mod Chained
 pub mod Examples
 pub mod Glyphs
+pub mod Growth
 pub mod Named
 pub mod Reached
 pub mod Stays

@@ -1,6 +1,6 @@
-//! Glyphs that a font does not have, in lookups and in the classes of glyphs.
+//! Glyphs that a font does not have, and the deleted glyph, in lookups and in the classes of glyphs.
 ghost use Rattle.std.specs.Prelude.{◌≡◌, filter, IfOk};
-ghost use Rattle.aat_findings.specs.Glyphs.{is_key_past, is_value_past, lists_deleted};
+ghost use Rattle.aat_findings.specs.Glyphs.{is_of, lists_deleted};
 
 use aat_lookup::{GlyphId, Lookup};
 use std::alloc::{AllocError, Global};
@@ -8,59 +8,63 @@ use std::alloc::{AllocError, Global};
 /// The deleted glyph.
 const DELETED_GLYPH: u16 = 0xFFFF;
 
-/// The pairs of glyphs that are not below a number.
-fn keys_in(alloc: Global, pairs: &[(u16, u16)], count: u32) -> Result<Vec<(u16, u16)>, AllocError>
-    ensures { IfOk result (λ found. found.items ≡ filter (is_key_past count) pairs.now) }
+/// For what a pair of a glyph and its value is told. The value is a glyph too, but in classes.
+#[derive(Clone, Copy)]
+pub enum PairKind {
+    /// The font does not have the glyph, and it is not the deleted one, 0xFFFF.
+    GlyphPast,
+    /// The font does not have the value, and it is not the deleted glyph, which is how a lookup deletes one.
+    ValuePast,
+    /// Another glyph becomes the deleted one.
+    Deletes,
+    /// The deleted glyph becomes another one.
+    Restores,
+}
+
+/// Whether a pair is of a kind, in a font of so many glyphs.
+fn is_of(kind: PairKind, glyph_count: u32, pair: (u16, u16)) -> bool
+    ensures { result ≡ is_of kind glyph_count pair }
+{
+    let (glyph, value) = pair;
+    match kind {
+        PairKind::GlyphPast => glyph as u32 >= glyph_count && glyph != DELETED_GLYPH,
+        PairKind::ValuePast => value as u32 >= glyph_count && value != DELETED_GLYPH,
+        PairKind::Deletes => value == DELETED_GLYPH && glyph != DELETED_GLYPH,
+        PairKind::Restores => glyph == DELETED_GLYPH && value != DELETED_GLYPH,
+    }
+}
+
+/// The pairs of a kind.
+fn pairs_in(
+    alloc: Global,
+    pairs: &[(u16, u16)],
+    kind: PairKind,
+    glyph_count: u32,
+) -> Result<Vec<(u16, u16)>, AllocError>
+    ensures { IfOk result (λ found. found.items ≡ filter (is_of kind glyph_count) pairs.now) }
 {
     pairs
         .iter()
-        .filter(|pair| pair.0 as u32 >= count && pair.0 != DELETED_GLYPH)
+        .filter(|pair| is_of(kind, glyph_count, **pair))
         .copied()
         .collect(alloc)
 }
 
-/// The pairs of values that are not below a number.
-fn values_in(alloc: Global, pairs: &[(u16, u16)], count: u32) -> Result<Vec<(u16, u16)>, AllocError>
-    ensures { IfOk result (λ found. found.items ≡ filter (is_value_past count) pairs.now) }
-{
-    pairs
-        .iter()
-        .filter(|pair| pair.1 as u32 >= count && pair.1 != DELETED_GLYPH)
-        .copied()
-        .collect(alloc)
-}
-
-/// The pairs of a lookup, in their order, whose glyph is not below the number of glyphs, but for the deleted glyph,
-/// 0xFFFF: of [`lists_deleted`]. Fails where memory is wanting.
+/// The pairs of a lookup, in their order, that are of a kind, in a font that has the glyphs below a number. Fails where
+/// memory is wanting.
 ///
 /// Apple's TrueType Reference Manual, "Font Tables", section on lookup tables.
-pub fn keys_past(
+pub fn pairs_of(
     alloc: Global,
     lookup: &Lookup,
+    kind: PairKind,
     glyph_count: u32,
 ) -> Result<Vec<(u16, u16)>, AllocError>
-    ensures { IfOk result (λ found. found.items ≡ filter (is_key_past glyph_count) lookup.now) }
+    ensures { IfOk result (λ found. found.items ≡ filter (is_of kind glyph_count) lookup.now) }
 {
     let pairs = lookup.to_pairs(alloc)?;
     let of_pairs = pairs.as_slice();
-    let found = keys_in(alloc, of_pairs, glyph_count)?;
-    Ok(found)
-}
-
-/// The pairs of a lookup, in their order, whose value as a glyph is not below the number of glyphs, but for the deleted
-/// glyph, 0xFFFF, which is how a lookup deletes one. Fails where memory is wanting.
-///
-/// Apple's TrueType Reference Manual, "Font Tables", section on lookup tables.
-pub fn values_past(
-    alloc: Global,
-    lookup: &Lookup,
-    glyph_count: u32,
-) -> Result<Vec<(u16, u16)>, AllocError>
-    ensures { IfOk result (λ found. found.items ≡ filter (is_value_past glyph_count) lookup.now) }
-{
-    let pairs = lookup.to_pairs(alloc)?;
-    let of_pairs = pairs.as_slice();
-    let found = values_in(alloc, of_pairs, glyph_count)?;
+    let found = pairs_in(alloc, of_pairs, kind, glyph_count)?;
     Ok(found)
 }
 

@@ -2,7 +2,7 @@
 
 use crate::known::Known;
 use crate::values::{Told, list, maybe, members, need, word};
-use aat_placement::{Track, TrackData, Tracking};
+use aat_glyph::{Track, TrackData, Tracking};
 use anyhow::Result;
 use serde_json::Value;
 

@@ -8,7 +8,7 @@ use Rattle.std.proofs.lemmas.List.FromFn.{length-map-range_with_len}
 use Rattle.std.proofs.Math.Nat.{suc-mul}
 use Rattle.aat_bytes.specs.Numbers.{be16, be32, signed16}
 use Rattle.aat_bytes.specs.declared.error.Fault.{Fault}
-use Rattle.aat_placement.specs.Tracks.{TrackingTable}
+use Rattle.aat_glyph.specs.placement.Tracks.{TrackingTable}
 use Rattle.aat_read_metrics.specs.Trak.{data_at, data_fault, first_outside, header_fault, lists_fault, part_at, part_fault, past, reaches, signed32, size_count, sizes_place, track_at, track_count, track_values, trak_fault, values_place}
 use Rattle.aat_read_metrics.specs.TrakLaws.{TraksAreBounded, data_size, part_size, table_size}
 

@@ -6,3 +6,4 @@ pub mod Trak
 pub mod TrakExamples
 pub mod TrakLaws
 pub mod inside
+pub mod names

@@ -8,8 +8,8 @@ use Rattle.aat_bytes.specs.Numbers.{be16, be32, signed16}
 use Rattle.aat_bytes.specs.declared.error.Fault.{Fault}
 use Rattle.aat_bytes.specs.declared.error.FaultKind.TheVariants.{PastEnd, UnknownFormat}
 use Rattle.aat_bytes.specs.declared.tags.TheConstants.{TRAK}
-use Rattle.aat_placement.specs.Tracks.{TrackTable, TrackingTable}
-use Rattle.aat_placement.specs.declared.track_data.Track.{Track}
+use Rattle.aat_glyph.specs.placement.Tracks.{TrackTable, TrackingTable}
+use Rattle.aat_glyph.specs.declared.placement.track_data.Track.{Track}
 
 -- a number of 32 bits taken as signed, in two's complement
 abbrev pub signed32 : ℕ → ℤ

@@ -1,7 +1,7 @@
 -- How much memory a tracking table takes.
 use Rattle.std.specs.Prelude.{◌≡◌, ℕ, ◌+◌, ◌*◌, ◌≤◌, List, length, Option, Ok}
 use Rattle.std.specs.Option.{option_map_or}
-use Rattle.aat_placement.specs.Tracks.{TrackTable, TrackingTable}
+use Rattle.aat_glyph.specs.placement.Tracks.{TrackTable, TrackingTable}
 use Rattle.aat_read_metrics.specs.Trak.{trak_of}
 
 -- how many bytes the tracks of a direction take: 4 for each size, 8 for each track and 2 for each value

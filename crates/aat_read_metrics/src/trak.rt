@@ -8,7 +8,7 @@ ghost use Rattle.aat_read_metrics.specs.inside.Whole.{IsWhole};
 
 use crate::fault::{entry_place, trak_fault, values_place};
 use aat_bytes::{ReadError, be16, be32};
-use aat_placement::{Track, TrackData, Tracking};
+use aat_glyph::{Track, TrackData, Tracking};
 use std::alloc::{AllocError, Allocator};
 
 /// The fixed number at a place.

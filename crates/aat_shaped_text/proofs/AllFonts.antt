@@ -3,7 +3,7 @@
 use Rattle.std.proofs.Common.{◌≡◌, refl, Bool, true, false}
 use Rattle.aat_kerning.specs.Cut.{PartsAreKernedApart}
 use Rattle.aat_kerning.specs.KerningLawful.{KerningChangesLittle}
-use Rattle.aat_placement.specs.TrackingLaws.{PartsAreTrackedApart}
+use Rattle.aat_glyph.specs.placement.TrackingLaws.{PartsAreTrackedApart}
 use Rattle.aat_shaped_text.specs.Breaks.{kerns_by_pairs}
 use Rattle.aat_shaped_text.specs.Parts.{BreaksHold, BreaksInParts, PartsKeepBreaks, TextsAreDrawnInParts}
 use Rattle.aat_shaped_text.specs.ShapedText.{shaped_text}

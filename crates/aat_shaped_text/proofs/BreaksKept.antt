@@ -9,7 +9,7 @@ use Rattle.aat_glyph.specs.declared.glyph.Direction.{Direction}
 use Rattle.aat_font.specs.declared.face.hb_font_t.{hb_font_t}
 use Rattle.aat_font.specs.declared.plan.Feature.{Feature}
 use Rattle.aat_kerning.specs.KerningLawful.{KerningChangesLittle}
-use Rattle.aat_placement.specs.TrackingLaws.{PartsAreTrackedApart}
+use Rattle.aat_glyph.specs.placement.TrackingLaws.{PartsAreTrackedApart}
 use Rattle.aat_shaped_text.specs.Breaks.{front_of, kept_before}
 use Rattle.aat_shaped_text.specs.Parts.{BreaksAsParts, BreaksInParts, looks, no_shaped_glyph, shaped_at}
 use Rattle.aat_shaped_text.specs.ShapedText.{drawn_glyphs, drawn_text, may_break_text, may_cut_text, shaped_text}

@@ -14,8 +14,8 @@ use Rattle.std.specs.Option.{option_map_or}
 use Rattle.std.specs.Prelude.{None, Option, Some, nat_le, option_map}
 use Rattle.aat_glyph.specs.declared.glyph.Direction.{Direction}
 use Rattle.aat_glyph.specs.declared.glyph.GlyphPosition.{GlyphPosition}
-use Rattle.aat_placement.specs.Attachments.{Coordinate, X, Y, added_up, advance, at, drawn, drawn_chain, drawn_offset, earlier, followed, is_across, is_mark, minus, no_position, offset, parent, pen, plus, share_behind}
-use Rattle.aat_placement.proofs.Descents.{drawn_offset_at, followed_back}
+use Rattle.aat_glyph.specs.placement.Attachments.{Coordinate, X, Y, added_up, advance, at, drawn, drawn_chain, drawn_offset, earlier, followed, is_across, is_mark, minus, no_position, offset, parent, pen, plus, share_behind}
+use Rattle.aat_glyph.proofs.placement.Descents.{drawn_offset_at, followed_back}
 use Rattle.aat_shaped_text.specs.Breaks.{is_unchained}
 
 -- Tests of all places from one on.

@@ -10,7 +10,7 @@ use Rattle.aat_buffer.specs.Removal.{is_deleted, removed}
 use Rattle.aat_kerning.specs.Positioning.{in_processing_order}
 use Rattle.aat_kerning.specs.Zeroing.{zeroed, zeroed_position, zeroed_positions}
 use Rattle.aat_layout.specs.Shaping.{advanced, with_advances}
-use Rattle.aat_placement.specs.Attachments.{parent}
+use Rattle.aat_glyph.specs.placement.Attachments.{parent}
 use Rattle.aat_closing.specs.Unflagged.{SameButFlags, bare, erased, unflagged}
 use Rattle.aat_closing.specs.facts.BlindBuffers.{erased_of, same_of}
 use Rattle.aat_closing.specs.facts.BlindLines.{bare_at, bare_cluster_at, bare_length}

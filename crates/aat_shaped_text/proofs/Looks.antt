@@ -7,7 +7,7 @@ use Rattle.aat_glyph.specs.declared.glyph.GlyphPosition.{GlyphPosition}
 use Rattle.aat_glyph.specs.declared.glyph.hb_glyph_info_t.{hb_glyph_info_t}
 use Rattle.aat_buffer.specs.Buffer.{Buffer, glyph_at, position_list, zero_position}
 use Rattle.aat_buffer.specs.Removal.{is_deleted, removed}
-use Rattle.aat_placement.specs.Attachments.{added_up}
+use Rattle.aat_glyph.specs.placement.Attachments.{added_up}
 use Rattle.aat_shaped_text.specs.Parts.{looks}
 use Rattle.aat_shaped_text.specs.ShapedText.{drawn_glyph, drawn_glyphs, is_ignorable, is_mark, kept_places, kind_of, with_clusters_of}
 use Rattle.aat_shaped_text.specs.declared.text.ShapedGlyph.{ShapedGlyph}

@@ -11,7 +11,7 @@ use Rattle.aat_run.specs.Budget.{operations_left}
 use Rattle.aat_kerning.specs.Cut.{PartsAreKernedApart, ordered_line}
 use Rattle.aat_kerning.specs.KerningLawful.{KerningChangesLittle}
 use Rattle.aat_kerning.specs.Pairs.{is_solid}
-use Rattle.aat_placement.specs.TrackingLaws.{PartsAreTrackedApart}
+use Rattle.aat_glyph.specs.placement.TrackingLaws.{PartsAreTrackedApart}
 use Rattle.aat_shaped_text.specs.Breaks.{kept_before, kerns_by_pairs, skips_of, substitutes_evenly}
 use Rattle.aat_shaped_text.specs.ShapedText.{closed_text, kerned_closed, may_cut_text, tells_breaks}
 use Rattle.aat_shaped_text.proofs.BreakPlaces.{MeetsAt}

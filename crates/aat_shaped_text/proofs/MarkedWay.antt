@@ -13,7 +13,7 @@ use Rattle.aat_font.specs.declared.plan.Feature.{Feature}
 use Rattle.aat_kerning.specs.Cut.{PartsAreKernedApart, ordered_line, ordered_positions}
 use Rattle.aat_kerning.specs.KerningLawful.{KerningChangesLittle}
 use Rattle.aat_kerning.specs.Pairs.{is_solid}
-use Rattle.aat_placement.specs.TrackingLaws.{PartsAreTrackedApart}
+use Rattle.aat_glyph.specs.placement.TrackingLaws.{PartsAreTrackedApart}
 use Rattle.aat_layout.specs.Shaping.{advanced, with_advances}
 use Rattle.aat_shaped_text.specs.Breaks.{is_rising, is_unchained, is_unsafe, kerns_apart, kerns_by_pairs, later_run, skips_of, substitutes_evenly}
 use Rattle.aat_shaped_text.specs.ShapedText.{closed_text, is_open_by_kerning, is_open_by_marks, kerned_closed, may_break_line, may_cut_text, tells_breaks}

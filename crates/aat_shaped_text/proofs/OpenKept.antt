@@ -9,7 +9,7 @@ use Rattle.aat_font.specs.declared.plan.Feature.{Feature}
 use Rattle.aat_run.specs.Budget.{operations_left}
 use Rattle.aat_kerning.specs.Cut.{ordered_line, ordered_positions}
 use Rattle.aat_kerning.specs.KerningLawful.{KerningChangesLittle}
-use Rattle.aat_placement.specs.TrackingLaws.{PartsAreTrackedApart}
+use Rattle.aat_glyph.specs.placement.TrackingLaws.{PartsAreTrackedApart}
 use Rattle.aat_shaped_text.specs.Breaks.{is_unchained, kept_before, kerns_by_pairs, substitutes_evenly}
 use Rattle.aat_shaped_text.specs.KernedBreaks.{kerning_opens}
 use Rattle.aat_shaped_text.specs.ShapedText.{advanced_closed, kerned_closed, may_cut_text, most_operations}

@@ -10,7 +10,7 @@ use Rattle.aat_run.specs.Budget.{operations_left}
 use Rattle.aat_kerning.specs.Cut.{ordered_line, ordered_positions}
 use Rattle.aat_kerning.specs.KerningLawful.{KerningChangesLittle}
 use Rattle.aat_kerning.proofs.Marked.{line_same}
-use Rattle.aat_placement.specs.TrackingLaws.{PartsAreTrackedApart}
+use Rattle.aat_glyph.specs.placement.TrackingLaws.{PartsAreTrackedApart}
 use Rattle.aat_cut_kinds.specs.KerningCuts.{HaveEnough}
 use Rattle.aat_shaped_text.specs.Breaks.{is_rising, is_unchained, kerns_by_pairs, substitutes_evenly}
 use Rattle.aat_shaped_text.specs.KernedBreaks.{kerning_opens}

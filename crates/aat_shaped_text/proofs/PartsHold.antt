@@ -29,7 +29,7 @@ use Rattle.aat_kerning.specs.Cut.{ordered_line, ordered_positions}
 use Rattle.aat_kerning.specs.Pairs.{is_solid}
 use Rattle.aat_kerning_machines.specs.KerningLaws.{IsMarkedFrom}
 use Rattle.aat_kerning.specs.KerningLawful.{KerningChangesLittle}
-use Rattle.aat_placement.specs.TrackingLaws.{PartsAreTrackedApart}
+use Rattle.aat_glyph.specs.placement.TrackingLaws.{PartsAreTrackedApart}
 use Rattle.aat_layout.specs.Shaping.{with_advances}
 use Rattle.aat_shaped_text.specs.Breaks.{front_of, is_rising, is_unchained, kept_before, substitutes_evenly}
 use Rattle.aat_shaped_text.specs.TextFeatures.{ask_alike, ask_alike_through, ask_evenly}

@@ -12,13 +12,13 @@ use Rattle.aat_font.specs.Face.{advance_of}
 use Rattle.aat_font.specs.declared.face.hb_font_t.{hb_font_t}
 use Rattle.aat_font.specs.declared.plan.Feature.{Feature}
 use Rattle.aat_kerning_machines.specs.KerningLaws.{IsKernedFrom}
-use Rattle.aat_placement.specs.Attachments.{added_up}
+use Rattle.aat_glyph.specs.placement.Attachments.{added_up}
 use Rattle.aat_kerning.specs.Cut.{ordered_line, ordered_positions}
 use Rattle.aat_kerning.specs.KerningLawful.{KerningChangesLittle}
 use Rattle.aat_kerning.specs.Positioning.{in_processing_order}
 use Rattle.aat_kerning.specs.Zeroing.{zeroed, zeroed_positions}
 use Rattle.aat_layout.specs.Shaping.{advanced, with_advances}
-use Rattle.aat_placement.specs.TrackingLaws.{PartsAreTrackedApart}
+use Rattle.aat_glyph.specs.placement.TrackingLaws.{PartsAreTrackedApart}
 use Rattle.aat_shaped_text.specs.Parts.{looks}
 use Rattle.aat_shaped_text.specs.ShapedText.{drawn_clusters, drawn_glyphs, text_kerning, tracked_by, tracked_line}
 use Rattle.aat_shaped_text.specs.declared.text.TextGlyph.{TextGlyph}

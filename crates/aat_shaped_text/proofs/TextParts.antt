@@ -9,7 +9,7 @@ use Rattle.aat_font.specs.declared.face.hb_font_t.{hb_font_t}
 use Rattle.aat_font.specs.declared.plan.Feature.{Feature}
 use Rattle.aat_kerning.specs.Cut.{ordered_positions}
 use Rattle.aat_kerning.specs.Zeroing.{zeroed_positions}
-use Rattle.aat_placement.specs.Attachments.{added_up}
+use Rattle.aat_glyph.specs.placement.Attachments.{added_up}
 use Rattle.aat_shaped_text.specs.Breaks.{is_unchained}
 use Rattle.aat_shaped_text.specs.Parts.{cut_before, looks, no_shaped_glyph, shaped_at}
 use Rattle.aat_shaped_text.specs.ShapedText.{drawn_glyphs}

@@ -14,7 +14,7 @@ use Rattle.aat_glyph.specs.declared.glyph.GlyphPosition.{GlyphPosition}
 use Rattle.aat_buffer.specs.Buffer.{Buffer, position_list, reversed, zero_position}
 use Rattle.aat_buffer.specs.Removal.{is_deleted}
 use Rattle.aat_kerning_machines.specs.KerningLaws.{IsMarkedFrom}
-use Rattle.aat_placement.specs.Attachments.{drawn_chain, earlier}
+use Rattle.aat_glyph.specs.placement.Attachments.{drawn_chain, earlier}
 use Rattle.aat_kerning.specs.Cut.{ordered_line, ordered_positions}
 use Rattle.aat_kerning.specs.Zeroing.{without_room, zeroed_position, zeroed_positions}
 use Rattle.aat_shaped_text.specs.Breaks.{is_unchained}

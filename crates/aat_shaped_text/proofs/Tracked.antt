@@ -9,8 +9,8 @@ use Rattle.aat_glyph.specs.Directions.{is_horizontal}
 use Rattle.aat_glyph.specs.declared.glyph.Direction.{Direction}
 use Rattle.aat_glyph.specs.declared.glyph.GlyphPosition.{GlyphPosition}
 use Rattle.aat_buffer.specs.Removal.{is_deleted}
-use Rattle.aat_placement.specs.TrackedLines.{begins, first_drawn, plus, tracked, tracked_behind, widened}
-use Rattle.aat_placement.specs.TrackingLaws.{MeetApart, PartsAreTrackedApart}
+use Rattle.aat_glyph.specs.placement.TrackedLines.{begins, first_drawn, plus, tracked, tracked_behind, widened}
+use Rattle.aat_glyph.specs.placement.TrackingLaws.{MeetApart, PartsAreTrackedApart}
 use Rattle.aat_shaped_text.specs.ShapedText.{UntrackedLinesStay, drawn_cluster, drawn_clusters, tracked_by}
 use Rattle.aat_shaped_text.proofs.ChainsSplit.{link}
 use Rattle.aat_shaped_text.proofs.Looks.{Positions, plain}

@@ -19,7 +19,7 @@ use Rattle.aat_map.specs.Requests.{requests_of}
 use Rattle.aat_kinds.specs.Kinds.{is_for}
 use Rattle.aat_kerning.specs.Pairs.{kern_skips, kerx_skips}
 use Rattle.aat_kerning.specs.Positioning.{Kerning, is_for_direction, kerning_of_kern_subtable, kerning_of_kerx_subtable}
-use Rattle.aat_placement.specs.Attachments.{parent}
+use Rattle.aat_glyph.specs.placement.Attachments.{parent}
 use Rattle.aat_closing.specs.ClosingCuts.{is_noncontextual}
 use Rattle.aat_shaped_text.specs.TextFeatures.{ask_evenly}
 use Rattle.aat_shaped_text.specs.declared.breaks.BreakRules.{BreakRules}

@@ -1,6 +1,6 @@
 -- Worked examples of where a text may be broken, of what is drawn of it, and of what its features ask.
 use Rattle.std.specs.Prelude.{◌≡◌, ◌==◌, ℕ, Bool, true, false, List, [], ◌∷◌, ℤ, pos, negsuc, Option, Some, None, filter, map}
-use Rattle.aat_placement.specs.AttachmentExamples.{in_column, in_row, mark}
+use Rattle.aat_glyph.specs.placement.AttachmentExamples.{in_column, in_row, mark}
 use Rattle.aat_buffer.specs.Buffer.{Buffer, no_glyph, with_direction}
 use Rattle.aat_buffer.specs.Examples.{buffer_at, glyphs_in, gone, in_cluster, in_cluster_with, left_masks, standing}
 use Rattle.aat_glyph.specs.declared.glyph.Direction.{Direction}

@@ -11,8 +11,8 @@ use Rattle.aat_kerning_tables.specs.declared.kerx.KerxSubtable.{KerxSubtable}
 use Rattle.aat_machine_tables.specs.Table.{TableValue}
 use Rattle.aat_machine_tables.specs.declared.entries.KernEntryData.{KernEntryData}
 use Rattle.aat_machine_tables.specs.declared.state_table.GenericStateEntry.{GenericStateEntry}
-use Rattle.aat_placement.specs.AttachmentExamples.{mark}
-use Rattle.aat_placement.specs.Attachments.{no_position}
+use Rattle.aat_glyph.specs.placement.AttachmentExamples.{mark}
+use Rattle.aat_glyph.specs.placement.Attachments.{no_position}
 use Rattle.aat_cut_kinds.specs.KerningExamples.{kerning_at_end, kerning_before_two, kerning_each}
 use Rattle.aat_shaped_text.specs.Breaks.{is_unchained}
 use Rattle.aat_shaped_text.specs.ShapedText.{is_open_by_marks, may_break_text}

@@ -5,7 +5,7 @@ use Rattle.std.specs.Prelude.{◌≡◌, ◌⊎◌, ℕ, ℤ, is_some, option_ma
 use Rattle.std.specs.Bool.{MatchBool}
 use Rattle.std.specs.List.{range_with_len}
 use Rattle.std.specs.Ordering.{int_eq}
-use Rattle.aat_placement.specs.Attachments.{added_up, parent}
+use Rattle.aat_glyph.specs.placement.Attachments.{added_up, parent}
 use Rattle.aat_buffer.specs.Buffer.{Buffer, empty_buffer, glyph_at, position_list, with_direction, with_line, zero_position}
 use Rattle.aat_buffer.specs.Marks.{cluster_at}
 use Rattle.aat_buffer.specs.Removal.{is_deleted, removed}
@@ -32,7 +32,7 @@ use Rattle.aat_kerning.specs.Zeroing.{zeroed}
 use Rattle.aat_layout.specs.Shaping.{with_advances}
 use Rattle.aat_closing.specs.ClosingChains.{closing_substituted}
 use Rattle.aat_closing.specs.ClosingRuns.{Told}
-use Rattle.aat_placement.specs.TrackedLines.{tracked}
+use Rattle.aat_glyph.specs.placement.TrackedLines.{tracked}
 use Rattle.aat_shaped_text.specs.Breaks.{front_of, is_rising, is_unchained, kept_before, kerns_by_pairs, may_break_at, skips_of, substitutes_evenly}
 use Rattle.aat_shaped_text.specs.KernedBreaks.{kerning_opens}
 use Rattle.aat_shaped_text.specs.Kinds.{kind_of_number, number_of_kind}

@@ -5,8 +5,8 @@ ghost use Rattle.aat_shaped_text.specs.ClosingDraws.{ClosingDrawsAlike};
 ghost use Rattle.aat_shaped_text.specs.Parts.{PartsKeepBreaks, TextsAreDrawnInParts};
 ghost use Rattle.aat_shaped_text.specs.ShapedText.{CharactersAreRead, UntrackedLinesStay};
 
+use aat_glyph::placement::laws::parts_are_tracked_apart;
 use aat_kerning::laws::{kerning_changes_little, parts_are_kerned_apart};
-use aat_placement::laws::parts_are_tracked_apart;
 
 /// A line that is tracked by 0 stays as it is.
 #[tactic(auto, using(crate::proofs::Tracked::untracked))]

@@ -16,11 +16,11 @@ ghost use Rattle.aat_layout.specs.Shaping.{placing, with_advances};
 use crate::breaks::{BreakRules, may_break_at};
 use crate::kerned_places::kern_openly;
 use crate::kerned_subtables::TextKerning;
+use aat_glyph::parent_of;
 use aat_kerning::hb_aat_layout_zero_width_deleted_glyphs;
 use aat_layout::buffer::{DELETED_GLYPH, Direction, GlyphPosition, hb_buffer_t, hb_glyph_info_t};
 use aat_layout::font::{hb_font_t, hb_ot_shape_plan_t};
 use aat_layout::{AatError, advance};
-use aat_placement::parent_of;
 use std::alloc::{AllocError, Allocator};
 
 /// Turns a backward line round, so that one in reading order is in drawing order, and the other way.

@@ -14,7 +14,7 @@ pub fn breaks()
 {}
 
 /// The definitions of what is drawn compute to the examples.
-#[tactic(auto, unfolding(aat_placement::specs::Attachments::drawn_offset, aat_buffer::specs::Removal::removal, aat_buffer::specs::Removal::cluster_kept_line, aat_buffer::specs::Removal::lowered_run))]
+#[tactic(auto, unfolding(aat_glyph::specs::placement::Attachments::drawn_offset, aat_buffer::specs::Removal::removal, aat_buffer::specs::Removal::cluster_kept_line, aat_buffer::specs::Removal::lowered_run))]
 pub fn drawn()
     ensures places { KeptGlyphsAreCounted }
     ensures deleted { DeletedGlyphsGo }

@@ -4,7 +4,7 @@ use Rattle.aat_font.specs.declared.face.hb_font_t.{hb_font_t}
 use Rattle.aat_glyph.specs.Directions.{is_horizontal}
 use Rattle.aat_glyph.specs.declared.glyph.Direction.{Direction}
 use Rattle.aat_glyph.specs.declared.glyph.Direction.TheVariants.{LeftToRight, TopToBottom}
-use Rattle.aat_placement.specs.Tracks.{TrackingTable, tracking_along}
+use Rattle.aat_glyph.specs.placement.Tracks.{TrackingTable, tracking_along}
 use Rattle.aat_shaped_text.specs.declared.text.ShapedGlyph.{ShapedGlyph}
 
 -- the values by which text in rows and text in columns are tracked, in units of the font

@@ -19,7 +19,7 @@ mod workspace;
 #[doc(hidden)]
 pub mod worked;
 
-pub use aat_placement::{Track, TrackData, Tracking, TrackingError};
+pub use aat_glyph::{Track, TrackData, Tracking, TrackingError};
 pub use aat_shaped_text::{CharacterKind, ShapedGlyph, SpaceWidth, TextGlyph};
 pub use lines::{LineStop, TextLine, TextLines};
 pub use memory::ShaperMemory;

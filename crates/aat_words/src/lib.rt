@@ -5,9 +5,14 @@
 //! ```
 #![tactic(auto)]
 
+mod argument;
 mod commands;
 mod hidden_commands;
+mod program;
 mod request_words;
+mod shape_words;
+mod shared;
+mod subcommand;
 
-pub use hidden_commands::command;
+pub use program::command;
 pub use request_words::words_of;

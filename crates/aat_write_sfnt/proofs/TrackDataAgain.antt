@@ -15,10 +15,10 @@ use Rattle.std.proofs.lemmas.List.FromFn.{fill_by_all, get_or-range_with_len, le
 use Rattle.aat_bytes.specs.Numbers.{be16, be32, signed16}
 use Rattle.aat_bytes.specs.facts.Longs.{long_is}
 use Rattle.aat_bytes.specs.facts.Ranges.{none_found, range_last}
-use Rattle.aat_placement.specs.Tracks.{TrackTable, no_track, track_at}
-use Rattle.aat_placement.specs.declared.error.TrackingError.{TrackingError}
-use Rattle.aat_placement.specs.declared.error.TrackingError.TheVariants.{TooManyTracks, TooManySizes, ValueCount}
-use Rattle.aat_placement.specs.declared.track_data.Track.{Track}
+use Rattle.aat_glyph.specs.placement.Tracks.{TrackTable, no_track, track_at}
+use Rattle.aat_glyph.specs.declared.placement.error.TrackingError.{TrackingError}
+use Rattle.aat_glyph.specs.declared.placement.error.TrackingError.TheVariants.{TooManyTracks, TooManySizes, ValueCount}
+use Rattle.aat_glyph.specs.declared.placement.track_data.Track.{Track}
 use Rattle.aat_read_metrics.specs.Trak as reader
 use Rattle.aat_write_machine.specs.Words.{word_bytes}
 use Rattle.aat_write_machine.specs.facts.WordPlaces.{AreWords, length_words, long_again, word_at, words_joined}

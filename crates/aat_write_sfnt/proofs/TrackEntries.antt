@@ -7,8 +7,8 @@ use Rattle.std.proofs.lemmas.Bool.Decides.{nat_tests}
 use Rattle.std.proofs.lemmas.List.{append-nil}
 use Rattle.std.proofs.lemmas.List.Concat.{flat_map-append}
 use Rattle.aat_bytes.specs.facts.Ranges.{none_each, range_more}
-use Rattle.aat_placement.specs.Tracks.{TrackTable, track_at}
-use Rattle.aat_placement.specs.declared.track_data.Track.{Track}
+use Rattle.aat_glyph.specs.placement.Tracks.{TrackTable, track_at}
+use Rattle.aat_glyph.specs.declared.placement.track_data.Track.{Track}
 use Rattle.aat_write_machine.specs.Words.{word_bytes}
 use Rattle.aat_write_sfnt.specs.TrakBytes.{entry_of, entry_words, first_far, place_of_values}
 

@@ -4,7 +4,7 @@ use Rattle.std.specs.List.{flat_map, range_with_len}
 use Rattle.std.proofs.lemmas.List.{get_or-append-add, get_or_append_left, get_or-map, length-map, length-take-le}
 use Rattle.std.proofs.lemmas.List.Concat.{get_or-flat_map}
 use Rattle.std.proofs.lemmas.List.FromFn.{get_or-range_with_len, length-range_with_len}
-use Rattle.aat_placement.specs.Tracks.{TrackTable}
+use Rattle.aat_glyph.specs.placement.Tracks.{TrackTable}
 use Rattle.aat_write_sfnt.specs.TrakBytes.{data_header, data_words, entries, entry_of, fixed_words, value_word}
 
 -- lists of one length, joined

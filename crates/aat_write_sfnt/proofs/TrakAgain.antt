@@ -10,7 +10,7 @@ use Rattle.aat_bytes.specs.Numbers.{be16}
 use Rattle.aat_bytes.specs.declared.error.Fault.{Fault}
 use Rattle.aat_bytes.specs.declared.error.FaultKind.TheVariants.{UnknownFormat}
 use Rattle.aat_bytes.specs.declared.tags.TheConstants.{TRAK}
-use Rattle.aat_placement.specs.Tracks.{TrackTable, TrackingTable}
+use Rattle.aat_glyph.specs.placement.Tracks.{TrackTable, TrackingTable}
 use Rattle.aat_read_metrics.specs.Trak as reader
 use Rattle.aat_write_machine.specs.Words.{word_bytes}
 use Rattle.aat_write_machine.specs.facts.WordPlaces.{AreWords, length_words, word_at}

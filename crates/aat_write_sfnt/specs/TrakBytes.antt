@@ -2,8 +2,8 @@
 use Rattle.std.specs.Prelude.{ℕ, ℤ, ◌+◌, ◌*◌, List, [], ◌∷◌, ◌++◌, length, map, find, Bool, false, ◌||◌, Option, Some, None, Result, Ok, Err, if◌then◌else◌, nat_lt}
 use Rattle.std.specs.Int.{cast_unsigned, w16, w32}
 use Rattle.std.specs.List.{flat_map, range_with_len}
-use Rattle.aat_placement.specs.Tracks.{TrackTable, TrackingTable, track_at}
-use Rattle.aat_placement.specs.declared.track_data.Track.{Track}
+use Rattle.aat_glyph.specs.placement.Tracks.{TrackTable, TrackingTable, track_at}
+use Rattle.aat_glyph.specs.declared.placement.track_data.Track.{Track}
 use Rattle.aat_write_machine.specs.Words.{long, word_bytes}
 use Rattle.aat_write_sfnt.specs.declared.trak.error.TrakWriteError.{TrakWriteError}
 use Rattle.aat_write_sfnt.specs.declared.trak.error.TrakWriteError.TheVariants.{TooMany, RowValues, ColumnsTooFar, ColumnValues}

@@ -1,6 +1,6 @@
 -- Worked examples of the tracking table as bytes. Apple's TrueType Reference Manual, "The 'trak' table".
 use Rattle.std.specs.Prelude.{◌≡◌, ℕ, List, [], ◌∷◌, ◌++◌, pos, negsuc, Some, None, Ok}
-use Rattle.aat_placement.specs.Tracks.{TrackTable}
+use Rattle.aat_glyph.specs.placement.Tracks.{TrackTable}
 use Rattle.aat_read_metrics.specs.TrakExamples as reader
 use Rattle.aat_write_sfnt.specs.TrakBytes.{first_far, trak_written}
 

@@ -1,8 +1,8 @@
 -- A tracking table that is written is read again.
 use Rattle.std.specs.Prelude.{◌≡◌, ℕ, ◌<◌, List, All, FitsSigned, Option, Some, None, Ok}
 use Rattle.std.specs.Int.{w16, w32}
-use Rattle.aat_placement.specs.Tracks.{TrackTable, TrackingTable, fault_of}
-use Rattle.aat_placement.specs.declared.track_data.Track.{Track}
+use Rattle.aat_glyph.specs.placement.Tracks.{TrackTable, TrackingTable, fault_of}
+use Rattle.aat_glyph.specs.declared.placement.track_data.Track.{Track}
 use Rattle.aat_read_metrics.specs.Trak.{trak_of}
 use Rattle.aat_write_sfnt.specs.TrakBytes.{trak_written}
 

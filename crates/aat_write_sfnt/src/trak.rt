@@ -1,7 +1,7 @@
 //! The tracking table to bytes.
 ghost use Rattle.std.specs.Prelude.{◌≡◌, ◌++◌, ◌+◌, ◌<◌, false, None, OnOk, length, map, option_copied};
 ghost use Rattle.std.specs.List.{flat_map};
-ghost use Rattle.aat_placement.specs.Tracks.{track_at};
+ghost use Rattle.aat_glyph.specs.placement.Tracks.{track_at};
 ghost use Rattle.aat_write_sfnt.specs.TrakBytes.{are_too_many, data_words, entries, entry_words, first_far, fixed_words, part_bytes, part_far, part_too_many, trak_written, value_word};
 ghost use Rattle.aat_write_sfnt.specs.TrakWriteErrors.{Writes};
 ghost use Rattle.aat_write_machine.specs.Words.{word_bytes};
@@ -14,7 +14,7 @@ use self::places::{
     LAST_PLACE, offset_of, part_far, part_size, part_too_many, place_of_sizes, place_of_values,
     size_count, track_count,
 };
-use aat_placement::{Track, TrackData, Tracking};
+use aat_glyph::{Track, TrackData, Tracking};
 use aat_write_machine::append_words;
 use std::alloc::{AllocError, Allocator};
 

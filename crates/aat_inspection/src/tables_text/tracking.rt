@@ -1,7 +1,7 @@
 //! The tracks of `trak`, with their names.
 use crate::tables_text::names::text_of;
 use aat_face::Face;
-use aat_placement::{Track, TrackData};
+use aat_glyph::{Track, TrackData};
 use std::alloc::Global;
 use std::io::{self, Write};
 

@@ -2,7 +2,7 @@
 ghost use Rattle.std.specs.Prelude.{◌≡◌, ◌+◌, ◌*◌, ◌<◌, ◌≤◌, ◌||◌, false, length, nat_lt, option_copied};
 ghost use Rattle.aat_write_sfnt.specs.TrakBytes.{are_too_many, first_far, offset_of, part_far, part_size, part_too_many, place_of_sizes, place_of_values};
 
-use aat_placement::TrackData;
+use aat_glyph::TrackData;
 use std::alloc::Allocator;
 
 /// The last place that a number of 16 bits has.

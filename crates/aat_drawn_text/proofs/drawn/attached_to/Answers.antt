@@ -2,7 +2,7 @@ use Rattle.std.proofs.Common.{◌≡◌, ◌∙◌, ap, arith, ℕ, List}
 use Rattle.std.specs.Prelude.{Option}
 use Rattle.aat_buffer.specs.Buffer.{position_list}
 use Rattle.aat_glyph.specs.declared.glyph.hb_glyph_info_t.{hb_glyph_info_t}
-use Rattle.aat_placement.specs.Attachments.{parent}
+use Rattle.aat_glyph.specs.placement.Attachments.{parent}
 use Rattle.aat_shaped_text.specs.ShapedText.{kept_place}
 use Rattle.aat_drawn_text.specs.inside.Drawing.{IsDrawn}
 use Rattle.aat_drawn_text.proofs.DrawnPlaces.{length_of_added}

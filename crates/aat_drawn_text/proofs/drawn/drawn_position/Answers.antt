@@ -1,6 +1,6 @@
 use Rattle.std.proofs.Common.{◌∙◌, ap, arith, length}
 use Rattle.aat_buffer.specs.Buffer.{position_list}
-use Rattle.aat_placement.specs.Attachments.{IsUnattached}
+use Rattle.aat_glyph.specs.placement.Attachments.{IsUnattached}
 use Rattle.aat_drawn_text.specs.inside.Drawing.{IsDrawn}
 use Rattle.aat_drawn_text.proofs.DrawnPlaces.{length_of_added}
 use Rattle.aat_drawn_text.proofs.Unattached.{own_position}

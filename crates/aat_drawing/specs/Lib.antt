@@ -1,2 +1,0 @@
-pub mod FontOutlines
-pub mod HalfPoints

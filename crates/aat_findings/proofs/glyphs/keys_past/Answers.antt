@@ -1,8 +1,0 @@
-use Rattle.std.proofs.Common.{◌∙◌, ap}
-use Rattle.std.specs.List.{filter}
-use Rattle.aat_findings.specs.Glyphs.{is_key_past}
-use Rattle.aat_findings.proofs.glyphs.keys_past.Goals as goal
-
-pub returns : goal.returns
-returns c =
-    c.in_ok-found.ensures ∙ ap (filter (is_key_past c.args.glyph_count)) (c.as_slice-of_pairs.ensures.value ∙ c.in_ok-pairs.ensures)

@@ -1,0 +1,3 @@
+pub mod FontOutlines
+pub mod HalfPoints
+pub mod Links
