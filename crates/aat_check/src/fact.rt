@@ -23,10 +23,11 @@ pub enum Fact {
     TableFault(Fault),
     /// 2: a subtable of `kerx` or `kern` is left out.
     LeftOut(Fault),
-    /// 3: the font has `GPOS` and `kern`, and no `kerx`: HarfBuzz then kerns by `GPOS`, and not by `kern`.
+    /// 3: the font has `GPOS` and `kern`, and no `kerx` is read: where `GPOS` has the feature `kern`, HarfBuzz kerns by it,
+    /// and not by `kern`.
     KernBesideGpos,
-    /// 4: a subtable of `kerx` attaches glyphs by anchor points, and the font has no `ankr`. HarfBuzz then takes each point
-    /// as the origin, and here the glyphs stay.
+    /// 4: a subtable of `kerx` attaches glyphs by anchor points, and no `ankr` is read. HarfBuzz then takes each point as the
+    /// origin, and here the glyphs stay.
     PointsWithoutAnkr,
     /// 10: a machine that comes to the state at a glyph of the class stays there, and leaves the glyphs as they are.
     Stays,

@@ -2,7 +2,7 @@
 //!
 //! ```
 //! let found = findings(alloc, &face)?;
-//! write_findings(&mut out, "font.ttf", &found)?;
+//! write_findings(&mut out, "font.ttf", &names, &found)?;
 //! ```
 #![tactic(auto)]
 

@@ -25,9 +25,8 @@ const MOST_TURNS: usize = 64;
 /// For what an entry of insertion is told.
 #[derive(Clone, Copy)]
 pub enum InsertionKind {
-    /// A line that comes to it grows without end: it puts glyphs in at a glyph, from which at most 64 entries that do not
-    /// advance lead back to the state and the class. The glyph there is the first of those that went in before the one
-    /// where the machine was, or that one. So a machine that comes there uses up its budget, or makes the line too long.
+    /// It puts glyphs in at the glyph or at the mark, and at most 64 entries that do not advance lead back to the state and
+    /// the class. The glyph there is the first of those that went in before the one where the machine was, or that one. So a machine that comes there uses up its budget, or makes the line too long.
     /// Entries that put glyphs in behind the mark are not followed, since that may be at the glyph, and none is followed
     /// over what went in. Class 0 is not asked: a run may end there.
     Grows,

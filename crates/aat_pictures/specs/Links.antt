@@ -10,6 +10,6 @@ pair_of number taken put = (min number (taken - 1), min number (put - 1))
 abbrev pub mirrored : ℕ → ℕ → ℕ
 mirrored place count = count - 1 - place
 
--- where a glyph comes to before which what ended at one place ends at another one
+-- the new place of a glyph behind an act, whose end moves from one place to another
 abbrev pub place_behind : ℕ → ℕ → ℕ → ℕ
 place_behind place end new_end = place - end + new_end

@@ -212,9 +212,9 @@ pub enum MachinePicture {
 /// States are circles with their numbers, in columns by their distance from state 0: 0 and 1 in the first, in the next those
 /// to which these lead, and so on, and in the last one, grey, those that no line reaches. Beside a state is a line for each
 /// state that follows it and what its entries do there, with the classes at which they do it, by their first three glyphs:
-/// by names where they are given, else by numbers. An arrow leads along a line to a state of the next column. Words of deeds
-/// are those of the rules: `stays` is of an entry that does not go on to the next glyph. A last line has the classes at which
-/// the entry is that of state 0. Entries that lead to state 0 and do nothing are left out. A long line is cut and ends in
+/// by names where they are given, else by numbers. An arrow leads along a line to a state of the next column. Behind `action`,
+/// `verb`, `by lookup` and `inserts N at` stands the index of the entry, the verb, or the place in the list of glyphs; `stays`
+/// is of an entry that does not go on to the next glyph. A last line has the classes at which the entry is that of state 0. Entries that lead to state 0 and do nothing are left out. A long line is cut and ends in
 /// `..`; the whole is its title. A colour is for every eighth state.
 ///
 /// An error is that of the writer, or `OutOfMemory`: it takes some bytes for each rule, state and glyph that has a class. A

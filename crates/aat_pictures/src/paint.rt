@@ -46,7 +46,8 @@ pub struct Paint {
     pub foreground: Colour,
     /// How many pixels an em has, where a pixel counts 65536.
     pub em: u32,
-    /// How many pixels are left free on each side, half an em where none are asked.
+    /// How many pixels are left free at the ends of lines, and half as many beside them; half an em and a quarter where
+    /// none are asked.
     pub margin: Option<u16>,
 }
 

@@ -37,7 +37,7 @@ pub struct TracePicture<'a> {
     /// What each subtable of `morx` is called, through all chains: what stands before the first `: ` and what stands
     /// behind it get a line each. A text without `<` and `&`.
     pub subtables: &'a [String],
-    /// How it looks. The margin stands for nothing here.
+    /// How it looks. The em and the margin stand for nothing here.
     pub paint: Paint,
 }
 
@@ -316,18 +316,19 @@ fn write_shown<W: Write>(
 /// Writes a picture of a trace as a file of SVG: a row for the line as it was found, and one for each subtable that changed
 /// it, named at the left.
 ///
-/// A glyph is drawn by its outline, 44 pixels an em, or without one as the box of its advance, with its number or name below it. It
-/// has the colour of the subtable that changed it last. A line leads from each glyph to what became of it, grey where its
-/// subtable left it as it was. Of an act that joins glyphs all lead to the glyph that is left; of one that moves them each
-/// to itself; of another one that puts as many glyphs as it takes each to the one in its place, and of one that does not
-/// those behind to the last one, or the last one to those behind. A deleted glyph is a grey cross. A plus is over a glyph
-/// that went in, and a cross under one that went out.
+/// A glyph is drawn by its outline, 44 pixels an em, or without one as the box of its advance, with its number or name
+/// below it. It has the colour of the subtable that changed it last. A line leads from each glyph to what became of it, grey
+/// where its subtable left it as it was. Of an act that joins glyphs all lead to the glyph that is left; of one that moves
+/// them each to itself. Any other act leads each glyph to the one put in its place. Where it puts fewer, the rest lead to
+/// the last one put; where it puts more, the last one taken leads to the rest. A deleted glyph is a grey cross. A plus is
+/// over a glyph that went in, and a cross under one that went out.
 ///
-/// A trace with a row of more than 1,000 glyphs is not drawn: nothing is written, as `TooLong` says.
+/// A trace with a row of more than 1,000 glyphs is not drawn: nothing is written, as `TooLong` says. Without a subtable
+/// there is no row.
 ///
 /// Refused as 1, `Outline`, where the outline of a glyph of `glyf` has a fault, in the order of the numbers of the glyphs;
-/// as 2, `Writer`, where the writer fails; and as 3, `OutOfMemory`, where memory is wanting, or was wanting for the trace. A
-/// part of the picture may be written then.
+/// as 2, `Writer`, where the writer fails, or memory is wanting while rows are written; and as 3, `OutOfMemory`, where it is
+/// wanting before that, or was for the trace. A part of the picture may be written then.
 pub fn write_trace_picture<W: Write>(
     alloc: Global,
     out: &mut W,
