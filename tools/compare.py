@@ -163,7 +163,11 @@ class HarfBuzz:
         words += ["--features=" + features.strip(",")] if features else []
         if request.options.get("--clusters") == "bytes":
             words.append("--utf8-clusters")
-        others = (("--point-size", "--font-ptem="), ("--index", "--face-index="))
+        others = (
+            ("--point-size", "--font-ptem="),
+            ("--index", "--face-index="),
+            ("--not-found-glyph", "--not-found-glyph="),
+        )
         words += [other + request.options[name] for name, other in others if name in request.options]
         return words + ["--unicodes=" + ",".join("%X" % ord(c) for c in request.text())]
 

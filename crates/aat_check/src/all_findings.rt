@@ -4,32 +4,44 @@ ghost use Rattle.std.specs.List.{list_any};
 ghost use Rattle.aat_check.specs.Numbers.{is_trouble};
 
 use crate::chains::check_chains;
-use crate::faults::{check_beside_gpos, check_faults};
+use crate::faults::{check_beside_gpos, check_faults, check_mort};
 use crate::finding::Finding;
 use crate::glyphs::glyph_bound;
 use crate::kerning::{check_kern, check_kerx};
 use crate::names::check_names;
+use crate::pair_rows::check_pair_rows;
+use crate::parts::show_parts;
 use aat_face::Face;
+use aat_read_sfnt::FontFile;
 use std::alloc::{AllocError, Global};
 
-/// Finds what is wrong in a font, or of no use.
+/// Finds what is wrong in a font, or of no use. The face is that of the font of the file.
 ///
-/// In this order: the faults of tables; the names of `feat` that no chain has; for each chain of `morx` its settings, and
-/// each of its subtables by the number of what is found; the subtables of `kerx` that are left out, and its machines and
-/// pairs; the same of `kern`; and whether `GPOS` takes the place of `kern`. Of what a subtable or a chain has more than
-/// once the first is told.
+/// In this order: the faults of tables; whether `mort` stands without `morx`; the names of `feat` that no chain has; for
+/// each chain of `morx` its settings, and each of its subtables by the number of what is found; the bytes of the same
+/// subtables, and their lists; the subtables of `kerx` that are left out, and its machines and pairs; the same of `kern`;
+/// listed pairs whose rows do not rise; and whether `GPOS` takes the place of `kern`. Of what a subtable or a chain has more
+/// than once the first is told.
 ///
-/// Each machine is searched over up to 65,536 states, for each class. Fails where memory is wanting.
+/// Each machine is searched over up to 65,536 states, for each class, ligatures in up to 2^28 steps, and of machines that
+/// are not settled up to 2,048 lines of at most 64 glyphs are shaped, with their parts. Fails where memory is wanting.
 ///
 /// Apple's TrueType Reference Manual, "The 'morx' table", "The 'kerx' table", "The 'feat' table", and "Font Tables".
-pub fn findings(alloc: Global, face: &Face<'_>) -> Result<Vec<Finding>, AllocError> {
+pub fn findings(
+    alloc: Global,
+    file: &FontFile<'_>,
+    face: &Face<'_>,
+) -> Result<Vec<Finding>, AllocError> {
     let mut found = Vec::new(alloc);
     let glyph_count = glyph_bound(face);
     check_faults(face, &mut found)?;
+    check_mort(file, &mut found)?;
     check_names(alloc, face, &mut found)?;
-    check_chains(alloc, face.font(), glyph_count, &mut found)?;
+    check_chains(alloc, file, face.font(), glyph_count, &mut found)?;
+    show_parts(alloc, face.font(), glyph_count, &mut found)?;
     check_kerx(alloc, face, glyph_count, &mut found)?;
     check_kern(alloc, face, glyph_count, &mut found)?;
+    check_pair_rows(file, &mut found)?;
     check_beside_gpos(face, &mut found)?;
     Ok(found)
 }

@@ -1,12 +1,14 @@
 //! The chains of `morx`.
 
 use crate::finding::{Finding, Place};
+use crate::morx_bytes::check_morx_bytes;
 use crate::names::check_settings;
 use crate::subtables::{Asked, check_subtable};
 use aat_bytes::tags::MORX;
 use aat_findings::unset_subtables;
 use aat_font::hb_font_t;
 use aat_machine_tables::Chain;
+use aat_read_sfnt::FontFile;
 use std::alloc::{AllocError, Global};
 
 /// Adds what is found in the subtables of a chain.
@@ -33,9 +35,10 @@ fn check_subtables(
     Ok(())
 }
 
-/// Adds what is found in the chains of a font.
+/// Adds what is found in the chains of a font, and in their bytes.
 pub(crate) fn check_chains(
     alloc: Global,
+    file: &FontFile<'_>,
     font: &hb_font_t,
     glyph_count: u32,
     found: &mut Vec<Finding>,
@@ -49,5 +52,8 @@ pub(crate) fn check_chains(
         check_settings(alloc, feat, chain, place, found)?;
         check_subtables(alloc, chain, place, glyph_count, found)?;
     }
-    Ok(())
+    match file.table(MORX) {
+        Ok(bytes) => check_morx_bytes(alloc, bytes, font.chains(), glyph_count, found),
+        Err(_) => Ok(()),
+    }
 }

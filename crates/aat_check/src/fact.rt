@@ -16,7 +16,8 @@ pub enum Severity {
     Note,
 }
 
-/// What is found at a place. Where a place has it more than once, the first is told, and `count` says how often.
+/// What is found at a place. Where a place has it more than once, the first is told; `count`, if it has one, says how
+/// often.
 #[derive(Clone, Copy, Debug)]
 pub enum Fact {
     /// 1: a table has a fault, and is not read.
@@ -29,7 +30,20 @@ pub enum Fact {
     /// 4: a subtable of `kerx` attaches glyphs by anchor points, and no `ankr` is read. HarfBuzz then takes each point as the
     /// origin, and here the glyphs stay.
     PointsWithoutAnkr,
-    /// 10: a machine that comes to the state at a glyph of the class stays there, and leaves the glyphs as they are.
+    /// 5: the font has `mort` and no `morx`: HarfBuzz reads it, and here no machine is read.
+    MortAlone,
+    /// 6: a row of a table that is found by bisection ends before it starts, or does not stand behind the one before it, so
+    /// that rows may be missed.
+    RowFalls {
+        /// The place of the first such row, in bytes from the start of the table.
+        byte: usize,
+    },
+    /// 7: a part of the subtable lies past its length. HarfBuzz ends lists there, or drops `morx`; here they may be read on.
+    ReachesPast,
+    /// 8: `GDEF` has a fault: some of its classes are not read, or none.
+    ClassesFault(Fault),
+    /// 10: a machine that comes to the state at a glyph of the class stays there: it leaves the glyphs as they are, or a
+    /// contextual one replaces the least glyph of the class over and over.
     Stays,
     /// 11: a line reaches the state, which has no entry for the class.
     MissingEntry,
@@ -65,6 +79,13 @@ pub enum Fact {
     /// 18: a machine of insertion that comes to the state at a glyph of the class puts glyphs in and comes back there, until
     /// the budget is used up or the line is too long.
     Grows,
+    /// 19: no line makes the ligature.
+    UnmadeLigature {
+        /// The number of the ligature in the list of the subtable.
+        ligature: usize,
+        /// How many ligatures are so.
+        count: usize,
+    },
     /// 20: nothing switches the subtable on.
     NeverOn,
     /// 21: `feat` names a feature type of which no chain has a setting.
@@ -112,6 +133,13 @@ pub enum Fact {
         /// How many entries put it in.
         count: usize,
     },
+    /// 36: a list of ligatures, or of glyphs that go in, has a glyph that the font does not have.
+    ListedPast {
+        /// Its number in the list.
+        number: usize,
+        /// How many glyphs of the list are so.
+        count: usize,
+    },
     /// 40: a pair has a mark, and pairs skip marks.
     MarkInPair {
         /// The left glyph.
@@ -124,8 +152,8 @@ pub enum Fact {
 }
 
 impl Fact {
-    /// Its number, by which it is looked up: 1 to 4 are of tables, 10 to 18 of machines, 20 to 23 of chains and names,
-    /// 30 to 35 of glyphs, and 40 of pairs.
+    /// Its number, by which it is looked up: 1 to 8 are of tables, 10 to 19 of machines, 20 to 23 of chains and names,
+    /// 30 to 36 of glyphs, and 40 of pairs.
     pub fn number(&self) -> u8
         ensures { result ≡ number_of self.now }
     {
@@ -134,6 +162,10 @@ impl Fact {
             Fact::LeftOut(_) => 2,
             Fact::KernBesideGpos => 3,
             Fact::PointsWithoutAnkr => 4,
+            Fact::MortAlone => 5,
+            Fact::RowFalls { .. } => 6,
+            Fact::ReachesPast => 7,
+            Fact::ClassesFault(_) => 8,
             Fact::Stays => 10,
             Fact::MissingEntry => 11,
             Fact::NotSettled(_) => 12,
@@ -143,6 +175,7 @@ impl Fact {
             Fact::UnnamedLookup { .. } => 16,
             Fact::MayStay => 17,
             Fact::Grows => 18,
+            Fact::UnmadeLigature { .. } => 19,
             Fact::NeverOn => 20,
             Fact::NameWithoutChain => 21,
             Fact::SettingWithoutName { .. } => 22,
@@ -153,12 +186,13 @@ impl Fact {
             Fact::DeletedStays { .. } => 33,
             Fact::DeletedReturns { .. } => 34,
             Fact::DeletedGoesIn { .. } => 35,
+            Fact::ListedPast { .. } => 36,
             Fact::MarkInPair { .. } => 40,
         }
     }
 
-    /// How much harm it tells of: numbers 1, 10, 11, 18, 23 and 30 are errors, 2, 13, 16, 20 and 31 warnings, and the others
-    /// notes.
+    /// How much harm it tells of: numbers 1, 10, 11, 18, 23, 30 and 36 are errors, 2, 6 to 8, 13, 16, 20 and 31 warnings, and
+    /// the others notes.
     pub fn severity(&self) -> Severity
         ensures { result ≡ severity_of (number_of self.now) }
     {
@@ -168,18 +202,24 @@ impl Fact {
             | Fact::MissingEntry
             | Fact::Grows
             | Fact::ExclusiveSettings { .. }
-            | Fact::ValuePast { .. } => Severity::Error,
+            | Fact::ValuePast { .. }
+            | Fact::ListedPast { .. } => Severity::Error,
             Fact::LeftOut(_)
+            | Fact::RowFalls { .. }
+            | Fact::ReachesPast
+            | Fact::ClassesFault(_)
             | Fact::UnreachedState { .. }
             | Fact::UnnamedLookup { .. }
             | Fact::NeverOn
             | Fact::KeyPast { .. } => Severity::Warning,
             Fact::KernBesideGpos
             | Fact::PointsWithoutAnkr
+            | Fact::MortAlone
             | Fact::NotSettled(_)
             | Fact::UnusedRule { .. }
             | Fact::ClassesAlike { .. }
             | Fact::MayStay
+            | Fact::UnmadeLigature { .. }
             | Fact::NameWithoutChain
             | Fact::SettingWithoutName { .. }
             | Fact::ListsDeleted

@@ -2,10 +2,11 @@
 
 use crate::fact::Fact;
 use crate::finding::{Finding, Place, push_fact};
-use aat_bytes::Tag;
-use aat_bytes::tags::GPOS;
+use aat_bytes::tags::{GDEF, GPOS, MORX};
+use aat_bytes::{FaultKind, Tag};
 use aat_face::Face;
 use aat_read_pairs::LeftOutSubtable;
+use aat_read_sfnt::FontFile;
 use std::alloc::AllocError;
 
 /// Whether a table has a fault, and is not read.
@@ -16,11 +17,26 @@ pub(crate) fn has_fault(face: &Face<'_>, table: Tag) -> bool {
 /// Adds the faults of tables.
 pub(crate) fn check_faults(face: &Face<'_>, found: &mut Vec<Finding>) -> Result<(), AllocError> {
     for fault in face.faults() {
-        push_fact(
-            found,
-            Place::of_table(fault.table),
-            Fact::TableFault(*fault),
-        )?;
+        let fact = if fault.table == GDEF {
+            Fact::ClassesFault(*fault)
+        } else {
+            Fact::TableFault(*fault)
+        };
+        push_fact(found, Place::of_table(fault.table), fact)?;
+    }
+    Ok(())
+}
+
+/// The older table of chains, with 8 bits for each class.
+const MORT: Tag = Tag(0x6D6F_7274);
+
+/// Adds that chains of `mort` are not read, where there is no `morx`.
+pub(crate) fn check_mort(file: &FontFile<'_>, found: &mut Vec<Finding>) -> Result<(), AllocError> {
+    let is_missing = file
+        .table(MORX)
+        .is_err_and(|fault| fault.kind == FaultKind::Missing);
+    if is_missing && file.table(MORT).is_ok() {
+        push_fact(found, Place::of_table(MORT), Fact::MortAlone)?;
     }
     Ok(())
 }

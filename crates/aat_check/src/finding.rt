@@ -38,13 +38,16 @@ impl Place {
     }
 }
 
-/// A line of glyphs that shows a finding, where no glyph before it changes, and the machine is on.
+/// A line of glyphs that shows a finding, where no glyph before it changes, and the machine is on. One that is cut was
+/// shaped: its glyphs or clusters are not those of its two parts, each shaped by itself with all of the font.
 #[derive(Debug, Drop)]
 pub struct GlyphLine {
     /// The glyphs, in the order of the line.
     pub glyphs: Vec<u16>,
     /// Whether the subtable is for text in columns alone.
     pub is_vertical: bool,
+    /// How many of its glyphs stand in its first part, where it is shown beside its two parts.
+    pub cut: Option<usize>,
 }
 
 /// What is found in a font.

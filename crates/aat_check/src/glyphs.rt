@@ -6,7 +6,7 @@ use crate::finding::{Finding, Place, push_fact};
 use aat_bytes::tags::MAXP;
 use aat_face::Face;
 use aat_findings::{InsertionKind, PairKind, inserting_entries, lists_deleted, pairs_of};
-use aat_lookup::Lookup;
+use aat_lookup::{GlyphId, Lookup};
 use aat_machine_tables::{InsertionSubtable, SubtableKind};
 use std::alloc::{AllocError, Global};
 use std::slice;
@@ -18,6 +18,9 @@ pub(crate) fn glyph_bound(face: &Face<'_>) -> u32 {
     }
     face.glyph_count() as u32
 }
+
+/// The deleted glyph, which is in no font.
+const DELETED_GLYPH: u16 = 0xFFFF;
 
 /// What a subtable lists.
 #[derive(Clone, Copy)]
@@ -109,6 +112,39 @@ pub(crate) fn check_listed(
     }
     add_pairs(alloc, listed, PairKind::Deletes, place, found)?;
     add_pairs(alloc, listed, PairKind::Restores, place, found)
+}
+
+/// Whether a font of so many glyphs does not have one, and it is not the deleted one.
+fn is_past(glyph: GlyphId, glyph_count: u32) -> bool {
+    u32::from(glyph.0) >= glyph_count && glyph.0 != DELETED_GLYPH
+}
+
+/// Adds the first glyph that the font does not have, of the first `count` of a list of ligatures, or of glyphs that go in.
+pub(crate) fn check_list(
+    list: &[GlyphId],
+    count: usize,
+    glyph_count: u32,
+    place: Place,
+    found: &mut Vec<Finding>,
+) -> Result<(), AllocError> {
+    let glyphs = list.iter().take(count);
+    let past = glyphs.filter(|glyph| is_past(**glyph, glyph_count)).count();
+    let mut glyphs = list.iter().take(count).enumerate();
+    let Some((number, glyph)) = glyphs.find(|(_, glyph)| is_past(**glyph, glyph_count)) else {
+        return Ok(());
+    };
+    let place = Place {
+        glyph: Some(glyph.0),
+        ..place
+    };
+    push_fact(
+        found,
+        place,
+        Fact::ListedPast {
+            number,
+            count: past,
+        },
+    )
 }
 
 /// Adds the first entry that puts the deleted glyph in.

@@ -40,8 +40,23 @@ fn write_place<W: Write>(out: &mut W, names: &GlyphNames<'_>, place: &Place) -> 
     write_name(out, names, place.glyph)
 }
 
+/// Writes the member of the names of glyphs, where each of them has one.
+fn write_names<W: Write>(out: &mut W, names: &GlyphNames<'_>, glyphs: &[u16]) -> io::Result<()> {
+    if !glyphs.iter().all(|glyph| names.name_of(*glyph).is_some()) {
+        return Ok(());
+    }
+    write!(out, ",\"names\":[")?;
+    for (place, glyph) in glyphs.iter().enumerate() {
+        let comma = if place == 0 { "" } else { "," };
+        if let Some(name) = names.name_of(*glyph) {
+            write!(out, "{comma}\"{name}\"")?;
+        }
+    }
+    write!(out, "]")
+}
+
 /// Writes the members of the line that shows a finding.
-fn write_line<W: Write>(out: &mut W, line: &GlyphLine) -> io::Result<()> {
+fn write_line<W: Write>(out: &mut W, names: &GlyphNames<'_>, line: &GlyphLine) -> io::Result<()> {
     let direction = if line.is_vertical { "ttb" } else { "ltr" };
     write!(out, ",\"direction\":\"{direction}\",\"glyphs\":")?;
     let mut before = "[";
@@ -49,7 +64,9 @@ fn write_line<W: Write>(out: &mut W, line: &GlyphLine) -> io::Result<()> {
         write!(out, "{before}{glyph}")?;
         before = ",";
     }
-    write!(out, "]")
+    write!(out, "]")?;
+    write_names(out, names, &line.glyphs)?;
+    write_number(out, "cut", line.cut)
 }
 
 /// Writes a finding as an object, behind what parts it from the one before.
@@ -71,14 +88,15 @@ fn write_object<W: Write>(
     write_place(out, names, &finding.place)?;
     write!(out, ",\"sentence\":{sentence}")?;
     if let Some(line) = &finding.line {
-        write_line(out, line)?;
+        write_line(out, names, line)?;
     }
     write!(out, "}}")
 }
 
 /// Writes findings in their order as an array of objects, a line each. An object has `number`, `severity`, `table`, and
 /// those of `chain`, `subtable`, `feature`, `state`, `class` and `glyph` that its place has, `name` where that glyph has one,
-/// then `sentence`, and where a line shows it `direction` and `glyphs`.
+/// then `sentence`, and where a line shows it `direction` and `glyphs`, `names` where all of these have one, and `cut`, how
+/// many of them stand in the first of its two parts, where it is shown beside them.
 ///
 /// An error is that of the writer, or `OutOfMemory`. A part of the text may be written then.
 pub fn write_findings_as_json<W: Write>(

@@ -51,6 +51,7 @@ fn check_extended(
         changes_glyphs: false,
         unsettled: None,
         unnamed: None,
+        turning: None,
         growing: None,
     };
     match &subtable.format {
@@ -113,6 +114,7 @@ fn check_plain(
         changes_glyphs: false,
         unsettled: None,
         unnamed: None,
+        turning: None,
         growing: None,
     };
     check_kerning(alloc, &stack.state_table, machine, found)

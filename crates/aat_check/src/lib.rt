@@ -1,7 +1,7 @@
 //! What is wrong in a font by Apple Advanced Typography, or of no use there: for who makes fonts.
 //!
 //! ```
-//! let found = findings(alloc, &face)?;
+//! let found = findings(alloc, &file, &face)?;
 //! write_findings(&mut out, "font.ttf", &names, &found)?;
 //! ```
 #![tactic(auto)]
@@ -16,12 +16,18 @@ mod json;
 mod kerning;
 mod lines;
 mod machines;
+mod morx_bytes;
 mod names;
+mod pair_rows;
 mod pairs;
+mod parts;
+mod rows;
 mod search;
 mod sentences;
 mod subtables;
 mod text;
+mod turns;
+mod unmade;
 
 pub use all_findings::{findings, has_trouble};
 pub use fact::{Fact, Severity};

@@ -5,7 +5,7 @@ use crate::search::way_to;
 use aat_findings::taken_as;
 use aat_lookup::GlyphId;
 use aat_machine_tables::entry_bits::class;
-use aat_machine_tables::{Acting, ExtendedStateTable};
+use aat_machine_tables::{Acting, Coverage, ExtendedStateTable};
 use std::alloc::{AllocError, Global};
 
 /// The deleted glyph, which is no glyph of a text.
@@ -20,14 +20,31 @@ pub(crate) struct Order {
     pub(crate) is_vertical: bool,
 }
 
-/// The least glyph of each class, of those below a number.
-fn shown_classes<T: Acting>(
+impl Order {
+    /// How a subtable of `morx` goes over a line by its coverage.
+    pub(crate) fn of(coverage: Coverage) -> Order {
+        Order {
+            is_backwards: coverage.is_backwards(),
+            is_vertical: coverage.is_vertical() && !coverage.is_all_directions(),
+        }
+    }
+}
+
+/// The first glyph of each class, of those that are preferred and then of all from the least on, that are below a number.
+pub(crate) fn shown_classes<T: Acting>(
     alloc: Global,
     table: &ExtendedStateTable<T>,
+    preferred: &[(u16, u16)],
+    least: u16,
     glyph_count: u32,
 ) -> Result<Vec<Option<u16>>, AllocError> {
     let mut shown = vec![in alloc; None; table.class_count() as usize]?;
-    for glyph in 0..glyph_count.min(DELETED_GLYPH) as u16 {
+    let count = glyph_count.min(DELETED_GLYPH) as u16;
+    let preferred = preferred.iter().map(|pair| pair.0);
+    for glyph in preferred.chain(least..count) {
+        if glyph >= count {
+            continue;
+        }
         let class = taken_as(table, GlyphId(glyph));
         if let Some(slot) = shown.get_mut(class as usize)
             && slot.is_none()
@@ -38,15 +55,23 @@ fn shown_classes<T: Acting>(
     Ok(shown)
 }
 
-/// The glyphs that show classes, if there is one for each.
-fn glyphs_of(
+/// The glyphs that show classes and then one more, if there is one for each. The end of the text, class 0, is the end of the
+/// line.
+pub(crate) fn glyphs_of(
     alloc: Global,
     shown: &[Option<u16>],
-    classes: &[u16],
+    before: &[u16],
+    last: u16,
 ) -> Result<Option<Vec<u16>>, AllocError> {
     let mut glyphs = Vec::new(alloc);
-    for class in classes {
+    for class in before {
         let Some(glyph) = shown.get(*class as usize).copied().flatten() else {
+            return Ok(None);
+        };
+        glyphs.push(glyph)?;
+    }
+    if last != class::END_OF_TEXT {
+        let Some(glyph) = shown.get(last as usize).copied().flatten() else {
             return Ok(None);
         };
         glyphs.push(glyph)?;
@@ -54,23 +79,18 @@ fn glyphs_of(
     Ok(Some(glyphs))
 }
 
-/// The glyphs of a line that brings a machine to a state at a glyph of a class. The end of the text, class 0, is the end
-/// of the line.
+/// The glyphs of a line that brings a machine to a state at a glyph of a class.
 fn glyphs_to<T: Acting>(
     alloc: Global,
     table: &ExtendedStateTable<T>,
     glyph_count: u32,
     cell: (u16, u16),
 ) -> Result<Option<Vec<u16>>, AllocError> {
-    let shown = shown_classes(alloc, table, glyph_count)?;
+    let shown = shown_classes(alloc, table, &[], 0, glyph_count)?;
     let Some(way) = way_to(alloc, table, &shown, cell)? else {
         return Ok(None);
     };
-    let mut classes = way.before;
-    if cell.1 != class::END_OF_TEXT {
-        classes.push(cell.1)?;
-    }
-    glyphs_of(alloc, &shown, &classes)
+    glyphs_of(alloc, &shown, &way.before, cell.1)
 }
 
 /// A shortest line of glyphs that brings a machine to a state at a glyph of a class, where a line of at least one glyph
@@ -95,5 +115,6 @@ pub(crate) fn line_to<T: Acting>(
     Ok(Some(GlyphLine {
         glyphs,
         is_vertical,
+        cut: None,
     }))
 }

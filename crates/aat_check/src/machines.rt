@@ -24,6 +24,8 @@ pub(crate) struct Machine {
     pub(crate) unsettled: Option<Fact>,
     /// The lookups that its entries do not name, if there are any.
     pub(crate) unnamed: Option<Fact>,
+    /// A state and a class at which it stays, whatever it does to the glyph, if there are any.
+    pub(crate) turning: Option<(u16, u16)>,
     /// A state and a class at which it puts glyphs in without end, if there are any.
     pub(crate) growing: Option<(u16, u16)>,
 }
@@ -199,7 +201,7 @@ pub(crate) fn check_machine<T: Same>(
     found: &mut Vec<Finding>,
 ) -> Result<(), AllocError> {
     let staying = stays(alloc, table)?;
-    let resting = resting_cell(alloc, table, machine, staying)?;
+    let resting = resting_cell(alloc, table, machine, staying)?.or(machine.turning);
     add_cell(alloc, table, machine, resting, Fact::Stays, found)?;
     let missing = missing_cell(alloc, table)?;
     add_cell(alloc, table, machine, missing, Fact::MissingEntry, found)?;

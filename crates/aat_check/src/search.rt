@@ -25,11 +25,15 @@ pub(crate) struct Search {
     /// How a line came to each state first.
     steps: Vec<Option<Step>>,
     /// The states, in the order in which lines came to them.
-    order: Vec<u16>,
+    pub(crate) order: Vec<u16>,
 }
 
 /// The state in which a machine leaves a glyph of a class to which it comes in a state, if it leaves it soon.
-fn state_behind<T: Acting>(table: &ExtendedStateTable<T>, start: u16, class: u16) -> Option<u16> {
+pub(crate) fn state_behind<T: Acting>(
+    table: &ExtendedStateTable<T>,
+    start: u16,
+    class: u16,
+) -> Option<u16> {
     let mut state = start;
     for _turn in 0..MOST_TURNS {
         let entry = table.entry(state, class)?;
@@ -124,8 +128,32 @@ impl Search {
         Ok(None)
     }
 
+    /// A search of all states to which lines come from state 0, or of those to which lines come whose first glyph is of a
+    /// class, but for state 0.
+    pub(crate) fn everywhere<T: Acting>(
+        alloc: Global,
+        table: &ExtendedStateTable<T>,
+        shown: &[Option<u16>],
+        first: Option<u16>,
+    ) -> Result<Search, AllocError> {
+        let mut search = Search::new(alloc)?;
+        if let Some(class) = first {
+            search.order.clear();
+            if let Some(next) = state_behind(table, 0, class) {
+                search.note(next, Step { state: 0, class })?;
+            }
+        }
+        for place in 0..STATES {
+            let Some(state) = search.order.get(place).copied() else {
+                break;
+            };
+            search.follow(table, shown, state)?;
+        }
+        Ok(search)
+    }
+
     /// The classes of the line that came to a state first.
-    fn classes_to(&self, alloc: Global, end: u16) -> Result<Vec<u16>, AllocError> {
+    pub(crate) fn classes_to(&self, alloc: Global, end: u16) -> Result<Vec<u16>, AllocError> {
         let mut classes = Vec::new(alloc);
         let mut state = end;
         for _step in 0..STATES {
@@ -144,7 +172,7 @@ impl Search {
 }
 
 /// Whether a glyph shows a class.
-fn is_shown(shown: &[Option<u16>], class: u16) -> bool {
+pub(crate) fn is_shown(shown: &[Option<u16>], class: u16) -> bool {
     matches!(shown.get(class as usize), Some(Some(_)))
 }
 

@@ -2,7 +2,6 @@
 
 use crate::fact::{Fact, Severity};
 use crate::finding::Place;
-use aat_bytes::tags::GDEF;
 use std::fmt;
 
 impl fmt::Display for Severity {
@@ -48,9 +47,6 @@ fn write_count<W: fmt::Write>(f: &mut W, count: usize) -> fmt::Result {
 /// Writes the sentence of what is told once.
 fn write_single<W: fmt::Write>(f: &mut W, fact: &Fact) -> fmt::Result {
     match fact {
-        Fact::TableFault(fault) if fault.table == GDEF => {
-            write!(f, "the classes with the fault are not read: {fault}")
-        }
         Fact::TableFault(fault) => write!(f, "the table is not read: {fault}"),
         Fact::LeftOut(fault) => write!(f, "the subtable is left out: {fault}"),
         Fact::KernBesideGpos => write!(
@@ -61,6 +57,19 @@ fn write_single<W: fmt::Write>(f: &mut W, fact: &Fact) -> fmt::Result {
             f,
             "there is no ankr for its points, and HarfBuzz attaches each glyph by its origin"
         ),
+        Fact::MortAlone => write!(
+            f,
+            "there is no morx, and mort is not read; HarfBuzz reads it"
+        ),
+        Fact::RowFalls { byte } => write!(
+            f,
+            "the row at {byte} is empty or not above the one before it, and a search may miss rows"
+        ),
+        Fact::ReachesPast => write!(
+            f,
+            "it names a part past its length, where HarfBuzz ends lists or drops morx"
+        ),
+        Fact::ClassesFault(fault) => { write!(f, "classes of GDEF are not read: {fault}") }
         Fact::Stays => write!(
             f,
             "entries that do not advance stay here until the budget is used up"
@@ -92,6 +101,14 @@ fn write_first<W: fmt::Write>(f: &mut W, fact: &Fact) -> fmt::Result {
         Fact::UnusedRule { .. } => write!(f, "no line comes to this rule"),
         Fact::ClassesAlike { other, .. } => write!(f, "no rule tells it from class {other}"),
         Fact::UnnamedLookup { lookup, .. } => write!(f, "no entry names lookup {lookup}"),
+        Fact::UnmadeLigature { ligature, .. } => write!(
+            f,
+            "no line makes this ligature, number {ligature} of the list"
+        ),
+        Fact::ListedPast { number, .. } => write!(
+            f,
+            "the font lacks this glyph, number {number} of the list"
+        ),
         Fact::SettingWithoutName { setting, .. } => {
             write!(
                 f,
@@ -131,6 +148,8 @@ fn count_of(fact: &Fact) -> Option<usize> {
         | Fact::UnusedRule { count }
         | Fact::ClassesAlike { count, .. }
         | Fact::UnnamedLookup { count, .. }
+        | Fact::UnmadeLigature { count, .. }
+        | Fact::ListedPast { count, .. }
         | Fact::SettingWithoutName { count, .. }
         | Fact::ExclusiveSettings { count, .. }
         | Fact::ValuePast { count, .. }

@@ -5,6 +5,7 @@ use crate::finding::{Finding, Place, push_fact};
 use crate::glyphs::check_kind;
 use crate::lines::Order;
 use crate::machines::{Machine, check_machine};
+use crate::turns::turning_of;
 use aat_cuts::{Unsettled, find_unsettled};
 use aat_findings::{InsertionKind, inserting_entries, unnamed_lookups};
 use aat_machine_tables::{Subtable, SubtableKind};
@@ -60,18 +61,14 @@ fn check_machine_of(
     asked: Asked,
     found: &mut Vec<Finding>,
 ) -> Result<(), AllocError> {
-    let coverage = subtable.coverage;
-    let order = Order {
-        is_backwards: coverage.is_backwards(),
-        is_vertical: coverage.is_vertical() && !coverage.is_all_directions(),
-    };
     let machine = Machine {
         place: asked.place,
         glyph_count: asked.glyph_count,
-        order,
+        order: Order::of(subtable.coverage),
         changes_glyphs: true,
         unsettled: unsettled_of(alloc, &subtable.kind)?,
         unnamed: unnamed_of(alloc, &subtable.kind)?,
+        turning: turning_of(alloc, &subtable.kind, asked.glyph_count)?,
         growing: growing_of(alloc, &subtable.kind)?,
     };
     match &subtable.kind {

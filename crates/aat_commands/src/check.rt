@@ -17,7 +17,8 @@ pub(crate) fn check<W: Write>(
 ) -> Result<()> {
     let source = FontSource::of_matches(matches)?;
     let font = session.fonts.font(rt, &source)?;
-    let found = findings(rt.alloc(), font.face)?;
+    let file = font.file()?;
+    let found = findings(rt.alloc(), &file, font.face)?;
     let names = font.names(rt.alloc())?;
     session.has_trouble |= has_trouble(&found);
     if matches.get_flag("json") {

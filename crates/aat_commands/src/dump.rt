@@ -6,6 +6,7 @@ use crate::session::Session;
 use crate::source::FontSource;
 use aat_bytes::{Tag, tag_at};
 use aat_inspection::{write_characters, write_dump, write_face};
+use aat_read_metrics::GlyphNames;
 use anyhow::{Context, Result, bail};
 use clap::ArgMatches;
 use std::alloc::Global;
@@ -29,15 +30,16 @@ fn find_table(font: &Font<'_>, table: Tag) -> Result<()> {
 fn dump_tables<W: Write>(
     alloc: Global,
     out: &mut W,
+    names: Option<&GlyphNames<'_>>,
     font: &Font<'_>,
     table: Option<&str>,
 ) -> Result<()> {
     let Some(table) = table else {
-        return write_face(alloc, out, font.face).context(OUTPUT);
+        return write_face(alloc, out, names, font.face).context(OUTPUT);
     };
     let tag = tag_at(table.as_bytes(), 0).context("a tag has four characters")?;
     find_table(font, tag)?;
-    write_dump(alloc, out, font.face, table).context(OUTPUT)?;
+    write_dump(alloc, out, names, font.face, table).context(OUTPUT)?;
     Ok(())
 }
 
@@ -50,9 +52,14 @@ pub(crate) fn dump<W: Write>(
 ) -> Result<()> {
     let source = FontSource::of_matches(matches)?;
     let font = session.fonts.font(rt, &source)?;
-    dump_tables(rt.alloc(), out, font, matches.get_str("table"))?;
+    let names = if matches.get_flag("names") {
+        Some(font.names(rt.alloc())?)
+    } else {
+        None
+    };
+    dump_tables(rt.alloc(), out, names, font, matches.get_str("table"))?;
     match matches.get_str("characters") {
-        Some(text) => write_characters(out, font.face, text).context(OUTPUT),
+        Some(text) => write_characters(out, names, font.face, text).context(OUTPUT),
         None => Ok(()),
     }
 }

@@ -67,6 +67,8 @@ pub(crate) struct Request {
     pub(crate) script: Option<Script>,
     /// What has a cluster of its own.
     pub(crate) level: ClusterLevel,
+    /// The glyph of a character that the font has no glyph for.
+    pub(crate) not_found: u16,
     /// The form in which lines are shown.
     pub(crate) output: Output,
     /// Whether flags of glyphs are shown.
@@ -144,6 +146,7 @@ impl Request {
             unit: self.unit,
             script: self.script,
             level: self.level,
+            not_found: self.not_found,
         }
     }
 
@@ -190,6 +193,7 @@ impl Request {
             unit,
             script,
             level,
+            not_found: matches.get_one::<u16>("not-found").unwrap_or(0),
             output,
             shows_flags,
             shows_names,

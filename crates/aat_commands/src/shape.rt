@@ -113,7 +113,9 @@ fn shape_told_line<W: Write>(
 ) -> Result<()> {
     let shaped = shape_text_line(rt.alloc(), out, context, typesetter, line, kept);
     shaped.with_context(|| anyhow!("line {number}"))?;
-    if typesetter.text().iter().any(|glyph| glyph.glyph_id == 0) {
+    let not_found = context.request.not_found;
+    let text = typesetter.text();
+    if text.iter().any(|glyph| glyph.glyph_id == not_found) {
         tell_missing(rt, progress, context, number, line)?;
     }
     progress.add(rt, line.len())?;

@@ -1,5 +1,6 @@
 mod Exactly
 mod Growing
+mod Making
 mod Marking
 mod Naming
 mod Reaching

@@ -1,12 +1,14 @@
 -- Worked examples of findings.
-use Rattle.std.specs.Prelude.{◌≡◌, ℕ, Bool, [], ◌∷◌, Some, None, true, false}
+use Rattle.std.specs.Prelude.{◌≡◌, ℕ, Bool, [], ◌∷◌, suc, slice_get, Some, None, true, false}
 use Rattle.aat_lookup.specs.declared.feat.FeatureName.{FeatureName}
+use Rattle.aat_machine_tables.specs.Subtables.{LigatureTables}
 use Rattle.aat_machine_tables.specs.Table.{TableValue}
 use Rattle.aat_machine_tables.specs.declared.state_table.GenericStateEntry.{GenericStateEntry}
 use Rattle.aat_machine_tables.specs.declared.morx.ChainFeature.{ChainFeature}
 use Rattle.aat_findings.specs.Chained.{has_feature, is_clash, is_nameless, sets_none}
 use Rattle.aat_findings.specs.Glyphs.{is_of, lists_deleted}
 use Rattle.aat_findings.specs.Growth.{Entry as InsertionEntry, grows, puts_deleted}
+use Rattle.aat_findings.specs.Ligatures.{ComesTo, IsBegun, IsMade, is_last, is_long, is_store, value_of}
 use Rattle.aat_findings.specs.Named.{is_of_place}
 use Rattle.aat_findings.specs.declared.glyphs.PairKind.TheVariants.{GlyphPast, ValuePast, Deletes, Restores}
 use Rattle.aat_findings.specs.Reached.{next_state, state_after, state_count}
@@ -144,3 +146,40 @@ DeletedGoesIn =
     × (puts_deleted (record { 0 = 1 } ∷ record { 0 = 0xFFFF } ∷ []) (puts 0 0x0001 0xFFFF 1) ≡ true)
     × (puts_deleted (record { 0 = 1 } ∷ record { 0 = 0xFFFF } ∷ []) (puts 0 0x0020 0 0xFFFF) ≡ false)
     × (puts_deleted (record { 0 = 1 } ∷ record { 0 = 0xFFFF } ∷ []) (puts 0 0x0060 0 0xFFFF) ≡ false)
+
+-- an action reads the value at the sum of a glyph and its offset, which may be below 0; the last action stores too. As
+-- many steps as 2^28 are not many
+abbrev pub ValuesAreRead : Type 0
+ValuesAreRead =
+    (value_of (5 ∷ 6 ∷ 7 ∷ []) 0x40000001 1 ≡ Some 7)
+    × (value_of (5 ∷ 6 ∷ 7 ∷ []) 0x3FFFFFFF 2 ≡ Some 6)
+    × (value_of (5 ∷ 6 ∷ 7 ∷ []) 0x3FFFFFFF 0 ≡ None)
+    × (value_of (5 ∷ 6 ∷ 7 ∷ []) 1 2 ≡ None)
+    × (is_store 0x80000000 ≡ true)
+    × (is_store 0x3FFFFFFF ≡ false)
+    × (is_last 0x40000000 ≡ false)
+    × (is_long 16384 16384 1 ≡ false)
+    × (is_long 16384 16384 2 ≡ true)
+
+-- a machine that holds glyph 1 in state 0, and in state 2 glyph 2, which it joins with it
+abbrev pub example_ligatures : LigatureTables
+example_ligatures = record {
+  state = record {
+    class_count = 6;
+    classes = (1, 4) ∷ (2, 5) ∷ [];
+    rules = (0, 4, to 2 0x8000) ∷ (2, 5, to 0 0xA000) ∷ [];
+  };
+  actions = 0 ∷ 0x80000000 ∷ [];
+  components = 0 ∷ 1 ∷ 2 ∷ [];
+  ligatures = record { 0 = 7 } ∷ record { 0 = 8 } ∷ record { 0 = 9 } ∷ record { 0 = 10 } ∷ record { 0 = 11 } ∷ [];
+}
+
+-- it makes ligature 3: the value of glyph 2 is 2, and that of glyph 1 is 1
+abbrev pub LigaturesAreMade : Type 0
+LigaturesAreMade = IsMade example_ligatures 3
+
+-- the last action of a list hands no sum on
+abbrev pub LastEnds : Type 0
+LastEnds =
+    (t : LigatureTables) (place action sum : ℕ) → slice_get t.actions place ≡ Some action → is_last action ≡ true
+    → ComesTo t (suc place) sum → IsBegun t (suc place) sum

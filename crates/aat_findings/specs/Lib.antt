@@ -3,6 +3,7 @@ pub mod Chained
 pub mod Examples
 pub mod Glyphs
 pub mod Growth
+pub mod Ligatures
 pub mod Named
 pub mod Reached
 pub mod Stays

@@ -1,3 +1,4 @@
 pub mod Growing
+pub mod Making
 pub mod Marks
 pub mod Walks

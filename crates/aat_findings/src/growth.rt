@@ -17,7 +17,7 @@ use std::alloc::{AllocError, Global};
 const NO_INDEX: u16 = 0xFFFF;
 
 /// The deleted glyph.
-const DELETED_GLYPH: u16 = 0xFFFF;
+pub(crate) const DELETED_GLYPH: u16 = 0xFFFF;
 
 /// How many entries that stay at a glyph are followed.
 const MOST_TURNS: usize = 64;

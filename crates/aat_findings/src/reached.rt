@@ -17,7 +17,7 @@ pub(crate) fn width<T: Acting>(table: &ExtendedStateTable<T>) -> u16
 }
 
 /// So many marks of 0.
-fn no_marks(alloc: Global, count: usize) -> Result<Vec<u8>, AllocError>
+pub(crate) fn no_marks(alloc: Global, count: usize) -> Result<Vec<u8>, AllocError>
     ensures long { IfOk result (λ marks. length marks.items ≡ count) }
     ensures zero { IfOk result (λ marks. (state : ℕ) → slice_index marks.items state ≡ 0) }
 {

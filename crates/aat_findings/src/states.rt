@@ -21,7 +21,11 @@ pub(crate) fn state_count<T: Copy>(rules: &[(u16, u16, GenericStateEntry<T>)]) -
 }
 
 /// Puts a number behind others where it is wanted.
-fn push_where(numbers: &mut Vec<u16>, number: u16, wanted: bool) -> Result<(), AllocError>
+pub(crate) fn push_where(
+    numbers: &mut Vec<u16>,
+    number: u16,
+    wanted: bool,
+) -> Result<(), AllocError>
     ensures { OnOk result (numbers.new.items
         ≡ (if wanted then numbers.old.items ++ number ∷ [] else numbers.old.items)) }
 {

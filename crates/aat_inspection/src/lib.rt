@@ -18,6 +18,7 @@ mod tables_text;
 use aat_bytes::tags::{ANKR, TRAK};
 use aat_bytes::{Tag, tag_at};
 use aat_face::Face;
+use aat_read_metrics::GlyphNames;
 pub use chains::{kind_name, write_settled};
 pub use ranges::{InspectedRange, inspect};
 pub use ranges_table::Table;
@@ -72,14 +73,15 @@ pub fn write_inspection<W: Write>(
     write_presence(out, face, TRAK, face.tracking().is_some())
 }
 
-/// Writes what a face has of the table that a text names by its tag, as [`write_table`] does, and
-/// answers whether it is a table that this writes. Where the text is no tag, which is of exactly four characters, and
-/// where the table is none of those, it writes nothing and answers `false`.
+/// Writes what a face has of the table that a text names by its tag, as [`write_table`] does, with the names of glyphs
+/// where they are given, and answers whether it is a table that this writes. Where the text is no tag, which is of
+/// exactly four characters, and where the table is none of those, it writes nothing and answers `false`.
 ///
 /// An error is that of the writer, or `OutOfMemory`. A part of the text may be written then.
 pub fn write_dump<W: Write>(
     alloc: Global,
     out: &mut W,
+    names: Option<&GlyphNames<'_>>,
     face: &Face<'_>,
     table: &str,
 ) -> io::Result<bool> {
@@ -87,7 +89,7 @@ pub fn write_dump<W: Write>(
         return Ok(false);
     }
     match tag_at(table.as_bytes(), 0) {
-        Some(tag) => write_table(alloc, out, face, tag),
+        Some(tag) => write_table(alloc, out, names, face, tag),
         None => Ok(false),
     }
 }

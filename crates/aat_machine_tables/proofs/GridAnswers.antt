@@ -1,8 +1,8 @@
 -- A grid that is filled answers as the rules do.
-use Rattle.std.proofs.Common.{◌≡◌, ℕ, zero, suc, ◌+◌, ◌-◌, ◌*◌, ◌/◌, ◌%◌, ◌<◌, ◌≤◌, ◌⊎◌, inl, inr, List, length, get_or, Bool, Option, option_map, ◌∙◌, ap, sym, le_refl, arith}
+use Rattle.std.proofs.Common.{◌≡◌, ℕ, zero, suc, ◌+◌, ◌-◌, ◌*◌, ◌<◌, ◌≤◌, ◌⊎◌, inl, inr, List, length, get_or, Bool, Option, option_map, ◌∙◌, ap, sym, le_refl, arith}
 use Rattle.std.proofs.lemmas.Bool.{cases_lt}
 use Rattle.std.proofs.lemmas.List.{get_or_past, get_or_read}
-use Rattle.std.proofs.lemmas.Nat.{div-mul-add, mod-mul-add, mul-add-lt, mul-le}
+use Rattle.std.proofs.lemmas.Nat.{mul-add-lt, mul-le}
 use Rattle.aat_lookup.specs.Keys.{IsRising}
 use Rattle.aat_machine_tables.specs.Table.{Rule, rule_key}
 use Rattle.aat_machine_tables.specs.declared.judged.JudgedEntry.{JudgedEntry}
@@ -18,20 +18,14 @@ positive (suc a) b h = omega arith
 
 module _ {T : Type 0} (acts : GenericStateEntry T → Bool) (count states : ℕ) (rules : List (Rule (GenericStateEntry T))) (cells : List (JudgedEntry T))
     (long : length cells ≡ states * count)
-    (entries : (k : ℕ) → k < states * count → get_or cells k Missing ≡ judged_rule acts rules (k / count) (k % count))
+    (entries : (s k : ℕ) → s < states → k < count → get_or cells (s * count + k) Missing ≡ judged_rule acts rules s k)
     (below : 0 < states → RulesBelow states rules) where
-  in_grid : (s k : ℕ) → k < count → s * count + k < states * count → get_or cells (s * count + k) Missing ≡ judged_rule acts rules s k
-  in_grid s k lt inside =
-      entries (s * count + k) inside
-      ∙ ap (λ a. judged_rule acts rules a ((s * count + k) % count)) (div-mul-add s count k lt)
-      ∙ ap (λ a. judged_rule acts rules s a) (mod-mul-add s count k lt)
-
   none_ruled : (s k : ℕ) → 0 < states → states ≤ s → Missing ≡ judged_rule acts rules s k
   none_ruled s k some past =
       sym (ap (λ (o : Option (Rule (GenericStateEntry T))). judged acts s (option_map (λ (r : Rule (GenericStateEntry T)). r.2) o) (ruled_entry rules 0 k) (ruled_entry rules s 0)) (at_key_none rule_key rules (s * 65536 + k) (λ i d lt. λ e. omega (arith, e, below some i d lt))))
 
   ruled : (s k : ℕ) → k < count → 0 < states → (s < states) ⊎ (states ≤ s) → get_or cells (s * count + k) Missing ≡ judged_rule acts rules s k
-  ruled s k lt some (inl inside) = in_grid s k lt (omega (arith, mul-add-lt s count k states inside lt))
+  ruled s k lt some (inl inside) = entries s k inside lt
   ruled s k lt some (inr past) =
       get_or_past cells (s * count + k) Missing (omega (arith, long, mul-le states count s count past (le_refl count)))
       ∙ none_ruled s k some past
@@ -39,6 +33,22 @@ module _ {T : Type 0} (acts : GenericStateEntry T → Bool) (count states : ℕ)
   -- a grid with the entry of each class of all states that have a rule, judged
   pub grid_answers : AnswersAsRules acts count cells rules
   grid_answers some s k lt = ruled s k lt (positive states count (omega (arith, long))) (cases_lt s states)
+
+module _ {T : Type 0} (acts : GenericStateEntry T → Bool) (count state : ℕ) (rules : List (Rule (GenericStateEntry T))) (old new : List (JudgedEntry T))
+    (long : length old ≡ state * count)
+    (kept : (k : ℕ) → k < length old → get_or new k Missing ≡ get_or old k Missing)
+    (row : (k : ℕ) → k < count → get_or new (length old + k) Missing ≡ judged_rule acts rules state k)
+    (before : (s k : ℕ) → s < state → k < count → get_or old (s * count + k) Missing ≡ judged_rule acts rules s k) where
+  in_row : (s k : ℕ) → k < count → (s < state) ⊎ (state ≤ s) → s < state + 1 → get_or new (s * count + k) Missing ≡ judged_rule acts rules s k
+  in_row s k lt (inl less) within = kept (s * count + k) (omega (arith, long, mul-add-lt s count k state less lt)) ∙ before s k less lt
+  in_row s k lt (inr le) within =
+      let same : state ≡ s = omega arith in
+      let place : s * count + k ≡ length old + k = ap (λ a. a * count + k) (sym same) ∙ ap (λ a. a + k) (sym long) in
+      ap (λ a. get_or new a Missing) place ∙ row k lt ∙ ap (λ a. judged_rule acts rules a k) same
+
+  -- one row more
+  pub row_more : (s k : ℕ) → s < state + 1 → k < count → get_or new (s * count + k) Missing ≡ judged_rule acts rules s k
+  row_more s k within lt = in_row s k lt (cases_lt s state) within
 
 module _ {E : Type 0} where
   -- each rule is of a state below a number that is above the state of the last one

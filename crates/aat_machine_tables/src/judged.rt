@@ -1,15 +1,18 @@
 //! Whether the line gets a mark before a glyph, by HarfBuzz's test, where entries act whatever the registers hold.
-ghost use Rattle.std.specs.Prelude.{◌≡◌};
-ghost use Rattle.aat_machine_tables.specs.Judged.{entry_in, is_judged_safe};
+ghost use Rattle.std.specs.Prelude.{◌≡◌, ◌+◌, ◌*◌, ◌==◌, ◌&&◌, ◌||◌, not, option_copied};
+ghost use Rattle.aat_lookup.specs.Truth.{is_some_and};
+ghost use Rattle.aat_machine_tables.specs.Entries.{goes_on};
+ghost use Rattle.aat_machine_tables.specs.Judged.{entry_in, is_judged_safe, leads_as};
 ghost use Rattle.aat_lookup.specs.Keys.{IsRising, at_key};
 ghost use Rattle.aat_machine_tables.specs.Table.{rule_key};
 ghost use Rattle.aat_machine_tables.specs.inside.Grid.{judged_rule, ruled_entry};
 
 use crate::entries::{ContextualEntryData, EntryData, InsertionEntryData, KernEntryData};
+use crate::entry_bits::class::END_OF_TEXT;
+use crate::entry_bits::state::START_OF_TEXT;
 use crate::entry_bits::{NO_INDEX, insertion, ligature, rearrangement};
-use crate::safe_turn::{Turns, is_safe_turn};
 use crate::state_table::{GenericStateEntry, rule_key};
-use aat_lookup::keys::{Keyed, row_at};
+use aat_lookup::keys::{Keyed, row_in};
 
 /// What the entries of a kind of machine hold beside a state and flags, and whether one of them may act: `()` is of
 /// rearrangement, and `u16` of ligatures. Each answer is right of a context whose `acts_by_entries` is false.
@@ -123,7 +126,13 @@ impl<T: Copy> JudgedEntry<T> {
     }
 }
 
-/// The entry that rising rules of so many classes have for a state and a class, judged.
+/// The entry that rising rules of so many classes have for a state and a class, judged. What it is held against is
+/// looked for only where it can decide. The test is that of `is_safe_turn`, with nothing asked through a trait: there
+/// each entry would be copied.
+///
+/// It is inlined, since a call for each cell of a grid takes longer than to judge most of them.
+#[inline(always)]
+#[tactic(auto, unfolding(crate::specs::Judged::is_safe_by))]
 pub(crate) fn judged_rule<T: Acting>(
     rules: &[(u16, u16, GenericStateEntry<T>)],
     class_count: u16,
@@ -133,85 +142,113 @@ pub(crate) fn judged_rule<T: Acting>(
     requires { IsRising rule_key rules.now }
     ensures { result ≡ judged_rule T.may_act rules.now state class }
 {
-    let entry = ruled_entry(rules, class_count, state, class);
-    judged(rules, class_count, state, class, entry)
+    let Some(rule) = ruled(rules, class_count, state, class) else {
+        return JudgedEntry::Missing;
+    };
+    let entry = rule.2;
+    if T::acts(&entry)
+        || !restarts_alike(rules, state, class, &entry)
+        || !rests_at_end(rules, class_count, state)
+    {
+        return JudgedEntry::Unsafe(entry);
+    }
+    JudgedEntry::Safe(entry)
 }
 
-/// The entry that rising rules have for a state and a class, judged. An entry that it is held against is looked for
-/// only where it can decide.
-#[tactic(auto, unfolding(crate::specs::Judged::is_safe_by))]
-fn judged<T: Acting>(
+/// Whether state 0 leads on as an entry of a state does that does not act: condition 2 of HarfBuzz's test.
+#[inline(always)]
+fn restarts_alike<T: Acting>(
+    rules: &[(u16, u16, GenericStateEntry<T>)],
+    state: u16,
+    class: u16,
+    entry: &GenericStateEntry<T>,
+) -> bool
+    requires { IsRising rule_key rules.now }
+    ensures { result ≡ (state == 0) || ((not (goes_on entry.now) && (entry.now.new_state == 0))
+        || is_some_and (ruled_entry rules.now 0 class) (leads_as T.may_act entry.now)) }
+{
+    if state == START_OF_TEXT || (entry.new_state == START_OF_TEXT && !entry.has_advance()) {
+        return true;
+    }
+    match ruled(rules, 0, START_OF_TEXT, class) {
+        Some(rule) => {
+            rule.2.new_state == entry.new_state
+                && !T::acts(&rule.2)
+                && rule.2.has_advance() == entry.has_advance()
+        }
+        None => false,
+    }
+}
+
+/// Whether a state has an entry for the end of the text, which does not act: condition 3.
+fn rests_at_end<T: Acting>(
+    rules: &[(u16, u16, GenericStateEntry<T>)],
+    class_count: u16,
+    state: u16,
+) -> bool
+    requires { IsRising rule_key rules.now }
+    ensures { result ≡ is_some_and (ruled_entry rules.now state 0) (λ f. not (T.may_act f)) }
+{
+    match ruled(rules, class_count, state, END_OF_TEXT) {
+        Some(rule) => !T::acts(&rule.2),
+        None => false,
+    }
+}
+
+/// The rule that rising rules have for a state and a class, where it stands. Where they are one for each of so many
+/// classes of each state, as those of a font's bytes, it stands at a known place, and else it is found by bisection.
+#[inline(always)]
+fn ruled<T: Copy>(
     rules: &[(u16, u16, GenericStateEntry<T>)],
     class_count: u16,
     state: u16,
     class: u16,
-    entry: Option<GenericStateEntry<T>>,
-) -> JudgedEntry<T>
-    requires rising { IsRising rule_key rules.now }
-    requires entry { entry ≡ ruled_entry rules.now state class }
-    ensures { result ≡ judged_rule T.may_act rules.now state class }
-{
-    let Some(entry) = entry else {
-        return JudgedEntry::Missing;
-    };
-    if is_safe_turn(&RuledTurns { rules, class_count }, state, class, &entry) {
-        JudgedEntry::Safe(entry)
-    } else {
-        JudgedEntry::Unsafe(entry)
-    }
-}
-
-/// Rising rules of so many classes, which tell what entries do by themselves.
-#[derive(Drop)]
-struct RuledTurns<'a, T: Acting> {
-    rules: &'a [(u16, u16, GenericStateEntry<T>)],
-    class_count: u16,
-    ghost rising: { IsRising rule_key rules.now },
-}
-
-impl<'a, T: Acting> Turns<T> for RuledTurns<'a, T> {
-    ghost use Rattle.aat_machine_tables.specs.Entries.{goes_on};
-    ghost use Rattle.aat_machine_tables.specs.inside.Grid.{ruled_entry};
-
-    ghost acting = { λ _ e. T.may_act e };
-
-    ghost advancing = { λ _ e. goes_on e };
-
-    ghost entry_at = { λ s state class. ruled_entry s.rules.now state class };
-
-    fn acts(&self, entry: &GenericStateEntry<T>) -> bool {
-        T::acts(entry)
-    }
-
-    fn advances(&self, entry: &GenericStateEntry<T>) -> bool {
-        entry.has_advance()
-    }
-
-    fn entry(&self, state: u16, class: u16) -> Option<GenericStateEntry<T>> {
-        ruled_entry(self.rules, self.class_count, state, class)
-    }
-}
-
-/// A copy of the rule that has a number, if there is one. It is looked for at a place, and else found by bisection.
-fn rule_near<T: Copy>(
-    rules: &[(u16, u16, GenericStateEntry<T>)],
-    place: usize,
-    key: u32,
-) -> Option<(u16, u16, GenericStateEntry<T>)>
+) -> Option<&(u16, u16, GenericStateEntry<T>)>
     requires { IsRising rule_key rules.now }
-    ensures { result ≡ at_key rule_key rules.now key }
+    ensures { option_copied result ≡ at_key rule_key rules.now (state * 65536 + class) }
 {
+    let place = state as usize * class_count as usize + class as usize;
+    let key = rule_key(state, class);
     if place < rules.len() {
-        let rule = rules[place];
+        let rule = &rules[place];
         if rule.key() == key {
             return Some(rule);
         }
     }
-    row_at(rules, key)
+    searched(rules, key)
 }
 
-/// The entry that rising rules have for a state and a class. Where they are one for each of so many classes of each
-/// state, as those of a font's bytes, it stands at a known place.
+/// The rule that has a number, where it stands, if there is one, found by bisection. It stands apart, so that what is
+/// found at its place stays short.
+#[inline(never)]
+fn searched<T: Copy>(
+    rules: &[(u16, u16, GenericStateEntry<T>)],
+    key: u32,
+) -> Option<&(u16, u16, GenericStateEntry<T>)>
+    requires { IsRising rule_key rules.now }
+    ensures { option_copied result ≡ at_key rule_key rules.now key }
+{
+    row_in(rules, key)
+}
+
+/// The entry that rising rules have for a state and a class, judged, for who asks for one. It stands apart, so that what
+/// is found in a grid stays short.
+#[inline(never)]
+pub(crate) fn judged_among<T: Acting>(
+    rules: &[(u16, u16, GenericStateEntry<T>)],
+    class_count: u16,
+    state: u16,
+    class: u16,
+) -> JudgedEntry<T>
+    requires { IsRising rule_key rules.now }
+    ensures { result ≡ judged_rule T.may_act rules.now state class }
+{
+    judged_rule(rules, class_count, state, class)
+}
+
+/// The entry that rising rules have for a state and a class. It stands apart, so that what is found in a grid stays
+/// short.
+#[inline(never)]
 pub(crate) fn ruled_entry<T: Copy>(
     rules: &[(u16, u16, GenericStateEntry<T>)],
     class_count: u16,
@@ -221,6 +258,8 @@ pub(crate) fn ruled_entry<T: Copy>(
     requires { IsRising rule_key rules.now }
     ensures { result ≡ ruled_entry rules.now state class }
 {
-    let place = state as usize * class_count as usize + class as usize;
-    rule_near(rules, place, rule_key(state, class)).map(|rule| rule.2)
+    match ruled(rules, class_count, state, class) {
+        Some(rule) => Some(rule.2),
+        None => None,
+    }
 }

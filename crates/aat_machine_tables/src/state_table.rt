@@ -1,5 +1,5 @@
 //! State tables: the class of each glyph, and what a machine does at a state and a class.
-ghost use Rattle.std.specs.Prelude.{◌≡◌, ◌+◌, ◌*◌, ◌/◌, ◌%◌, ◌<◌, ◌≤◌, ℕ, IfOk, IfErr, IfSome, OnOk, None, option_map, length, slice_index_or, unwrap_or};
+ghost use Rattle.std.specs.Prelude.{◌≡◌, ◌+◌, ◌*◌, ◌<◌, ◌≤◌, ℕ, IfOk, IfErr, IfSome, OnOk, None, option_map, length, slice_index_or, unwrap_or};
 ghost use Rattle.aat_machine_tables.specs.Entries.{has_flag, goes_on};
 ghost use Rattle.aat_machine_tables.specs.Judged.{entry_in, is_judged_safe, is_safe_by};
 ghost use Rattle.aat_lookup.specs.Keys.{IsRising};
@@ -10,7 +10,7 @@ ghost use Rattle.aat_machine_tables.specs.declared.judged.JudgedEntry.TheVariant
 ghost use Rattle.aat_machine_tables.specs.inside.Grid.{judged_rule, ruled_entry, state_count, states_to, AnswersAsRules, RulesBelow};
 
 use crate::entry_bits::{DONT_ADVANCE, anchor, class, stack};
-use crate::judged::{Acting, JudgedEntry, judged_rule, ruled_entry};
+use crate::judged::{Acting, JudgedEntry, judged_among, judged_rule, ruled_entry};
 use aat_lookup::keys::{Keyed, first_fall};
 use aat_lookup::{GlyphId, Lookup, TableError};
 use std::alloc::{AllocError, Allocator, Global};
@@ -253,7 +253,7 @@ impl<T: Acting, A: Allocator> ExtendedStateTable<T, A> {
         let place = state as usize * self.class_count as usize + class as usize;
         match self.grid.get(place) {
             Some(cell) => *cell,
-            None => judged_rule(&self.rules, self.class_count, state, class),
+            None => judged_among(&self.rules, self.class_count, state, class),
         }
     }
 }
@@ -325,19 +325,40 @@ fn cells_of<T: Acting, A: Allocator>(
     requires classes { 0 < class_count }
     requires small { states * class_count ≤ 65536 }
     ensures long { IfOk result (λ cells. length cells.items ≡ states * class_count) }
-    ensures entries { IfOk result (λ cells. (place : ℕ) → place < states * class_count
-        → slice_index_or cells.items place Missing
-        ≡ judged_rule T.may_act rules.now (place / class_count) (place % class_count)) }
+    ensures entries { IfOk result (λ cells. (state class : ℕ) → state < states → class < class_count
+        → slice_index_or cells.items (state * class_count + class) Missing
+        ≡ judged_rule T.may_act rules.now state class) }
 {
-    let width = class_count as usize;
-    let count = states * width;
-    let mut cells = Vec::with_capacity(alloc, count)?;
-    for place in 0..count {
-        let state = (place / width) as u16;
-        let class = (place % width) as u16;
-        cells.push(judged_rule(rules, class_count, state, class))?;
+    let mut cells = Vec::with_capacity(alloc, states * class_count as usize)?;
+    for state in 0..states {
+        append_row(&mut cells, rules, class_count, state as u16)?;
     }
     Ok(cells)
+}
+
+/// Appends the judged entries that rising rules have for each class of a state. Fails where they get no memory; what
+/// the cells then are is not said.
+///
+/// It stands apart, so that the loop has the registers of the processor to itself.
+#[inline(never)]
+fn append_row<T: Acting, A: Allocator>(
+    cells: &mut Vec<JudgedEntry<T>, A>,
+    rules: &[(u16, u16, GenericStateEntry<T>)],
+    class_count: u16,
+    state: u16,
+) -> Result<(), AllocError>
+    requires { IsRising rule_key rules.now }
+    ensures long { IfOk result (λ _. length cells.new.items ≡ length cells.old.items + class_count) }
+    ensures kept { IfOk result (λ _. (k : ℕ) → k < length cells.old.items
+        → slice_index_or cells.new.items k Missing ≡ slice_index_or cells.old.items k Missing) }
+    ensures entries { IfOk result (λ _. (class : ℕ) → class < class_count
+        → slice_index_or cells.new.items (length cells.old.items + class) Missing
+        ≡ judged_rule T.may_act rules.now state class) }
+{
+    for class in 0..class_count {
+        cells.push(judged_rule(rules, class_count, state, class))?;
+    }
+    Ok(())
 }
 
 /// The number by which rules rise.
@@ -370,6 +391,7 @@ fn earlier_fault(fall: Option<usize>, out_of_range: Option<usize>) -> Option<Tab
 }
 
 /// The first fault of rules.
+#[inline(never)]
 fn faulty_rule<T: Copy>(
     class_count: u16,
     rules: &[(u16, u16, GenericStateEntry<T>)],

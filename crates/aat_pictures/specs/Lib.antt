@@ -1,3 +1,2 @@
 pub mod FontOutlines
-pub mod HalfPoints
-pub mod Links
+pub mod inside

@@ -1,8 +1,8 @@
 //! Why a picture is not drawn.
 
-use aat_bytes::{Fault, ReadError};
+use aat_bytes::Fault;
 use std::alloc::{AllocError, AllocFailed};
-use std::io;
+use std::io::{self, ErrorKind};
 use thiserror::Error;
 
 /// Why a picture is not drawn. A part of it may be written then.
@@ -14,7 +14,7 @@ pub enum DrawError {
     /// 2: the writer failed.
     #[error("{0}")]
     Writer(io::Error),
-    /// 3: memory is wanting.
+    /// 3: memory is wanting, also where it is the writer's.
     #[error("out of memory")]
     OutOfMemory,
 }
@@ -28,19 +28,14 @@ impl DrawError {
             DrawError::OutOfMemory => 3,
         }
     }
-
-    /// Why the outline of a glyph is not drawn.
-    pub(crate) fn of_glyph(glyph_id: u16, error: ReadError) -> DrawError {
-        match error {
-            ReadError::Fault(fault) => DrawError::Outline(glyph_id, fault),
-            ReadError::OutOfMemory => DrawError::OutOfMemory,
-        }
-    }
 }
 
 impl From<io::Error> for DrawError {
     fn from(error: io::Error) -> DrawError {
-        DrawError::Writer(error)
+        match error.kind() {
+            ErrorKind::OutOfMemory => DrawError::OutOfMemory,
+            _ => DrawError::Writer(error),
+        }
     }
 }
 

@@ -1,6 +1,6 @@
 //! Which glyphs of a line become which of the line that a subtable leaves.
 ghost use Rattle.std.specs.Prelude.{◌≡◌, ◌+◌, ◌-◌, ◌^◌, ◌<◌, ◌≤◌};
-ghost use Rattle.aat_pictures.specs.Links.{mirrored, pair_of, place_behind};
+ghost use Rattle.aat_pictures.specs.inside.Links.{mirrored, pair_of, place_behind};
 
 use crate::rows::place_of;
 use aat_buffer::DELETED_GLYPH;

@@ -61,45 +61,6 @@ fn is_first<T: DrawnEntry>(
     }
 }
 
-/// The machine of a subtable, by its table.
-fn machine_of<'a, T: DrawnEntry>(
-    alloc: Global,
-    kind: &'a SubtableKind,
-    table: &ExtendedStateTable<T>,
-    names: Option<&'a GlyphNames<'a>>,
-) -> Result<Machine<'a>, AllocError> {
-    let members = members_of(alloc, table.classes())?;
-    let mut states = Vec::new(alloc);
-    states.push(START_OF_TEXT)?;
-    states.push(START_OF_LINE)?;
-    let (mut steps, mut likes) = (Vec::new(alloc), Vec::new(alloc));
-    for (state, class, entry) in table.rules() {
-        let (next, deeds) = (entry.new_state, T::deeds(entry));
-        states.push(*state)?;
-        states.push(next)?;
-        if next == START_OF_TEXT && deeds == NOTHING {
-            continue;
-        }
-        if *state != START_OF_TEXT && is_first(table, *class, next, deeds) {
-            likes.push((*state, *class))?;
-        } else {
-            steps.push((*state, next, deeds, *class))?;
-        }
-    }
-    states.sort()?;
-    states.dedup();
-    steps.sort()?;
-    likes.sort()?;
-    Ok(Machine {
-        kind,
-        states,
-        steps,
-        likes,
-        members,
-        names,
-    })
-}
-
 /// Adds a class to a text: by its name where every machine has it, else by its first glyphs, or by its number where it has
 /// none.
 fn add_class(text: &mut String, machine: &Machine<'_>, class: u16) -> Result<(), AllocError> {
@@ -144,6 +105,35 @@ fn add_next_class(
 }
 
 impl Machine<'_> {
+    /// Takes the rules and the classes of a table.
+    ///
+    /// Fails where they get no memory. A part may be taken then.
+    fn take<T: DrawnEntry>(
+        &mut self,
+        alloc: Global,
+        table: &ExtendedStateTable<T>,
+    ) -> Result<(), AllocError> {
+        self.members = members_of(alloc, table.classes())?;
+        self.states
+            .extend_from_slice(&[START_OF_TEXT, START_OF_LINE])?;
+        for (state, class, entry) in table.rules() {
+            let (next, deeds) = (entry.new_state, T::deeds(entry));
+            self.states.extend_from_slice(&[*state, next])?;
+            if next == START_OF_TEXT && deeds == NOTHING {
+                continue;
+            }
+            if *state != START_OF_TEXT && is_first(table, *class, next, deeds) {
+                self.likes.push((*state, *class))?;
+            } else {
+                self.steps.push((*state, next, deeds, *class))?;
+            }
+        }
+        self.states.sort()?;
+        self.states.dedup();
+        self.steps.sort()?;
+        Ok(self.likes.sort()?)
+    }
+
     /// Whether a state has the entry of state 0 at a class.
     pub(crate) fn has_likes(&self, state: u16) -> bool {
         let first = place_of(&self.likes, &(state, 0));
@@ -206,6 +196,33 @@ pub enum MachinePicture {
     NoSubtable,
 }
 
+/// Writes a picture of the machine of a subtable of a kind.
+fn write_machine_of<W: Write>(
+    alloc: Global,
+    out: &mut W,
+    kind: &SubtableKind,
+    names: Option<&GlyphNames<'_>>,
+) -> io::Result<MachinePicture> {
+    let mut machine = Machine {
+        kind,
+        states: Vec::new(alloc),
+        steps: Vec::new(alloc),
+        likes: Vec::new(alloc),
+        members: Vec::new(alloc),
+        names,
+    };
+    let taken = match kind {
+        SubtableKind::Rearrangement(table) => machine.take(alloc, table),
+        SubtableKind::Contextual(tables) => machine.take(alloc, &tables.state),
+        SubtableKind::Ligature(tables) => machine.take(alloc, &tables.state),
+        SubtableKind::Insertion(tables) => machine.take(alloc, &tables.state),
+        SubtableKind::NonContextual(_) => return Ok(MachinePicture::NoMachine),
+    };
+    taken?;
+    write_marks(alloc, out, &machine)?;
+    Ok(MachinePicture::Written)
+}
+
 /// Writes a picture of the machine of a subtable as a file of SVG. The number is that of the subtable through all chains,
 /// from 0.
 ///
@@ -214,8 +231,9 @@ pub enum MachinePicture {
 /// state that follows it and what its entries do there, with the classes at which they do it, by their first three glyphs:
 /// by names where they are given, else by numbers. An arrow leads along a line to a state of the next column. Behind `action`,
 /// `verb`, `by lookup` and `inserts N at` stands the index of the entry, the verb, or the place in the list of glyphs; `stays`
-/// is of an entry that does not go on to the next glyph. A last line has the classes at which the entry is that of state 0. Entries that lead to state 0 and do nothing are left out. A long line is cut and ends in
-/// `..`; the whole is its title. A colour is for every eighth state.
+/// is of an entry that does not go on to the next glyph. A last line has the classes at which the entry is that of state 0.
+/// Entries that lead to state 0 and do nothing are left out. A long line is cut and ends in `..`; the whole is its title. A
+/// colour is for every eighth state.
 ///
 /// An error is that of the writer, or `OutOfMemory`: it takes some bytes for each rule, state and glyph that has a class. A
 /// part of the picture may be written then.
@@ -229,16 +247,7 @@ pub fn write_machine<W: Write>(
     let mut left = number;
     for chain in chains {
         if let Some(subtable) = chain.subtables.get(left) {
-            let kind = &subtable.kind;
-            let machine = match kind {
-                SubtableKind::Rearrangement(table) => machine_of(alloc, kind, table, names)?,
-                SubtableKind::Contextual(tables) => machine_of(alloc, kind, &tables.state, names)?,
-                SubtableKind::Ligature(tables) => machine_of(alloc, kind, &tables.state, names)?,
-                SubtableKind::Insertion(tables) => machine_of(alloc, kind, &tables.state, names)?,
-                SubtableKind::NonContextual(_) => return Ok(MachinePicture::NoMachine),
-            };
-            write_marks(alloc, out, &machine)?;
-            return Ok(MachinePicture::Written);
+            return write_machine_of(alloc, out, &subtable.kind, names);
         }
         left = left.saturating_sub(chain.subtables.len());
     }

@@ -206,8 +206,7 @@ fn spots_of(
         middle: 0,
         lines: 0,
     };
-    let mut spots = Vec::new(alloc);
-    spots.resize(wishes.len(), nowhere)?;
+    let mut spots = vec![in alloc; nowhere; wishes.len()]?;
     let (mut last, mut pen) = (usize::MAX, 0i64);
     for (column, _, state) in wishes {
         if *column != last {

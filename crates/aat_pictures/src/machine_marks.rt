@@ -29,10 +29,11 @@ const GREY: u32 = 0x999999;
 const STYLE: &str = "<style>.line{fill:none}.head,text{stroke:none}circle{fill:#ffffff}</style>";
 
 /// What stands at the foot of a picture.
-const NOTES: [&str; 2] = [
-    "Left out: entries that lead to state 0 and do nothing. As 0: by the entries of state 0.",
-    "Grey: states that no line reaches.",
-];
+const FIRST_NOTE: &str =
+    "Left out: entries that lead to state 0 and do nothing. As 0: by the entries of state 0.";
+
+/// What stands below it.
+const SECOND_NOTE: &str = "Grey: states that no line reaches.";
 
 /// Where a column stands, in pixels from the left.
 #[derive(Clone, Copy)]
@@ -75,7 +76,7 @@ fn widths_of(
     Ok(widths)
 }
 
-/// Columns of a height whose texts have such widths, and one behind the last.
+/// Columns of a height whose texts have such widths.
 fn columns_of(alloc: Global, widths: &[i64], height: i64) -> Result<Vec<Column>, AllocError> {
     let bend = (height / 8).clamp(60, 240);
     let mut columns = Vec::new(alloc);
@@ -124,7 +125,29 @@ fn write_arrow<W: Write>(
     writeln!(out, "<path class=\"head\" d=\"M{end} {to_y}l-8 -4v8Z\"/>")
 }
 
-/// Writes the lines beside states with their arrows, each in the colour of its state. The whole line is the title.
+/// Writes a line beside a state in a spot, with its arrow. The whole line is the title.
+fn write_line<W: Write>(
+    out: &mut W,
+    layers: &Layers,
+    columns: &[Column],
+    line: &Line,
+    spot: &Spot,
+    (whole, cut): (&str, &str),
+) -> io::Result<()> {
+    writeln!(out, "{whole}</title>")?;
+    if let Some((_, to, _, _)) = line.arrow
+        && let Some(to) = layers.spots.get(to)
+        && spot.column < to.column
+    {
+        write_arrow(out, columns, spot, to, line.middle)?;
+    }
+    let middle = column_at(columns, spot.column).middle;
+    let x = middle.saturating_add(RADIUS + BESIDE);
+    let y = line.middle.saturating_add(MARGIN + 3);
+    writeln!(out, "<text x=\"{x}\" y=\"{y}\">{cut}</text></g>")
+}
+
+/// Writes the lines beside states with their arrows, each in the colour of its state.
 fn write_lines<W: Write>(
     alloc: Global,
     out: &mut W,
@@ -138,24 +161,15 @@ fn write_lines<W: Write>(
             continue;
         };
         let state = machine.states.get(line.state).copied().unwrap_or(0);
+        let colour = colour_of(layers, spot, state);
+        write!(
+            out,
+            "<g stroke=\"{colour}\" fill=\"{colour}\"><title>{state} "
+        )?;
         let whole = line.whole_text(alloc, machine, usize::MAX)?;
         let cut = line.cut_text(alloc, machine)?;
-        let colour = colour_of(layers, spot, state);
-        writeln!(
-            out,
-            "<g stroke=\"{colour}\" fill=\"{colour}\"><title>{state} {whole}</title>"
-        )?;
-        if let Some((_, to, _, _)) = line.arrow
-            && let Some(to) = layers.spots.get(to)
-            && spot.column < to.column
-        {
-            write_arrow(out, columns, spot, to, line.middle)?;
-        }
-        let x = column_at(columns, spot.column)
-            .middle
-            .saturating_add(RADIUS + BESIDE);
-        let y = line.middle.saturating_add(MARGIN + 3);
-        writeln!(out, "<text x=\"{x}\" y=\"{y}\">{cut}</text></g>")?;
+        let texts = (whole.as_str(), cut.as_str());
+        write_line(out, layers, columns, line, spot, texts)?;
     }
     Ok(())
 }
@@ -186,14 +200,35 @@ fn write_states<W: Write>(
     Ok(())
 }
 
-/// Writes the notes at the foot of a picture, from a height on.
-fn write_notes<W: Write>(out: &mut W, top: i64) -> io::Result<()> {
-    let mut y = top;
-    for note in NOTES {
-        writeln!(out, "<text x=\"{MARGIN}\" y=\"{y}\">{note}</text>")?;
-        y = y.saturating_add(16);
-    }
-    Ok(())
+/// Writes the picture of a machine whose lines and columns are found.
+fn write_shown<W: Write>(
+    alloc: Global,
+    out: &mut W,
+    machine: &Machine<'_>,
+    layers: &Layers,
+    lines: &[Line],
+    columns: &[Column],
+) -> io::Result<()> {
+    let last = column_at(columns, layers.columns.saturating_sub(1));
+    let width = last.turn.saturating_add(MARGIN).max(LEAST_WIDTH);
+    let height = layers.height.saturating_add(2 * MARGIN + FOOT);
+    write_head(out, &Paint::plain(), width, height)?;
+    writeln!(out, "{STYLE}")?;
+    let (first, second) = (
+        height.saturating_sub(FOOT - 14),
+        height.saturating_sub(FOOT - 30),
+    );
+    writeln!(
+        out,
+        "<text x=\"{MARGIN}\" y=\"{first}\">{FIRST_NOTE}</text>"
+    )?;
+    writeln!(
+        out,
+        "<text x=\"{MARGIN}\" y=\"{second}\">{SECOND_NOTE}</text>"
+    )?;
+    write_lines(alloc, out, machine, layers, lines, columns)?;
+    write_states(out, machine, layers, columns)?;
+    writeln!(out, "</svg>")
 }
 
 /// Writes the picture of a machine.
@@ -208,13 +243,5 @@ pub(crate) fn write_marks<W: Write>(
     let lines = lines_beside(alloc, machine, &layers)?;
     let widths = widths_of(alloc, machine, &layers, &lines)?;
     let columns = columns_of(alloc, &widths, layers.height)?;
-    let last = column_at(&columns, layers.columns.saturating_sub(1));
-    let width = last.turn.saturating_add(MARGIN);
-    let height = layers.height.saturating_add(2 * MARGIN + FOOT);
-    write_head(out, &Paint::plain(), width.max(LEAST_WIDTH), height)?;
-    writeln!(out, "{STYLE}")?;
-    write_notes(out, height.saturating_sub(FOOT - 14))?;
-    write_lines(alloc, out, machine, &layers, &lines, &columns)?;
-    write_states(out, machine, &layers, &columns)?;
-    writeln!(out, "</svg>")
+    write_shown(alloc, out, machine, &layers, &lines, &columns)
 }

@@ -1,6 +1,6 @@
 //! Outlines of glyphs as paths.
 ghost use Rattle.std.specs.Prelude.{◌≡◌};
-ghost use Rattle.aat_pictures.specs.HalfPoints.{nearest_half, nearest_point};
+ghost use Rattle.aat_pictures.specs.inside.HalfPoints.{nearest_half, nearest_point};
 
 use crate::error::DrawError;
 use crate::outlines::FontOutlines;
@@ -81,7 +81,8 @@ fn write_contours<W: Write>(
 ) -> Result<(), DrawError> {
     let outline = match outlines.outline(alloc, glyph_id) {
         Ok(outline) => outline,
-        Err(error) => return Err(DrawError::of_glyph(glyph_id, error)),
+        Err(ReadError::Fault(fault)) => return Err(DrawError::Outline(glyph_id, fault)),
+        Err(ReadError::OutOfMemory) => return Err(DrawError::OutOfMemory),
     };
     for index in 0..outline.ends().len() {
         if let Some(contour) = outline.contour(index) {

@@ -3,7 +3,7 @@
 use crate::glyph_text::write_glyph;
 use crate::links::Link;
 use crate::paint::{Colour, Paint, colour_by};
-use crate::trace_rows::{Cell, EM, Glyphs, half_units, pixels};
+use crate::trace_rows::{Cell, EM, Glyphs, pixels};
 use std::alloc::Global;
 use std::io::{self, Write};
 
@@ -62,7 +62,7 @@ fn write_shapes<W: Write>(
         if let Some(glyph) = cell.glyph
             && look.written.binary_search(&glyph).is_ok()
         {
-            let middle = half_units(cell.middle, look.glyphs.units_per_em);
+            let middle = cell.middle.saturating_mul(2).saturating_mul(em) / EM;
             let x = middle.saturating_sub(i64::from(cell.advance));
             let colour = look.colour(cell);
             writeln!(out, "<use href=\"#g{glyph}\" x=\"{x}\" fill=\"{colour}\"/>")?;

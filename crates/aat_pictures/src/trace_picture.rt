@@ -124,14 +124,9 @@ fn flow_of(
     count: usize,
     number: usize,
 ) -> Result<Flow, AllocError> {
-    let (mut changes, mut is_linked, mut is_left) = (
-        Vec::new(alloc),
-        Vec::new(alloc),
-        Vec::new(alloc),
-    );
-    changes.resize(count, Some(number))?;
-    is_linked.resize(count, false)?;
-    is_left.resize(before.len(), false)?;
+    let mut changes = vec![in alloc; Some(number); count]?;
+    let mut is_linked = vec![in alloc; false; count]?;
+    let mut is_left = vec![in alloc; false; before.len()]?;
     for link in links {
         let (Some(change), Some(is_linked), Some(is_left), Some(from)) = (
             changes.get_mut(link.to),
@@ -170,7 +165,30 @@ fn write_name<W: Write>(out: &mut W, name: &str, top: i64, colour: Colour) -> io
     )
 }
 
-/// Writes the links that lead to a row of a subtable of a number, and the row, from a height on. Gives the row.
+/// A row with the one before it, the links between them, and what these tell.
+#[derive(Clone, Copy)]
+struct Step<'a> {
+    before: &'a [Cell],
+    cells: &'a [Cell],
+    links: &'a [Link],
+    flow: &'a Flow,
+    /// What the subtable is called.
+    name: &'a str,
+    /// Its colour.
+    colour: Colour,
+}
+
+/// Writes the links that lead to a row, from a height on, and its name.
+fn write_linked<W: Write>(out: &mut W, step: Step<'_>, top: i64) -> io::Result<()> {
+    let (colour, below) = (step.colour, top.saturating_add(LINKS));
+    let (start, end) = (top.saturating_add(2), below.saturating_sub(2));
+    write_links(out, step.links, (step.before, step.cells), top, colour)?;
+    write_ends(out, step.before, &step.flow.is_left, OUT, start, colour)?;
+    write_ends(out, step.cells, &step.flow.is_linked, IN, end, colour)?;
+    write_name(out, step.name, below, colour)
+}
+
+/// Writes the row of a subtable of a number behind another row, from a height on, and gives it.
 fn write_step<W: Write>(
     alloc: Global,
     out: &mut W,
@@ -180,39 +198,27 @@ fn write_step<W: Write>(
     (number, subtable): (usize, &TracedSubtable),
     (room, top): (Room, i64),
 ) -> io::Result<Vec<Cell>> {
-    let links = links_of(alloc, kind_of(picture.font, subtable), subtable)?;
-    let count = subtable.after.len();
-    let flow = flow_of(alloc, &links, before, count, number)?;
     let line = subtable.after.as_slice();
+    let links = links_of(alloc, kind_of(picture.font, subtable), subtable)?;
+    let flow = flow_of(alloc, &links, before, line.len(), number)?;
     let cells = cells_of(alloc, look.glyphs, line, &flow.changes, room)?;
-    let (colour, below) = (colour_by(number), top.saturating_add(LINKS));
-    write_links(out, &links, (&before, &cells), top, colour)?;
-    write_ends(
-        out,
+    let step = Step {
         before,
-        &flow.is_left,
-        OUT,
-        top.saturating_add(2),
-        colour,
-    )?;
-    write_ends(
-        out,
-        &cells,
-        &flow.is_linked,
-        IN,
-        below.saturating_sub(2),
-        colour,
-    )?;
-    let name = match picture.subtables.get(number) {
-        Some(name) => name.as_str(),
-        None => "",
+        cells: &cells,
+        links: &links,
+        flow: &flow,
+        name: match picture.subtables.get(number) {
+            Some(name) => name.as_str(),
+            None => "",
+        },
+        colour: colour_by(number),
     };
-    write_name(out, name, below, colour)?;
-    write_row(alloc, out, look, &cells, below)?;
+    write_linked(out, step, top)?;
+    write_row(alloc, out, look, &cells, top.saturating_add(LINKS))?;
     Ok(cells)
 }
 
-/// Writes all rows with the links between them.
+/// Writes all rows with the links between them, as a group that is left open.
 fn write_rows<W: Write>(
     alloc: Global,
     out: &mut W,
@@ -220,6 +226,7 @@ fn write_rows<W: Write>(
     look: &Look<'_>,
     room: Room,
 ) -> io::Result<()> {
+    writeln!(out, "<g fill=\"none\" stroke-width=\"1.3\">")?;
     let Some(first) = picture.trace.subtables.first() else {
         return Ok(());
     };
@@ -293,24 +300,45 @@ fn look_of<'a>(picture: &TracePicture<'a>) -> Look<'a> {
     }
 }
 
-/// Writes all rows, the foot at a height, and the end of a picture.
-fn write_shown<W: Write>(
-    alloc: Global,
-    out: &mut W,
-    picture: &TracePicture<'_>,
-    look: &Look<'_>,
-    room: Room,
-    foot: i64,
-) -> io::Result<()> {
-    writeln!(out, "<g fill=\"none\" stroke-width=\"1.3\">")?;
-    write_rows(alloc, out, picture, look, room)?;
+/// Writes the end of the rows, the foot at a height, and the end of a picture.
+fn write_foot<W: Write>(out: &mut W, ink: Colour, foot: i64) -> io::Result<()> {
     writeln!(out, "</g>")?;
-    let ink = picture.paint.foreground;
     writeln!(
         out,
         "<text x=\"{MARGIN}\" y=\"{foot}\" fill=\"{ink}\">{FOOT}</text>"
     )?;
     writeln!(out, "</svg>")
+}
+
+/// Writes a picture that has such rows.
+fn write_picture<W: Write>(
+    alloc: Global,
+    out: &mut W,
+    picture: &TracePicture<'_>,
+    rows: &[&[hb_glyph_info_t]],
+) -> Result<TraceDrawing, DrawError> {
+    let look = look_of(picture);
+    let Some(widest) = widest(alloc, look.glyphs, rows)? else {
+        return Ok(TraceDrawing::TooLong);
+    };
+    let room = Room {
+        left: MARGIN + NAMES,
+        right: widest.saturating_add(MARGIN + NAMES),
+        is_forward: picture.is_forward,
+    };
+    let step = look.row_height.saturating_add(LINKS);
+    let below = step.saturating_mul(rows.len().min(1 << 20) as i64);
+    let foot = below.saturating_sub(LINKS - MARGIN - FOOT_HEIGHT);
+    let width = room.right.saturating_add(MARGIN).max(LEAST_WIDTH);
+    write_head(out, &picture.paint, width, foot.saturating_add(MARGIN))?;
+    let written = write_all_outlines(alloc, out, picture.outlines, rows)?;
+    let look = Look {
+        written: &written,
+        ..look
+    };
+    write_rows(alloc, out, picture, &look, room)?;
+    write_foot(out, picture.paint.foreground, foot)?;
+    Ok(TraceDrawing::Written)
 }
 
 /// Writes a picture of a trace as a file of SVG: a row for the line as it was found, and one for each subtable that changed
@@ -327,8 +355,8 @@ fn write_shown<W: Write>(
 /// there is no row.
 ///
 /// Refused as 1, `Outline`, where the outline of a glyph of `glyf` has a fault, in the order of the numbers of the glyphs;
-/// as 2, `Writer`, where the writer fails, or memory is wanting while rows are written; and as 3, `OutOfMemory`, where it is
-/// wanting before that, or was for the trace. A part of the picture may be written then.
+/// as 2, `Writer`, where the writer fails; and as 3, `OutOfMemory`, where memory is wanting, or was for the trace. A part
+/// of the picture may be written then.
 pub fn write_trace_picture<W: Write>(
     alloc: Global,
     out: &mut W,
@@ -337,26 +365,6 @@ pub fn write_trace_picture<W: Write>(
     if picture.trace.is_incomplete {
         return Err(DrawError::OutOfMemory);
     }
-    let look = look_of(picture);
     let rows = rows_of(alloc, picture.trace)?;
-    let Some(widest) = widest(alloc, look.glyphs, &rows)? else {
-        return Ok(TraceDrawing::TooLong);
-    };
-    let room = Room {
-        left: MARGIN + NAMES,
-        right: widest.saturating_add(MARGIN + NAMES),
-        is_forward: picture.is_forward,
-    };
-    let step = look.row_height.saturating_add(LINKS);
-    let below = step.saturating_mul(rows.len().min(1 << 20) as i64);
-    let foot = below.saturating_sub(LINKS - MARGIN - FOOT_HEIGHT);
-    let width = room.right.saturating_add(MARGIN).max(LEAST_WIDTH);
-    write_head(out, &picture.paint, width, foot.saturating_add(MARGIN))?;
-    let written = write_all_outlines(alloc, out, picture.outlines, &rows)?;
-    let look = Look {
-        written: &written,
-        ..look
-    };
-    write_shown(alloc, out, picture, &look, room, foot)?;
-    Ok(TraceDrawing::Written)
+    write_picture(alloc, out, picture, &rows)
 }

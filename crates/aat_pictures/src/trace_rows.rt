@@ -49,11 +49,6 @@ pub(crate) fn pixels(length: i64, units_per_em: u16) -> i64 {
     length.saturating_mul(EM) / em
 }
 
-/// A length in pixels, in half units of the font.
-pub(crate) fn half_units(length: i64, units_per_em: u16) -> i64 {
-    length.saturating_mul(2 * i64::from(units_per_em)) / EM
-}
-
 /// The glyph of an id, `None` where it is deleted.
 pub(crate) fn glyph_of(id: u32) -> Option<u16> {
     if id == DELETED_GLYPH {

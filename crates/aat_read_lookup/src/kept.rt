@@ -70,6 +70,7 @@ impl Segment {
     }
 
     /// The segment as it is kept, if its glyphs have one value.
+    #[inline(always)]
     fn whole(self, bytes: &[u8], keep: Keep) -> LookupSegment
         requires can { CanKeep keep }
         requires fits { Fits bytes.now self }
@@ -81,6 +82,7 @@ impl Segment {
     }
 
     /// Appends a segment for each glyph.
+    #[inline(never)]
     fn append_singles<A: Allocator>(
         self,
         bytes: &[u8],
@@ -100,6 +102,7 @@ impl Segment {
     }
 
     /// Appends what the segment is kept as.
+    #[inline(always)]
     fn append_kept<A: Allocator>(
         self,
         bytes: &[u8],

@@ -125,6 +125,9 @@ impl Units {
 
     /// The glyphs by which a bisection finds a unit, from the first one up to the one behind the last. On its way each
     /// unit that it passes leaves the glyphs below its own, or those above them.
+    ///
+    /// It stands apart, so that units that rise are read in a short loop.
+    #[inline(never)]
     fn glyphs_found(self, i: u16, bytes: &[u8]) -> (usize, usize)
         requires inside { AreInside bytes.now self }
         requires below { i < self.count }
@@ -172,6 +175,9 @@ impl Units {
 
     /// The segment of a unit: those of its glyphs by which a bisection finds it. Where units rise these are all of them,
     /// and no bisection is needed.
+    ///
+    /// It is inlined, since a call for each unit takes longer than to read most of them.
+    #[inline(always)]
     pub(crate) fn segment(self, i: u16, bytes: &[u8], rise: bool) -> Segment
         requires sound { AreSound bytes.now self }
         requires below { i < self.count }

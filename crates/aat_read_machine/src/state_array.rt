@@ -1,6 +1,7 @@
 //! The state array and the entries of a state table.
 ghost use Rattle.std.specs.Prelude.{◌≡◌, ◌+◌, ◌*◌, ◌^◌, ◌<◌, ◌≤◌, ℕ, true, IfOk, IfSome, length, nat_le};
 ghost use Rattle.aat_bytes.specs.Numbers.{be16};
+ghost use Rattle.aat_read_machine.specs.Entries.{entry_at};
 ghost use Rattle.aat_read_machine.specs.Lookups.{lookup_count, lookups_named, lookups_to};
 ghost use Rattle.aat_read_machine.specs.Room.{room_left};
 ghost use Rattle.aat_read_machine.specs.StateArray.{AreIndexed, AreWhole, cells_of, class_place, entry_place, has_entry, has_index, header_at, index_place, missing_entry, past_end, row_fault, rule_of, rules_of, state_array_at, states_named, states_of};
@@ -270,8 +271,31 @@ impl<'a> StateArray<'a> {
         }
     }
 
-    /// The rule of a cell.
+    /// The rule of a state and a class with the entry of a cell.
+    #[inline(always)]
     #[tactic(auto, unfolding(crate::specs::StateArray::has_entry))]
+    fn rule_at<T: EntryRead>(
+        &self,
+        cell: usize,
+        state: u16,
+        class: u16,
+    ) -> (u16, u16, GenericStateEntry<T>)
+        requires small { cell < 2 ^ 33 }
+        requires size { self.now.entry_size ≡ 4 + T.SIZE }
+        requires indexed { has_index self.now cell ≡ true }
+        requires whole { has_entry self.now cell ≡ true }
+        ensures { result ≡ (state, class, entry_at T.extra_at self.now.bytes (entry_place self.now cell)) }
+    {
+        let place = self.entry_place(cell);
+        let entry = GenericStateEntry {
+            new_state: be16(self.bytes, place),
+            flags: be16(self.bytes, place + 2),
+            extra: T::read(self.bytes, place + 4),
+        };
+        (state, class, entry)
+    }
+
+    /// The rule of a cell.
     pub(crate) fn rule<T: EntryRead>(&self, cell: usize) -> (u16, u16, GenericStateEntry<T>)
         requires few { cell < 65536 * self.now.class_count }
         requires size { self.now.entry_size ≡ 4 + T.SIZE }
@@ -280,16 +304,13 @@ impl<'a> StateArray<'a> {
         ensures { result ≡ rule_of T.extra_at self.now cell }
     {
         let width = self.class_count as usize;
-        let place = self.entry_place(cell);
-        let entry = GenericStateEntry {
-            new_state: be16(self.bytes, place),
-            flags: be16(self.bytes, place + 2),
-            extra: T::read(self.bytes, place + 4),
-        };
-        ((cell / width) as u16, (cell % width) as u16, entry)
+        self.rule_at::<T>(cell, (cell / width) as u16, (cell % width) as u16)
     }
 
-    /// The rules of so many cells.
+    /// The rules of so many cells. States and classes are counted, since a division for each cell takes long.
+    ///
+    /// It stands apart, so that the loop has the registers of the processor to itself.
+    #[inline(never)]
     pub(crate) fn rules<T: EntryRead, A: Allocator>(
         &self,
         alloc: A,
@@ -301,7 +322,19 @@ impl<'a> StateArray<'a> {
         requires whole { AreWhole self.now cells }
         ensures { IfOk result (λ rules. rules.items ≡ rules_of T.extra_at self.now cells) }
     {
-        (0..cells).map(|cell| self.rule::<T>(cell)).collect(alloc)
+        let class_count = self.class_count;
+        let mut rules = Vec::with_capacity(alloc, cells)?;
+        let mut state: u32 = 0;
+        let mut class = 0;
+        for cell in 0..cells {
+            rules.push(self.rule_at::<T>(cell, state as u16, class))?;
+            class += 1;
+            if class == class_count {
+                class = 0;
+                state += 1;
+            }
+        }
+        Ok(rules)
     }
 
     /// How many lookups there are at least by the entry of a cell of a contextual machine.
@@ -341,9 +374,6 @@ fn lookups_to(index: u16) -> usize
     ensures to { result ≡ lookups_to index }
     ensures few { result ≤ 65535 }
 {
-    if index == 0xFFFF {
-        0
-    } else {
-        index as usize + 1
-    }
+    // 0xFFFF gives 0
+    index.wrapping_add(1) as usize
 }

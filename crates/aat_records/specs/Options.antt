@@ -47,6 +47,7 @@ IsTold told unit options =
     × (options.size ≡ size_told told.point_size)
     × (options.unit ≡ unit)
     × (level_told told.cluster_level ≡ Ok options.level)
+    × (options.not_found ≡ 0)
 
 -- a number of the options stands for nothing
 abbrev pub has_bad_option : OptionsRecord → Bool

@@ -88,5 +88,6 @@ pub fn options_told<'o>(
         size: size_told(told.point_size),
         unit,
         level: level_told(told.cluster_level)?,
+        not_found: 0,
     })
 }

@@ -3,6 +3,7 @@ pub mod Counted
 pub mod EndsKept
 pub mod FeaturesRead
 pub mod Hanging
+pub mod NotFound
 pub mod Plain
 pub mod Refusals
 pub mod Unhidden

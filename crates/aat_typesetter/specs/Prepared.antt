@@ -1,5 +1,5 @@
 -- A text that is ready to be shaped.
-use Rattle.std.specs.Prelude.{ℕ, List, [], Option, Some, None, unwrap_or}
+use Rattle.std.specs.Prelude.{ℕ, ◌==◌, List, [], map, Option, Some, None, unwrap_or, if◌then◌else◌}
 use Rattle.aat_characters.specs.Native.{native_direction, told_script}
 use Rattle.aat_characters.specs.ScriptRules.{script_rules_of}
 use Rattle.aat_characters.specs.declared.script_rules.ScriptRules.{ScriptRules}
@@ -27,11 +27,16 @@ shaped_direction options text =
     let script = told_script options.script text in
     native_direction script text (told_direction options.direction script)
 
+-- a glyph of a text of characters: 0, which stands for one that the font lacks, is the glyph that is told for it
+abbrev pub told_glyph : ℕ → TextGlyph → TextGlyph
+told_glyph not_found g = if g.glyph_id == 0 then record g { glyph_id = not_found } else g
+
 -- its glyphs, as HarfBuzz hands them to the layer
 abbrev pub shaped_glyphs : FaceValue → TextOptions → List ℕ → List TextGlyph
 shaped_glyphs face options text =
     let script = told_script options.script text in
-    prepared_glyphs face options.unit options.level script (told_direction options.direction script) text
+    map (told_glyph options.not_found)
+    (prepared_glyphs face options.unit options.level script (told_direction options.direction script) text)
 
 -- a text made ready in a face
 abbrev pub prepared : FaceValue → TextOptions → List ℕ → Prepared

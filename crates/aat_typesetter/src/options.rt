@@ -30,10 +30,14 @@ pub struct TextOptions<'o> {
     pub unit: ClusterUnit,
     /// What has a cluster of its own.
     pub level: ClusterLevel,
+    /// The glyph of a character that the font has no glyph for, as HarfBuzz's `hb_buffer_set_not_found_glyph` has it.
+    /// Here 0xFFFF, a deleted glyph, leaves them out.
+    pub not_found: u16,
 }
 
 impl TextOptions<'_> {
-    /// No direction, no script, no features and no size. Clusters are graphemes, and count bytes.
+    /// No direction, no script, no features and no size. Clusters are graphemes, and count bytes. A character that the
+    /// font has no glyph for has the glyph 0.
     pub fn new() -> Self
         ensures direction { result.direction ≡ None }
         ensures script { result.script ≡ None }
@@ -41,6 +45,7 @@ impl TextOptions<'_> {
         ensures size { result.size ≡ None }
         ensures unit { result.unit ≡ units.Bytes }
         ensures level { result.level ≡ levels.Graphemes }
+        ensures not_found { result.not_found ≡ 0 }
     {
         TextOptions {
             direction: None,
@@ -49,6 +54,7 @@ impl TextOptions<'_> {
             size: None,
             unit: ClusterUnit::Bytes,
             level: ClusterLevel::Graphemes,
+            not_found: 0,
         }
     }
 }

@@ -1,6 +1,6 @@
 //! A text that is ready to be shaped.
-ghost use Rattle.std.specs.Prelude.{◌≡◌, ◌≤◌, ◌^◌, ◌↔◌, length, IfOk, IsErrOf};
-ghost use Rattle.aat_typesetter.specs.Prepared.{no_text, options_for_lines, prepared, shaped_direction};
+ghost use Rattle.std.specs.Prelude.{◌≡◌, ◌≤◌, ◌^◌, ◌↔◌, length, map, IfOk, IsErrOf};
+ghost use Rattle.aat_typesetter.specs.Prepared.{no_text, options_for_lines, prepared, shaped_direction, told_glyph};
 
 use crate::options::TextOptions;
 use aat_characters::{ScriptRules, native_direction, natural_direction, told_script};
@@ -54,6 +54,32 @@ impl<A: Allocator> PreparedText<A> {
     }
 }
 
+/// A glyph of a text of characters: 0, which stands for one that the font lacks, is the glyph that is told for it.
+fn told_glyph(not_found: u16, glyph: TextGlyph) -> TextGlyph
+    ensures { result ≡ told_glyph not_found glyph }
+{
+    if glyph.glyph_id == 0 {
+        TextGlyph {
+            glyph_id: not_found,
+            ..glyph
+        }
+    } else {
+        glyph
+    }
+}
+
+/// Has each character that the font lacks stand as the glyph that is told for it.
+fn put_not_found(glyphs: &mut [TextGlyph], not_found: u16)
+    ensures { glyphs.new ≡ map (told_glyph not_found) glyphs.old }
+{
+    if not_found == 0 {
+        return;
+    }
+    for i in 0..glyphs.len() {
+        glyphs[i] = told_glyph(not_found, glyphs[i]);
+    }
+}
+
 /// A text made ready in a face, in the memory of a vector whose own glyphs go. What is needed on the way comes from
 /// `scratch`.
 pub(crate) fn prepare<B: Allocator + Copy, A: Allocator>(
@@ -76,8 +102,10 @@ pub(crate) fn prepare<B: Allocator + Copy, A: Allocator>(
         options.direction,
         text,
     )?;
+    let mut glyphs = ready.glyphs;
+    put_not_found(&mut glyphs, options.not_found);
     Ok(PreparedText {
-        glyphs: ready.glyphs,
+        glyphs,
         rules: Some(ScriptRules::of(ready.script, ready.direction)),
         direction: ready.direction,
     })

@@ -258,14 +258,15 @@ impl<'f, A: Allocator + Copy> Typesetter<'f, A> {
 
     /// Typesets a text in one line, of which [`Typesetter::glyphs`] then has what is drawn.
     ///
-    /// The text becomes glyphs as `prepare_text` of `aat_text` has it: turned, mirrored and composed as in HarfBuzz. It
-    /// runs in the direction of the options, else in that of its script, and is shaped in the native one, as
-    /// `Shaper::shape` of `aat_shaper` does, with the features of the options, and tracked by the normal track of the
-    /// face at their size. Without `kerx`, `kern` is off where the script does not take it. Then glyphs of vertical
-    /// text are set in columns (`set_in_columns` of `aat_showing`), spaces that the face lacks get their own width
-    /// (`widen_spaces`), where HarfBuzz has it marks lose their width (`zero_marks`) and are placed by boxes
-    /// (`place_marks`), and ignorable glyphs are hidden (`hide_ignorables`): they are drawn as the space of the face
-    /// without width, and are taken out where it has none.
+    /// The text becomes glyphs as `prepare_text` of `aat_text` has it: turned, mirrored and composed as in HarfBuzz.
+    /// For glyph 0, that of a character that the font lacks, stands the one of the options. The text runs in the
+    /// direction of the options, else in that of its script, and is shaped in the native one, as `Shaper::shape` of
+    /// `aat_shaper` does, with the features of the options, and tracked by the normal track of the face at their size.
+    /// Without `kerx`, `kern` is off where the script does not take it. Then glyphs of vertical text are set in columns
+    /// (`set_in_columns` of `aat_showing`), spaces that the face lacks get their own width (`widen_spaces`), where
+    /// HarfBuzz has it marks lose their width (`zero_marks`) and are placed by boxes (`place_marks`), and ignorable
+    /// glyphs are hidden (`hide_ignorables`): they are drawn as the space of the face without width, and are taken out
+    /// where it has none.
     ///
     /// The text may be broken before each glyph that says so, at the later one of the two clusters that meet there: its
     /// glyphs in two parts, shaped and shown alike, look as they do here. A part of its characters may have another
@@ -298,8 +299,8 @@ impl<'f, A: Allocator + Copy> Typesetter<'f, A> {
     }
 
     /// Typesets glyphs with clusters of their own in one line: none is turned, marks keep their width and place, and
-    /// `kern` is not put off. They run from left to right where the options have no direction. Script, unit and level
-    /// do not count.
+    /// `kern` is not put off. They run from left to right where the options have no direction. Script, unit, level and
+    /// `not_found` do not count.
     ///
     /// Refused as [`Typesetter::line`] refuses a text, but for 1, `TextTooLong`.
     pub fn line_of_glyphs(

@@ -52,7 +52,7 @@ pub(crate) fn inspect_command() -> Subcommand {
 }
 
 /// The arguments of `aat dump`.
-static DUMP: [Argument; 5] = [
+static DUMP: [Argument; 6] = [
     FONT,
     Argument {
         id: "table",
@@ -68,6 +68,12 @@ static DUMP: [Argument; 5] = [
         long: Some("characters"),
         takes: Takes::Text("TEXT"),
         help: "Writes the glyphs of the characters of a text too",
+        ..PLAIN
+    },
+    Argument {
+        id: "names",
+        long: Some("glyph-names"),
+        help: "Writes the names of glyphs by the table post in place of their numbers",
         ..PLAIN
     },
     INDEX,

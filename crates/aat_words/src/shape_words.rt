@@ -7,7 +7,7 @@ use crate::shared::{CHANGE, DIRECTION, FEATURES, FONT, INDEX, PLAIN};
 const IDLE: &str = "Taken and passed over: no table that is read here asks for it";
 
 /// The arguments of `aat shape`, in the order of its help.
-static SHAPE: [Argument; 29] = [
+static SHAPE: [Argument; 30] = [
     FONT,
     Argument {
         id: "text",
@@ -136,6 +136,14 @@ static SHAPE: [Argument; 29] = [
         id: "ignorables",
         long: Some("remove-default-ignorables"),
         help: "Leaves out the glyphs of characters that are not seen, in place of showing them as spaces",
+        ..PLAIN
+    },
+    Argument {
+        id: "not-found",
+        long: Some("not-found-glyph"),
+        takes: Takes::ShortNumber("N"),
+        absent: Absent::Value("0"),
+        help: "The glyph of characters that the font lacks, by its number. With 65535 they are left out",
         ..PLAIN
     },
     Argument {

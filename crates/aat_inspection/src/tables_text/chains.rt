@@ -1,5 +1,6 @@
 //! The chains of `morx`.
 use crate::chains::kind_name;
+use crate::tables_text::Names;
 use crate::tables_text::kinds::write_kind;
 use aat_font::hb_font_t;
 use aat_machine_tables::{ChainFeature, Subtable};
@@ -21,7 +22,12 @@ fn write_features<W: Write>(out: &mut W, features: &[ChainFeature]) -> io::Resul
 }
 
 /// Writes the subtables of a chain.
-fn write_subtables<W: Write>(alloc: Global, out: &mut W, subtables: &[Subtable]) -> io::Result<()> {
+fn write_subtables<W: Write>(
+    alloc: Global,
+    out: &mut W,
+    names: Names<'_, '_>,
+    subtables: &[Subtable],
+) -> io::Result<()> {
     for subtable in subtables {
         let kind = kind_name(&subtable.kind);
         let coverage = subtable.coverage.bits();
@@ -30,7 +36,7 @@ fn write_subtables<W: Write>(alloc: Global, out: &mut W, subtables: &[Subtable])
             out,
             "subtable {kind} coverage {coverage:#04x} flags {flags:#010x}"
         )?;
-        write_kind(alloc, out, &subtable.kind)?;
+        write_kind(alloc, out, names, &subtable.kind)?;
     }
     Ok(())
 }
@@ -39,13 +45,14 @@ fn write_subtables<W: Write>(alloc: Global, out: &mut W, subtables: &[Subtable])
 pub(crate) fn write_chains<W: Write>(
     alloc: Global,
     out: &mut W,
+    names: Names<'_, '_>,
     font: &hb_font_t,
 ) -> io::Result<()> {
     for chain in font.chains() {
         let flags = chain.default_flags;
         writeln!(out, "chain flags {flags:#010x}")?;
         write_features(out, &chain.features)?;
-        write_subtables(alloc, out, &chain.subtables)?;
+        write_subtables(alloc, out, names, &chain.subtables)?;
     }
     Ok(())
 }

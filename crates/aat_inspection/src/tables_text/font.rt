@@ -1,7 +1,9 @@
 //! What a font has as a whole.
+use crate::tables_text::Names;
 use aat_bytes::Fault;
 use aat_face::Face;
 use aat_lookup::GlyphId;
+use aat_read_metrics::{GlyphNames, WrittenGlyph};
 use aat_read_pairs::LeftOutSubtable;
 use std::io::{self, Write};
 
@@ -52,15 +54,20 @@ pub fn write_summary<W: Write>(out: &mut W, face: &Face<'_>) -> io::Result<()> {
 const MOST_GLYPHS: u16 = 1000;
 
 /// Writes the advance and the properties of each glyph, up to 1,000 of them.
-pub(crate) fn write_glyphs<W: Write>(out: &mut W, face: &Face<'_>) -> io::Result<()> {
+pub(crate) fn write_glyphs<W: Write>(
+    out: &mut W,
+    names: Names<'_, '_>,
+    face: &Face<'_>,
+) -> io::Result<()> {
     let font = face.font();
     let count = face.glyph_count();
     for glyph in 0..count.min(MOST_GLYPHS) {
         let advance = font.glyph_advance(GlyphId(glyph));
         let properties = font.glyph_props(GlyphId(glyph));
+        let written = WrittenGlyph::new(names, u32::from(glyph));
         writeln!(
             out,
-            "glyph {glyph} advance {advance} properties {properties:#06x}"
+            "glyph {written} advance {advance} properties {properties:#06x}"
         )?;
     }
     if count > MOST_GLYPHS {
@@ -69,14 +76,23 @@ pub(crate) fn write_glyphs<W: Write>(out: &mut W, face: &Face<'_>) -> io::Result
     Ok(())
 }
 
-/// Writes the glyph of each character of a text.
+/// Writes the glyph of each character of a text: by its number, or where names are given by its name, and as `gidN` where
+/// it has none.
 ///
 /// An error is that of the writer. A part of the text may be written then.
-pub fn write_characters<W: Write>(out: &mut W, face: &Face<'_>, text: &str) -> io::Result<()> {
+pub fn write_characters<W: Write>(
+    out: &mut W,
+    names: Option<&GlyphNames<'_>>,
+    face: &Face<'_>,
+    text: &str,
+) -> io::Result<()> {
     for character in text.chars() {
         let code = character as u32;
         match face.glyph_of(character) {
-            Some(glyph) => writeln!(out, "character U+{code:04X} glyph {}", glyph.0)?,
+            Some(glyph) => {
+                let written = WrittenGlyph::new(names, u32::from(glyph.0));
+                writeln!(out, "character U+{code:04X} glyph {written}")?
+            }
             None => writeln!(out, "character U+{code:04X} has no glyph")?,
         }
     }

@@ -1,8 +1,10 @@
 //! The tables of kerning, and anchor points.
+use crate::tables_text::Names;
 use crate::tables_text::machines::write_machine;
 use crate::tables_text::pairs::{write_classes, write_pairs, write_values};
 use aat_font::hb_font_t;
 use aat_kerning_tables::{Ankr, KernKind, KernSubtable, KerxFormat, KerxSubtable, Point};
+use aat_read_metrics::WrittenGlyph;
 use std::alloc::Global;
 use std::io::{self, Write};
 
@@ -25,20 +27,25 @@ fn write_anchor_pairs<W: Write>(out: &mut W, pairs: &[(u16, u16)]) -> io::Result
 }
 
 /// Writes how a subtable of `kerx` kerns.
-fn write_format<W: Write>(alloc: Global, out: &mut W, format: &KerxFormat) -> io::Result<()> {
+fn write_format<W: Write>(
+    alloc: Global,
+    out: &mut W,
+    names: Names<'_, '_>,
+    format: &KerxFormat,
+) -> io::Result<()> {
     match format {
         KerxFormat::Format0(pairs) | KerxFormat::Format2(pairs) | KerxFormat::Format6(pairs) => {
-            write_pairs(out, pairs)
+            write_pairs(out, names, pairs)
         }
         KerxFormat::Format2Classes(pairs) | KerxFormat::Format6Classes(pairs) => {
-            write_classes(alloc, out, pairs)
+            write_classes(alloc, out, names, pairs)
         }
         KerxFormat::Format1(stack) => {
-            write_machine(alloc, out, &stack.state_table)?;
+            write_machine(alloc, out, names, &stack.state_table)?;
             write_values(out, &stack.values)
         }
         KerxFormat::Format4(anchors) => {
-            write_machine(alloc, out, &anchors.state_table)?;
+            write_machine(alloc, out, names, &anchors.state_table)?;
             write_anchor_pairs(out, &anchors.anchor_points)
         }
     }
@@ -55,7 +62,12 @@ fn write_words<W: Write>(out: &mut W, words: &[(bool, &str)]) -> io::Result<()> 
 }
 
 /// Writes a subtable of `kerx`.
-fn write_extended<W: Write>(alloc: Global, out: &mut W, subtable: &KerxSubtable) -> io::Result<()> {
+fn write_extended<W: Write>(
+    alloc: Global,
+    out: &mut W,
+    names: Names<'_, '_>,
+    subtable: &KerxSubtable,
+) -> io::Result<()> {
     let name = format_name(&subtable.format);
     write!(out, "kerx {name} tuples {}", subtable.tuple_count)?;
     let words = [
@@ -64,16 +76,21 @@ fn write_extended<W: Write>(alloc: Global, out: &mut W, subtable: &KerxSubtable)
         (subtable.is_last_to_first, "last to first"),
     ];
     write_words(out, &words)?;
-    write_format(alloc, out, &subtable.format)
+    write_format(alloc, out, names, &subtable.format)
 }
 
 /// Writes how a subtable of `kern` kerns.
-fn write_kind<W: Write>(alloc: Global, out: &mut W, kind: &KernKind) -> io::Result<()> {
+fn write_kind<W: Write>(
+    alloc: Global,
+    out: &mut W,
+    names: Names<'_, '_>,
+    kind: &KernKind,
+) -> io::Result<()> {
     match kind {
-        KernKind::Pairs(pairs) => write_pairs(out, pairs),
-        KernKind::Classes(pairs) => write_classes(alloc, out, pairs),
+        KernKind::Pairs(pairs) => write_pairs(out, names, pairs),
+        KernKind::Classes(pairs) => write_classes(alloc, out, names, pairs),
         KernKind::Machine(machine) => {
-            write_machine(alloc, out, &machine.state_table)?;
+            write_machine(alloc, out, names, &machine.state_table)?;
             write_values(out, &machine.values)
         }
     }
@@ -89,18 +106,27 @@ fn kind_name(kind: &KernKind) -> &'static str {
 }
 
 /// Writes a subtable of `kern`.
-fn write_plain<W: Write>(alloc: Global, out: &mut W, subtable: &KernSubtable) -> io::Result<()> {
+fn write_plain<W: Write>(
+    alloc: Global,
+    out: &mut W,
+    names: Names<'_, '_>,
+    subtable: &KernSubtable,
+) -> io::Result<()> {
     write!(out, "kern {}", kind_name(&subtable.kind))?;
     let words = [
         (!subtable.horizontal, "vertical"),
         (subtable.has_cross_stream, "across"),
     ];
     write_words(out, &words)?;
-    write_kind(alloc, out, &subtable.kind)
+    write_kind(alloc, out, names, &subtable.kind)
 }
 
 /// Writes the points of a glyph.
-fn write_points<W: Write>(out: &mut W, glyph: u16, points: &[Point]) -> io::Result<()> {
+fn write_points<W: Write>(
+    out: &mut W,
+    glyph: WrittenGlyph<'_, '_>,
+    points: &[Point],
+) -> io::Result<()> {
     for (place, point) in points.iter().enumerate() {
         writeln!(
             out,
@@ -112,9 +138,10 @@ fn write_points<W: Write>(out: &mut W, glyph: u16, points: &[Point]) -> io::Resu
 }
 
 /// Writes the points of glyphs.
-fn write_anchors<W: Write>(out: &mut W, ankr: &Ankr) -> io::Result<()> {
+fn write_anchors<W: Write>(out: &mut W, names: Names<'_, '_>, ankr: &Ankr) -> io::Result<()> {
     for (glyph, points) in ankr.rows() {
-        write_points(out, *glyph, points)?;
+        let written = WrittenGlyph::new(names, u32::from(*glyph));
+        write_points(out, written, points)?;
     }
     Ok(())
 }
@@ -123,10 +150,11 @@ fn write_anchors<W: Write>(out: &mut W, ankr: &Ankr) -> io::Result<()> {
 pub(crate) fn write_extended_subtables<W: Write>(
     alloc: Global,
     out: &mut W,
+    names: Names<'_, '_>,
     font: &hb_font_t,
 ) -> io::Result<()> {
     for subtable in font.kerx_subtables() {
-        write_extended(alloc, out, subtable)?;
+        write_extended(alloc, out, names, subtable)?;
     }
     Ok(())
 }
@@ -135,18 +163,23 @@ pub(crate) fn write_extended_subtables<W: Write>(
 pub(crate) fn write_plain_subtables<W: Write>(
     alloc: Global,
     out: &mut W,
+    names: Names<'_, '_>,
     font: &hb_font_t,
 ) -> io::Result<()> {
     for subtable in font.kern_subtables() {
-        write_plain(alloc, out, subtable)?;
+        write_plain(alloc, out, names, subtable)?;
     }
     Ok(())
 }
 
 /// Writes the anchor points of glyphs, if there are any.
-pub(crate) fn write_anchor_points<W: Write>(out: &mut W, font: &hb_font_t) -> io::Result<()> {
+pub(crate) fn write_anchor_points<W: Write>(
+    out: &mut W,
+    names: Names<'_, '_>,
+    font: &hb_font_t,
+) -> io::Result<()> {
     match &font.tables().ankr {
-        Some(ankr) => write_anchors(out, ankr),
+        Some(ankr) => write_anchors(out, names, ankr),
         None => Ok(()),
     }
 }
@@ -155,9 +188,10 @@ pub(crate) fn write_anchor_points<W: Write>(out: &mut W, font: &hb_font_t) -> io
 pub(crate) fn write_kerning<W: Write>(
     alloc: Global,
     out: &mut W,
+    names: Names<'_, '_>,
     font: &hb_font_t,
 ) -> io::Result<()> {
-    write_extended_subtables(alloc, out, font)?;
-    write_plain_subtables(alloc, out, font)?;
-    write_anchor_points(out, font)
+    write_extended_subtables(alloc, out, names, font)?;
+    write_plain_subtables(alloc, out, names, font)?;
+    write_anchor_points(out, names, font)
 }

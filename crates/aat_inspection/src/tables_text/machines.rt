@@ -1,6 +1,7 @@
 //! State tables.
+use crate::tables_text::Names;
 use crate::tables_text::entries::EntryText;
-use crate::tables_text::lookups::write_lookup;
+use crate::tables_text::lookups::{Given, write_lookup};
 use aat_machine_tables::{ExtendedStateTable, GenericStateEntry};
 use std::alloc::Global;
 use std::io::{self, Write};
@@ -29,10 +30,11 @@ fn write_rule<T: EntryText, W: Write>(
 pub(crate) fn write_machine<T: EntryText, W: Write>(
     alloc: Global,
     out: &mut W,
+    names: Names<'_, '_>,
     machine: &ExtendedStateTable<T>,
 ) -> io::Result<()> {
     writeln!(out, "  classes {}", machine.class_count())?;
-    write_lookup(alloc, out, machine.classes(), "class")?;
+    write_lookup(alloc, out, names, machine.classes(), Given::Class("class"))?;
     let rules = machine.rules();
     for rule in rules.iter().take(MOST_RULES) {
         write_rule(out, rule)?;

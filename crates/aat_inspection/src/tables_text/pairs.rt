@@ -1,6 +1,8 @@
 //! Pairs that kern.
-use crate::tables_text::lookups::write_lookup;
+use crate::tables_text::Names;
+use crate::tables_text::lookups::{Given, write_lookup};
 use aat_kerning_tables::{ClassPairs, Pairs};
+use aat_read_metrics::WrittenGlyph;
 use std::alloc::Global;
 use std::io::{self, Write};
 
@@ -8,9 +10,15 @@ use std::io::{self, Write};
 const MOST_PAIRS: usize = 1000;
 
 /// Writes pairs with their values, up to 1,000 of them.
-pub(crate) fn write_pairs<W: Write>(out: &mut W, pairs: &Pairs) -> io::Result<()> {
+pub(crate) fn write_pairs<W: Write>(
+    out: &mut W,
+    names: Names<'_, '_>,
+    pairs: &Pairs,
+) -> io::Result<()> {
     let pairs = pairs.pairs();
     for (left, right, value) in pairs.iter().take(MOST_PAIRS) {
+        let left = WrittenGlyph::new(names, u32::from(*left));
+        let right = WrittenGlyph::new(names, u32::from(*right));
         writeln!(out, "  pair {left} {right} value {value}")?;
     }
     if pairs.len() > MOST_PAIRS {
@@ -24,10 +32,17 @@ pub(crate) fn write_pairs<W: Write>(out: &mut W, pairs: &Pairs) -> io::Result<()
 pub(crate) fn write_classes<W: Write>(
     alloc: Global,
     out: &mut W,
+    names: Names<'_, '_>,
     pairs: &ClassPairs,
 ) -> io::Result<()> {
-    write_lookup(alloc, out, pairs.left(), "left class")?;
-    write_lookup(alloc, out, pairs.right(), "right class")?;
+    write_lookup(alloc, out, names, pairs.left(), Given::Class("left class"))?;
+    write_lookup(
+        alloc,
+        out,
+        names,
+        pairs.right(),
+        Given::Class("right class"),
+    )?;
     writeln!(out, "  right classes {}", pairs.right_count())?;
     write_values(out, pairs.values())
 }

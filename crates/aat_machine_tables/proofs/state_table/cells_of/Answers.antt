@@ -1,23 +1,24 @@
-use Rattle.std.proofs.Common.{ℕ, ◌/◌, ◌%◌, ◌<◌, arith}
-use Rattle.std.proofs.lemmas.Grind.{common_steps}
-use Rattle.std.proofs.lemmas.Nat.{div_below}
-use Rattle.aat_machine_tables.specs.declared.judged.JudgedEntry.TheVariants.{Missing}
-use Rattle.aat_machine_tables.specs.inside.Grid.{judged_rule}
-use Rattle.aat_lookup.specs.facts.Filling.{filled_front}
+use Rattle.std.proofs.Common.{◌≡◌, ◌*◌, ◌∙◌, ap, le_refl, arith}
+use Rattle.std.proofs.lemmas.Nat.{mul-le}
+use Rattle.aat_machine_tables.proofs.GridAnswers.{row_more}
 use Rattle.aat_machine_tables.proofs.state_table.cells_of.Goals as goal
 
 pub overflow_cast-state : goal.overflow_cast-state
 overflow_cast-state g c =
-    let below : c.loop-place.place / c.args.class_count < 65536 = div_below c.loop-place.place c.args.class_count 65536 c.requires.classes (omega arith) in
-    omega arith
+    let states = c.args.states in
+    omega (arith, mul-le states 1 states c.args.class_count (le_refl states) c.requires.classes)
 
-pub loop-place-preserved : goal.loop-place-preserved
-loop-place-preserved g c =
-    let width = c.args.class_count in
-    let acts = g.T.Acting.may_act in
-    let place = c.loop-place.place in
-    let entries = λ (k : ℕ). judged_rule acts c.args.rules.now (k / width) (k % width) in
+pub loop-state-preserved : goal.loop-state-preserved
+loop-state-preserved g c =
+    let before = c.loop-state.invariant in
+    let made = c.in_ok-append_row.ensures in
+    let state = c.loop-state.state in
     record {
-      long = grind (arith, common_steps);
-      entries = filled_front Missing c.loop-place.cells.items c.push.new.self.items c.judged_rule.result c.in_ok-push.ensures.items place c.loop-place.invariant.long entries c.judged_rule.ensures c.loop-place.invariant.entries;
+      long = omega (arith, before.long, made.long);
+      entries = row_more g.T.Acting.may_act c.args.class_count state c.args.rules.now c.loop-state.cells.items c.append_row.new.cells.items before.long made.kept made.entries before.entries;
     }
+
+pub returns-clause-long : goal.returns-clause-long
+returns-clause-long g c =
+    let all : c.loop-state.state ≡ c.args.states = omega arith in
+    c.loop-state.invariant.long ∙ ap (λ a. a * c.args.class_count) all

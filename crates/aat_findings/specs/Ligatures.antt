@@ -1,0 +1,96 @@
+-- The ligatures that the actions of a ligature subtable can make. Apple's TrueType Reference Manual, "The 'morx' table",
+-- ligature substitution.
+use Rattle.std.specs.Prelude.{◌≡◌, ℕ, zero, suc, ◌+◌, ◌*◌, ◌<◌, ◌==◌, ◌⊎◌, Bool, true, not, nat_lt, bit_and, ℤ, pos, negsuc, ◌+ℤ◌, ◌-ℤ◌, List, length, slice_get, Option, Some, None, if◌then◌else◌}
+use Rattle.std.specs.List.{Contains}
+use Rattle.aat_machine_tables.specs.Entries.{has_flag}
+use Rattle.aat_machine_tables.specs.Subtables.{LigatureTables}
+use Rattle.aat_machine_tables.specs.Table.{Rule}
+use Rattle.aat_machine_tables.specs.declared.state_table.GenericStateEntry.{GenericStateEntry}
+use Rattle.aat_findings.specs.Growth.{taken_as}
+use Rattle.aat_findings.specs.Reached.{AreExactly, IsReached}
+
+-- the last action of a list; an action that stores a ligature, as the last one does
+abbrev pub is_last : ℕ → Bool
+is_last action = not (bit_and action 0x80000000 == 0)
+
+abbrev pub is_store : ℕ → Bool
+is_store action = not (bit_and action 0xC0000000 == 0)
+
+-- the low 30 bits of an action, signed
+abbrev pub offset_of : ℕ → ℤ
+offset_of action =
+    let low = pos (bit_and action 0x1FFFFFFF) in
+    if bit_and action 0x20000000 == 0 then low else low -ℤ pos 0x20000000
+
+-- the element at a place, if there is one
+abbrev pub element_at : List ℕ → ℤ → Option ℕ
+element_at xs (pos i) = slice_get xs i
+element_at xs (negsuc i) = None
+
+-- the value that an action reads for a glyph, if there is one
+abbrev pub value_of : List ℕ → ℕ → ℕ → Option ℕ
+value_of values action glyph = element_at values (pos glyph +ℤ offset_of action)
+
+-- as many actions, ligatures and glyphs that may be held are too many to be searched
+abbrev pub is_long : ℕ → ℕ → ℕ → Bool
+is_long actions ligatures held = nat_lt 0x10000000 (actions * ligatures * held)
+
+module _ (t : LigatureTables) where
+  -- a number is that of some rule which has a flag, of a state that some line reaches
+  pub record IsNamed (flag : ℕ) (number : Rule (GenericStateEntry ℕ) → ℕ) (n : ℕ) : Type 0 where
+    pub rule : Rule (GenericStateEntry ℕ)
+    pub listed : Contains t.state.rules rule
+    pub reached : IsReached t.state rule.0
+    pub flagged : has_flag rule.2 flag ≡ true
+    pub named : number rule ≡ n
+
+  -- a glyph is the deleted one, or a ligature, or one of a class at which some rule holds the glyph
+  abbrev pub HasWay : ℕ → Type 0
+  HasWay glyph =
+      (glyph ≡ 0xFFFF)
+      ⊎ (Contains t.ligatures (record { 0 = glyph })
+      ⊎ IsNamed 0x8000 (λ r. r.1) (taken_as t.state glyph))
+
+  -- a glyph may be held as a component
+  pub record IsHeld (glyph : ℕ) : Type 0 where
+    pub small : glyph < 65536
+    pub way : HasWay glyph
+
+  -- a sum becomes another by an action, for some glyph that may be held
+  pub record IsAdded (action before after : ℕ) : Type 0 where
+    pub glyph : ℕ
+    pub value : ℕ
+    pub held : IsHeld glyph
+    pub read : value_of t.components action glyph ≡ Some value
+    pub sum : before + value ≡ after
+
+  -- a sum is behind the action at a place, which passes a test: that becomes it from one of those that come there
+  pub record IsBehind (test : ℕ → Bool) (coming : ℕ → Type 0) (place after : ℕ) : Type 0 where
+    pub action : ℕ
+    pub before : ℕ
+    pub listed : slice_get t.actions place ≡ Some action
+    pub passes : test action ≡ true
+    pub comes : coming before
+    pub added : IsAdded action before after
+
+  -- the actions of some rule begin at a place, with the sum 0
+  abbrev pub IsBegun : ℕ → ℕ → Type 0
+  IsBegun place sum = (sum ≡ 0) × IsNamed 0x2000 (λ r. r.2.extra) place
+
+  -- a sum comes to a place: actions begin there, or the one before is not the last
+  unfoldable pub ComesTo : ℕ → ℕ → Type 0
+  ComesTo zero sum = IsBegun zero sum
+  ComesTo (suc place) sum =
+      IsBegun (suc place) sum ⊎ IsBehind (λ action. not (is_last action)) (ComesTo place) place sum
+
+  -- a ligature is made: its number is the sum behind some action that stores one
+  pub record IsMade (number : ℕ) : Type 0 where
+    pub below : number < length t.ligatures
+    pub place : ℕ
+    pub stored : IsBehind is_store (ComesTo place) place number
+
+  -- whether the search is long, by the number of the glyphs that may be held
+  pub record IsSearch (long : Bool) : Type 0 where
+    pub glyphs : List ℕ
+    pub held : AreExactly IsHeld glyphs
+    pub is : is_long (length t.actions) (length t.ligatures) (length glyphs) ≡ long

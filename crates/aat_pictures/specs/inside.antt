@@ -1,0 +1,2 @@
+pub mod HalfPoints
+pub mod Links
