@@ -14,7 +14,8 @@ bytes are built here, and stand in the place of those that were written.
 - cmap_N.ttf: the characters of noncontextual.ttf in format N, of 0, 4, 6 and 12. cmap_symbol.ttf: from U+F000 on, for
   symbols. cmap_macintosh.ttf: for the Macintosh, which has U+00C4, U+20AC and U+F8FF too.
 - kerx_4_points.ttf, kerx_4_coordinates.ttf: the machine of kerx_4.ttf with the two other types of actions.
-- names.ttf, check_values_names.ttf: sample.ttf and check_values.ttf with names of glyphs, in `post`.
+- names.ttf, check_values_names.ttf, check_returns_names.ttf, check_marks_names.ttf: fonts of these names with names of
+  glyphs, in `post`; names.ttf is sample.ttf.
 - charstrings.ttf, charstrings_cid.ttf: outlines.ttf with other outlines, in `CFF `; the second one with two Font DICTs.
 - steps_1100.ttf: steps.ttf with a chain of 1,100 subtables. That of the number N has glyph N + 2 in the place of N + 1,
   but each seventh one inserts it behind that glyph.
@@ -387,7 +388,11 @@ def with_charstrings(font, table):
 
 # Numbers of standard names and texts of own ones, for all glyphs but the last one of the sample.
 SAMPLE_NAMES = [0, 3, 16, 68, 73, 76, 79, "f_l", "f_i", 141, "a.sc", "f.sc"]
-VALUES_NAMES = [0, 68, "b.alt", 70]
+CHECKED_NAMES = [
+    ("check_values", [0, 68, "b.alt", 70], ["b.alt"]),
+    ("check_returns", [0, 68, "b.alt", 70], ["b.alt"]),
+    ("check_marks", [0, 68, 69, "mark"], ["mark"]),
+]
 
 
 def post(names, strings):
@@ -418,8 +423,8 @@ def variants(fonts):
     made["kern_3"] = with_table(classes, b"kern", kern_3(arrays, count))
     made["steps_1100"] = with_steps(fonts["steps"], 1100)
     made["names"] = font_of({**tables_of(fonts["sample"]), b"post": post(SAMPLE_NAMES, ["f_i", "f_l", "a.sc", "f.sc"])})
-    named = {b"post": post(VALUES_NAMES, ["b.alt"])}
-    made["check_values_names"] = font_of({**tables_of(fonts["check_values"]), **named})
+    for name, names, own in CHECKED_NAMES:
+        made[f"{name}_names"] = font_of({**tables_of(fonts[name]), b"post": post(names, own)})
     made["charstrings"] = with_charstrings(fonts["outlines"], cff(GLYPHS, GLOBALS, [LOCALS]))
     made["charstrings_cid"] = with_charstrings(fonts["outlines"], cff(CID_GLYPHS, [], CID_LOCALS, [0, 3]))
     made["kerx_4_points"] = with_action_type(fonts["kerx_4"], 0)

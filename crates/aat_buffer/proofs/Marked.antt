@@ -111,6 +111,14 @@ module _ (m : ℕ) (gs hs : List hb_glyph_info_t) (i e : ℕ) (some : i ≤ e) (
   marked_before : (k : ℕ) → IsMarked (glyph_at gs k) → IsMarked (glyph_at hs k)
   marked_before k has = subst IsMarked (sym (kept_at k (cases_lt k i) (cases_lt k e) has)) has
 
+  -- marks change no cluster
+  pub merged_stays : (known : Option MergedSpan) → IfSome known (IsMerged gs) → IfSome known (IsMerged hs)
+  merged_stays None has = has
+  merged_stays (Some sp) has = record {
+    in_line = omega (arith, has.in_line, same_length);
+    one = λ k from to. same_cluster k ∙ has.one k from to;
+  }
+
   -- a span that was marked as a whole, by its least cluster
   module _ (is : m ≡ least_of (slice_range gs i e)) where
     pub whole_above : (k : ℕ) → i ≤ k → k < e → m ≤ cluster_at hs k
@@ -234,6 +242,18 @@ found_marks gs start from end least low ordered from_low within in_line is befor
     by_place : (k : ℕ) → (k < from) ⊎ (from ≤ k) → start ≤ k → k < low → least < cluster_at gs k
     by_place k (inl a) low_at to = front k low_at a
     by_place k (inr a) low_at to = omega (arith, above k low_at (omega (arith, to, within)), before k a to)
+
+-- in a span of one cluster no glyph is above the least one
+pub one_is_marked : (gs : List hb_glyph_info_t) (s e m : ℕ) → s < e → IsMerged gs (record { start = s; end = e; cluster = m }) → HasMarks gs (record { start = s; low = s; end = e; least = m })
+one_is_marked gs s e m some has = record {
+  ordered = omega arith;
+  within = some;
+  in_line = has.in_line;
+  least = has.one s (omega arith) some;
+  above = λ k from to. omega (arith, has.one k from to);
+  first = λ k from to. absurd (omega (arith, from, to));
+  marked = λ k from to more. absurd (omega (arith, has.one k from to, more));
+}
 
 -- a glyph that keeps its cluster, and that stays marked where it was
 module _ (gs : List hb_glyph_info_t) (i : ℕ) (r : hb_glyph_info_t) (inside : i < length gs) (same : r.cluster ≡ cluster_at gs i)

@@ -330,7 +330,7 @@ impl<A: Allocator + Copy> hb_buffer_t<A> {
     }
 
     /// Sets UNSAFE_TO_BREAK and UNSAFE_TO_CONCAT on each glyph from place `start` up to place `end` whose cluster is
-    /// not this one. In as many steps as the span is long.
+    /// not this one. In as many steps as the span is long. What is known of clusters stays known.
     pub(crate) fn mark_other_than(&mut self, start: usize, end: usize, cluster: u32)
         requires ordered { start ≤ end }
         requires in_line { end ≤ length self.old.line }
@@ -338,7 +338,6 @@ impl<A: Allocator + Copy> hb_buffer_t<A> {
         ensures count { length self.new.line ≡ length self.old.line }
     {
         self.marked = None;
-        self.merged = None;
         self.line.mark_other_than(start, end, cluster);
     }
 

@@ -320,10 +320,18 @@ impl<A: Allocator + Copy> hb_buffer_t<A> {
             self.run_end(end, last)
         };
         self.set_cluster(from, to, least);
+        let start = from.min(start);
         self.merged = Some(MergedSpan {
-            start: from.min(start),
+            start,
             end: to,
             cluster: least,
+        });
+        // no glyph of one cluster is above another one
+        self.marked = Some(MarkedSpan {
+            start,
+            low: start,
+            end: to,
+            least,
         });
     }
 

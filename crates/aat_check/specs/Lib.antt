@@ -1,2 +1,2 @@
 pub mod Numbers
-pub mod Pairs
+pub mod inside

@@ -20,7 +20,7 @@ use std::alloc::{AllocError, Global};
 /// In this order: the faults of tables; whether `mort` stands without `morx`; the names of `feat` that no chain has; for
 /// each chain of `morx` its settings, and each of its subtables by the number of what is found; the bytes of the same
 /// subtables, and their lists; the subtables of `kerx` that are left out, and its machines and pairs; the same of `kern`;
-/// listed pairs whose rows do not rise; and whether `GPOS` takes the place of `kern`. Of what a subtable or a chain has more
+/// listed pairs whose rows do not rise; and whether a feature of `GPOS` takes the place of `kern`. Of what a subtable or a chain has more
 /// than once the first is told.
 ///
 /// Each machine is searched over up to 65,536 states, for each class, ligatures in up to 2^28 steps, and of machines that
@@ -42,7 +42,7 @@ pub fn findings(
     check_kerx(alloc, face, glyph_count, &mut found)?;
     check_kern(alloc, face, glyph_count, &mut found)?;
     check_pair_rows(file, &mut found)?;
-    check_beside_gpos(face, &mut found)?;
+    check_beside_gpos(file, face, &mut found)?;
     Ok(found)
 }
 

@@ -24,8 +24,7 @@ pub enum Fact {
     TableFault(Fault),
     /// 2: a subtable of `kerx` or `kern` is left out.
     LeftOut(Fault),
-    /// 3: the font has `GPOS` and `kern`, and no `kerx` is read: where `GPOS` has the feature `kern`, HarfBuzz kerns by it,
-    /// and not by `kern`.
+    /// 3: `kern` is read and no `kerx`, and `GPOS` has the feature `kern`: HarfBuzz kerns by that in the scripts that have it.
     KernBesideGpos,
     /// 4: a subtable of `kerx` attaches glyphs by anchor points, and no `ankr` is read. HarfBuzz then takes each point as the
     /// origin, and here the glyphs stay.
@@ -38,9 +37,10 @@ pub enum Fact {
         /// The place of the first such row, in bytes from the start of the table.
         byte: usize,
     },
-    /// 7: a part of the subtable lies past its length. HarfBuzz ends lists there, or drops `morx`; here they may be read on.
+    /// 7: a part of the subtable begins past its length, a lookup has rows there, or an entry puts in glyphs of its list from
+    /// there. HarfBuzz 6.0 ends lists there, or drops `morx`; 12.3.2 reads on.
     ReachesPast,
-    /// 8: `GDEF` has a fault: some of its classes are not read, or none.
+    /// 8: `GDEF` has a fault: the classes that have it are not read.
     ClassesFault(Fault),
     /// 10: a machine that comes to the state at a glyph of the class stays there: it leaves the glyphs as they are, or a
     /// contextual one replaces the least glyph of the class over and over.
@@ -111,19 +111,19 @@ pub enum Fact {
         /// How many glyphs are replaced so.
         count: usize,
     },
-    /// 31: the glyph has a value or a class, and the font does not have it.
+    /// 31: the glyph has a value or a class, or stands in a pair, and the font does not have it.
     KeyPast {
-        /// How many glyphs are listed so.
+        /// How many glyphs are listed so, or how many pairs have one.
         count: usize,
     },
     /// 32: the classes list the deleted glyph, 65535.
     ListsDeleted,
-    /// 33: the glyph becomes the deleted one. HarfBuzz deletes it behind ligatures alone.
+    /// 33: the glyph becomes the deleted one. HarfBuzz 12.3.2 takes that out behind ligatures and insertions alone.
     DeletedStays {
         /// How many glyphs become it.
         count: usize,
     },
-    /// 34: the deleted glyph becomes another one. With HarfBuzz it does not.
+    /// 34: the deleted glyph becomes another one. With HarfBuzz 12.3.2 it does not.
     DeletedReturns {
         /// The glyph that takes its place.
         value: u16,

@@ -2,8 +2,8 @@
 
 use crate::fact::Fact;
 use crate::finding::{Finding, Place, push_fact};
-use aat_bytes::tags::{GDEF, GPOS, MORX};
-use aat_bytes::{FaultKind, Tag};
+use aat_bytes::tags::{GDEF, GPOS, KERN, MORX};
+use aat_bytes::{FaultKind, Tag, tag_at, u16_at};
 use aat_face::Face;
 use aat_read_pairs::LeftOutSubtable;
 use aat_read_sfnt::FontFile;
@@ -68,13 +68,35 @@ pub(crate) fn number_in_table(left_out: &[LeftOutSubtable], place: usize) -> usi
     number
 }
 
-/// Adds that `GPOS` takes the place of `kern`, where it does.
+/// How many bytes stand for a feature in the list of features of `GPOS`.
+const FEATURE: usize = 6;
+
+/// Whether the features of `GPOS` have that of kerning. OpenType, "GPOS" and "OpenType Layout Common Table Formats".
+fn kerns_by_features(bytes: &[u8]) -> bool {
+    let Some(list) = u16_at(bytes, 6).map(usize::from) else {
+        return false;
+    };
+    let count = u16_at(bytes, list).map_or(0, usize::from);
+    (0..count).any(|number| {
+        let place = list
+            .saturating_add(2)
+            .saturating_add(number.saturating_mul(FEATURE));
+        tag_at(bytes, place) == Some(KERN)
+    })
+}
+
+/// Adds that the feature of kerning of `GPOS` takes the place of `kern`, where it does.
 pub(crate) fn check_beside_gpos(
+    file: &FontFile<'_>,
     face: &Face<'_>,
     found: &mut Vec<Finding>,
 ) -> Result<(), AllocError> {
     let tables = face.font().tables();
-    if face.has_gpos() && tables.kern.is_some() && tables.kerx.is_none() {
+    let has_feature = match file.table(GPOS) {
+        Ok(bytes) => kerns_by_features(bytes),
+        Err(_) => false,
+    };
+    if has_feature && tables.kern.is_some() && tables.kerx.is_none() {
         push_fact(found, Place::of_table(GPOS), Fact::KernBesideGpos)?;
     }
     Ok(())

@@ -1,9 +1,8 @@
 //! Glyphs that a font does not have, and the deleted glyph.
 
 use crate::fact::Fact;
-use crate::faults::has_fault;
-use crate::finding::{Finding, Place, push_fact};
-use aat_bytes::tags::MAXP;
+use crate::finding::{Finding, GlyphLine, Place, push_fact};
+use crate::lines::{Order, line_to};
 use aat_face::Face;
 use aat_findings::{InsertionKind, PairKind, inserting_entries, lists_deleted, pairs_of};
 use aat_lookup::{GlyphId, Lookup};
@@ -11,12 +10,12 @@ use aat_machine_tables::{InsertionSubtable, SubtableKind};
 use std::alloc::{AllocError, Global};
 use std::slice;
 
-/// The number below which the font has its glyphs: that of `maxp`, or more than any glyph's where `maxp` has a fault.
+/// The number below which the font has its glyphs: that of `maxp`, or more than any glyph's where it is not read.
 pub(crate) fn glyph_bound(face: &Face<'_>) -> u32 {
-    if has_fault(face, MAXP) {
-        return 65536;
+    match face.glyph_count() {
+        0 => 65536,
+        count => u32::from(count),
     }
-    face.glyph_count() as u32
 }
 
 /// The deleted glyph, which is in no font.
@@ -31,10 +30,34 @@ pub(crate) struct Listed<'a> {
     pub(crate) classes: Option<&'a Lookup>,
     /// The font has the glyphs below this number.
     pub(crate) glyph_count: u32,
+    /// How the subtable goes over a line, where one glyph alone shows what becomes of it.
+    pub(crate) shown: Option<Order>,
+}
+
+impl Listed<'_> {
+    /// The line of one glyph that shows what becomes of it, if a text can have it, and it alone shows that.
+    fn line_of(
+        &self,
+        alloc: Global,
+        kind: PairKind,
+        glyph: u16,
+    ) -> Result<Option<GlyphLine>, AllocError> {
+        match (self.shown, kind) {
+            (Some(order), PairKind::ValuePast | PairKind::Deletes)
+                if u32::from(glyph) < self.glyph_count => {
+                Ok(Some(GlyphLine {
+                    glyphs: Vec::from_slice(alloc, &[glyph])?,
+                    is_vertical: order.is_vertical,
+                    cut: None,
+                }))
+            }
+            _ => Ok(None),
+        }
+    }
 }
 
 /// What a subtable of `morx` lists, in a font of so many glyphs.
-fn listed_of(kind: &SubtableKind, glyph_count: u32) -> Listed<'_> {
+fn listed_of(kind: &SubtableKind, glyph_count: u32, order: Order) -> Listed<'_> {
     let (lookups, classes): (&[Lookup], Option<&Lookup>) = match kind {
         SubtableKind::NonContextual(lookup) => (slice::from_ref(lookup), None),
         SubtableKind::Contextual(subtable) => (&subtable.lookups, Some(subtable.state.classes())),
@@ -46,6 +69,10 @@ fn listed_of(kind: &SubtableKind, glyph_count: u32) -> Listed<'_> {
         lookups,
         classes,
         glyph_count,
+        shown: match kind {
+            SubtableKind::NonContextual(_) => Some(order),
+            _ => None,
+        },
     }
 }
 
@@ -77,8 +104,8 @@ fn fact_of(kind: PairKind, value: u16, count: usize) -> Fact {
     }
 }
 
-/// Adds the first of the pairs that are of a kind.
-fn add_pairs(
+/// Adds the first of the pairs that are of a kind, with the line that shows it.
+pub(crate) fn add_pairs(
     alloc: Global,
     listed: Listed<'_>,
     kind: PairKind,
@@ -93,7 +120,10 @@ fn add_pairs(
         glyph: Some(glyph),
         ..place
     };
-    push_fact(found, place, fact_of(kind, value, pairs.len()))
+    let line = listed.line_of(alloc, kind, glyph)?;
+    let fact = fact_of(kind, value, pairs.len());
+    found.push(Finding { fact, place, line })?;
+    Ok(())
 }
 
 /// Adds what is found in what a subtable lists.
@@ -115,7 +145,7 @@ pub(crate) fn check_listed(
 }
 
 /// Whether a font of so many glyphs does not have one, and it is not the deleted one.
-fn is_past(glyph: GlyphId, glyph_count: u32) -> bool {
+pub(crate) fn is_past(glyph: GlyphId, glyph_count: u32) -> bool {
     u32::from(glyph.0) >= glyph_count && glyph.0 != DELETED_GLYPH
 }
 
@@ -147,10 +177,12 @@ pub(crate) fn check_list(
     )
 }
 
-/// Adds the first entry that puts the deleted glyph in.
+/// Adds the first entry that puts the deleted glyph in, with the line that leads there.
 fn add_inserted(
     alloc: Global,
     subtable: &InsertionSubtable,
+    glyph_count: u32,
+    order: Order,
     place: Place,
     found: &mut Vec<Finding>,
 ) -> Result<(), AllocError> {
@@ -164,8 +196,11 @@ fn add_inserted(
         class: Some(class),
         ..place
     };
+    let line = line_to(alloc, table, glyph_count, order, (state, class))?;
     let count = entries.len();
-    push_fact(found, place, Fact::DeletedGoesIn { count })
+    let fact = Fact::DeletedGoesIn { count };
+    found.push(Finding { fact, place, line })?;
+    Ok(())
 }
 
 /// Adds what is found in what a subtable of `morx` lists.
@@ -173,12 +208,15 @@ pub(crate) fn check_kind(
     alloc: Global,
     kind: &SubtableKind,
     glyph_count: u32,
+    order: Order,
     place: Place,
     found: &mut Vec<Finding>,
 ) -> Result<(), AllocError> {
-    check_listed(alloc, listed_of(kind, glyph_count), place, found)?;
+    check_listed(alloc, listed_of(kind, glyph_count, order), place, found)?;
     match kind {
-        SubtableKind::Insertion(subtable) => add_inserted(alloc, subtable, place, found),
+        SubtableKind::Insertion(subtable) => {
+            add_inserted(alloc, subtable, glyph_count, order, place, found)
+        }
         _ => Ok(()),
     }
 }

@@ -2,14 +2,15 @@
 
 use crate::fact::Fact;
 use crate::finding::{Finding, GlyphLine, Place};
+use crate::sentences::Sentence;
 use aat_read_metrics::GlyphNames;
 use serde_json::Value;
 use std::alloc::{AllocError, Global};
 use std::io::{self, Write};
 
 /// A sentence as a text of JSON.
-fn quoted(alloc: Global, fact: Fact) -> Result<String, AllocError> {
-    let sentence = fact.to_string(alloc)?;
+fn quoted(alloc: Global, fact: Fact, names: &GlyphNames<'_>) -> Result<String, AllocError> {
+    let sentence = Sentence { fact, names }.to_string(alloc)?;
     Value::String(sentence).to_string(alloc)
 }
 
@@ -77,7 +78,7 @@ fn write_object<W: Write>(
     names: &GlyphNames<'_>,
     finding: &Finding,
 ) -> io::Result<()> {
-    let sentence = quoted(alloc, finding.fact)?;
+    let sentence = quoted(alloc, finding.fact, names)?;
     let (number, severity) = (finding.fact.number(), finding.fact.severity());
     let table = finding.place.table;
     write!(

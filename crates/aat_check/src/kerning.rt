@@ -6,7 +6,7 @@ use crate::finding::{Finding, Place, push_fact};
 use crate::glyphs::{Listed, check_listed};
 use crate::lines::Order;
 use crate::machines::{Machine, check_machine};
-use crate::pairs::check_pairs;
+use crate::pairs::{add_past, check_class_pairs, check_pairs};
 use aat_bytes::tags::{KERN, KERX};
 use aat_face::Face;
 use aat_findings::Same;
@@ -27,6 +27,7 @@ fn check_kerning<T: Same>(
         lookups: &[],
         classes: Some(table.classes()),
         glyph_count: machine.glyph_count,
+        shown: None,
     };
     check_listed(alloc, listed, machine.place, found)
 }
@@ -44,18 +45,11 @@ fn check_extended(
         is_backwards: subtable.is_last_to_first,
         is_vertical: !subtable.horizontal,
     };
-    let machine = Machine {
-        place,
-        glyph_count,
-        order,
-        changes_glyphs: false,
-        unsettled: None,
-        unnamed: None,
-        turning: None,
-        growing: None,
-    };
+    let machine = Machine::of_kerning(place, glyph_count, order);
     match &subtable.format {
-        KerxFormat::Format0(pairs) => check_pairs(alloc, font, pairs.pairs(), place, found),
+        KerxFormat::Format0(pairs) => {
+            check_pairs(alloc, font, pairs.pairs(), glyph_count, place, found)
+        }
         KerxFormat::Format1(stack) => check_kerning(alloc, &stack.state_table, machine, found),
         KerxFormat::Format4(anchors) => {
             if font.tables().ankr.is_none() {
@@ -63,7 +57,12 @@ fn check_extended(
             }
             check_kerning(alloc, &anchors.state_table, machine, found)
         }
-        _ => Ok(()),
+        KerxFormat::Format2(pairs) | KerxFormat::Format6(pairs) => {
+            add_past(pairs.pairs(), glyph_count, place, found)
+        }
+        KerxFormat::Format2Classes(pairs) | KerxFormat::Format6Classes(pairs) => {
+            check_class_pairs(alloc, pairs, glyph_count, place, found)
+        }
     }
 }
 
@@ -99,24 +98,17 @@ fn check_plain(
     let stack = match &subtable.kind {
         KernKind::Machine(stack) => stack,
         KernKind::Pairs(pairs) => {
-            return check_pairs(alloc, font, pairs.pairs(), place, found);
+            return check_pairs(alloc, font, pairs.pairs(), glyph_count, place, found);
         }
-        KernKind::Classes(_) => return Ok(()),
+        KernKind::Classes(pairs) => {
+            return check_class_pairs(alloc, pairs, glyph_count, place, found);
+        }
     };
     let order = Order {
         is_backwards: false,
         is_vertical: !subtable.horizontal,
     };
-    let machine = Machine {
-        place,
-        glyph_count,
-        order,
-        changes_glyphs: false,
-        unsettled: None,
-        unnamed: None,
-        turning: None,
-        growing: None,
-    };
+    let machine = Machine::of_kerning(place, glyph_count, order);
     check_kerning(alloc, &stack.state_table, machine, found)
 }
 

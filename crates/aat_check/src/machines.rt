@@ -31,6 +31,20 @@ pub(crate) struct Machine {
 }
 
 impl Machine {
+    /// A machine that kerns.
+    pub(crate) fn of_kerning(place: Place, glyph_count: u32, order: Order) -> Machine {
+        Machine {
+            place,
+            glyph_count,
+            order,
+            changes_glyphs: false,
+            unsettled: None,
+            unnamed: None,
+            turning: None,
+            growing: None,
+        }
+    }
+
     /// A state and a class of it.
     fn cell(&self, state: u16, class: u16) -> Place {
         Place {

@@ -1,10 +1,13 @@
-//! Pairs that kern no marks.
+//! Pairs of glyphs that a font does not have, and pairs that kern no marks.
 ghost use Rattle.std.specs.Prelude.{◌≡◌, filter, IfOk};
-ghost use Rattle.aat_check.specs.Pairs.{has_mark, is_mark};
+ghost use Rattle.aat_check.specs.inside.Pairs.{has_mark, is_mark};
 
 use crate::fact::Fact;
 use crate::finding::{Finding, Place, push_fact};
+use crate::glyphs::{Listed, add_pairs, is_past};
+use aat_findings::PairKind;
 use aat_font::hb_font_t;
+use aat_kerning_tables::ClassPairs;
 use aat_lookup::GlyphId;
 use std::alloc::{AllocError, Global};
 
@@ -40,14 +43,70 @@ fn pairs_with_marks(
         .collect(alloc)
 }
 
-/// Adds the first of the pairs that have a mark.
+/// The glyph of a pair that a font of so many glyphs does not have, the left one first.
+fn glyph_past(pair: (u16, u16, i16), glyph_count: u32) -> Option<u16> {
+    if is_past(GlyphId(pair.0), glyph_count) {
+        return Some(pair.0);
+    }
+    is_past(GlyphId(pair.1), glyph_count).then_some(pair.1)
+}
+
+/// Adds the first glyph of pairs that a font of so many glyphs does not have.
+pub(crate) fn add_past(
+    pairs: &[(u16, u16, i16)],
+    glyph_count: u32,
+    place: Place,
+    found: &mut Vec<Finding>,
+) -> Result<(), AllocError> {
+    let mut glyphs = pairs
+        .iter()
+        .filter_map(|pair| glyph_past(*pair, glyph_count));
+    let Some(glyph) = glyphs.next() else {
+        return Ok(());
+    };
+    let count = glyphs.count().saturating_add(1);
+    let place = Place {
+        glyph: Some(glyph),
+        ..place
+    };
+    push_fact(found, place, Fact::KeyPast { count })
+}
+
+/// Adds the first glyph that the left classes of pairs list, or else the right ones, and a font of so many glyphs does not
+/// have.
+pub(crate) fn check_class_pairs(
+    alloc: Global,
+    pairs: &ClassPairs,
+    glyph_count: u32,
+    place: Place,
+    found: &mut Vec<Finding>,
+) -> Result<(), AllocError> {
+    for classes in [pairs.left(), pairs.right()] {
+        let listed = Listed {
+            lookups: &[],
+            classes: Some(classes),
+            glyph_count,
+            shown: None,
+        };
+        let before = found.len();
+        add_pairs(alloc, listed, PairKind::GlyphPast, place, found)?;
+        if found.len() > before {
+            return Ok(());
+        }
+    }
+    Ok(())
+}
+
+/// Adds the first glyph of listed pairs that a font of so many glyphs does not have, and the first pair that has a mark.
 pub(crate) fn check_pairs(
     alloc: Global,
     font: &hb_font_t,
     pairs: &[(u16, u16, i16)],
+    glyph_count: u32,
     place: Place,
     found: &mut Vec<Finding>,
 ) -> Result<(), AllocError> {
+    add_past(pairs, glyph_count, place, found)?;
     let with_marks = pairs_with_marks(alloc, font, pairs)?;
     let Some((left, right, _)) = with_marks.first().copied() else {
         return Ok(());

@@ -2,6 +2,7 @@
 
 use crate::fact::{Fact, Severity};
 use crate::finding::Place;
+use aat_read_metrics::GlyphNames;
 use std::fmt;
 
 impl fmt::Display for Severity {
@@ -36,6 +37,28 @@ impl fmt::Display for Place {
     }
 }
 
+/// What is told, with the names of the glyphs in it.
+#[derive(Clone, Copy)]
+pub(crate) struct Sentence<'n, 'a> {
+    /// What is told.
+    pub(crate) fact: Fact,
+    /// The names of glyphs.
+    pub(crate) names: &'n GlyphNames<'a>,
+}
+
+/// Writes the number of a glyph, and its name behind it, where it has one.
+fn write_glyph<W: fmt::Write>(
+    f: &mut W,
+    names: Option<&GlyphNames<'_>>,
+    glyph: u16,
+) -> fmt::Result {
+    write!(f, "{glyph}")?;
+    match names.and_then(|names| names.name_of(glyph)) {
+        Some(name) => write!(f, " ({name})"),
+        None => Ok(()),
+    }
+}
+
 /// Writes that what is told is the first of so many, where there are more.
 fn write_count<W: fmt::Write>(f: &mut W, count: usize) -> fmt::Result {
     if count > 1 {
@@ -44,14 +67,39 @@ fn write_count<W: fmt::Write>(f: &mut W, count: usize) -> fmt::Result {
     Ok(())
 }
 
-/// Writes the sentence of what is told once.
+/// Writes that the deleted glyph becomes another one.
+fn write_returned<W: fmt::Write>(
+    f: &mut W,
+    names: Option<&GlyphNames<'_>>,
+    value: u16,
+) -> fmt::Result {
+    write!(f, "the deleted glyph becomes glyph ")?;
+    write_glyph(f, names, value)?;
+    write!(f, ", but not in each shaper")
+}
+
+/// Writes that a pair has a mark.
+fn write_pair<W: fmt::Write>(
+    f: &mut W,
+    names: Option<&GlyphNames<'_>>,
+    left: u16,
+    right: u16,
+) -> fmt::Result {
+    write!(f, "the pair of glyphs ")?;
+    write_glyph(f, names, left)?;
+    write!(f, " and ")?;
+    write_glyph(f, names, right)?;
+    write!(f, " has a mark, and pairs skip marks")
+}
+
+/// Writes the sentence of what is told once, and names no glyph.
 fn write_single<W: fmt::Write>(f: &mut W, fact: &Fact) -> fmt::Result {
     match fact {
         Fact::TableFault(fault) => write!(f, "the table is not read: {fault}"),
         Fact::LeftOut(fault) => write!(f, "the subtable is left out: {fault}"),
         Fact::KernBesideGpos => write!(
             f,
-            "where GPOS has the feature kern, HarfBuzz kerns by it, and not by kern without kerx"
+            "HarfBuzz kerns by the feature kern of GPOS in the scripts that have it, and not by kern"
         ),
         Fact::PointsWithoutAnkr => write!(
             f,
@@ -67,7 +115,7 @@ fn write_single<W: fmt::Write>(f: &mut W, fact: &Fact) -> fmt::Result {
         ),
         Fact::ReachesPast => write!(
             f,
-            "it names a part past its length, where HarfBuzz ends lists or drops morx"
+            "it names a part past its length, where shapers may end lists or drop morx"
         ),
         Fact::ClassesFault(fault) => { write!(f, "classes of GDEF are not read: {fault}") }
         Fact::Stays => write!(
@@ -86,15 +134,11 @@ fn write_single<W: fmt::Write>(f: &mut W, fact: &Fact) -> fmt::Result {
         ),
         Fact::NeverOn => write!(f, "no default flag and no feature switches it on"),
         Fact::NameWithoutChain => write!(f, "it has a name, and no chain has a setting of it"),
-        Fact::DeletedReturns { value } => write!(
-            f,
-            "the deleted glyph becomes glyph {value}, but not with HarfBuzz"
-        ),
         _ => write!(f, "the classes list the deleted glyph, whose class is 2"),
     }
 }
 
-/// Writes the sentence of the first of what is counted.
+/// Writes the sentence of the first of what is counted, and names no glyph.
 fn write_first<W: fmt::Write>(f: &mut W, fact: &Fact) -> fmt::Result {
     match fact {
         Fact::UnreachedState { .. } => write!(f, "no line reaches this state"),
@@ -112,7 +156,7 @@ fn write_first<W: fmt::Write>(f: &mut W, fact: &Fact) -> fmt::Result {
         Fact::SettingWithoutName { setting, .. } => {
             write!(
                 f,
-                "feat has no name for the type of setting {setting}, so no tag asks for it"
+                "feat does not name the type of setting {setting}, by which tags ask for it"
             )
         },
         Fact::ExclusiveSettings { setting, .. } => {
@@ -127,15 +171,11 @@ fn write_first<W: fmt::Write>(f: &mut W, fact: &Fact) -> fmt::Result {
         ),
         Fact::DeletedStays { .. } => write!(
             f,
-            "the deleted glyph comes of it, which HarfBuzz leaves in the line"
+            "the deleted glyph comes of it, which some shapers leave in the line"
         ),
         Fact::DeletedGoesIn { .. } => write!(
             f,
             "the deleted glyph goes in here, and is taken out again"
-        ),
-        Fact::MarkInPair { left, right, .. } => write!(
-            f,
-            "the pair of glyphs {left} and {right} has a mark, and pairs skip marks"
         ),
         _ => write!(f, "it is listed, and the font lacks it"),
     }
@@ -161,14 +201,29 @@ fn count_of(fact: &Fact) -> Option<usize> {
     }
 }
 
+/// Writes a sentence, with the names of the glyphs in it where they are told.
+fn write_sentence<W: fmt::Write>(
+    f: &mut W,
+    fact: &Fact,
+    names: Option<&GlyphNames<'_>>,
+) -> fmt::Result {
+    match fact {
+        Fact::DeletedReturns { value } => return write_returned(f, names, *value),
+        Fact::MarkInPair { left, right, .. } => write_pair(f, names, *left, *right)?,
+        _ if count_of(fact).is_some() => write_first(f, fact)?,
+        _ => return write_single(f, fact),
+    }
+    write_count(f, count_of(fact).unwrap_or(0))
+}
+
 impl fmt::Display for Fact {
     fn fmt<W: fmt::Write>(&self, f: &mut fmt::Formatter<W>) -> fmt::Result {
-        match count_of(self) {
-            Some(count) => {
-                write_first(f, self)?;
-                write_count(f, count)
-            }
-            None => write_single(f, self),
-        }
+        write_sentence(f, self, None)
+    }
+}
+
+impl fmt::Display for Sentence<'_, '_> {
+    fn fmt<W: fmt::Write>(&self, f: &mut fmt::Formatter<W>) -> fmt::Result {
+        write_sentence(f, &self.fact, Some(self.names))
     }
 }

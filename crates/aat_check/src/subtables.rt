@@ -93,5 +93,13 @@ pub(crate) fn check_subtable(
     if asked.is_never_on {
         push_fact(found, asked.place, Fact::NeverOn)?;
     }
-    check_kind(alloc, &subtable.kind, asked.glyph_count, asked.place, found)
+    let order = Order::of(subtable.coverage);
+    check_kind(
+        alloc,
+        &subtable.kind,
+        asked.glyph_count,
+        order,
+        asked.place,
+        found,
+    )
 }

@@ -1,7 +1,7 @@
 //! Findings as text.
 
-use crate::fact::Fact;
 use crate::finding::{Finding, GlyphLine, Place};
+use crate::sentences::Sentence;
 use aat_read_metrics::GlyphNames;
 use std::io::{self, Write};
 
@@ -65,15 +65,6 @@ fn write_names<W: Write>(out: &mut W, names: &GlyphNames<'_>, glyphs: &[u16]) ->
     write!(out, ")")
 }
 
-/// Writes the names of the glyphs that a sentence tells by their numbers.
-fn write_names_told<W: Write>(out: &mut W, names: &GlyphNames<'_>, fact: Fact) -> io::Result<()> {
-    match fact {
-        Fact::MarkInPair { left, right, .. } => write_names(out, names, &[left, right]),
-        Fact::DeletedReturns { value } => write_names(out, names, &[value]),
-        _ => Ok(()),
-    }
-}
-
 /// Writes a finding.
 fn write_finding<W: Write>(
     out: &mut W,
@@ -82,11 +73,13 @@ fn write_finding<W: Write>(
     finding: &Finding,
 ) -> io::Result<()> {
     let (severity, number) = (finding.fact.severity(), finding.fact.number());
-    let fact = finding.fact;
+    let sentence = Sentence {
+        fact: finding.fact,
+        names,
+    };
     write!(out, "{severity} {number:02} ")?;
     write_place(out, names, &finding.place)?;
-    write!(out, ": {fact}")?;
-    write_names_told(out, names, fact)?;
+    write!(out, ": {sentence}")?;
     if let Some(line) = &finding.line {
         write_line(out, font, names, line)?;
     }
@@ -94,9 +87,8 @@ fn write_finding<W: Write>(
 }
 
 /// Writes findings in their order, a line each: how much harm it tells of, its number of two digits, its place, and its
-/// sentence, with the command that shows it where there is one, for the font that is named so. Behind the glyph of a
-/// place stands its name, where it has one, and behind a sentence of 34 or 40, and a line, those of its glyphs, where all
-/// have one. Without any finding
+/// sentence, with the command that shows it where there is one, for the font that is named so. Behind the number of a
+/// glyph stands its name, where it has one, and behind a line those of its glyphs, where all have one. Without any finding
 /// it writes `no finding`.
 ///
 /// An error is that of the writer. A part of the text may be written then.

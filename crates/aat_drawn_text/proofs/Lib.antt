@@ -8,6 +8,7 @@ pub mod Ordered
 pub mod Planned
 pub mod Rising
 pub mod ShownChains
+pub mod SteadySpans
 pub mod Taken
 pub mod Unattached
 pub mod Undeleted

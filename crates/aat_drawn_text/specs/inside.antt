@@ -1,3 +1,4 @@
 pub mod Drawing
 pub mod Kerned
+pub mod Steady
 pub mod TextLine

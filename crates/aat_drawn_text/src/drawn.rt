@@ -8,11 +8,13 @@ ghost use Rattle.aat_kerning_machines.specs.Positions.{IsPlaced};
 ghost use Rattle.aat_shaped_text.specs.Breaks.{kept_before};
 ghost use Rattle.aat_shaped_text.specs.KernedPlaces.{ClosesChained};
 ghost use Rattle.aat_drawn_text.specs.inside.Drawing.{IsDrawn, clusters_of, may_break};
+ghost use Rattle.aat_drawn_text.specs.inside.Steady.{IsSteady};
 ghost use Rattle.aat_shaped_text.specs.ShapedText.{drawn_glyph, drawn_glyphs, drawn_position, is_ignorable, is_mark, kept_place, kept_places, kind_of, with_clusters_of};
 
 use crate::kerned::OpenPlaces;
 use crate::kinds::kind_of_number;
 use crate::line::{KIND, MARK};
+use crate::steady::SteadySpan;
 use aat_glyph::{add_up_attachments, parent_of};
 use aat_layout::buffer::{GlyphPosition, hb_buffer_t, hb_glyph_info_t};
 use aat_layout::{AatError, hb_aat_layout_remove_deleted_glyphs, is_solid};
@@ -175,8 +177,15 @@ fn attached_to<H: Allocator + Copy>(
 }
 
 /// Whether a line in drawing order may be broken before the glyph at place `i`, which begins with the deleted glyphs of its
-/// cluster in a row before it. `kept` glyphs are kept before it.
-fn may_break(breaks: Breaks, line: &[hb_glyph_info_t], kept: usize, i: usize) -> bool
+/// cluster in a row before it. `kept` glyphs are kept before it, and the features ask for the same over a span.
+fn may_break(
+    breaks: Breaks,
+    span: SteadySpan,
+    line: &[hb_glyph_info_t],
+    kept: usize,
+    i: usize,
+) -> bool
+    requires steady { IsSteady breaks.rules.features.now span }
     requires in_line { i < length line.now }
     requires kept { kept ≡ kept_before line.now i }
     ensures { result ≡ may_break breaks.entry line.now i }
@@ -185,12 +194,32 @@ fn may_break(breaks: Breaks, line: &[hb_glyph_info_t], kept: usize, i: usize) ->
         return false;
     }
     let front = front_of(line, i);
+    let rules = span.rules_at(breaks.rules, line, front);
     match breaks.left_open {
-        OpenPlaces::Each => may_break_at(breaks.rules, line, kept, front),
+        OpenPlaces::Each => may_break_at(rules, line, kept, front),
         OpenPlaces::Solid(skips) => {
-            is_solid(&line[front], skips) && may_break_at(breaks.rules, line, kept, front)
+            is_solid(&line[front], skips) && may_break_at(rules, line, kept, front)
         }
         OpenPlaces::Told(places) => front < places.len() && places[front],
+    }
+}
+
+/// Whether the features of a text are asked where its line may be broken.
+fn asks_features(breaks: Breaks) -> bool {
+    breaks.is_allowed
+        && !breaks.rules.features.is_empty()
+        && !matches!(breaks.left_open, OpenPlaces::Told(_))
+}
+
+/// The span over which features ask for the same that a cluster is in, where features are asked, behind another span.
+fn next_span(breaks: Breaks, span: SteadySpan, cluster: u32) -> SteadySpan
+    requires { IsSteady breaks.rules.features.now span }
+    ensures { IsSteady breaks.entry.rules.features.now result }
+{
+    if asks_features(breaks) {
+        span.at(breaks.rules.features, cluster)
+    } else {
+        span
     }
 }
 
@@ -221,6 +250,7 @@ fn kind_of(glyph: &hb_glyph_info_t) -> CharacterKind
 /// The glyph at a place of a line that is drawn, before which so many glyphs are kept.
 fn drawn_glyph<H: Allocator + Copy>(
     breaks: Breaks,
+    span: SteadySpan,
     buffer: &hb_buffer_t<H>,
     line: &[hb_glyph_info_t],
     attached: Option<Drawn>,
@@ -234,6 +264,7 @@ fn drawn_glyph<H: Allocator + Copy>(
     requires attached { MatchOption attached (IsUnattached buffer.now.direction (position_list buffer.now))
         (IsDrawn buffer.now) }
     requires kept { kept ≡ kept_before buffer.now.line i }
+    requires steady { IsSteady breaks.rules.features.now span }
     ensures { result ≡ drawn_glyph (may_break breaks.entry buffer.now.line) buffer.now i }
 {
     let glyph = line[i];
@@ -249,7 +280,7 @@ fn drawn_glyph<H: Allocator + Copy>(
         x_offset: position.x_offset,
         y_offset: position.y_offset,
         attached_to: attached_to(buffer, line, attached, i),
-        may_break_before: may_break(breaks, line, kept, i),
+        may_break_before: may_break(breaks, span, line, kept, i),
     }
 }
 
@@ -273,9 +304,11 @@ fn put_glyphs<H: Allocator + Copy, A: Allocator>(
 {
     glyphs.reserve(line.len())?;
     let mut kept = 0;
+    let mut span = SteadySpan::none();
     for i in 0..line.len() {
+        span = next_span(breaks, span, line[i].cluster);
         if is_kept(&line[i]) {
-            glyphs.push_reserved(drawn_glyph(breaks, buffer, line, attached, kept, i));
+            glyphs.push_reserved(drawn_glyph(breaks, span, buffer, line, attached, kept, i));
             kept += 1;
         }
     }

@@ -7,6 +7,7 @@ mod drawn;
 mod kerned;
 mod kinds;
 mod line;
+mod steady;
 mod substitution;
 mod text;
 mod tracking;

@@ -1,6 +1,6 @@
 //! The ligatures that the actions of a ligature subtable can make.
-ghost use Rattle.std.specs.Prelude.{◌≡◌, ◌≤◌, ◌<◌, ◌+◌, ◌&&◌, ℕ, true, false, not, length, IfOk, IfNone, IfSome, OnOk};
-ghost use Rattle.aat_findings.specs.Ligatures.{IsHeld, IsMade, IsSearch, IsNamed, is_last, is_store, offset_of, value_of};
+ghost use Rattle.std.specs.Prelude.{◌≡◌, ◌<◌, ◌+◌, ◌&&◌, true, false, not, length, IfOk, IfNone, IfSome, OnOk};
+ghost use Rattle.aat_findings.specs.Ligatures.{IsHeld, IsMade, IsSearch, IsNamed, is_last, is_store};
 ghost use Rattle.aat_findings.specs.Reached.{AreExactly};
 ghost use Rattle.aat_findings.specs.inside.Making.{AreMadeMarks, AreMarksOf, AreMore, AreNone, IsAfter, IsAmong, IsSummed, IsTold, is_held, is_told};
 ghost use Rattle.aat_findings.specs.inside.Marks.{is_marked};
@@ -13,7 +13,9 @@ use aat_lookup::GlyphId;
 use aat_machine_tables::entry_bits::ligature::{
     LIG_ACTION_LAST, LIG_ACTION_STORE, PERFORM_ACTION, SET_COMPONENT,
 };
-use aat_machine_tables::{ExtendedStateTable, GenericStateEntry, LigatureSubtable};
+use aat_machine_tables::{
+    ExtendedStateTable, GenericStateEntry, LigatureSubtable, component_value,
+};
 use std::alloc::{AllocError, Global};
 
 /// Up to how many steps the ligatures that are made are searched.
@@ -99,36 +101,13 @@ fn held_glyphs(
     Ok(held)
 }
 
-/// The low 30 bits of an action, signed: what is added to a glyph, for the place of its value.
-fn offset_of(action: u32) -> i32
-    ensures { result ≡ offset_of action }
-{
-    let low = (action & 0x1FFF_FFFF) as i32;
-    if action & 0x2000_0000 == 0 {
-        low
-    } else {
-        low - 0x2000_0000
-    }
-}
-
-/// The value that an action reads for a glyph, if there is one.
-fn value_of(values: &[u16], action: u32, glyph: u16) -> Option<u16>
-    ensures { result ≡ value_of values.now action glyph }
-{
-    let place = i64::from(glyph) + i64::from(offset_of(action));
-    if place < 0 {
-        return None;
-    }
-    values.get(place as usize).copied()
-}
-
 /// Marks the sums that one becomes by an action, for each of the held glyphs.
 fn add_values(values: &[u16], held: &[u16], action: u32, sum: usize, marks: &mut [u8])
     requires { sum < length marks.old }
     ensures { AreMore marks.old (IsSummed values.now held.now action sum) marks.new }
 {
     for glyph in held {
-        if let Some(value) = value_of(values, action, *glyph) {
+        if let Some(value) = component_value(values, action, u32::from(*glyph)) {
             mark_where(marks, sum + value as usize, true);
         }
     }

@@ -4,7 +4,7 @@ use Rattle.std.specs.Int.{bit_at}
 use Rattle.std.proofs.lemmas.Bool.{cases_eq}
 use Rattle.std.proofs.lemmas.List.{get_or-set_same, get_or-set_other}
 use Rattle.std.proofs.lemmas.Nat.Bits.{bit_at_or, bit_at_set_same, bit_at-lt}
-use Rattle.aat_font.specs.Wakers.{word_of}
+use Rattle.aat_font.specs.Wakers.{word_of, word_place}
 use Rattle.aat_font.specs.inside.MarkedWords.{SameWords}
 use Rattle.aat_font.specs.declared.wakers.GlyphWords.{GlyphWords}
 
@@ -28,9 +28,9 @@ module _ (words : List ℕ) (place m : ℕ) (within : place < length words) wher
 -- a glyph's word gets a mask, and no glyph loses a bit
 pub mark_keeps :
     (old w : GlyphWords) (place was m : ℕ) → place < length w.words.items → was ≡ get_or w.words.items place 0 → SameWords old w
-    → (g k : ℕ) → bit_at (word_of old g) k ≤ bit_at (bit_or w.everywhere (get_or (set w.words.items place (bit_or was m)) g 0)) k
+    → (g k : ℕ) → bit_at (word_of old g) k ≤ bit_at (bit_or w.everywhere (get_or (set w.words.items place (bit_or was m)) (word_place g) 0)) k
 mark_keeps old w place was m within is same g k =
-    rw is (rw (← same g) (or_wider w.everywhere (get_or w.words.items g 0) w.everywhere _ k (omega arith) (words_wider w.words.items place m within g k)))
+    rw is (rw (← same g) (or_wider w.everywhere (get_or w.words.items (word_place g) 0) w.everywhere _ k (omega arith) (words_wider w.words.items place m within (word_place g) k)))
 
 -- the glyph whose word it is has the bit
 pub mark_sets :

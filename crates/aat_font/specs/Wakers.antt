@@ -7,9 +7,13 @@ use Rattle.aat_machine_tables.specs.declared.morx.Chain.{Chain}
 use Rattle.aat_machine_tables.specs.declared.morx.Subtable.{Subtable}
 use Rattle.aat_font.specs.declared.wakers.GlyphWords.{GlyphWords}
 
+-- the place of a glyph's own bits in a list. Those of glyph 0xFFFF, which stands for a deleted one, come first
+abbrev pub word_place : ℕ → ℕ
+word_place g = (g + 1) % 65536
+
 -- the word of a glyph: the bits that each glyph has, and its own
 abbrev pub word_of : GlyphWords → ℕ → ℕ
-word_of w g = bit_or w.everywhere (slice_index_or w.words.items g 0)
+word_of w g = bit_or w.everywhere (slice_index_or w.words.items (word_place g) 0)
 
 -- where a glyph's bit of a subtable is clear, the subtable does nothing over it
 abbrev pub IsAwakeIn : Subtable → GlyphWords → ℕ → Type 0

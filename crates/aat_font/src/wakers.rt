@@ -7,7 +7,7 @@ ghost use Rattle.std.specs.Prelude.{◌≡◌, ◌+◌, ◌%◌, ◌/◌, ◌<�
 ghost use Rattle.std.specs.Int.{bit_at};
 ghost use Rattle.aat_font.specs.Idle.{is_idle_class, is_idle_glyph};
 ghost use Rattle.aat_lookup.specs.Keys.{value_in};
-ghost use Rattle.aat_font.specs.Wakers.{word_of, IsAwakeIn, AreWakers, AreChainWakers, WakeAt};
+ghost use Rattle.aat_font.specs.Wakers.{word_of, word_place, IsAwakeIn, AreWakers, AreChainWakers, WakeAt};
 ghost use Rattle.aat_font.specs.inside.MarkedWords.{KeepsBits, KeepsWakers, SameWords};
 ghost use Rattle.aat_machine_tables.specs.Chains.{subtable_count};
 ghost use Rattle.aat_machine_tables.specs.declared.morx.Subtable.{Subtable};
@@ -38,7 +38,8 @@ const DELETED: u16 = 0xFFFF;
 pub struct GlyphWords {
     /// The bits that each glyph has.
     everywhere: u64,
-    /// The bits of each glyph besides, up to the last one that has any.
+    /// The bits of each glyph besides, up to the last one that has any. Those of the deleted glyph come first, since they
+    /// would else be the last of 65,536.
     words: Vec<u64>,
 }
 
@@ -50,7 +51,8 @@ impl GlyphWords {
         self.everywhere
     }
 
-    /// The bits of each glyph besides, up to the last one that has any, for who asks for many glyphs.
+    /// The bits of glyph 0xFFFF besides, then those of glyph 0 and of each one behind it, up to the last one that has any,
+    /// for who asks for many glyphs by `word_at`.
     pub fn listed(&self) -> &[u64]
         ensures { result.now ≡ self.now.words.items }
     {
@@ -67,9 +69,9 @@ impl GlyphWords {
     /// Makes the words reach a glyph. Fails where they get no memory.
     fn reach(&mut self, glyph: u16) -> Result<(), AllocError>
         ensures same { OnOk result (SameWords self.old self.new) }
-        ensures reached { OnOk result (glyph < length self.new.words.items) }
+        ensures reached { OnOk result (word_place glyph < length self.new.words.items) }
     {
-        let place = glyph as usize;
+        let place = glyph.wrapping_add(1) as usize;
         if place >= self.words.len() {
             self.words.resize((place / STEP + 1) * STEP, 0)?;
         }
@@ -83,7 +85,8 @@ impl GlyphWords {
         ensures set { OnOk result (bit_at (word_of self.new glyph) bit ≡ 1) }
     {
         self.reach(glyph)?;
-        self.words[glyph as usize] |= 1 << bit;
+        let place = glyph.wrapping_add(1) as usize;
+        self.words[place] |= 1 << bit;
         Ok(())
     }
 
@@ -131,8 +134,8 @@ impl GlyphWords {
         self.mark_classes(alloc, table, bit)
     }
 
-    /// Sets a bit of each glyph that has a class for which state 0 has no entry that passes it. Fails where it gets no
-    /// memory.
+    /// Sets a bit of each glyph that has a class for which state 0 has no entry that passes it, of a machine that passes
+    /// glyphs without a class. Fails where it gets no memory.
     fn mark_classes<T: Resting>(
         &mut self,
         alloc: Global,
@@ -140,14 +143,21 @@ impl GlyphWords {
         bit: u32,
     ) -> Result<(), AllocError>
         requires bit { bit < 64 }
+        requires others { is_idle_class T.rests table.now 1 ≡ true }
         ensures kept { OnOk result (KeepsBits self.old self.new) }
         ensures awake { OnOk result ((g class : ℕ) → bit_at (word_of self.new g) bit ≡ 0
             → value_in table.now.classes g ≡ Some class → is_idle_class T.rests table.now class ≡ true) }
     {
+        // the last class that was found to be passed: glyphs next to one another often have one class
+        let mut idle = OUT_OF_BOUNDS;
         for pair in &table.classes().to_pairs(alloc)? {
             self.reach(pair.0)?;
-            if !is_idle_class(table, pair.1) {
-                self.mark(pair.0, bit)?;
+            if pair.1 != idle {
+                if is_idle_class(table, pair.1) {
+                    idle = pair.1;
+                } else {
+                    self.mark(pair.0, bit)?;
+                }
             }
         }
         Ok(())
@@ -174,11 +184,11 @@ impl GlyphWords {
     }
 }
 
-/// The bits of a glyph in a list, none behind the last one.
+/// The bits of a glyph in a list as that of `GlyphWords::listed`, none behind the last one.
 pub fn word_at(words: &[u64], glyph: GlyphId) -> u64
-    ensures { result ≡ slice_index_or words.now glyph.0 0 }
+    ensures { result ≡ slice_index_or words.now (word_place glyph.0) 0 }
 {
-    let place = glyph.0 as usize;
+    let place = glyph.0.wrapping_add(1) as usize;
     if place < words.len() { words[place] } else { 0 }
 }
 

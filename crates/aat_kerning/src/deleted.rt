@@ -7,19 +7,15 @@ ghost use Rattle.aat_kerning.specs.Zeroing.{zeroed, zeroed_position, zeroed_posi
 use aat_buffer::{DELETED_GLYPH, GlyphPosition, hb_buffer_t, hb_glyph_info_t};
 use std::alloc::Allocator;
 
-/// The position of a glyph, that of a deleted one without room.
-fn zeroed_position(glyph: hb_glyph_info_t, position: GlyphPosition) -> GlyphPosition
-    ensures { result ≡ zeroed_position glyph position }
+/// Leaves the position of a glyph no room where the glyph is deleted. Else nothing is written.
+fn zero_position(glyph: &hb_glyph_info_t, position: &mut GlyphPosition)
+    ensures { position.new ≡ zeroed_position glyph.now position.old }
 {
-    if glyph.glyph_id != DELETED_GLYPH {
-        return position;
-    }
-    GlyphPosition {
-        x_advance: 0,
-        y_advance: 0,
-        x_offset: 0,
-        y_offset: 0,
-        ..position
+    if glyph.glyph_id == DELETED_GLYPH {
+        position.x_advance = 0;
+        position.y_advance = 0;
+        position.x_offset = 0;
+        position.y_offset = 0;
     }
 }
 
@@ -30,7 +26,7 @@ fn zero_deleted(glyphs: &[hb_glyph_info_t], positions: &mut [GlyphPosition])
     ensures len { length positions.new ≡ length positions.old }
 {
     for i in 0..positions.len() {
-        positions[i] = zeroed_position(glyphs[i], positions[i]);
+        zero_position(&glyphs[i], &mut positions[i]);
     }
 }
 

@@ -1,5 +1,5 @@
 -- The ligature act. TrueType Reference Manual: The 'morx' table, ligatures.
-use Rattle.std.specs.Prelude.{◌≡◌, ◌≢◌, ◌≤◌, zero, suc, ℕ, ◌+◌, ◌-◌, ◌%◌, ◌==◌, ◌&&◌, ◌<◌, not, IsTrue, Bool, false, nat_lt, bit_and, bit_or, ℤ, pos, negsuc, ◌+ℤ◌, ◌-ℤ◌, List, length, replicate, slice_get, slice_set, slice_index, Option, Some, None, if◌then◌else◌}
+use Rattle.std.specs.Prelude.{◌≡◌, ◌≢◌, ◌≤◌, zero, suc, ℕ, ◌+◌, ◌-◌, ◌%◌, ◌==◌, ◌&&◌, ◌<◌, IsTrue, Bool, false, nat_lt, bit_or, ℤ, pos, ◌+ℤ◌, List, length, replicate, slice_get, slice_set, slice_index, Option, Some, None, if◌then◌else◌}
 use Rattle.aat_buffer.specs.Buffer.{Buffer, glyph_at}
 use Rattle.aat_buffer.specs.Marks.{merge_out_clusters, with_line}
 use Rattle.aat_buffer.specs.Removal.{is_deleted}
@@ -8,6 +8,7 @@ use Rattle.aat_lookup.specs.declared.glyph_id.GlyphId.{GlyphId}
 use Rattle.aat_machine_tables.specs.declared.state_table.GenericStateEntry.{GenericStateEntry}
 use Rattle.aat_machine_tables.specs.Entries.{has_flag, goes_on}
 use Rattle.aat_run.specs.Context.{Context, Moved}
+pub use Rattle.aat_machine_tables.specs.Actions.{element_at, is_last, is_store, offset_of}
 
 -- how many components are held, and the slots that hold their places
 pub record Registers : Type 0 where
@@ -37,24 +38,6 @@ with_component e r p = if has_flag e 0x8000 then with_place_held r p else r
 pub record IsFit (r : Registers) (p n : ℕ) : Type 0 where
   pub some : 0 < length r.slots
   pub within : (j : ℕ) → j < r.count → component r j < n
-
--- the last action of a list; an action that stores a ligature
-abbrev pub is_last : ℕ → Bool
-is_last action = not (bit_and action 0x80000000 == 0)
-
-abbrev pub is_store : ℕ → Bool
-is_store action = not (bit_and action 0xC0000000 == 0)
-
--- the low 30 bits of an action, signed
-abbrev pub offset_of : ℕ → ℤ
-offset_of action =
-    let low = pos (bit_and action 0x1FFFFFFF) in
-    if bit_and action 0x20000000 == 0 then low else low -ℤ pos 0x20000000
-
--- the element at a place, if there is one
-abbrev pub element_at : List ℕ → ℤ → Option ℕ
-element_at xs (pos i) = slice_get xs i
-element_at xs (negsuc i) = None
 
 -- a component that went into a ligature: deleted and ignorable
 abbrev pub deleted : hb_glyph_info_t → hb_glyph_info_t

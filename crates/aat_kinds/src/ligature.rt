@@ -1,5 +1,5 @@
 //! Ligature subtables: glyphs are held as components, and joined to ligatures.
-ghost use Rattle.std.specs.Prelude.{◌≡◌, ℕ, ◌+◌, ◌-◌, ◌<◌, ◌≤◌, ◌^◌, pos, ◌+ℤ◌, length, if◌then◌else◌, nat_lt, IfSome, IsOk, IsTrue, None, OnOk, IfErr, OnErr};
+ghost use Rattle.std.specs.Prelude.{◌≡◌, ℕ, ◌+◌, ◌-◌, ◌<◌, ◌≤◌, ◌^◌, length, if◌then◌else◌, nat_lt, IfSome, IsOk, IsTrue, None, OnOk, IfErr, OnErr};
 ghost use Rattle.aat_buffer.specs.Buffer.{glyph_at, with_line};
 ghost use Rattle.aat_buffer.specs.Clusters.{IsSmall};
 ghost use Rattle.aat_buffer.specs.Marks.{merge_out_clusters};
@@ -7,15 +7,15 @@ ghost use Rattle.aat_buffer.specs.Removal.{is_deleted};
 ghost use Rattle.aat_run.specs.Driven.{IsRefusal, IsRefused};
 ghost use Rattle.aat_run.specs.Laws.{FitsFresh};
 ghost use Rattle.aat_run.specs.inside.Places.{left_with};
-ghost use Rattle.aat_kinds.specs.Ligature.{DeletesLater, GoesOn, IsFit, IsHeldFit, Stops, component, deleted, element_at, fresh};
-ghost use Rattle.aat_kinds.specs.Ligature.{held_act, later_deleted, offset_of, stored, with_place_held};
+ghost use Rattle.aat_kinds.specs.Ligature.{DeletesLater, GoesOn, IsFit, IsHeldFit, Stops, component, deleted, fresh};
+ghost use Rattle.aat_kinds.specs.Ligature.{held_act, later_deleted, stored, with_place_held};
 ghost use Rattle.aat_kinds.specs.inside.Taken.{all_taken, step_of};
 
 use aat_buffer::{DELETED_GLYPH, UnicodeProps, hb_buffer_t, hb_glyph_info_t};
 use aat_font::ligature_entry_rests;
 use aat_lookup::GlyphId;
 use aat_machine_tables::entry_bits::ligature::{LIG_ACTION_LAST, LIG_ACTION_STORE, PERFORM_ACTION};
-use aat_machine_tables::{GenericStateEntry, LigatureSubtable};
+use aat_machine_tables::{GenericStateEntry, LigatureSubtable, component_value};
 use aat_run::{AatError, driver_context_t};
 use bitflags::Flags;
 use std::alloc::Allocator;
@@ -174,7 +174,7 @@ impl<const SLOTS: usize> Components<SLOTS> {
     {
         let action = *subtable.ligature_actions.get(place)?;
         let glyph = buffer.info(self.place(c)).glyph_id;
-        let value = value_of(&subtable.components, glyph, action)?;
+        let value = component_value(&subtable.components, action, glyph)?;
         let sum = sum + usize::from(value);
         if action & (LIG_ACTION_STORE | LIG_ACTION_LAST) == 0 {
             return Some(sum);
@@ -436,27 +436,4 @@ fn deleted(glyph: hb_glyph_info_t) -> hb_glyph_info_t
         unicode_props: glyph.unicode_props | UnicodeProps::IGNORABLE.bits(),
         ..glyph
     }
-}
-
-/// The low 30 bits of an action, signed: what is added to a glyph id, for the place of its value.
-fn offset_of(action: u32) -> i32
-    ensures { result ≡ offset_of action }
-{
-    let low = (action & 0x1FFF_FFFF) as i32;
-    if action & 0x2000_0000 == 0 {
-        low
-    } else {
-        low - 0x2000_0000
-    }
-}
-
-/// The value at the place that a glyph and an action name, if there is one.
-fn value_of(values: &[u16], glyph: u32, action: u32) -> Option<u16>
-    ensures { result ≡ element_at values.now (pos glyph +ℤ offset_of action) }
-{
-    let place = i64::from(glyph) + i64::from(offset_of(action));
-    if place < 0 {
-        return None;
-    }
-    values.get(place as usize).copied()
 }

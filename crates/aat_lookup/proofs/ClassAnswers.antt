@@ -1,40 +1,38 @@
 -- Arrays of classes answer as the pairs do.
-use Rattle.std.proofs.Common.{◌≡◌, ℕ, ◌+◌, ◌<◌, ◌≤◌, ◌%◌, ◌⊎◌, inl, inr, Bool, List, None, false, length, get_or, unwrap_or, ◌∙◌, ap, sym, arith}
+use Rattle.std.proofs.Common.{◌≡◌, ℕ, ◌+◌, ◌-◌, ◌<◌, ◌≤◌, ◌⊎◌, inl, inr, List, None, length, get_or, unwrap_or, ◌∙◌, ap, arith}
 use Rattle.std.proofs.lemmas.Bool.{cases_lt}
-use Rattle.std.proofs.lemmas.Bool.Decides.{nat_tests}
 use Rattle.std.proofs.lemmas.List.{get_or_default, get_or_past}
 use Rattle.aat_lookup.specs.Keys.{value_in}
-use Rattle.aat_lookup.specs.Moves.{changed_to, kept_over, place_over, value_by, AreMoved}
-use Rattle.aat_lookup.specs.inside.Dense.{AnswersAsClasses}
+use Rattle.aat_lookup.specs.Moves.{place_over}
+use Rattle.aat_lookup.specs.inside.Dense.{AnswersAsClasses, PairsWithin}
+use Rattle.aat_lookup.proofs.DenseAnswers.{none_above, none_below}
 
--- a glyph that becomes itself, and is not marked, has no value
-unchanged : (glyph : ℕ) → changed_to glyph glyph false ≡ None
-unchanged glyph = grind (arith, nat_tests)
-
-module _ (missing lowest : ℕ) (moved : List ℕ) (kept : List Bool) (cells : List ℕ) (pairs : List (ℕ × ℕ)) (small : lowest < 65536)
-    (long : length cells ≡ length moved) (answers : AreMoved lowest moved kept pairs)
-    (classes : (k : ℕ) → k < length moved
-    → get_or cells k 0 ≡ unwrap_or (value_by lowest moved kept ((lowest + k) % 65536)) missing) where
-  none_past : (glyph : ℕ) → length moved ≤ place_over lowest glyph → value_by lowest moved kept glyph ≡ None
-  none_past glyph past =
-      let place = place_over lowest glyph in
-      ap (λ now. changed_to glyph now (kept_over lowest kept glyph)) (get_or_past moved place glyph past)
-      ∙ ap (changed_to glyph glyph) (get_or_past kept place false (omega (arith, answers.1, past)))
-      ∙ unchanged glyph
-
-  moved_to_class : (glyph : ℕ) → glyph < 65536 → (place_over lowest glyph < length moved) ⊎ (length moved ≤ place_over lowest glyph)
+module _ (missing lowest count : ℕ) (pairs : List (ℕ × ℕ)) (cells : List ℕ) (long : length cells ≡ count)
+    (small : lowest + count ≤ 65536)
+    (classes : (k : ℕ) → k < count → get_or cells k 0 ≡ unwrap_or (value_in pairs (lowest + k)) missing)
+    (within : PairsWithin lowest count pairs) where
+  outside : (glyph : ℕ) → count ≤ place_over lowest glyph → None ≡ value_in pairs glyph
       → get_or cells (place_over lowest glyph) missing ≡ unwrap_or (value_in pairs glyph) missing
-  moved_to_class glyph id (inl inside) =
-      let place = place_over lowest glyph in
-      let back : (lowest + place) % 65536 ≡ glyph = omega (arith, id, small) in
-      get_or_default cells place missing 0 (omega (arith, long, inside))
-      ∙ classes place inside
-      ∙ ap (λ g. unwrap_or (value_by lowest moved kept g) missing) back
-      ∙ ap (λ v. unwrap_or v missing) (answers.2 glyph id)
-  moved_to_class glyph id (inr past) =
-      get_or_past cells (place_over lowest glyph) missing (omega (arith, long, past))
-      ∙ ap (λ v. unwrap_or v missing) (sym (none_past glyph past) ∙ answers.2 glyph id)
+  outside glyph past none =
+      get_or_past cells (place_over lowest glyph) missing (omega (arith, long)) ∙ ap (λ v. unwrap_or v missing) none
 
-  -- an array with the class of each glyph of one of what glyphs become
+  inside_of : (glyph : ℕ) → glyph < 65536 → lowest ≤ glyph → glyph - lowest < count
+      → get_or cells (place_over lowest glyph) missing ≡ unwrap_or (value_in pairs glyph) missing
+  inside_of glyph id high inside =
+      let place : place_over lowest glyph ≡ glyph - lowest = omega arith in
+      let same : lowest + (glyph - lowest) ≡ glyph = omega arith in
+      ap (λ k. get_or cells k missing) place
+      ∙ get_or_default cells (glyph - lowest) missing 0 (omega (arith, long))
+      ∙ classes (glyph - lowest) inside
+      ∙ ap (λ g. unwrap_or (value_in pairs g) missing) same
+
+  by_place :
+      (glyph : ℕ) → glyph < 65536 → (glyph < lowest) ⊎ (lowest ≤ glyph) → (glyph - lowest < count) ⊎ (count ≤ glyph - lowest)
+      → get_or cells (place_over lowest glyph) missing ≡ unwrap_or (value_in pairs glyph) missing
+  by_place glyph id (inl low) place = outside glyph (omega arith) (none_below lowest count pairs glyph within low)
+  by_place glyph id (inr high) (inl inside) = inside_of glyph id high inside
+  by_place glyph id (inr high) (inr past) = outside glyph (omega arith) (none_above lowest count pairs glyph within (omega arith))
+
+  -- an array with the class of each glyph of the pairs' span
   pub classes_answer : AnswersAsClasses missing lowest cells pairs
-  classes_answer glyph id = moved_to_class glyph id (cases_lt (place_over lowest glyph) (length moved))
+  classes_answer glyph id = by_place glyph id (cases_lt glyph lowest) (cases_lt (glyph - lowest) count)

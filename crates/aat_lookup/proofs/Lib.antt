@@ -1,6 +1,7 @@
 pub mod ClassAnswers
 pub mod DenseAnswers
 pub mod Falls
+pub mod FullSpans
 pub mod MoveAnswers
 pub mod MovesWritten
 pub mod PageAnswers

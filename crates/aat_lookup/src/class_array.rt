@@ -1,10 +1,10 @@
 //! The classes of glyphs in arrays, for who asks for those of many glyphs.
-ghost use Rattle.std.specs.Prelude.{◌≡◌, ◌+◌, ◌%◌, ◌<◌, ℕ, IfOk, IfSome, length, slice_index_or, unwrap_or};
-ghost use Rattle.aat_lookup.specs.Moves.{place_over, value_of_move, HasCells};
-ghost use Rattle.aat_lookup.specs.inside.Dense.{AnswersAsClasses};
+ghost use Rattle.std.specs.Prelude.{◌≡◌, ◌+◌, ◌<◌, ◌≤◌, ℕ, IfOk, length, slice_index_or, unwrap_or};
+ghost use Rattle.aat_lookup.specs.Keys.{first, value_in, IsRising};
+ghost use Rattle.aat_lookup.specs.Moves.{place_over};
+ghost use Rattle.aat_lookup.specs.inside.Dense.{AnswersAsClasses, PairsWithin};
 
-use crate::lookup::Lookup;
-use crate::moves::GlyphMoves;
+use crate::moves::values_of;
 use std::alloc::{AllocError, Allocator};
 
 /// The classes that pairs have for the glyphs of their span. A glyph without a class has one that says so.
@@ -19,25 +19,27 @@ pub(crate) struct ClassArray<A: Allocator> {
 }
 
 impl<A: Allocator> ClassArray<A> {
-    /// The classes of a lookup that has its values in an array, with `missing` for a glyph without one, and `None` of
-    /// another lookup. Fails where the cells get no memory.
+    /// The classes that rising pairs have for the glyphs of their span, so many from the lowest on, with `missing` for a
+    /// glyph without one. Fails where the cells get no memory.
     #[tactic(auto, using(crate::proofs::ClassAnswers::classes_answer))]
-    pub(crate) fn over<B: Allocator>(
+    pub(crate) fn over(
         alloc: A,
-        classes: &Lookup<B>,
+        pairs: &[(u16, u16)],
+        lowest: u16,
+        count: usize,
         missing: u16,
-    ) -> Result<Option<ClassArray<A>>, AllocError>
-        ensures { IfOk result (λ found. IfSome found (λ c.
-            AnswersAsClasses c.missing c.lowest c.cells.items classes.now)) }
+    ) -> Result<ClassArray<A>, AllocError>
+        requires rising { IsRising first pairs.now }
+        requires small { lowest + count ≤ 65536 }
+        requires within { PairsWithin lowest count pairs.now }
+        ensures { IfOk result (λ c. AnswersAsClasses c.missing c.lowest c.cells.items pairs.now) }
     {
-        match classes.moves() {
-            Some(moves) => Ok(Some(ClassArray {
-                lowest: moves.lowest,
-                missing,
-                cells: cells_of_moves(alloc, moves, missing)?,
-            })),
-            None => Ok(None),
-        }
+        let cells = class_cells(alloc, pairs, lowest, count, missing)?;
+        Ok(ClassArray {
+            lowest,
+            missing,
+            cells,
+        })
     }
 
     /// The class of a glyph, and the one that is given outside the array.
@@ -52,25 +54,30 @@ impl<A: Allocator> ClassArray<A> {
     }
 }
 
-/// The class of each glyph of an array: its value, or the one that stands for a missing one. Fails where the cells get
-/// no memory.
-fn cells_of_moves<A: Allocator>(
+/// The class of each of so many glyphs from the lowest on by rising pairs, whose glyphs are among them, or the one that
+/// stands for a missing one. Fails where the cells get no memory.
+fn class_cells<A: Allocator>(
     alloc: A,
-    moves: GlyphMoves,
+    pairs: &[(u16, u16)],
+    lowest: u16,
+    count: usize,
     missing: u16,
 ) -> Result<Vec<u16, A>, AllocError>
-    requires { HasCells moves }
-    ensures long { IfOk result (λ cells. length cells.items ≡ length moves.entry.cells.now) }
-    ensures classes { IfOk result (λ cells. (k : ℕ) → k < length moves.entry.cells.now
-        → slice_index_or cells.items k 0
-        ≡ unwrap_or (value_of_move moves.entry ((moves.entry.lowest + k) % 65536)) missing) }
+    requires rising { IsRising first pairs.now }
+    requires small { lowest + count ≤ 65536 }
+    requires within { PairsWithin lowest count pairs.now }
+    ensures long { IfOk result (λ cells. length cells.items ≡ count) }
+    ensures classes { IfOk result (λ cells. (k : ℕ) → k < count
+        → slice_index_or cells.items k 0 ≡ unwrap_or (value_in pairs.now (lowest + k)) missing) }
 {
-    let count = moves.cells.len();
-    let mut cells = Vec::with_capacity(alloc, count)?;
-    let mut glyph = moves.lowest;
-    for _place in 0..count {
-        cells.push(moves.value(glyph).unwrap_or(missing))?;
-        glyph = glyph.wrapping_add(1);
+    if count == pairs.len() {
+        let values = values_of(alloc, pairs)?;
+        return Ok(values);
+    }
+    let mut cells = vec![in alloc; missing; count]?;
+    for i in 0..pairs.len() {
+        let pair = pairs[i];
+        cells[(pair.0 - lowest) as usize] = pair.1;
     }
     Ok(cells)
 }

@@ -53,6 +53,28 @@ impl<A: Allocator + Copy> Dense<A> {
         }
         Ok(Dense::Search)
     }
+
+    /// The same with `missing` for glyphs without a value: where the values of pairs are in an array, in one of classes.
+    /// Fails where its cells get no memory.
+    pub(crate) fn with_classes(
+        self,
+        alloc: A,
+        pairs: &[(u16, u16)],
+        missing: u16,
+    ) -> Result<Dense<A>, AllocError>
+        requires rising { IsRising first pairs.now }
+        requires answers { AnswersAsPairs self pairs.now }
+        ensures answers { IfOk result (λ dense. AnswersAsPairs dense pairs.now) }
+    {
+        let (lowest, count) = span_of(pairs);
+        match self {
+            Dense::Moves(_) if count > 0 => {
+                let array = ClassArray::over(alloc, pairs, lowest, count, missing)?;
+                Ok(Dense::Classes(array))
+            }
+            dense => Ok(dense),
+        }
+    }
 }
 
 impl<A: Allocator> Dense<A> {

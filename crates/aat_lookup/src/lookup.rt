@@ -4,9 +4,7 @@ ghost use Rattle.aat_lookup.specs.Keys.{first, first_fall, value_in, IsRising};
 ghost use Rattle.aat_lookup.specs.Moves.{AreMovesOf};
 ghost use Rattle.aat_lookup.specs.Segments.{first_segment_fall, pairs_of_segments};
 ghost use Rattle.aat_lookup.specs.TableErrors.{RefusesRising};
-ghost use Rattle.aat_lookup.specs.inside.Dense.{AnswersAsClasses};
 
-use crate::class_array::ClassArray;
 use crate::dense::Dense;
 use crate::error::TableError;
 use crate::glyph_id::GlyphId;
@@ -65,10 +63,18 @@ impl<A: Allocator + Copy> Lookup<A> {
         requires { IsRising first pairs.now }
         ensures { IfOk result (λ lookup. lookup ≡ pairs.now) }
     {
-        let copy = Vec::from_slice(alloc, pairs)?;
-        let dense = Dense::over(alloc, pairs)?;
+        Lookup::of_rising_list(alloc, Vec::from_slice(alloc, pairs)?)
+    }
+
+    /// The lookup of a list of pairs that rise strictly by glyph, which it keeps. Fails where the cells beside it get no
+    /// memory. The list is then dropped.
+    pub fn of_rising_list(alloc: A, pairs: Vec<(u16, u16), A>) -> Result<Lookup<A>, AllocError>
+        requires { IsRising first pairs.items }
+        ensures { IfOk result (λ lookup. lookup ≡ pairs.items) }
+    {
+        let dense = Dense::over(alloc, &pairs)?;
         Ok(Lookup {
-            values: Values::Listed(copy, dense),
+            values: Values::Listed(pairs, dense),
         })
     }
 
@@ -98,9 +104,14 @@ impl<A: Allocator + Copy> Lookup<A> {
     pub fn with_class_array(self, alloc: A, missing: u16) -> Result<Lookup<A>, AllocError>
         ensures { IfOk result (λ lookup. lookup ≡ self) }
     {
-        match ClassArray::over(alloc, &self, missing)? {
-            Some(array) => Ok(self.found_in(array)),
-            None => Ok(self),
+        match self.values {
+            Values::Listed(pairs, dense) => {
+                let dense = dense.with_classes(alloc, &pairs, missing)?;
+                Ok(Lookup {
+                    values: Values::Listed(pairs, dense),
+                })
+            }
+            values => Ok(Lookup { values }),
         }
     }
 }
@@ -144,19 +155,6 @@ impl<A: Allocator> Lookup<A> {
                 array.class(glyph.0, missing)
             }
             _ => looked_up(self, missing, glyph),
-        }
-    }
-
-    /// The same values. Pairs get an array of classes.
-    fn found_in(self, array: ClassArray<A>) -> Lookup<A>
-        requires { AnswersAsClasses array.missing array.lowest array.cells.items self }
-        ensures { result ≡ self }
-    {
-        match self.values {
-            Values::Listed(pairs, _) => Lookup {
-                values: Values::Listed(pairs, Dense::Classes(array)),
-            },
-            values => Lookup { values },
         }
     }
 

@@ -1,5 +1,5 @@
 //! What glyphs become, in arrays that have each glyph without a value as itself.
-ghost use Rattle.std.specs.Prelude.{◌≡◌, ◌+◌, ◌<◌, ◌≤◌, ℕ, false, IfOk, drop, length, slice_index_or, unwrap_or};
+ghost use Rattle.std.specs.Prelude.{◌≡◌, ◌+◌, ◌<◌, ◌≤◌, ◌==◌, ℕ, false, IfOk, drop, length, slice_index_or, unwrap_or};
 ghost use Rattle.aat_lookup.specs.Keys.{first, value_in, IsRising};
 ghost use Rattle.aat_lookup.specs.Moves.{kept_over, moved_by, value_by, value_of_move, AreMoved, HasCells};
 ghost use Rattle.aat_lookup.specs.inside.Dense.{is_own, keeps_one, PairsWithin};
@@ -128,12 +128,47 @@ fn moved_cells<A: Allocator>(
     ensures values { IfOk result (λ cells. (k : ℕ) → k < count
         → slice_index_or cells.items k 0 ≡ unwrap_or (value_in pairs.now (lowest + k)) (lowest + k)) }
 {
+    if count == pairs.len() {
+        let values = values_of(alloc, pairs)?;
+        return Ok(values);
+    }
     let mut cells = glyphs_from(alloc, lowest, count)?;
     for i in 0..pairs.len() {
         let pair = pairs[i];
         cells[(pair.0 - lowest) as usize] = pair.1;
     }
     Ok(cells)
+}
+
+/// The values of pairs: where their glyphs follow one another, those of the glyphs of an array. Fails where they get no
+/// memory.
+pub(crate) fn values_of<A: Allocator>(
+    alloc: A,
+    pairs: &[(u16, u16)],
+) -> Result<Vec<u16, A>, AllocError>
+    ensures long { IfOk result (λ values. length values.items ≡ length pairs.now) }
+    ensures each { IfOk result (λ values. (k : ℕ) → k < length pairs.now
+        → slice_index_or values.items k 0 ≡ (slice_index_or pairs.now k (0, 0)).1) }
+{
+    let mut values = vec![in alloc; 0; pairs.len()]?;
+    for place in 0..pairs.len() {
+        values[place] = pairs[place].1;
+    }
+    Ok(values)
+}
+
+/// Which pairs have their glyph as value. Fails where the marks get no memory.
+fn own_marks<A: Allocator>(alloc: A, pairs: &[(u16, u16)]) -> Result<Vec<bool, A>, AllocError>
+    ensures long { IfOk result (λ marks. length marks.items ≡ length pairs.now) }
+    ensures each { IfOk result (λ marks. (k : ℕ) → k < length pairs.now → slice_index_or marks.items k false
+        ≡ ((slice_index_or pairs.now k (0, 0)).1 == (slice_index_or pairs.now k (0, 0)).0)) }
+{
+    let mut marks = vec![in alloc; false; pairs.len()]?;
+    for place in 0..pairs.len() {
+        let pair = pairs[place];
+        marks[place] = pair.1 == pair.0;
+    }
+    Ok(marks)
 }
 
 /// So many glyphs from the lowest on. Fails where they get no memory.
@@ -169,6 +204,10 @@ fn kept_marks<A: Allocator>(
         return Ok(Vec::new(alloc));
     }
     let marks = (pairs[own - 1].0 - lowest) as usize + 1;
+    if marks == own {
+        let kept = own_marks(alloc, &pairs[..own])?;
+        return Ok(kept);
+    }
     let mut kept = vec![in alloc; false; marks]?;
     for i in 0..own {
         let pair = pairs[i];

@@ -1,3 +1,4 @@
+pub mod Actions
 pub mod Chains
 pub mod Coverage
 pub mod Entries

@@ -1,5 +1,5 @@
 //! Whether the line gets a mark before a glyph, by HarfBuzz's test, where entries act whatever the registers hold.
-ghost use Rattle.std.specs.Prelude.{◌≡◌, ◌+◌, ◌*◌, ◌==◌, ◌&&◌, ◌||◌, not, option_copied};
+ghost use Rattle.std.specs.Prelude.{◌≡◌, ◌+◌, ◌*◌, ◌==◌, ◌&&◌, ◌||◌, not, option_copied, IsTrue};
 ghost use Rattle.aat_lookup.specs.Truth.{is_some_and};
 ghost use Rattle.aat_machine_tables.specs.Entries.{goes_on};
 ghost use Rattle.aat_machine_tables.specs.Judged.{entry_in, is_judged_safe, leads_as};
@@ -12,7 +12,7 @@ use crate::entry_bits::class::END_OF_TEXT;
 use crate::entry_bits::state::START_OF_TEXT;
 use crate::entry_bits::{NO_INDEX, insertion, ligature, rearrangement};
 use crate::state_table::{GenericStateEntry, rule_key};
-use aat_lookup::keys::{Keyed, row_in};
+use aat_lookup::keys::row_in;
 
 /// What the entries of a kind of machine hold beside a state and flags, and whether one of them may act: `()` is of
 /// rearrangement, and `u16` of ligatures. Each answer is right of a context whose `acts_by_entries` is false.
@@ -129,11 +129,8 @@ impl<T: Copy> JudgedEntry<T> {
 /// The entry that rising rules of so many classes have for a state and a class, judged. What it is held against is
 /// looked for only where it can decide. The test is that of `is_safe_turn`, with nothing asked through a trait: there
 /// each entry would be copied.
-///
-/// It is inlined, since a call for each cell of a grid takes longer than to judge most of them.
-#[inline(always)]
 #[tactic(auto, unfolding(crate::specs::Judged::is_safe_by))]
-pub(crate) fn judged_rule<T: Acting>(
+fn judged_rule<T: Acting>(
     rules: &[(u16, u16, GenericStateEntry<T>)],
     class_count: u16,
     state: u16,
@@ -146,13 +143,52 @@ pub(crate) fn judged_rule<T: Acting>(
         return JudgedEntry::Missing;
     };
     let entry = rule.2;
-    if T::acts(&entry)
-        || !restarts_alike(rules, state, class, &entry)
-        || !rests_at_end(rules, class_count, state)
-    {
-        return JudgedEntry::Unsafe(entry);
+    if is_safe_beside(rules, state, class, &entry) && rests_at_end(rules, class_count, state) {
+        return JudgedEntry::Safe(entry);
     }
-    JudgedEntry::Safe(entry)
+    JudgedEntry::Unsafe(entry)
+}
+
+/// The same, for who asks for each class of a state: whether the state rests at the end of the text is handed in.
+///
+/// It is inlined, since a call for each cell of a grid takes longer than to judge most of them.
+#[inline(always)]
+#[tactic(auto, unfolding(crate::specs::Judged::is_safe_by))]
+pub(crate) fn judged_in_row<T: Acting>(
+    rules: &[(u16, u16, GenericStateEntry<T>)],
+    class_count: u16,
+    state: u16,
+    class: u16,
+    rests: bool,
+) -> JudgedEntry<T>
+    requires rising { IsRising rule_key rules.now }
+    requires rests { rests ≡ is_some_and (ruled_entry rules.now state 0) (λ f. not (T.may_act f)) }
+    ensures { result ≡ judged_rule T.may_act rules.now state class }
+{
+    let Some(rule) = ruled(rules, class_count, state, class) else {
+        return JudgedEntry::Missing;
+    };
+    let entry = rule.2;
+    if rests && is_safe_beside(rules, state, class, &entry) {
+        return JudgedEntry::Safe(entry);
+    }
+    JudgedEntry::Unsafe(entry)
+}
+
+/// Whether an entry of a state does not act, and state 0 leads on as it does: conditions 1 and 2 of HarfBuzz's test.
+#[inline(always)]
+fn is_safe_beside<T: Acting>(
+    rules: &[(u16, u16, GenericStateEntry<T>)],
+    state: u16,
+    class: u16,
+    entry: &GenericStateEntry<T>,
+) -> bool
+    requires { IsRising rule_key rules.now }
+    ensures { result ≡ not (T.may_act entry.now) && ((state == 0)
+        || ((not (goes_on entry.now) && (entry.now.new_state == 0))
+        || is_some_and (ruled_entry rules.now 0 class) (leads_as T.may_act entry.now))) }
+{
+    !T::acts(entry) && restarts_alike(rules, state, class, entry)
 }
 
 /// Whether state 0 leads on as an entry of a state does that does not act: condition 2 of HarfBuzz's test.
@@ -181,7 +217,7 @@ fn restarts_alike<T: Acting>(
 }
 
 /// Whether a state has an entry for the end of the text, which does not act: condition 3.
-fn rests_at_end<T: Acting>(
+pub(crate) fn rests_at_end<T: Acting>(
     rules: &[(u16, u16, GenericStateEntry<T>)],
     class_count: u16,
     state: u16,
@@ -208,14 +244,21 @@ fn ruled<T: Copy>(
     ensures { option_copied result ≡ at_key rule_key rules.now (state * 65536 + class) }
 {
     let place = state as usize * class_count as usize + class as usize;
-    let key = rule_key(state, class);
     if place < rules.len() {
         let rule = &rules[place];
-        if rule.key() == key {
+        if is_of(rule, state, class) {
             return Some(rule);
         }
     }
-    searched(rules, key)
+    searched(rules, rule_key(state, class))
+}
+
+/// Whether a rule is that of a state and a class.
+#[inline(always)]
+fn is_of<T: Copy>(rule: &(u16, u16, GenericStateEntry<T>), state: u16, class: u16) -> bool
+    ensures { IsTrue result → rule_key rule.now ≡ state * 65536 + class }
+{
+    rule.0 == state && rule.1 == class
 }
 
 /// The rule that has a number, where it stands, if there is one, found by bisection. It stands apart, so that what is

@@ -7,6 +7,7 @@
 //! ```
 #![tactic(auto)]
 
+mod actions;
 mod entries;
 pub mod entry_bits;
 mod judged;
@@ -17,6 +18,7 @@ mod subtables;
 #[doc(hidden)]
 pub mod worked;
 
+pub use actions::component_value;
 pub use entries::{ContextualEntryData, EntryData, InsertionEntryData, KernEntryData};
 pub use judged::{Acting, JudgedEntry};
 pub use morx::{Chain, ChainFeature, Coverage, Subtable, SubtableKind, hb_mask_t};

@@ -1,5 +1,5 @@
 //! State tables: the class of each glyph, and what a machine does at a state and a class.
-ghost use Rattle.std.specs.Prelude.{◌≡◌, ◌+◌, ◌*◌, ◌<◌, ◌≤◌, ℕ, IfOk, IfErr, IfSome, OnOk, None, option_map, length, slice_index_or, unwrap_or};
+ghost use Rattle.std.specs.Prelude.{◌≡◌, ◌+◌, ◌*◌, ◌<◌, ◌≤◌, ℕ, IsTrue, IfOk, IfErr, IfSome, OnOk, None, option_map, length, slice_index_or, unwrap_or};
 ghost use Rattle.aat_machine_tables.specs.Entries.{has_flag, goes_on};
 ghost use Rattle.aat_machine_tables.specs.Judged.{entry_in, is_judged_safe, is_safe_by};
 ghost use Rattle.aat_lookup.specs.Keys.{IsRising};
@@ -10,7 +10,7 @@ ghost use Rattle.aat_machine_tables.specs.declared.judged.JudgedEntry.TheVariant
 ghost use Rattle.aat_machine_tables.specs.inside.Grid.{judged_rule, ruled_entry, state_count, states_to, AnswersAsRules, RulesBelow};
 
 use crate::entry_bits::{DONT_ADVANCE, anchor, class, stack};
-use crate::judged::{Acting, JudgedEntry, judged_among, judged_rule, ruled_entry};
+use crate::judged::{Acting, JudgedEntry, judged_among, judged_in_row, rests_at_end, ruled_entry};
 use aat_lookup::keys::{Keyed, first_fall};
 use aat_lookup::{GlyphId, Lookup, TableError};
 use std::alloc::{AllocError, Allocator, Global};
@@ -355,8 +355,9 @@ fn append_row<T: Acting, A: Allocator>(
         → slice_index_or cells.new.items (length cells.old.items + class) Missing
         ≡ judged_rule T.may_act rules.now state class) }
 {
+    let rests = rests_at_end(rules, class_count, state);
     for class in 0..class_count {
-        cells.push(judged_rule(rules, class_count, state, class))?;
+        cells.push(judged_in_row(rules, class_count, state, class, rests))?;
     }
     Ok(())
 }
@@ -390,6 +391,22 @@ fn earlier_fault(fall: Option<usize>, out_of_range: Option<usize>) -> Option<Tab
     }
 }
 
+/// Whether rules have no fault, as one pass over them tells.
+fn are_faultless<T: Copy>(class_count: u16, rules: &[(u16, u16, GenericStateEntry<T>)]) -> bool
+    ensures { IsTrue result → rules_fault class_count rules.now ≡ None }
+{
+    let mut lowest: u64 = 0;
+    for i in 0..rules.len() {
+        let rule = &rules[i];
+        let key = rule.key() as u64;
+        if key < lowest || rule.1 >= class_count {
+            return false;
+        }
+        lowest = key + 1;
+    }
+    true
+}
+
 /// The first fault of rules.
 #[inline(never)]
 fn faulty_rule<T: Copy>(
@@ -398,5 +415,8 @@ fn faulty_rule<T: Copy>(
 ) -> Option<TableError>
     ensures { result ≡ rules_fault class_count rules.now }
 {
+    if are_faultless(class_count, rules) {
+        return None;
+    }
     earlier_fault(first_fall(rules), first_out_of_range(class_count, rules))
 }

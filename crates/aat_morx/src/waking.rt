@@ -4,7 +4,7 @@ ghost use Rattle.std.specs.Int.{bit_at};
 ghost use Rattle.aat_buffer.specs.Buffer.{Is16Bit, glyph_at};
 ghost use Rattle.aat_buffer.specs.Clusters.{IsSmall};
 ghost use Rattle.aat_font.specs.Idle.{is_idle};
-ghost use Rattle.aat_font.specs.Wakers.{WakeAt, word_of};
+ghost use Rattle.aat_font.specs.Wakers.{WakeAt, word_of, word_place};
 ghost use Rattle.aat_machine_tables.specs.declared.morx.Subtable.{Subtable};
 ghost use Rattle.aat_kinds.specs.Idle.{SleepOthers};
 ghost use Rattle.aat_morx.specs.LineWords.{HasBitsOf, IsAsleep, KnowsNothing, TellsOf};
@@ -139,7 +139,7 @@ fn line_bits<A: Allocator + Copy>(words: &GlyphWords, buffer: &hb_buffer_t<A>) -
 /// The bits of a glyph in a list.
 fn bits_of_glyph(listed: &[u64], glyph: &hb_glyph_info_t) -> u64
     requires { Is16Bit glyph.now }
-    ensures { result ≡ slice_index_or listed.now glyph.now.glyph_id 0 }
+    ensures { result ≡ slice_index_or listed.now (word_place glyph.now.glyph_id) 0 }
 {
     word_at(listed, GlyphId(glyph.glyph_id as u16))
 }
@@ -148,7 +148,7 @@ fn bits_of_glyph(listed: &[u64], glyph: &hb_glyph_info_t) -> u64
 fn bits_of(listed: &[u64], glyphs: &[hb_glyph_info_t]) -> u64
     requires ids { All Is16Bit glyphs.now }
     ensures { (k i : ℕ) → i < length glyphs.now → bit_at result k ≡ 0
-        → bit_at (slice_index_or listed.now (glyph_at glyphs.now i).glyph_id 0) k ≡ 0 }
+        → bit_at (slice_index_or listed.now (word_place (glyph_at glyphs.now i).glyph_id) 0) k ≡ 0 }
 {
     let mut word = 0;
     for glyph in glyphs {

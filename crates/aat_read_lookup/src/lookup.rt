@@ -85,7 +85,7 @@ fn listed_lookup<A: Allocator + Copy>(
     ensures { IfOk result (λ lookup. lookup ≡ kept_pairs bytes.now keep layout) }
 {
     let pairs = pairs_of(alloc, layout, bytes, rise, keep)?;
-    Lookup::of_rising(alloc, &pairs)
+    Lookup::of_rising_list(alloc, pairs)
 }
 
 /// The lookup of a layout that is kept as segments. Fails only where it gets no memory.
@@ -160,8 +160,8 @@ pub fn read_pairs<A: Allocator>(
 ///
 /// `OutOfMemory` comes only if the bytes have no fault. There are at most 65,536 glyphs. They are kept as pairs, and as
 /// segments where the pairs and the cells beside them would take more than 7 bytes for each byte that the lookup is
-/// read from: so it takes at most 7 bytes for each. Its list is in memory twice until it is read. `lookup_size` tells
-/// how many bytes it takes, and `lookup_bytes` how many it is read from.
+/// read from: so it takes at most 7 bytes for each. As segments its list is in memory twice until it is read.
+/// `lookup_size` tells how many bytes it takes, and `lookup_bytes` how many it is read from.
 ///
 /// Apple's TrueType Reference Manual, "Font Tables", section on lookup tables.
 pub fn read_lookup<A: Allocator + Copy>(

@@ -3,7 +3,7 @@ ghost use Rattle.std.specs.Prelude.{◌≡◌, ◌+◌, ◌<◌, ◌≤◌, ◌^
 ghost use Rattle.std.specs.Int.{bit_at};
 ghost use Rattle.aat_buffer.specs.Buffer.{Is16Bit, glyph_at, with_cursor};
 ghost use Rattle.aat_buffer.specs.Clusters.{IsSmall};
-ghost use Rattle.aat_font.specs.Wakers.{word_of};
+ghost use Rattle.aat_font.specs.Wakers.{word_of, word_place};
 ghost use Rattle.aat_run.specs.Budget.{rest};
 ghost use Rattle.aat_run.specs.inside.Passing.{last_seen};
 
@@ -40,8 +40,8 @@ impl Wakers<'_> {
 fn has_bit(listed: &[u64], bit: u32, glyph: &hb_glyph_info_t) -> bool
     requires bit { bit < 64 }
     requires id { Is16Bit glyph.now }
-    ensures clear { result ≡ false → bit_at (slice_index_or listed.now glyph.now.glyph_id 0) bit ≡ 0 }
-    ensures set { result ≡ true → bit_at (slice_index_or listed.now glyph.now.glyph_id 0) bit ≡ 1 }
+    ensures clear { result ≡ false → bit_at (slice_index_or listed.now (word_place glyph.now.glyph_id) 0) bit ≡ 0 }
+    ensures set { result ≡ true → bit_at (slice_index_or listed.now (word_place glyph.now.glyph_id) 0) bit ≡ 1 }
 {
     word_at(listed, GlyphId(glyph.glyph_id as u16)) >> bit & 1 != 0
 }
@@ -52,9 +52,9 @@ fn clear_before(listed: &[u64], bit: u32, glyphs: &[hb_glyph_info_t]) -> usize
     requires ids { All Is16Bit glyphs.now }
     ensures few { result ≤ length glyphs.now }
     ensures clear { (i : ℕ) → i < result
-        → bit_at (slice_index_or listed.now (glyph_at glyphs.now i).glyph_id 0) bit ≡ 0 }
+        → bit_at (slice_index_or listed.now (word_place (glyph_at glyphs.now i).glyph_id) 0) bit ≡ 0 }
     ensures all { result < length glyphs.now
-        → bit_at (slice_index_or listed.now (glyph_at glyphs.now result).glyph_id 0) bit ≡ 1 }
+        → bit_at (slice_index_or listed.now (word_place (glyph_at glyphs.now result).glyph_id) 0) bit ≡ 1 }
 {
     for (i, glyph) in glyphs.iter().enumerate() {
         if has_bit(listed, bit, glyph) {

@@ -1,15 +1,16 @@
 -- The glyphs of a text in which each character is a cluster by itself.
-use Rattle.std.proofs.Common.{◌≡◌, ◌≢◌, ℕ, ◌+◌, Bool, true, false, ◌&&◌, Option, Some, None, List, [], ◌∷◌, ◌++◌, length, map, refl, sym, ap, ap₂, ◌∙◌, append_assoc, append-nil}
+use Rattle.std.proofs.Common.{◌≡◌, ◌≢◌, ℕ, zero, suc, ◌+◌, Bool, true, false, ◌&&◌, cond, arith, Option, Some, None, List, [], ◌∷◌, ◌++◌, length, map, refl, sym, ap, ap₂, ◌∙◌, append_assoc, append-nil}
 use Rattle.std.proofs.lemmas.Bool.{and_parts}
 use Rattle.std.proofs.lemmas.List.{map-append}
 use Rattle.std.proofs.lemmas.Str.{chars_past_char}
-use Rattle.std.specs.List.{flat_map, list_all}
+use Rattle.std.specs.List.{find, flat_map, list_all}
 use Rattle.std.specs.Option.{option_map_or}
-use Rattle.std.specs.Prelude.{encode_utf8, is_some}
+use Rattle.std.specs.Prelude.{encode_utf8, is_some, if◌then◌else◌}
 use Rattle.std.specs.Str.{chars, IsUtf8}
 use Rattle.aat_characters.specs.Composed.{normalized}
-use Rattle.aat_characters.specs.Decomposed.{has_glyph}
-use Rattle.aat_characters.specs.PlacedCharacters.{placed}
+use Rattle.aat_characters.specs.Decomposed.{decomposed_character, decomposed_part, has_glyph, has_selector, stand_in, ways_of_parts}
+use Rattle.aat_characters.specs.Parts.{parts_of}
+use Rattle.aat_characters.specs.PlacedCharacters.{has_mark, placed, written_as}
 use Rattle.aat_characters.specs.Apart.{is_apart}
 use Rattle.aat_characters.specs.declared.placed_character.PlacedCharacter.{PlacedCharacter}
 use Rattle.aat_characters.proofs.Apart.{apart_merged, apart_normalized, kept_single}
@@ -21,7 +22,7 @@ use Rattle.aat_text.specs.Prepared.{by_level, exchanged, exchanged_at, own_chara
 use Rattle.aat_text.specs.declared.clusters.ClusterLevel.{ClusterLevel}
 use Rattle.aat_text.specs.declared.clusters.ClusterLevel.TheVariants.{Graphemes, Characters}
 use Rattle.aat_text.specs.declared.unit.ClusterUnit.{ClusterUnit}
-use Rattle.aat_text.specs.inside.Lone.{exchanged_glyphs, lone_glyphs, stand_apart}
+use Rattle.aat_text.specs.inside.Lone.{IsWrittenAlone, exchanged_glyphs, lone_glyphs, stand_apart}
 use Rattle.aat_text.specs.inside.Turning.{characters_when}
 use Rattle.aat_text.proofs.Chars.{chars_of_empty}
 
@@ -109,3 +110,45 @@ kept_glyph face c h =
     there : (found : Option GlyphId) → option_map_or (λ glyph. glyph.0) found 0 ≢ 0 → is_some found ≡ true
     there (Some glyph) h = refl
     there None h = absurd (h refl)
+
+-- ---- a character that is written as itself
+
+module _ (has : ℕ → Bool) (c : PlacedCharacter) (alone : IsWrittenAlone c.character) where
+  -- where the font lacks it, no other one is written
+  unwritten : has c.character ≡ false → decomposed_character has true c ≡ c ∷ []
+  unwritten missing =
+      ap (λ parts. option_map_or (map (written_as c)) (cond (has c.character && true) (Some (c.character ∷ [])) (find (list_all has) (ways_of_parts parts))) (stand_in has c ∷ [])) alone.parts
+      ∙ (ap (λ b. option_map_or (map (written_as c)) (cond (b && true) (Some (c.character ∷ [])) (cond (b && true) (Some (c.character ∷ [])) None)) (stand_in has c ∷ [])) missing
+      ∙ ap₂ (λ s h. (if s && has 0x20 then record c { character = 0x20; space = Some c.character } else if h && has 0x2010 then written_as c 0x2010 else c) ∷ []) alone.space alone.hyphen)
+
+  part_stays : has c.character ≡ false → decomposed_part has (c ∷ []) ≡ c ∷ []
+  part_stays missing = by (has_selector (c ∷ []))
+    where
+      by : (b : Bool) → (if b then c ∷ [] else flat_map (decomposed_character has true) (c ∷ [])) ≡ c ∷ []
+      by true = refl
+      by false = append-nil (decomposed_character has true c) ∙ unwritten missing
+
+  one_part : parts_of (λ part d. has_mark d) (c ∷ []) ≡ (c ∷ []) ∷ []
+  one_part = by (has_mark c)
+    where
+      by : (b : Bool) → (if b then (c ∷ []) ∷ [] else (c ∷ []) ∷ []) ≡ (c ∷ []) ∷ []
+      by true = refl
+      by false = refl
+
+  missing_single : has c.character ≡ false → normalized has (c ∷ []) ≡ c ∷ []
+  missing_single missing =
+      ap (flat_map (decomposed_part has)) one_part ∙ (append-nil (decomposed_part has (c ∷ [])) ∙ part_stays missing)
+
+  alone_single : normalized has (c ∷ []) ≡ c ∷ []
+  alone_single = by (has c.character) refl
+    where
+      by : (b : Bool) → has c.character ≡ b → normalized has (c ∷ []) ≡ c ∷ []
+      by true e = kept_single has c e
+      by false e = missing_single e
+
+-- its glyph is that of the character, whatever its number
+pub alone_glyph :
+    (face : FaceValue) (c : PlacedCharacter) (id : ℕ) → id ≡ (placed_glyph face c).glyph_id → (id ≡ 0 → IsWrittenAlone c.character)
+    → placed_glyph face c ∷ [] ≡ lone_glyphs face c
+alone_glyph face c zero is alone = sym (ap (map (placed_glyph face)) (alone_single (has_glyph face) c (alone refl)))
+alone_glyph face c (suc n) is alone = kept_glyph face c (λ e. omega (arith, is, e))

@@ -1,12 +1,13 @@
 //! The glyphs of a text in which each character is a cluster by itself, as in most texts without marks: no character is
 //! merged with others, composed or put in order, so that each is written as it comes.
-ghost use Rattle.std.specs.Prelude.{◌≡◌, ◌<◌, ◌^◌, ◌++◌, ◌&&◌, [], flat_map, length, map, IfOk, OnOk};
+ghost use Rattle.std.specs.Prelude.{◌≡◌, ◌<◌, ◌^◌, ◌++◌, ◌∷◌, ◌&&◌, ◌==◌, [], false, flat_map, length, map, true, IfOk, OnOk};
 ghost use Rattle.aat_characters.specs.PlacedCharacters.{placed};
 ghost use Rattle.aat_characters.specs.Apart.{is_apart};
-ghost use Rattle.aat_characters.specs.Decomposed.{has_glyph};
+ghost use Rattle.aat_characters.specs.Decomposed.{has_glyph, is_other_space};
+ghost use Rattle.unicode_normalization.specs.Decompose.{decompose_canonical};
 ghost use Rattle.aat_text.specs.Prepared.{exchanged, exchanged_at, own_characters, placed_glyph};
 ghost use Rattle.aat_text.specs.inside.KnownGlyphs.{AreKnown};
-ghost use Rattle.aat_text.specs.inside.Lone.{exchanged_glyphs, lone_glyphs, stand_apart};
+ghost use Rattle.aat_text.specs.inside.Lone.{IsWrittenAlone, exchanged_glyphs, lone_glyphs, stand_apart};
 
 use crate::clusters::{exchanged, exchanged_at};
 use crate::glyphs::placed_glyph;
@@ -18,6 +19,8 @@ use aat_face::Face;
 use aat_glyph::Direction;
 use aat_shaped_text::TextGlyph;
 use std::alloc::{AllocError, Allocator};
+use unicode_normalization::Form;
+use unicode_normalization::char::decomposition;
 
 /// Whether a character continues no cluster and is no half of a flag: in a text of such characters each is a cluster by
 /// itself, and none is a mark.
@@ -72,6 +75,31 @@ fn put_placed<A: Allocator>(
     Ok(())
 }
 
+/// Whether another character may stand for one that the font lacks.
+fn may_be_replaced(character: char) -> bool
+    ensures space { result ≡ false → is_other_space character ≡ false }
+    ensures hyphen { result ≡ false → (character == 0x2011) ≡ false }
+{
+    character == '\u{A0}' || ('\u{2000}' <= character && character <= '\u{3000}')
+}
+
+/// Whether a character is not decomposed.
+fn is_undecomposed(character: char) -> bool
+    ensures { result ≡ true → decompose_canonical character ≡ character ∷ [] }
+{
+    let mut room = ['\0'; 3];
+    let parts = decomposition(character, Form::Nfd, &mut room);
+    parts.len() == 1 && parts[0] == character
+}
+
+/// Whether a character, whose glyph has this number, is known to be written as itself: the font has it, or no other one
+/// could be written.
+fn is_written_alone(glyph_id: u16, character: char) -> bool
+    ensures { result ≡ true → glyph_id ≡ 0 → IsWrittenAlone character }
+{
+    glyph_id != 0 || (!may_be_replaced(character) && is_undecomposed(character))
+}
+
 /// Puts the glyphs of a character by itself behind others: one, if the font has it.
 fn put_lone<B: Allocator + Copy, A: Allocator>(
     scratch: B,
@@ -86,7 +114,7 @@ fn put_lone<B: Allocator + Copy, A: Allocator>(
 {
     if character.space.is_none() && is_plain(character.character) {
         let glyph_id = known.glyph_id(face, character.character);
-        if glyph_id != 0 {
+        if is_written_alone(glyph_id, character.character) {
             glyphs.push(TextGlyph::new(glyph_id, character.place))?;
             return Ok(());
         }

@@ -6,4 +6,5 @@ pub mod Hanging
 pub mod NotFound
 pub mod Plain
 pub mod Refusals
-pub mod Unhidden
+pub mod Unattached
+mod Unhidden

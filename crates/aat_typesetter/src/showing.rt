@@ -1,5 +1,5 @@
 //! How what is drawn is shown.
-ghost use Rattle.std.specs.Prelude.{◌≡◌, IfOk, option_map, true};
+ghost use Rattle.std.specs.Prelude.{◌≡◌, ◌||◌, IfOk, is_some, option_map, true};
 ghost use Rattle.std.specs.List.{list_all, list_any};
 ghost use Rattle.aat_showing.specs.Columns.{in_columns};
 ghost use Rattle.aat_showing.specs.FaceMetrics.{mark_placing};
@@ -9,7 +9,7 @@ ghost use Rattle.aat_showing.specs.MarkBoxes.{place_marks};
 ghost use Rattle.aat_showing.specs.Marks.{zero_marks};
 ghost use Rattle.aat_showing.specs.facts.Plain.{is_plain};
 ghost use Rattle.aat_typesetter.specs.Typeset.{columns_for, showing_for};
-ghost use Rattle.aat_typesetter.specs.inside.Drawn.{drawn_by};
+ghost use Rattle.aat_typesetter.specs.inside.Drawn.{drawn_by, is_unattached};
 ghost use Rattle.aat_typesetter.specs.inside.Inside.{showing_by};
 
 use crate::script_settings::{boxes_for, marks_for};
@@ -151,12 +151,27 @@ fn are_plain(glyphs: &[ShapedGlyph]) -> bool
     glyphs.iter().all(|glyph| is_plain(glyph))
 }
 
+/// Whether none of some glyphs is attached to another.
+fn are_unattached(glyphs: &[ShapedGlyph]) -> bool
+    ensures { result ≡ list_all is_unattached glyphs.now }
+{
+    glyphs.iter().all(|glyph| glyph.attached_to.is_none())
+}
+
+/// Whether what is attached to a glyph stays so where none is ignorable: the font has a space, so that no glyph is taken
+/// out, or none of some glyphs is attached.
+fn keeps_places(space: Option<GlyphId>, glyphs: &[ShapedGlyph]) -> bool
+    ensures { result ≡ (is_some space || list_all is_unattached glyphs.now) }
+{
+    space.is_some() || are_unattached(glyphs)
+}
+
 /// Whether glyphs are known to be drawn as they are.
 #[tactic(auto, using(crate::proofs::Plain::shown_plainly))]
 fn is_shown_as_shaped(face: &Face<'_>, showing: Shown, glyphs: &[ShapedGlyph]) -> bool
     ensures { result ≡ true → glyphs.now ≡ shown (showing_by face.now showing) glyphs.now }
 {
-    showing.direction.is_horizontal() && showing.space.is_some() && are_plain(glyphs)
+    showing.direction.is_horizontal() && are_plain(glyphs) && keeps_places(showing.space, glyphs)
 }
 
 /// Glyphs as they are shown, in the memory of a vector whose own glyphs are dropped.

@@ -2,7 +2,7 @@
 use Rattle.std.specs.Prelude.{◌≡◌, ℕ, ◌&&◌, Bool, List, length, map}
 use Rattle.std.specs.List.{range_with_len}
 use Rattle.aat_glyph.specs.placement.Attachments.{added_up}
-use Rattle.aat_buffer.specs.Buffer.{Buffer, glyph_at, position_list}
+use Rattle.aat_buffer.specs.Buffer.{Buffer, position_list}
 use Rattle.aat_glyph.specs.declared.glyph.hb_glyph_info_t.{hb_glyph_info_t}
 use Rattle.aat_shaped_text.specs.Breaks.{front_of, kept_before}
 use Rattle.aat_shaped_text.specs.declared.text.ShapedGlyph.{ShapedGlyph}

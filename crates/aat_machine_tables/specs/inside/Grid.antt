@@ -44,3 +44,10 @@ abbrev pub AnswersAsRules : {T : Type 0} → (GenericStateEntry T → Bool) → 
 AnswersAsRules acts class_count cells rules =
     0 < length cells → (state class : ℕ) → class < class_count
     → slice_index_or cells (state * class_count + class) Missing ≡ judged_rule acts rules state class
+
+-- the rules before a place rise up to below a number, and have classes below the count
+abbrev pub AreFaultless : {E : Type 0} → ℕ → List (Rule E) → ℕ → ℕ → Type 0
+AreFaultless {E} count rules place lowest =
+    (i : ℕ) (d : Rule E) → i < place
+    → (rule_key (slice_index_or rules i d) < lowest) × ((slice_index_or rules i d).1 < count)
+    × ((j : ℕ) → j < i → rule_key (slice_index_or rules j d) < rule_key (slice_index_or rules i d))

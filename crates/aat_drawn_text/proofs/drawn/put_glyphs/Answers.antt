@@ -27,6 +27,7 @@ loop-i-preserved g c =
         counted = counted_kept line i x read c.is_kept.result c.is_kept.ensures c.loop-i.kept low w.if-is_kept.true w.kept-is c.loop-i.invariant.counted;
         few = rw w.glyphs-is (omega (arith, w.push_reserved.ensures.len, c.loop-i.invariant.few));
         room = rw w.glyphs-is (omega (arith, w.push_reserved.ensures.capacity, c.loop-i.invariant.room));
+        steady = c.next_span-span.ensures;
       }
       | else-is_kept w ↦ record {
         put = rw w.glyphs-is
@@ -35,5 +36,6 @@ loop-i-preserved g c =
         counted = counted_gone line i x read c.is_kept.result c.is_kept.ensures c.loop-i.kept low w.if-is_kept.false w.kept-is c.loop-i.invariant.counted;
         few = rw w.glyphs-is (omega (arith, c.loop-i.invariant.few));
         room = rw w.glyphs-is c.loop-i.invariant.room;
+        steady = c.next_span-span.ensures;
       }
     ]

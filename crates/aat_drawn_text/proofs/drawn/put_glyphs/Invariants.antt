@@ -6,6 +6,7 @@ use Rattle.aat_buffer.specs.Removal.{is_deleted}
 use Rattle.aat_shaped_text.specs.Breaks.{kept_before}
 use Rattle.aat_shaped_text.specs.ShapedText.{drawn_glyph}
 use Rattle.aat_drawn_text.specs.inside.Drawing.{may_break}
+use Rattle.aat_drawn_text.specs.inside.Steady.{IsSteady}
 use Rattle.aat_drawn_text.proofs.drawn.put_glyphs.Given as goal
 
 abbrev pub invariant-loop-i : goal.invariant-loop-i
@@ -18,4 +19,5 @@ invariant-loop-i g l =
       counted : l.kept ≡ kept_before b.line l.i;
       few : vec_len l.glyphs ≤ l.i;
       room : length b.line ≤ vec_capacity l.glyphs;
+      steady : IsSteady l.fn.breaks.rules.features.now l.span;
     }

@@ -15,9 +15,9 @@ loop-i-preserved c =
     let next : suc i ≡ i + 1 = omega arith in
     record {
       done =
-          ap (set c.loop-i.positions i) c.zeroed_position.ensures
+          ap (set c.loop-i.positions i) c.zero_position.ensures
           ∙ ap (λ (ps : List GlyphPosition). set ps i (zeroed_position (get_or gs i no_glyph) (get_or ps i zero_position))) was.done
           ∙ zeroed_step gs qs i (omega (arith, c.requires, c.loop-i-test.true)) c.loop-i-test.true
           ∙ ap (λ n. zeroed_first n gs qs) next;
-      len = length-set c.loop-i.positions i c.zeroed_position.result ∙ was.len;
+      len = length-set c.loop-i.positions i c.zero_position.new.position ∙ was.len;
     }

@@ -3,6 +3,7 @@ use Rattle.std.proofs.lemmas.Grind.{common_steps}
 use Rattle.aat_lookup.specs.Keys.{first, value_in}
 use Rattle.aat_lookup.specs.facts.Rising.{keys_rise}
 use Rattle.aat_lookup.specs.inside.Dense.{is_own}
+use Rattle.aat_lookup.proofs.FullSpans.{marks_here}
 use Rattle.aat_lookup.proofs.MoveAnswers.{none_own}
 use Rattle.aat_lookup.proofs.MovesWritten.{own_before, value_new, value_old, written}
 use Rattle.aat_lookup.proofs.moves.kept_marks.Goals as goal
@@ -11,6 +12,11 @@ pub returns-then-own-eq0-clause-marks : goal.returns-then-own-eq0-clause-marks
 returns-then-own-eq0-clause-marks g c = λ k lt.
     let others = rw c.if-own-eq0.true at c.own_end-own.ensures.others in
     ap (λ (xs : List Bool). get_or xs k false) c.new.ensures.items ∙ sym (none_own c.args.pairs.now (c.args.lowest + k) others)
+
+pub returns-then-marks-own-clause-marks : goal.returns-then-marks-own-clause-marks
+returns-then-marks-own-clause-marks g c = λ k lt.
+    marks_here c.args.pairs.now c.requires.rising c.args.lowest c.args.count c.own_end-own.result c.requires.within c.own_end-own.ensures.within c.if-marks-own.true
+    c.in_ok-kept.kept.items c.in_ok-kept.ensures.long c.in_ok-kept.ensures.each c.own_end-own.ensures.others k
 
 pub index_mut-requires : goal.index_mut-requires
 index_mut-requires g c =

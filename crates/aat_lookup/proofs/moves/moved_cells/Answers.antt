@@ -1,6 +1,7 @@
 use Rattle.std.proofs.Common.{ℕ, ◌+◌, ◌-◌, ◌∙◌, Option, get_or, take, unwrap_or, ap, sym, arith}
 use Rattle.std.proofs.lemmas.Grind.{common_steps}
 use Rattle.aat_lookup.specs.Keys.{value_in}
+use Rattle.aat_lookup.proofs.FullSpans.{value_here}
 use Rattle.aat_lookup.proofs.MovesWritten.{value_new, value_old, written}
 use Rattle.aat_lookup.proofs.moves.moved_cells.Goals as goal
 
@@ -20,3 +21,9 @@ loop-i-preserved g c =
           let glyph = lowest + k in
           written c.loop-i.cells.items (x.0 - lowest) x.1 0 (unwrap_or (value_in (take (i + 1) pairs) glyph) glyph) k (omega (arith, inside, c.loop-i.invariant.long)) (λ e. sym (ap (λ (v : Option ℕ). unwrap_or v glyph) (new glyph (omega (arith, inside, e))))) (λ ne. c.loop-i.invariant.values k below ∙ sym (ap (λ (v : Option ℕ). unwrap_or v glyph) (old glyph (λ e. ne (omega (arith, inside, e))))));
     }
+
+pub returns-then-count-pairs-clause-values : goal.returns-then-count-pairs-clause-values
+returns-then-count-pairs-clause-values g c = λ k lt.
+    let full = c.if-count-pairs.true in
+    let here = value_here c.args.pairs.now c.requires.rising c.args.lowest c.args.count c.requires.within full k (omega (arith, full, lt)) in
+    c.in_ok-values.ensures.each k (omega (arith, full, lt)) ∙ sym (ap (λ (v : Option ℕ). unwrap_or v (c.args.lowest + k)) here)

@@ -10,10 +10,10 @@ loop-class-preserved g c =
     let cells = c.loop-class.cells.items in
     let pushed = c.in_ok-push.ensures.items in
     let base = length c.args.cells.now.items in
-    let entry = c.judged_rule.result in
+    let entry = c.judged_in_row.result in
     let entries = λ (k : ℕ). judged_rule g.T.Acting.may_act c.args.rules.now c.args.state k in
     record {
       long = grind (arith, common_steps);
       kept = λ k lt. kept_more Missing base cells c.push.new.self.items entry pushed k (omega (arith, c.loop-class.invariant.long)) ∙ c.loop-class.invariant.kept k lt;
-      entries = filled_more Missing base cells c.push.new.self.items entry pushed entries c.loop-class.class c.loop-class.invariant.long c.judged_rule.ensures c.loop-class.invariant.entries;
+      entries = filled_more Missing base cells c.push.new.self.items entry pushed entries c.loop-class.class c.loop-class.invariant.long c.judged_in_row.ensures c.loop-class.invariant.entries;
     }

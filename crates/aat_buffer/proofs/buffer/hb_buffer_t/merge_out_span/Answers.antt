@@ -1,9 +1,10 @@
-use Rattle.std.proofs.Common.{◌≡◌, ◌⊎◌, inl, inr, ◌-◌, ◌+◌, ◌∙◌, ℕ, ap, min, subst, sym}
+use Rattle.std.proofs.Common.{◌≡◌, ◌⊎◌, ◌<◌, inl, inr, ◌-◌, ◌+◌, ◌∙◌, ℕ, ap, arith, subst, sym}
 use Rattle.aat_glyph.specs.declared.glyph.hb_glyph_info_t.{hb_glyph_info_t}
 use Rattle.aat_buffer.specs.Buffer.{Buffer, with_line}
 use Rattle.aat_buffer.specs.Marks.{cluster_at, run_after, run_before}
 use Rattle.aat_buffer.specs.inside.Marked.{IsMerged}
-use Rattle.aat_buffer.proofs.MergedOut.{grown_by, merged_has, merged_out_is, start}
+use Rattle.aat_buffer.proofs.Marked.{one_is_marked}
+use Rattle.aat_buffer.proofs.MergedOut.{grown_by, merged_has, merged_out_is}
 use Rattle.aat_buffer.proofs.buffer.hb_buffer_t.merge_out_span.Goals.{then-first-least, else-first-least, then-last-least, else-last-least}
 use Rattle.aat_buffer.proofs.buffer.hb_buffer_t.merge_out_span.Goals as goal
 
@@ -29,15 +30,18 @@ invariant_of-self g c =
       | else-last-least w ↦ inr (w.to-is ∙ (w.run_end-to.ensures.run ∙ ap (λ (x : ℕ). j + run_after gs j x) is_last))
     ] in
     let grown = grown_by gs i j known.result first last m c.requires.long c.requires.in_line known.ensures.behind known.ensures.within known.ensures.one is_first is_last c.least_from-least.ensures from to front rest in
+    let n : ℕ = c.min-start.result in
+    let some : n < to = omega (arith, c.min-start.ensures, c.requires.long, grown.beyond) in
+    let here : IsMerged c.self.inside.line.glyphs (record { start = n; end = to; cluster = m }) = subst (λ (k : ℕ). IsMerged c.self.inside.line.glyphs (record { start = k; end = to; cluster = m })) (sym c.min-start.ensures)
+    (merged_has gs i j known.result first last m c.requires.long c.requires.in_line known.ensures.behind known.ensures.within known.ensures.one is_first is_last c.least_from-least.ensures from to grown
+    c.self.inside.line.glyphs (ap (λ (b : Buffer). b.line) (c.self.view_is ∙ c.set_cluster.ensures.after))) in
     record {
       in_line = c.self.invariant.in_line;
       within_max = c.self.invariant.within_max;
       small = c.self.invariant.small;
       placed = c.self.invariant.placed;
-      marked = c.self.invariant.marked;
-      merged = subst (λ (n : ℕ). IsMerged c.self.inside.line.glyphs (record { start = n; end = to; cluster = m })) (sym c.min.ensures)
-          (merged_has gs i j known.result first last m c.requires.long c.requires.in_line known.ensures.behind known.ensures.within known.ensures.one is_first is_last c.least_from-least.ensures from to grown
-          c.self.inside.line.glyphs (ap (λ (b : Buffer). b.line) (c.self.view_is ∙ c.set_cluster.ensures.after)));
+      marked = one_is_marked c.self.inside.line.glyphs n to m some here;
+      merged = here;
     }
 
 pub returns-clause-after : goal.returns-clause-after

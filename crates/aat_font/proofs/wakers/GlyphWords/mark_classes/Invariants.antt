@@ -1,4 +1,4 @@
-use Rattle.std.proofs.Common.{◌≡◌, ℕ, ◌<◌, get_or, false}
+use Rattle.std.proofs.Common.{◌≡◌, ℕ, ◌<◌, get_or, false, true}
 use Rattle.std.specs.Int.{bit_at}
 use Rattle.aat_font.specs.Idle.{is_idle_class}
 use Rattle.aat_font.specs.Wakers.{word_of}
@@ -8,6 +8,7 @@ use Rattle.aat_font.proofs.wakers.GlyphWords.mark_classes.Given as goal
 abbrev pub invariant-loop-pair : goal.invariant-loop-pair
 invariant-loop-pair g l = record {
   kept : KeepsBits l.fn.self l.self;
+  idle : is_idle_class g.T.Resting.rests l.table l.idle ≡ true;
   marked : (i : ℕ) → i < l.pair-index → is_idle_class g.T.Resting.rests l.table (get_or l.pair-items i (0, 0)).1 ≡ false
       → bit_at (word_of l.self (get_or l.pair-items i (0, 0)).0) l.bit ≡ 1;
 }
