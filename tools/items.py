@@ -54,7 +54,7 @@ def items_of(path, text):
 
 def here():
     for folder, _, names in os.walk(f"{TOP}/crates"):
-        if "/out" not in folder:
+        if "/out/" not in f"{folder}/":
             for name in names:
                 path = os.path.relpath(f"{folder}/{name}", TOP)
                 if path.endswith((".rt", ".antt")) and not SKIPPED.search(path):
