@@ -1,7 +1,7 @@
 //! The fonts of the parts of rows.
 
 use crate::described::{FontData, font_of};
-use crate::rows::{FROM_7, FROM_13, FROM_19, FROM_25, FROM_31, Part, Row, Shown, TO_6};
+use crate::rows::{Part, Row, Shown, all_rows};
 use crate::stop::Stop;
 use aat_layout::font::hb_font_t;
 use std::alloc::Global;
@@ -22,12 +22,13 @@ pub fn font_of_part(alloc: Global, name: &str) -> Result<Option<hb_font_t>, Stop
 
 /// The part with a name.
 fn part_named(name: &str) -> Option<&'static Part> {
-    part_in(&TO_6, name)
-        .or(part_in(&FROM_7, name))
-        .or(part_in(&FROM_13, name))
-        .or(part_in(&FROM_19, name))
-        .or(part_in(&FROM_25, name))
-        .or(part_in(&FROM_31, name))
+    for rows in all_rows() {
+        let found = part_in(rows, name);
+        if found.is_some() {
+            return found;
+        }
+    }
+    None
 }
 
 /// The part with a name among those of some rows.

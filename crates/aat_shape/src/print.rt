@@ -1,7 +1,7 @@
 //! Printing the worked rows.
 
 use crate::made::{Glyph, Line, Made, Place, Range, make};
-use crate::rows::{FROM_7, FROM_13, FROM_19, FROM_25, FROM_31, Part, Row, TO_6};
+use crate::rows::{Part, Row, all_rows};
 use crate::stop::Stop;
 use aat_layout::{AatError, Turns};
 use std::alloc::Global;
@@ -20,12 +20,9 @@ pub fn print_chosen<W: Write>(alloc: Global, words: &[String], out: &mut W) -> R
         return Ok(false);
     }
     let mut is_known = words.is_empty();
-    is_known |= print_those(alloc, words, &TO_6, out)?;
-    is_known |= print_those(alloc, words, &FROM_7, out)?;
-    is_known |= print_those(alloc, words, &FROM_13, out)?;
-    is_known |= print_those(alloc, words, &FROM_19, out)?;
-    is_known |= print_those(alloc, words, &FROM_25, out)?;
-    is_known |= print_those(alloc, words, &FROM_31, out)?;
+    for rows in all_rows() {
+        is_known |= print_those(alloc, words, rows, out)?;
+    }
     Ok(is_known)
 }
 

@@ -326,21 +326,26 @@ const LIGATURES: &[FeatureName] = &[FeatureName {
 }];
 
 /// The rows up to 6, in the order in which they are printed.
-pub(crate) static TO_6: [Row; 6] = [ROW_1, ROW_2, ROW_3, ROW_4, ROW_5, ROW_6];
+static TO_6: [Row; 6] = [ROW_1, ROW_2, ROW_3, ROW_4, ROW_5, ROW_6];
 
 /// The rows from 7 to 12.
-pub(crate) static FROM_7: [Row; 6] = [ROW_7, ROW_8, ROW_9, ROW_10, ROW_11, ROW_12];
+static FROM_7: [Row; 6] = [ROW_7, ROW_8, ROW_9, ROW_10, ROW_11, ROW_12];
 
 /// The rows from 13 to 18.
-pub(crate) static FROM_13: [Row; 6] = [ROW_13, ROW_14, ROW_15, ROW_16, ROW_17, ROW_18];
+static FROM_13: [Row; 6] = [ROW_13, ROW_14, ROW_15, ROW_16, ROW_17, ROW_18];
 
 /// The rows from 19 to 24.
-pub(crate) static FROM_19: [Row; 6] = [ROW_19, ROW_20, ROW_21, ROW_22, ROW_23, ROW_24];
+static FROM_19: [Row; 6] = [ROW_19, ROW_20, ROW_21, ROW_22, ROW_23, ROW_24];
 
 /// The rows from 25 to 30.
-pub(crate) static FROM_25: [Row; 6] = [ROW_25, ROW_26, ROW_27, ROW_28, ROW_29, ROW_30];
+static FROM_25: [Row; 6] = [ROW_25, ROW_26, ROW_27, ROW_28, ROW_29, ROW_30];
 
 /// The rows from 31 on.
-pub(crate) static FROM_31: [Row; 8] = [
+static FROM_31: [Row; 8] = [
     ROW_31, ROW_32, ROW_33, ROW_34, ROW_35, ROW_36, ROW_37, ROW_38,
 ];
+
+/// All rows, in groups, in their order. It alone names them: what names them is proved with all that they hold.
+pub(crate) fn all_rows() -> [&'static [Row]; 6] {
+    [&TO_6, &FROM_7, &FROM_13, &FROM_19, &FROM_25, &FROM_31]
+}
