@@ -4,7 +4,9 @@ use crate::fact::Fact;
 use crate::finding::{Finding, GlyphLine, Place, push_fact};
 use crate::lines::{Order, line_to};
 use aat_face::Face;
-use aat_findings::{InsertionKind, PairKind, inserting_entries, lists_deleted, pairs_of};
+use aat_findings::{
+    DELETED_GLYPH, InsertionKind, PairKind, inserting_entries, lists_deleted, pairs_of,
+};
 use aat_lookup::{GlyphId, Lookup};
 use aat_machine_tables::{InsertionSubtable, SubtableKind};
 use std::alloc::{AllocError, Global};
@@ -17,9 +19,6 @@ pub(crate) fn glyph_bound(face: &Face<'_>) -> u32 {
         count => u32::from(count),
     }
 }
-
-/// The deleted glyph, which is in no font.
-const DELETED_GLYPH: u16 = 0xFFFF;
 
 /// What a subtable lists.
 #[derive(Clone, Copy)]

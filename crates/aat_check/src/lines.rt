@@ -2,14 +2,11 @@
 
 use crate::finding::GlyphLine;
 use crate::search::way_to;
-use aat_findings::taken_as;
+use aat_findings::{DELETED_GLYPH, taken_as};
 use aat_lookup::GlyphId;
 use aat_machine_tables::entry_bits::class;
 use aat_machine_tables::{Acting, Coverage, ExtendedStateTable};
 use std::alloc::{AllocError, Global};
-
-/// The deleted glyph, which is no glyph of a text.
-const DELETED_GLYPH: u32 = 0xFFFF;
 
 /// How a subtable goes over a line.
 #[derive(Clone, Copy)]
@@ -39,7 +36,7 @@ pub(crate) fn shown_classes<T: Acting>(
     glyph_count: u32,
 ) -> Result<Vec<Option<u16>>, AllocError> {
     let mut shown = vec![in alloc; None; table.class_count() as usize]?;
-    let count = glyph_count.min(DELETED_GLYPH) as u16;
+    let count = glyph_count.min(u32::from(DELETED_GLYPH)) as u16;
     let preferred = preferred.iter().map(|pair| pair.0);
     for glyph in preferred.chain(least..count) {
         if glyph >= count {

@@ -92,13 +92,11 @@ fn resting_table<T: Same>(
     alloc: Global,
     table: &ExtendedStateTable<T>,
 ) -> Result<ExtendedStateTable<T>, AllocError> {
-    let mut rules = Vec::new(alloc);
-    for (state, class, entry) in table.rules() {
-        let mut entry = *entry;
-        if T::acts(&entry) {
-            entry.flags &= !DONT_ADVANCE;
+    let mut rules = table.to_rules(alloc)?;
+    for rule in rules.iter_mut() {
+        if T::acts(&rule.2) {
+            rule.2.flags &= !DONT_ADVANCE;
         }
-        rules.push((*state, *class, entry))?;
     }
     let resting = ExtendedStateTable::new(alloc, table.class_count(), &[], &rules);
     resting.map_err(|_| AllocError)
@@ -125,14 +123,12 @@ fn missing_cell<T: Same>(
     table: &ExtendedStateTable<T>,
 ) -> Result<Option<(u16, u16)>, AllocError> {
     let missing = missing_reached(alloc, table)?;
-    match missing {
-        Some((START_OF_LINE, _))
-            if !table
-                .rules()
-                .iter()
-                .any(|rule| rule.2.new_state == START_OF_LINE) => { Ok(None) }
-        missing => Ok(missing),
-    }
+    let Some((START_OF_LINE, _)) = missing else {
+        return Ok(missing);
+    };
+    let rules = table.to_rules(alloc)?;
+    let leads = rules.iter().any(|rule| rule.2.new_state == START_OF_LINE);
+    Ok(if leads { missing } else { None })
 }
 
 /// Adds the first state that no line reaches.

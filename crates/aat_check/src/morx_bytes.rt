@@ -7,8 +7,8 @@ use crate::rows::Rows;
 use crate::unmade::check_made;
 use aat_bytes::tags::MORX;
 use aat_bytes::u32_at;
+use aat_findings::{current_run, marked_run};
 use aat_machine_tables::entry_bits::NO_INDEX;
-use aat_machine_tables::entry_bits::insertion::{CURRENT_INSERT_COUNT, MARKED_INSERT_COUNT};
 use aat_machine_tables::{Chain, InsertionSubtable, SubtableKind};
 use std::alloc::{AllocError, Global};
 
@@ -112,32 +112,34 @@ fn list_count(extent: Extent<'_>, kind: &SubtableKind, field: usize) -> usize {
     end.saturating_sub(list) / 2
 }
 
-/// Whether glyphs of a list go past so many of it, from an index on.
-fn goes_past(index: u16, glyphs: u16, count: usize) -> bool {
+/// Whether glyphs of a list go past so many of it, by an index and how many they are from there on.
+fn goes_past((index, glyphs): (u16, u16), count: usize) -> bool {
     let end = usize::from(index).saturating_add(usize::from(glyphs));
     index != NO_INDEX && glyphs != 0 && end > count
 }
 
 /// The state and the class of the first entry that puts in glyphs past so many of the list.
-fn first_past(subtable: &InsertionSubtable, count: usize) -> Option<(u16, u16)> {
-    let rules = subtable.state.rules().iter();
-    let mut past = rules.filter(|(_, _, entry)| {
-        let current = (entry.flags & CURRENT_INSERT_COUNT) / 32;
-        let marked = entry.flags & MARKED_INSERT_COUNT;
-        goes_past(entry.extra.current_insert_index, current, count)
-            || goes_past(entry.extra.marked_insert_index, marked, count)
+fn first_past(
+    alloc: Global,
+    subtable: &InsertionSubtable,
+    count: usize,
+) -> Result<Option<(u16, u16)>, AllocError> {
+    let rules = subtable.state.to_rules(alloc)?;
+    let first = rules.iter().find(|(_, _, entry)| {
+        goes_past(current_run(entry), count) || goes_past(marked_run(entry), count)
     });
-    past.next().map(|(state, class, _)| (*state, *class))
+    Ok(first.map(|(state, class, _)| (*state, *class)))
 }
 
 /// Adds the first entry that puts in glyphs past so many of the list.
 fn check_runs(
+    alloc: Global,
     subtable: &InsertionSubtable,
     count: usize,
     place: Place,
     found: &mut Vec<Finding>,
 ) -> Result<(), AllocError> {
-    let Some((state, class)) = first_past(subtable, count) else {
+    let Some((state, class)) = first_past(alloc, subtable, count)? else {
         return Ok(());
     };
     let place = Place {
@@ -177,7 +179,7 @@ fn check_extent(
         SubtableKind::Insertion(subtable) => {
             let count = list_count(extent, kind, INSERTED);
             if !reaches_past {
-                check_runs(subtable, count, place, found)?;
+                check_runs(alloc, subtable, count, place, found)?;
             }
             check_list(&subtable.glyphs, count, glyph_count, place, found)
         }

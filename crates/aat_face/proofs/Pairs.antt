@@ -1,20 +1,21 @@
--- Pairs over a range of glyphs rise.
-use Rattle.std.proofs.Common.{◌≡◌, ℕ, zero, suc, ◌+◌, ◌<◌, None, map, refl, arith}
-use Rattle.std.specs.List.{range_with_len}
-use Rattle.aat_lookup.specs.Keys.{first, first_fall, fall_after}
+-- Values of glyphs, written one after the other.
+use Rattle.std.proofs.Common.{◌≡◌, ℕ, zero, suc, ◌+◌, ◌<◌, List, ◌∷◌, length, get_or, map, refl, ap, ◌∙◌}
+use Rattle.std.specs.List.{enumerate_from, range_with_len}
+use Rattle.std.proofs.lemmas.List.FromFn.{fill_by_all}
+use Rattle.aat_lookup.specs.EachGlyph.{pairs_of_each}
 use Rattle.aat_face.specs.Lists.{pairs_over}
 
--- none falls behind a glyph below them
-above : (value : ℕ → ℕ) (i k a n : ℕ)
-    → k < a
-    → fall_after first i k (map (λ glyph. (glyph, value glyph)) (range_with_len a n)) ≡ None
-above value i k a zero below = refl
-above value i k a (suc n) below =
-    let next : fall_after first (i + 1) a (map (λ glyph. (glyph, value glyph)) (range_with_len (a + 1) n)) ≡ None =
-    above value (i + 1) a (a + 1) n (omega arith) in
-    grind (arith, next)
+-- the values of glyphs from one on, with their glyphs
+numbered :
+    (value : ℕ → ℕ) (a n : ℕ)
+    → enumerate_from a (map value (range_with_len a n)) ≡ map (λ glyph. (glyph, value glyph)) (range_with_len a n)
+numbered value a zero = refl
+numbered value a (suc n) = ap (λ pairs. (a, value a) ∷ pairs) (numbered value (a + 1) n)
 
--- none falls
-pub pairs_rise : (value : ℕ → ℕ) (n : ℕ) → first_fall first (pairs_over n value) ≡ None
-pairs_rise value zero = refl
-pairs_rise value (suc n) = above value 1 0 1 n (omega arith)
+-- a list that has the value of each glyph
+pub each_value :
+    (value : ℕ → ℕ) (values : List ℕ) (n : ℕ)
+    → length values ≡ n
+    → ((k : ℕ) → k < n → get_or values k 0 ≡ value k)
+    → pairs_of_each values ≡ pairs_over n value
+each_value value values n long each = ap pairs_of_each (fill_by_all value values n 0 long each) ∙ numbered value 0 n

@@ -39,8 +39,12 @@ fn row_end(map: &CharacterMap<'_>, delta: u16) -> u16
     ensures { IsRow map.now delta result }
 {
     let mut end = SPACE;
-    while end < END && map.glyph(end as u8 as char) == Some(end.wrapping_add(delta)) {
-        end += 1;
+    while end < END {
+        let (glyph, next) = map.row_until(end as u8 as char);
+        if glyph != Some(end.wrapping_add(delta)) {
+            return end;
+        }
+        end = next.min(END as u64) as u16;
     }
     end
 }

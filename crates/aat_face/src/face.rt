@@ -2,6 +2,10 @@
 ghost use Rattle.std.specs.Prelude.{◌≡◌, Some, IfOk, IfErr, option_copied};
 ghost use Rattle.aat_bytes.specs.declared.error.ReadError.TheVariants as errors;
 ghost use Rattle.aat_read_lookup.specs.Lookups.{Gives};
+ghost use Rattle.aat_face.specs.Chains.{chains_in};
+ghost use Rattle.aat_face.specs.Features.{features_in};
+ghost use Rattle.aat_face.specs.Kerning.{ankr_in, kern_in, kerx_in};
+ghost use Rattle.aat_face.specs.Tracking.{trak_in};
 ghost use Rattle.aat_face.specs.Faces.{advances_in, face_of, face_of_tables, faults_of, feature_text, font_value, glyph_box_of, glyph_of_character, name_of, properties_in, setting_text, tables_in, vertical_advance_of, vertical_origin_of};
 
 use crate::chains::{chains_in, layer_tables};
@@ -12,7 +16,8 @@ use crate::kerning::{
 };
 use crate::lists::{advance_lookup, property_lookup};
 use crate::tables::{
-    Tables, characters_in, classes_fault, classes_in, fault_in, long_metric_count_in, names_in,
+    KerningTables, PointTables, SubstitutionTables, Tables, characters_in, classes_fault,
+    classes_in, fault_in, long_metric_count_in, names_in,
 };
 use crate::text::{NameText, english_text};
 use crate::tracking::trak_in;
@@ -73,18 +78,57 @@ impl<'a> Model for Face<'a> {
     } };
 }
 
+/// The features and the chains of a file whose font has so many glyphs.
+fn substitution_in<'a>(
+    alloc: Global,
+    file: &FontFile<'a>,
+    glyph_count: u16,
+) -> Result<SubstitutionTables<'a>, AllocError>
+    ensures feat { IfOk result (λ tables. tables.feat ≡ features_in file.now) }
+    ensures morx { IfOk result (λ tables. tables.morx ≡ chains_in file.now glyph_count) }
+{
+    let feat = features_in(alloc, file)?;
+    let morx = chains_in(alloc, file, glyph_count)?;
+    Ok(SubstitutionTables { feat, morx })
+}
+
+/// The kerning of a file whose font has so many glyphs.
+fn kerning_in(
+    alloc: Global,
+    file: &FontFile<'_>,
+    glyph_count: u16,
+) -> Result<KerningTables, AllocError>
+    ensures kerx { IfOk result (λ tables. tables.kerx ≡ kerx_in file.now glyph_count) }
+    ensures kern { IfOk result (λ tables. tables.kern ≡ kern_in file.now) }
+{
+    let kerx = kerx_in(alloc, file, glyph_count)?;
+    let kern = kern_in(alloc, file)?;
+    Ok(KerningTables { kerx, kern })
+}
+
+/// The anchor points and the tracking of a file whose font has so many glyphs.
+fn points_in(
+    alloc: Global,
+    file: &FontFile<'_>,
+    glyph_count: u16,
+) -> Result<PointTables, AllocError>
+    ensures ankr { IfOk result (λ tables. tables.ankr ≡ ankr_in file.now glyph_count) }
+    ensures trak { IfOk result (λ tables. tables.trak ≡ trak_in file.now) }
+{
+    let trak = trak_in(alloc, file)?;
+    let ankr = ankr_in(alloc, file, glyph_count)?;
+    Ok(PointTables { ankr, trak })
+}
+
 /// The tables of a file.
 fn tables_in<'a>(alloc: Global, file: &FontFile<'a>) -> Result<Tables<'a>, AllocError>
     ensures { IfOk result (λ tables. tables ≡ tables_in file.now) }
 {
-    let feat = features_in(alloc, file)?;
     let maxp = glyph_count_in(file);
     let glyph_count = number_in(&maxp);
-    let morx = chains_in(alloc, file, glyph_count)?;
-    let kerx = kerx_in(alloc, file, glyph_count)?;
-    let kern = kern_in(alloc, file)?;
-    let ankr = ankr_in(alloc, file, glyph_count)?;
-    let trak = trak_in(alloc, file)?;
+    let points = points_in(alloc, file, glyph_count)?;
+    let kerning = kerning_in(alloc, file, glyph_count)?;
+    let substitution = substitution_in(alloc, file, glyph_count)?;
     Ok(Tables {
         maxp,
         head: units_per_em_in(file),
@@ -95,12 +139,12 @@ fn tables_in<'a>(alloc: Global, file: &FontFile<'a>) -> Result<Tables<'a>, Alloc
         cmap: characters_in(file),
         gdef: classes_in(file),
         name: names_in(file),
-        feat,
-        morx,
-        kerx,
-        kern,
-        ankr,
-        trak,
+        feat: substitution.feat,
+        morx: substitution.morx,
+        kerx: kerning.kerx,
+        kern: kerning.kern,
+        ankr: points.ankr,
+        trak: points.trak,
         has_gpos: has_gpos_in(file),
         has_stat: has_stat_in(file),
     })
@@ -151,20 +195,49 @@ fn properties_of(alloc: Global, tables: &Tables<'_>) -> Result<Option<Lookup>, R
     }
 }
 
+/// What takes memory of a face beside its tables.
+#[derive(Drop)]
+struct FaceLists {
+    faults: Vec<Fault>,
+    advances: Option<Lookup>,
+    properties: Option<Lookup>,
+}
+
+/// The faults of tables, and the values of glyphs by them.
+fn lists_of(alloc: Global, tables: &Tables<'_>) -> Result<FaceLists, ReadError>
+    ensures faults { IfOk result (λ lists. lists.faults.items ≡ faults_of tables.now) }
+    ensures advances { IfOk result (λ lists. lists.advances ≡ Some (advances_in tables.now)) }
+    ensures properties { IfOk result (λ lists. lists.properties ≡ properties_in tables.now) }
+    ensures refused { IfErr result (λ error. error ≡ errors.OutOfMemory) }
+{
+    let faults = faults_of(alloc, tables)?;
+    let advances = advances_of(alloc, tables)?;
+    let properties = properties_of(alloc, tables)?;
+    Ok(FaceLists {
+        faults,
+        advances,
+        properties,
+    })
+}
+
 impl<'a> Face<'a> {
-    /// The font of a directory.
-    fn of_file(alloc: Global, file: FontFile<'a>) -> Result<Face<'a>, ReadError>
-        ensures ok { IfOk result (λ face. face ≡ face_of_tables file.entry (tables_in file.entry)) }
-        ensures refused { IfErr result (λ error. error ≡ errors.OutOfMemory) }
+    /// The font of the tables of a directory, and of what takes memory beside them. Nothing fails here, so nothing of it is
+    /// dropped on the way.
+    fn of_tables(
+        alloc: Global,
+        file: FontFile<'a>,
+        tables: Tables<'a>,
+        lists: FaceLists,
+    ) -> Face<'a>
+        requires faults { lists.faults.items ≡ faults_of tables }
+        requires advances { lists.advances ≡ Some (advances_in tables) }
+        requires properties { lists.properties ≡ properties_in tables }
+        ensures { result ≡ face_of_tables file.entry tables.entry }
     {
-        let tables = tables_in(alloc, &file)?;
-        let faults = faults_of(alloc, &tables)?;
-        let advances = advances_of(alloc, &tables)?;
-        let properties = properties_of(alloc, &tables)?;
         let (kerx, left_out) = kerx_parts(alloc, tables.kerx);
         let (kern, left_out_of_kern) = kern_parts(alloc, tables.kern);
         let ankr = found_in(tables.ankr);
-        Ok(Face {
+        Face {
             file,
             glyph_count: tables.glyph_count,
             units_per_em: tables.units_per_em,
@@ -176,16 +249,26 @@ impl<'a> Face<'a> {
             features: feature_bytes(&tables.feat),
             font: hb_font_t::new(
                 with_kerning(layer_tables(tables.morx, tables.feat), kerx, kern, ankr),
-                properties,
-                advances,
+                lists.properties,
+                lists.advances,
             ),
             tracking: found_in(tables.trak),
             has_gpos: tables.has_gpos,
             has_stat: tables.has_stat,
-            faults,
+            faults: lists.faults,
             left_out,
             left_out_of_kern,
-        })
+        }
+    }
+
+    /// The font of a directory.
+    fn of_file(alloc: Global, file: FontFile<'a>) -> Result<Face<'a>, ReadError>
+        ensures ok { IfOk result (λ face. face ≡ face_of_tables file.entry (tables_in file.entry)) }
+        ensures refused { IfErr result (λ error. error ≡ errors.OutOfMemory) }
+    {
+        let tables = tables_in(alloc, &file)?;
+        let lists = lists_of(alloc, &tables)?;
+        Ok(Face::of_tables(alloc, file, tables, lists))
     }
 
     /// The font at an index of a file. A file that is no collection has one font, at index 0.

@@ -97,3 +97,24 @@ pub struct Tables<'a> {
     /// Whether the file has the table `STAT`.
     pub has_stat: bool,
 }
+
+/// The tables of a font file that substitute glyphs, and the names of features.
+#[derive(Drop)]
+pub struct SubstitutionTables<'a> {
+    pub feat: Result<Option<Features<'a>>, Fault>,
+    pub morx: Result<Option<Chains>, Fault>,
+}
+
+/// The tables of kerning.
+#[derive(Drop)]
+pub struct KerningTables {
+    pub kerx: Result<Option<KerxRead>, Fault>,
+    pub kern: Result<Option<KernRead>, Fault>,
+}
+
+/// The tables of anchor points and of tracks.
+#[derive(Drop)]
+pub struct PointTables {
+    pub ankr: Result<Option<Ankr>, Fault>,
+    pub trak: Result<Option<Tracking>, Fault>,
+}

@@ -83,8 +83,7 @@ pub fn classes_alike<T: Same>(
 ) -> Result<Vec<(u16, u16)>, AllocError>
     ensures { IfOk result (λ pairs. AreTwins table.now pairs.items table.now.class_count) }
 {
-    let rules = table.rules();
-    let states = state_count(rules);
+    let states = state_count(alloc, table)?;
     let mut pairs = Vec::new(alloc);
     for class in 0..table.class_count() {
         add_twin(table, states, class, &mut pairs)?;

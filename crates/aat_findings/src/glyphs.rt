@@ -5,8 +5,8 @@ ghost use Rattle.aat_findings.specs.Glyphs.{is_of, lists_deleted};
 use aat_lookup::{GlyphId, Lookup};
 use std::alloc::{AllocError, Global};
 
-/// The deleted glyph.
-const DELETED_GLYPH: u16 = 0xFFFF;
+/// The deleted glyph: a machine deletes a glyph by putting this one in its place.
+pub const DELETED_GLYPH: u16 = 0xFFFF;
 
 /// For what a pair of a glyph and its value is told. The value is a glyph too, but in classes.
 #[derive(Clone, Copy)]

@@ -1,23 +1,19 @@
 //! Insertions that grow without end, or put the deleted glyph in.
-ghost use Rattle.std.specs.Prelude.{◌≡◌, IfOk, filter, length};
+ghost use Rattle.std.specs.Prelude.{◌≡◌, ◌/◌, IfOk, bit_and, filter, length};
 ghost use Rattle.aat_findings.specs.Growth.{IsInserting, at_cursor, at_mark, class_behind, go_in, has_deleted, is_cell, is_inserting, leads_to, puts_deleted, run_at, stays_at, taken_as};
 ghost use Rattle.aat_findings.specs.Reached.{ArePicked};
 ghost use Rattle.aat_findings.specs.inside.Growing.{is_told};
 
+use crate::glyphs::DELETED_GLYPH;
 use crate::reached::reach_marks;
 use aat_lookup::GlyphId;
+use aat_machine_tables::entry_bits::NO_INDEX;
 use aat_machine_tables::entry_bits::class::{END_OF_TEXT, OUT_OF_BOUNDS};
 use aat_machine_tables::entry_bits::insertion::{
     CURRENT_INSERT_BEFORE, CURRENT_INSERT_COUNT, MARKED_INSERT_BEFORE, MARKED_INSERT_COUNT,
 };
 use aat_machine_tables::{Acting, ExtendedStateTable, GenericStateEntry, InsertionEntryData};
 use std::alloc::{AllocError, Global};
-
-/// The index that names no glyphs.
-const NO_INDEX: u16 = 0xFFFF;
-
-/// The deleted glyph.
-pub(crate) const DELETED_GLYPH: u16 = 0xFFFF;
 
 /// How many entries that stay at a glyph are followed.
 const MOST_TURNS: usize = 64;
@@ -48,6 +44,27 @@ pub fn taken_as<T: Acting>(table: &ExtendedStateTable<T>, glyph: GlyphId) -> u16
     }
 }
 
+/// The run that an entry names at the glyph where the machine is: the index of its first glyph, 0xFFFF for none, and its
+/// length.
+///
+/// Apple's TrueType Reference Manual, "The 'morx' table", glyph insertion.
+pub fn current_run(entry: &GenericStateEntry<InsertionEntryData>) -> (u16, u16)
+    ensures { result ≡ (entry.now.extra.current_insert_index, bit_and entry.now.flags 0x03E0 / 32) }
+{
+    let count = (entry.flags & CURRENT_INSERT_COUNT) / 32;
+    (entry.extra.current_insert_index, count)
+}
+
+/// The run that an entry names at the mark: the index of its first glyph, 0xFFFF for none, and its length.
+///
+/// Apple's TrueType Reference Manual, "The 'morx' table", glyph insertion.
+pub fn marked_run(entry: &GenericStateEntry<InsertionEntryData>) -> (u16, u16)
+    ensures { result ≡ (entry.now.extra.marked_insert_index, bit_and entry.now.flags 0x001F) }
+{
+    let count = entry.flags & MARKED_INSERT_COUNT;
+    (entry.extra.marked_insert_index, count)
+}
+
 /// Whether so many glyphs of a list go in, from an index on.
 fn go_in(glyphs: &[GlyphId], index: u16, count: u16) -> bool
     ensures { result ≡ go_in glyphs.now index count }
@@ -59,16 +76,16 @@ fn go_in(glyphs: &[GlyphId], index: u16, count: u16) -> bool
 fn at_cursor(glyphs: &[GlyphId], entry: &GenericStateEntry<InsertionEntryData>) -> bool
     ensures { result ≡ at_cursor glyphs.now entry.now }
 {
-    let count = (entry.flags & CURRENT_INSERT_COUNT) / 32;
-    go_in(glyphs, entry.extra.current_insert_index, count)
+    let (index, count) = current_run(entry);
+    go_in(glyphs, index, count)
 }
 
 /// Whether an entry puts glyphs in at the mark.
 fn at_mark(glyphs: &[GlyphId], entry: &GenericStateEntry<InsertionEntryData>) -> bool
     ensures { result ≡ at_mark glyphs.now entry.now }
 {
-    let count = entry.flags & MARKED_INSERT_COUNT;
-    go_in(glyphs, entry.extra.marked_insert_index, count)
+    let (index, count) = marked_run(entry);
+    go_in(glyphs, index, count)
 }
 
 /// Whether an entry stays, and puts no glyphs in behind the mark.
@@ -152,12 +169,9 @@ fn has_deleted(run: &[GlyphId]) -> bool
 fn puts_deleted(glyphs: &[GlyphId], entry: &GenericStateEntry<InsertionEntryData>) -> bool
     ensures { result ≡ puts_deleted glyphs.now entry.now }
 {
-    let (current, marked) = (
-        entry.extra.current_insert_index,
-        entry.extra.marked_insert_index,
-    );
-    has_deleted(run_at(glyphs, current, (entry.flags & CURRENT_INSERT_COUNT) / 32))
-        || has_deleted(run_at(glyphs, marked, entry.flags & MARKED_INSERT_COUNT))
+    let (current, marked) = (current_run(entry), marked_run(entry));
+    has_deleted(run_at(glyphs, current.0, current.1))
+        || has_deleted(run_at(glyphs, marked.0, marked.1))
 }
 
 /// Whether a rule is of a kind.
@@ -212,7 +226,7 @@ pub fn inserting_entries(
 {
     let marks = reach_marks(alloc, table)?;
     let of_marks = marks.as_slice();
-    let rules = table.rules();
-    let found = inserting_in(alloc, table, glyphs, of_marks, kind, rules)?;
+    let rules = table.to_rules(alloc)?;
+    let found = inserting_in(alloc, table, glyphs, of_marks, kind, &rules)?;
     Ok(found)
 }

@@ -1,12 +1,13 @@
 //! The ligatures that the actions of a ligature subtable can make.
-ghost use Rattle.std.specs.Prelude.{◌≡◌, ◌<◌, ◌+◌, ◌&&◌, true, false, not, length, IfOk, IfNone, IfSome, OnOk};
+ghost use Rattle.std.specs.Prelude.{◌≡◌, ◌<◌, ◌+◌, ◌&&◌, ℕ, true, false, not, length, slice_index, IfOk, IfNone, IfSome, OnOk};
 ghost use Rattle.aat_findings.specs.Ligatures.{IsHeld, IsMade, IsSearch, IsNamed, is_last, is_store};
 ghost use Rattle.aat_findings.specs.Reached.{AreExactly};
 ghost use Rattle.aat_findings.specs.inside.Making.{AreMadeMarks, AreMarksOf, AreMore, AreNone, IsAfter, IsAmong, IsSummed, IsTold, is_held, is_told};
 ghost use Rattle.aat_findings.specs.inside.Marks.{is_marked};
 
 use crate::chains::push_place;
-use crate::growth::{DELETED_GLYPH, taken_as};
+use crate::glyphs::DELETED_GLYPH;
+use crate::growth::taken_as;
 use crate::reached::{STATES, no_marks, reach_marks};
 use crate::states::push_where;
 use aat_lookup::GlyphId;
@@ -57,6 +58,25 @@ fn mark_rules(
         let performs = is_told(marks, PERFORM_ACTION, rule);
         mark_where(starts, rule.2.extra as usize, performs);
     }
+}
+
+/// Marks the classes at which rules of states that some line reaches hold the glyph, and the places at which their
+/// actions begin. Fails where memory is wanting.
+fn mark_reached(
+    alloc: Global,
+    subtable: &LigatureSubtable,
+    classes: &mut [u8],
+    starts: &mut [u8],
+) -> Result<(), AllocError>
+    requires classes { (n : ℕ) → slice_index classes.old n ≡ 0 }
+    requires starts { (n : ℕ) → slice_index starts.old n ≡ 0 }
+    ensures classes { OnOk result (AreMarksOf (IsNamed subtable.now 0x8000 (λ r. r.1)) classes.new) }
+    ensures starts { OnOk result (AreMarksOf (IsNamed subtable.now 0x2000 (λ r. r.2.extra)) starts.new) }
+{
+    let marks = reach_marks(alloc, &subtable.state)?;
+    let rules = subtable.state.to_rules(alloc)?;
+    mark_rules(&rules, &marks, classes, starts);
+    Ok(())
 }
 
 /// Marks the glyphs of a list.
@@ -200,10 +220,9 @@ fn find_held(
     ensures long { OnOk result (length starts.new ≡ length starts.old) }
 {
     let table = &subtable.state;
-    let marks = reach_marks(alloc, table)?;
     let mut classes = no_marks(alloc, STATES)?;
+    mark_reached(alloc, subtable, &mut classes, starts)?;
     let mut ligatures = no_marks(alloc, STATES)?;
-    mark_rules(table.rules(), &marks, &mut classes, starts);
     mark_glyphs(&subtable.ligatures, &mut ligatures);
     let held = held_glyphs(alloc, table, &classes, &ligatures)?;
     Ok(held)

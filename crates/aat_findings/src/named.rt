@@ -6,11 +6,9 @@ ghost use Rattle.aat_findings.specs.Reached.{AreExactly};
 
 use crate::chains::push_place;
 use crate::reached::reach_marks;
+use aat_machine_tables::entry_bits::NO_INDEX;
 use aat_machine_tables::{ContextualEntryData, ExtendedStateTable, GenericStateEntry};
 use std::alloc::{AllocError, Global};
-
-/// The index that names no lookup.
-const NO_INDEX: u16 = 0xFFFF;
 
 /// Whether an index names the lookup at a place.
 fn is_of_place(place: usize, index: u16) -> bool
@@ -94,7 +92,7 @@ pub fn unnamed_lookups(
 {
     let marks = reach_marks(alloc, table)?;
     let of_marks = marks.as_slice();
-    let rules = table.rules();
-    let places = unnamed_in(alloc, of_marks, rules, lookup_count)?;
+    let rules = table.to_rules(alloc)?;
+    let places = unnamed_in(alloc, of_marks, &rules, lookup_count)?;
     Ok(places)
 }

@@ -4,20 +4,24 @@ ghost use Rattle.aat_findings.specs.Reached.{AreExactly, IsUnreached, state_coun
 ghost use Rattle.aat_findings.specs.inside.Marks.{is_unmarked};
 
 use crate::reached::reach_marks;
-use aat_machine_tables::{Acting, ExtendedStateTable, GenericStateEntry};
+use aat_machine_tables::{Acting, ExtendedStateTable};
 use std::alloc::{AllocError, Global};
 
-/// The number of states: up to the highest that a rule has.
+/// The number of states of a table: up to the highest that a rule has. Fails where memory is wanting.
 #[tactic(auto, using(crate::proofs::Reaching::count_more))]
-pub(crate) fn state_count<T: Copy>(rules: &[(u16, u16, GenericStateEntry<T>)]) -> usize
-    ensures count { result ≡ state_count rules.now }
-    ensures few { result ≤ 65536 }
+pub(crate) fn state_count<T: Acting>(
+    alloc: Global,
+    table: &ExtendedStateTable<T>,
+) -> Result<usize, AllocError>
+    ensures count { IfOk result (λ count. count ≡ state_count table.now.rules) }
+    ensures few { IfOk result (λ count. count ≤ 65536) }
 {
+    let rules = table.to_rules(alloc)?;
     let mut count = 0;
-    for rule in rules {
+    for rule in &rules {
         count = count.max(rule.0 as usize + 1);
     }
-    count
+    Ok(count)
 }
 
 /// Puts a number behind others where it is wanted.
@@ -61,8 +65,7 @@ pub fn unreached_states<T: Acting>(
 {
     let marks = reach_marks(alloc, table)?;
     let of_marks = marks.as_slice();
-    let rules = table.rules();
-    let count = state_count(rules);
+    let count = state_count(alloc, table)?;
     let states = unmarked(alloc, of_marks, count)?;
     Ok(states)
 }

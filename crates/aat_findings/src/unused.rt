@@ -36,7 +36,7 @@ pub fn unused_entries<T: Acting>(
 {
     let marks = reach_marks(alloc, table)?;
     let of_marks = marks.as_slice();
-    let of_table = table.rules();
-    let found = unmarked_rules(alloc, of_table, of_marks)?;
+    let rules = table.to_rules(alloc)?;
+    let found = unmarked_rules(alloc, &rules, of_marks)?;
     Ok(found)
 }

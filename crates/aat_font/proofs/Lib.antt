@@ -2,3 +2,4 @@ pub mod ClearBits
 pub mod MoreBits
 pub mod MoreWakers
 pub mod Numbered
+pub mod SegmentBits

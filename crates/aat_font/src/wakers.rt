@@ -3,17 +3,19 @@
 //! A subtable that no glyph of a line wakes does nothing over it, and is passed over. The words are made once, with the
 //! table, and the subtables of all chains are numbered one behind the other. Where there is no memory for words, or
 //! behind `MOST_CELLS`, there are none, and subtables run.
-ghost use Rattle.std.specs.Prelude.{◌≡◌, ◌+◌, ◌%◌, ◌/◌, ◌<◌, ◌≤◌, ℕ, Some, None, IfOk, OnOk, true, is_none, length, slice_get, slice_index_or};
+ghost use Rattle.std.specs.Prelude.{◌≡◌, ◌+◌, ◌%◌, ◌/◌, ◌<◌, ◌≤◌, ℕ, Some, None, IfOk, IsTrue, OnOk, true, is_none, length, slice_get, slice_index_or};
 ghost use Rattle.std.specs.Int.{bit_at};
 ghost use Rattle.aat_font.specs.Idle.{is_idle_class, is_idle_glyph};
 ghost use Rattle.aat_lookup.specs.Keys.{value_in};
+ghost use Rattle.aat_lookup.specs.Listings.{pairs_from};
+ghost use Rattle.aat_lookup.specs.Segments.{pairs_of_segments};
 ghost use Rattle.aat_font.specs.Wakers.{word_of, word_place, IsAwakeIn, AreWakers, AreChainWakers, WakeAt};
-ghost use Rattle.aat_font.specs.inside.MarkedWords.{KeepsBits, KeepsWakers, SameWords};
+ghost use Rattle.aat_font.specs.inside.MarkedWords.{AreAwake, ArePassed, KeepsBits, KeepsWakers, SameWords};
 ghost use Rattle.aat_machine_tables.specs.Chains.{subtable_count};
 ghost use Rattle.aat_machine_tables.specs.declared.morx.Subtable.{Subtable};
 
 use crate::idle::{Resting, is_idle_at_end, is_idle_class};
-use aat_lookup::{GlyphId, Lookup};
+use aat_lookup::{GlyphId, Listing, Lookup, LookupSegment};
 use aat_machine_tables::entry_bits::class::{DELETED_GLYPH, OUT_OF_BOUNDS};
 use aat_machine_tables::{Chain, ExtendedStateTable, Subtable, SubtableKind};
 use std::alloc::{AllocError, Global};
@@ -99,23 +101,84 @@ impl GlyphWords {
         self.everywhere |= 1 << bit;
     }
 
-    /// Sets a bit of each glyph that has a value of a lookup. Fails where it gets no memory.
-    fn mark_values(&mut self, alloc: Global, lookup: &Lookup, bit: u32) -> Result<(), AllocError>
+    /// Sets a bit of each glyph from one up to another, below the deleted one. Fails where it gets no memory.
+    fn mark_below(&mut self, from: usize, to: usize, bit: u32) -> Result<(), AllocError>
+        requires bit { bit < 64 }
+        requires glyphs { to ≤ 65535 }
+        ensures kept { OnOk result (KeepsBits self.old self.new) }
+        ensures set { OnOk result ((g : ℕ) → from ≤ g → g < to → bit_at (word_of self.new g) bit ≡ 1) }
+    {
+        if from >= to {
+            return Ok(());
+        }
+        self.reach((to - 1) as u16)?;
+        mark_words(&mut self.words, from + 1, to + 1, bit);
+        Ok(())
+    }
+
+    /// Sets a bit of each glyph from one up to another. Fails where it gets no memory.
+    fn mark_glyphs(&mut self, from: usize, to: usize, bit: u32) -> Result<(), AllocError>
+        requires bit { bit < 64 }
+        requires glyphs { to ≤ 65536 }
+        ensures kept { OnOk result (KeepsBits self.old self.new) }
+        ensures set { OnOk result ((g : ℕ) → from ≤ g → g < to → bit_at (word_of self.new g) bit ≡ 1) }
+    {
+        if to <= DELETED as usize {
+            return self.mark_below(from, to, bit);
+        }
+        self.mark(DELETED, bit)?;
+        self.mark_below(from, DELETED as usize, bit)?;
+        Ok(())
+    }
+
+    /// Sets a bit of each glyph of pairs. Fails where it gets no memory.
+    fn mark_pairs(&mut self, pairs: &[(u16, u16)], bit: u32) -> Result<(), AllocError>
         requires bit { bit < 64 }
         ensures kept { OnOk result (KeepsBits self.old self.new) }
         ensures awake { OnOk result ((g : ℕ) → bit_at (word_of self.new g) bit ≡ 0
-            → is_none (value_in lookup.now g) ≡ true) }
+            → is_none (value_in pairs.now g) ≡ true) }
     {
-        for pair in &lookup.to_pairs(alloc)? {
+        for pair in pairs {
             self.mark(pair.0, bit)?;
         }
         Ok(())
     }
 
+    /// Sets a bit of each glyph of segments. Fails where it gets no memory.
+    fn mark_segments(&mut self, segments: &[LookupSegment], bit: u32) -> Result<(), AllocError>
+        requires bit { bit < 64 }
+        ensures kept { OnOk result (KeepsBits self.old self.new) }
+        ensures awake { OnOk result ((g : ℕ) → bit_at (word_of self.new g) bit ≡ 0
+            → is_none (value_in (pairs_of_segments segments.now) g) ≡ true) }
+    {
+        for segment in segments {
+            let end = segment.last_glyph as usize + 1;
+            self.mark_glyphs(segment.first_glyph as usize, end, bit)?;
+        }
+        Ok(())
+    }
+
+    /// Sets a bit of each glyph that has a value of a lookup. Fails where it gets no memory.
+    fn mark_values(&mut self, lookup: &Lookup, bit: u32) -> Result<(), AllocError>
+        requires bit { bit < 64 }
+        ensures kept { OnOk result (KeepsBits self.old self.new) }
+        ensures awake { OnOk result ((g : ℕ) → bit_at (word_of self.new g) bit ≡ 0
+            → is_none (value_in lookup.now g) ≡ true) }
+    {
+        match lookup.listing() {
+            Listing::Pairs(pairs) => self.mark_pairs(pairs, bit),
+            Listing::Segments(segments) => self.mark_segments(segments, bit),
+            Listing::Values(lowest, values) => {
+                let from = lowest as usize;
+                self.mark_glyphs(from, from + values.len(), bit)?;
+                Ok(())
+            }
+        }
+    }
+
     /// Sets a bit of each glyph over which a machine may do something in state 0. Fails where it gets no memory.
     fn mark_machine<T: Resting>(
         &mut self,
-        alloc: Global,
         table: &ExtendedStateTable<T>,
         bit: u32,
     ) -> Result<(), AllocError>
@@ -131,56 +194,152 @@ impl GlyphWords {
         if !is_idle_class(table, DELETED_GLYPH) {
             self.mark(DELETED, bit)?;
         }
-        self.mark_classes(alloc, table, bit)
+        self.mark_classes(table, bit)
     }
 
-    /// Sets a bit of each glyph that has a class for which state 0 has no entry that passes it, of a machine that passes
-    /// glyphs without a class. Fails where it gets no memory.
-    fn mark_classes<T: Resting>(
+    /// Sets a bit of each glyph of pairs whose class may wake a machine. Fails where it gets no memory.
+    fn mark_class_pairs<T: Resting>(
         &mut self,
-        alloc: Global,
         table: &ExtendedStateTable<T>,
+        passed: u64,
+        pairs: &[(u16, u16)],
         bit: u32,
     ) -> Result<(), AllocError>
         requires bit { bit < 64 }
-        requires others { is_idle_class T.rests table.now 1 ≡ true }
+        requires passed { ArePassed (is_idle_class T.rests table.now) passed }
         ensures kept { OnOk result (KeepsBits self.old self.new) }
-        ensures awake { OnOk result ((g class : ℕ) → bit_at (word_of self.new g) bit ≡ 0
-            → value_in table.now.classes g ≡ Some class → is_idle_class T.rests table.now class ≡ true) }
+        ensures awake { OnOk result (AreAwake (is_idle_class T.rests table.now) self.new bit pairs.now) }
     {
-        // the last class that was found to be passed: glyphs next to one another often have one class
-        let mut idle = OUT_OF_BOUNDS;
-        for pair in &table.classes().to_pairs(alloc)? {
-            self.reach(pair.0)?;
-            if pair.1 != idle {
-                if is_idle_class(table, pair.1) {
-                    idle = pair.1;
-                } else {
-                    self.mark(pair.0, bit)?;
-                }
+        for pair in pairs {
+            if !is_passed(table, passed, pair.1) {
+                self.mark(pair.0, bit)?;
             }
         }
         Ok(())
     }
 
-    /// Sets a bit of each glyph that may wake a subtable. Fails where it gets no memory.
-    fn mark_subtable(
+    /// Sets a bit of each glyph of segments whose class may wake a machine. Fails where it gets no memory.
+    fn mark_class_segments<T: Resting>(
         &mut self,
-        alloc: Global,
-        subtable: &Subtable,
+        table: &ExtendedStateTable<T>,
+        passed: u64,
+        segments: &[LookupSegment],
         bit: u32,
     ) -> Result<(), AllocError>
+        requires bit { bit < 64 }
+        requires passed { ArePassed (is_idle_class T.rests table.now) passed }
+        ensures kept { OnOk result (KeepsBits self.old self.new) }
+        ensures awake { OnOk result
+            (AreAwake (is_idle_class T.rests table.now) self.new bit (pairs_of_segments segments.now)) }
+    {
+        for segment in segments {
+            if !is_passed(table, passed, segment.value) {
+                let end = segment.last_glyph as usize + 1;
+                self.mark_glyphs(segment.first_glyph as usize, end, bit)?;
+            }
+        }
+        Ok(())
+    }
+
+    /// Sets a bit of those of glyphs that follow one another whose class may wake a machine. Fails where it gets no
+    /// memory.
+    fn mark_class_values<T: Resting>(
+        &mut self,
+        table: &ExtendedStateTable<T>,
+        passed: u64,
+        lowest: u16,
+        classes: &[u16],
+        bit: u32,
+    ) -> Result<(), AllocError>
+        requires bit { bit < 64 }
+        requires glyphs { lowest + length classes.now ≤ 65536 }
+        requires passed { ArePassed (is_idle_class T.rests table.now) passed }
+        ensures kept { OnOk result (KeepsBits self.old self.new) }
+        ensures awake { OnOk result
+            (AreAwake (is_idle_class T.rests table.now) self.new bit (pairs_from lowest classes.now)) }
+    {
+        for k in 0..classes.len() {
+            if !is_passed(table, passed, classes[k]) {
+                self.mark(lowest + k as u16, bit)?;
+            }
+        }
+        Ok(())
+    }
+
+    /// Sets a bit of each glyph that has a class for which state 0 has no entry that passes it. Fails where it gets no
+    /// memory.
+    fn mark_classes<T: Resting>(
+        &mut self,
+        table: &ExtendedStateTable<T>,
+        bit: u32,
+    ) -> Result<(), AllocError>
+        requires bit { bit < 64 }
+        ensures kept { OnOk result (KeepsBits self.old self.new) }
+        ensures awake { OnOk result (AreAwake (is_idle_class T.rests table.now) self.new bit table.now.classes) }
+    {
+        let passed = passed_classes(table);
+        match table.classes().listing() {
+            Listing::Pairs(pairs) => self.mark_class_pairs(table, passed, pairs, bit),
+            Listing::Segments(segments) => self.mark_class_segments(table, passed, segments, bit),
+            Listing::Values(lowest, classes) => {
+                self.mark_class_values(table, passed, lowest, classes, bit)
+            }
+        }
+    }
+
+    /// Sets a bit of each glyph that may wake a subtable. Fails where it gets no memory.
+    fn mark_subtable(&mut self, subtable: &Subtable, bit: u32) -> Result<(), AllocError>
         requires bit { bit < 64 }
         ensures kept { OnOk result (KeepsBits self.old self.new) }
         ensures awake { OnOk result (IsAwakeIn subtable.now self.new bit) }
     {
         match &subtable.kind {
-            SubtableKind::Rearrangement(table) => self.mark_machine(alloc, table, bit),
-            SubtableKind::Contextual(tables) => self.mark_machine(alloc, &tables.state, bit),
-            SubtableKind::Ligature(tables) => self.mark_machine(alloc, &tables.state, bit),
-            SubtableKind::NonContextual(lookup) => self.mark_values(alloc, lookup, bit),
-            SubtableKind::Insertion(tables) => self.mark_machine(alloc, &tables.state, bit),
+            SubtableKind::Rearrangement(table) => self.mark_machine(table, bit),
+            SubtableKind::Contextual(tables) => self.mark_machine(&tables.state, bit),
+            SubtableKind::Ligature(tables) => self.mark_machine(&tables.state, bit),
+            SubtableKind::NonContextual(lookup) => self.mark_values(lookup, bit),
+            SubtableKind::Insertion(tables) => self.mark_machine(&tables.state, bit),
         }
+    }
+}
+
+/// Sets a bit of each word from one up to another.
+fn mark_words(words: &mut [u64], from: usize, to: usize, bit: u32)
+    requires { bit < 64 }
+    ensures long { length words.new ≡ length words.old }
+    ensures kept { (i k : ℕ) → bit_at (slice_index_or words.old i 0) k ≤ bit_at (slice_index_or words.new i 0) k }
+    ensures set { (i : ℕ) → from ≤ i → i < to → i < length words.old
+        → bit_at (slice_index_or words.new i 0) bit ≡ 1 }
+{
+    // an end that is seen to be inside lets several words be marked at once
+    for place in from..to.min(words.len()) {
+        words[place] |= 1 << bit;
+    }
+}
+
+/// Which of the first 64 classes a machine passes in state 0: a bit is set only where it does.
+fn passed_classes<T: Resting>(table: &ExtendedStateTable<T>) -> u64
+    ensures { ArePassed (is_idle_class T.rests table.now) result }
+{
+    let mut passed = 0;
+    for class in 0..table.class_count().min(64) {
+        if is_idle_class(table, class) {
+            passed |= 1 << class;
+        }
+    }
+    passed
+}
+
+/// Whether a machine is known to pass a class in state 0, where some bits tell which of the first 64 it passes.
+#[tactic(auto, using(std::proofs::lemmas::Nat::Bits::shr_and_one))]
+fn is_passed<T: Resting>(table: &ExtendedStateTable<T>, passed: u64, class: u16) -> bool
+    requires { ArePassed (is_idle_class T.rests table.now) passed }
+    ensures { IsTrue result → is_idle_class T.rests table.now class ≡ true }
+{
+    if class < 64 {
+        passed >> class & 1 == 1
+    } else {
+        is_idle_class(table, class)
     }
 }
 
@@ -218,7 +377,6 @@ fn begin_word(alloc: Global, words: &mut Vec<GlyphWords>, number: usize) -> Resu
 
 /// Sets the bits of a subtable in its word, where it has one. Fails where they get no memory.
 fn mark_in(
-    alloc: Global,
     words: &mut Vec<GlyphWords>,
     number: usize,
     subtable: &Subtable,
@@ -230,7 +388,7 @@ fn mark_in(
     if block >= words.len() {
         return Ok(());
     }
-    words[block].mark_subtable(alloc, subtable, (number % WORD) as u32)
+    words[block].mark_subtable(subtable, (number % WORD) as u32)
 }
 
 /// Gives words the bits of the subtable with this number. Fails where they get no memory.
@@ -244,7 +402,7 @@ fn add_subtable(
     ensures awake { OnOk result (WakeAt subtable.now words.new.items number) }
 {
     begin_word(alloc, words, number)?;
-    mark_in(alloc, words, number, subtable)?;
+    mark_in(words, number, subtable)?;
     Ok(())
 }
 

@@ -5,14 +5,8 @@ use std::alloc::{AllocError, Global};
 use std::collections::BTreeMap;
 use std::io::{self, Write};
 
-/// A setting of a feature.
-#[derive(Clone, Copy, PartialEq, Eq, PartialOrd, Ord)]
-struct Setting {
-    /// The feature type.
-    kind: u16,
-    /// The selector within the type.
-    selector: u16,
-}
+/// A setting of a feature: the feature type, and the selector within it.
+type Setting = (u16, u16);
 
 /// Whether a setting leaves the flags of a chain as they are where nothing is asked for.
 fn keeps_flags(default_flags: u32, feature: &ChainFeature) -> bool {
@@ -22,10 +16,7 @@ fn keeps_flags(default_flags: u32, feature: &ChainFeature) -> bool {
 /// Notes of each setting of a chain whether it leaves the default flags as they are, in this chain and in those before.
 fn note_settings(settings: &mut BTreeMap<Setting, bool>, chain: &Chain) -> Result<(), AllocError> {
     for feature in &chain.features {
-        let setting = Setting {
-            kind: feature.kind,
-            selector: feature.setting,
-        };
+        let setting = (feature.kind, feature.setting);
         let is_on = settings.entry(setting)?.or_insert(true);
         *is_on = *is_on && keeps_flags(chain.default_flags, feature);
     }
@@ -50,8 +41,7 @@ pub(crate) fn write_defaults<W: Write>(
     out: &mut W,
     chains: &[Chain],
 ) -> io::Result<()> {
-    for (setting, is_on) in &settings_of(alloc, chains)? {
-        let (kind, selector) = (setting.kind, setting.selector);
+    for ((kind, selector), is_on) in &settings_of(alloc, chains)? {
         let state = if *is_on { "on" } else { "off" };
         writeln!(
             out,

@@ -72,8 +72,8 @@ fn run_turns<Table, E: Acting, D: StateTableDriver<Table, E>, A: Allocator + Cop
 /// is run as any other.
 ///
 /// A turn takes a bounded number of steps but for its act and the look-ups in the table, which search by bisection
-/// where it has no array, pages or grid, or the state is above the grid. Each turn beyond the number of glyphs and one
-/// more has been paid for from the budget. No memory is taken.
+/// where it has no array, pages, grid or rows, or the state is above the grid. Each turn beyond the number of glyphs and
+/// one more has been paid for from the budget. No memory is taken.
 ///
 /// Apple's TrueType Reference Manual, "The 'kerx' table", formats 1 and 4, "The 'kern' table", format 1, and the
 /// section on state tables in "Font Tables".

@@ -9,7 +9,7 @@ ghost use Rattle.aat_run.specs.Laws.{FitsFresh};
 ghost use Rattle.aat_run.specs.inside.Places.{left_with};
 ghost use Rattle.aat_kinds.specs.Ligature.{DeletesLater, GoesOn, IsFit, IsHeldFit, Stops, component, deleted, fresh};
 ghost use Rattle.aat_kinds.specs.Ligature.{held_act, later_deleted, stored, with_place_held};
-ghost use Rattle.aat_kinds.specs.inside.Taken.{all_taken, step_of};
+ghost use Rattle.aat_kinds.specs.inside.Taken.{all_taken, step_of, taken_by};
 
 use aat_buffer::{DELETED_GLYPH, UnicodeProps, hb_buffer_t, hb_glyph_info_t};
 use aat_font::ligature_entry_rests;
@@ -53,13 +53,6 @@ impl<const SLOTS: usize> Components<SLOTS> {
         }
     }
 
-    /// How many components are held.
-    fn count(&self) -> usize
-        ensures { result ≡ self.now.count }
-    {
-        self.count
-    }
-
     /// Holds fewer components.
     fn truncate(&mut self, count: usize)
         ensures { self.new ≡ record self.old { count = count } }
@@ -101,7 +94,7 @@ impl<const SLOTS: usize> Components<SLOTS> {
         ensures ids { IsSmall buffer.new }
         ensures count { length buffer.new.line ≡ length buffer.old.line }
     {
-        let mut n = self.count() - 1 - c;
+        let mut n = self.count - 1 - c;
         while n > 0 {
             let place = self.place(c + n);
             let glyph = *buffer.info(place);
@@ -133,7 +126,7 @@ impl<const SLOTS: usize> Components<SLOTS> {
     {
         let _length = buffer.len();
         let start = self.place(c);
-        let end = self.place(self.count() - 1) + 1;
+        let end = self.place(self.count - 1) + 1;
         let glyph = *buffer.info(start);
         let joined = hb_glyph_info_t {
             glyph_id: u32::from(ligature.0),
@@ -145,9 +138,48 @@ impl<const SLOTS: usize> Components<SLOTS> {
         self.truncate(c + 1);
     }
 
+    /// Takes component `c` in by an action, with its value in the sum: where the action stores, the ligature there is stored.
+    /// The sum to go on with; none where the act stops.
+    #[tactic(auto, unfolding(crate::specs::Ligature::stored))]
+    fn take_by<A: Allocator + Copy>(
+        &mut self,
+        subtable: &LigatureSubtable,
+        action: u32,
+        c: usize,
+        sum: usize,
+        buffer: &mut hb_buffer_t<A>,
+    ) -> Option<usize>
+        requires below { c < self.old.count }
+        requires fit { IsFit self.old buffer.old.cursor (length buffer.old.line) }
+        requires ids { IsSmall buffer.old }
+        ensures goes_on { IfSome result (λ more.
+            taken_by subtable.now action c sum self.old buffer.old ≡ GoesOn more (left_with self.new buffer.new)) }
+        ensures stops { result ≡ None
+            → taken_by subtable.now action c sum self.old buffer.old ≡ Stops (left_with self.new buffer.new) }
+        ensures more { IfSome result (λ more. more ≡ sum) }
+        ensures slots { self.new.slots ≡ self.old.slots }
+        ensures held { c < self.new.count }
+        ensures fewer { self.new.count ≤ self.old.count }
+        ensures successful { buffer.new.successful ≡ buffer.old.successful }
+        ensures ids { IsSmall buffer.new }
+        ensures count { length buffer.new.line ≡ length buffer.old.line }
+    {
+        if action & (LIG_ACTION_STORE | LIG_ACTION_LAST) == 0 {
+            return Some(sum);
+        }
+        let Some(ligature) = subtable.ligatures.get(sum) else {
+            return None;
+        };
+        self.store(c, *ligature, buffer);
+        if action & LIG_ACTION_LAST != 0 {
+            return None;
+        }
+        Some(sum)
+    }
+
     /// Takes component `c` in by the action at a place: its value goes to the sum, and where the action stores, the
     /// ligature there is stored. The sum to go on with; none where the act stops.
-    #[tactic(auto, unfolding(crate::specs::Ligature::component_step, crate::specs::Ligature::stored))]
+    #[tactic(auto, unfolding(crate::specs::Ligature::component_step))]
     fn take_in<A: Allocator + Copy>(
         &mut self,
         subtable: &LigatureSubtable,
@@ -175,16 +207,7 @@ impl<const SLOTS: usize> Components<SLOTS> {
         let action = *subtable.ligature_actions.get(place)?;
         let glyph = buffer.info(self.place(c)).glyph_id;
         let value = component_value(&subtable.components, action, glyph)?;
-        let sum = sum + usize::from(value);
-        if action & (LIG_ACTION_STORE | LIG_ACTION_LAST) == 0 {
-            return Some(sum);
-        }
-        let ligature = *subtable.ligatures.get(sum)?;
-        self.store(c, ligature, buffer);
-        if action & LIG_ACTION_LAST != 0 {
-            return None;
-        }
-        Some(sum)
+        self.take_by(subtable, action, c, sum + usize::from(value), buffer)
     }
 
     /// Takes the held components in, from the newest down, each by the next action from a place on.
@@ -204,7 +227,7 @@ impl<const SLOTS: usize> Components<SLOTS> {
     {
         let mut action = usize::from(first);
         let mut sum = 0;
-        let mut left = self.count();
+        let mut left = self.count;
         while left > 0 {
             left -= 1;
             match self.take_in(subtable, action, left, sum, buffer) {

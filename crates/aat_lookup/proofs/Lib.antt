@@ -1,5 +1,7 @@
+pub mod CellAnswers
 pub mod ClassAnswers
 pub mod DenseAnswers
+pub mod EachValues
 pub mod Falls
 pub mod FullSpans
 pub mod MoveAnswers

@@ -1,6 +1,8 @@
+pub mod EachGlyph
 pub mod FeatureNames
 pub mod GlyphSpans
 pub mod Keys
+pub mod Listings
 pub mod LookupExamples
 pub mod Moves
 pub mod Segments

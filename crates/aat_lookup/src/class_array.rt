@@ -1,9 +1,11 @@
 //! The classes of glyphs in arrays, for who asks for those of many glyphs.
 ghost use Rattle.std.specs.Prelude.{◌≡◌, ◌+◌, ◌<◌, ◌≤◌, ℕ, IfOk, length, slice_index_or, unwrap_or};
+ghost use Rattle.aat_lookup.specs.Listings.{pairs_from};
 ghost use Rattle.aat_lookup.specs.Keys.{first, value_in, IsRising};
 ghost use Rattle.aat_lookup.specs.Moves.{place_over};
 ghost use Rattle.aat_lookup.specs.inside.Dense.{AnswersAsClasses, PairsWithin};
 
+use crate::listing::value_from;
 use crate::moves::values_of;
 use std::alloc::{AllocError, Allocator};
 
@@ -11,11 +13,11 @@ use std::alloc::{AllocError, Allocator};
 #[derive(Drop)]
 pub(crate) struct ClassArray<A: Allocator> {
     /// The glyph of the first cell.
-    lowest: u16,
+    pub(crate) lowest: u16,
     /// The class of a glyph without one.
     pub(crate) missing: u16,
     /// The class of each glyph from the lowest on.
-    cells: Vec<u16, A>,
+    pub(crate) cells: Vec<u16, A>,
 }
 
 impl<A: Allocator> ClassArray<A> {
@@ -40,6 +42,30 @@ impl<A: Allocator> ClassArray<A> {
             missing,
             cells,
         })
+    }
+
+    /// The classes of glyphs that follow one another, from the lowest on, with `missing` for a glyph without one.
+    #[tactic(auto, using(crate::proofs::CellAnswers::classes_in_cells))]
+    pub(crate) fn of_cells(lowest: u16, missing: u16, cells: Vec<u16, A>) -> ClassArray<A>
+        requires { lowest + length cells.items ≤ 65536 }
+        ensures lowest { result.lowest ≡ lowest }
+        ensures cells { result.cells.items ≡ cells.items }
+        ensures answers { AnswersAsClasses result.missing result.lowest result.cells.items
+            (pairs_from lowest cells.items) }
+    {
+        ClassArray {
+            lowest,
+            missing,
+            cells,
+        }
+    }
+
+    /// What stands in the cell of a glyph, if it has one.
+    pub(crate) fn cell(&self, glyph: u16) -> Option<u16>
+        requires { self.now.lowest + length self.now.cells.items ≤ 65536 }
+        ensures { result ≡ value_in (pairs_from self.now.lowest self.now.cells.items) glyph }
+    {
+        value_from(self.lowest, &self.cells, glyph)
     }
 
     /// The class of a glyph, and the one that is given outside the array.

@@ -1,12 +1,14 @@
 //! Values of glyphs that are found without a search, beside the pairs that a contract sees.
-ghost use Rattle.std.specs.Prelude.{◌≡◌, ◌+◌, ◌<◌, ◌≤◌, IfOk, IfSome};
+ghost use Rattle.std.specs.Prelude.{◌≡◌, ◌+◌, ◌<◌, ◌≤◌, ℕ, List, IfOk, IfSome, length};
 ghost use Rattle.aat_lookup.specs.Keys.{first, value_in, IsRising};
 ghost use Rattle.aat_lookup.specs.Moves.{AreMovesOf};
 ghost use Rattle.aat_lookup.specs.GlyphSpans.{span_count};
-ghost use Rattle.aat_lookup.specs.inside.Dense.{AnswersAsPairs, PairsWithin};
+ghost use Rattle.aat_lookup.specs.Listings.{pairs_from, pairs_of_listing, AreSmall};
+ghost use Rattle.aat_lookup.specs.inside.Dense.{pairs_in_cells, AnswersAsPairs, HasSmallGlyphs, PairsWithin};
 
 use crate::class_array::ClassArray;
 use crate::keys::row_at;
+use crate::listing::{Listing, pairs_from};
 use crate::moves::{GlyphMoves, MoveArray};
 use crate::pages::{GlyphPages, page_count};
 use std::alloc::{AllocError, Allocator};
@@ -54,6 +56,24 @@ impl<A: Allocator + Copy> Dense<A> {
         Ok(Dense::Search)
     }
 
+    /// An array of the values of glyphs that follow one another, from the lowest on. Fails where the marks beside it get
+    /// no memory.
+    pub(crate) fn of_cells(
+        alloc: A,
+        lowest: u16,
+        values: Vec<u16, A>,
+    ) -> Result<Dense<A>, AllocError>
+        requires { lowest + length values.items ≤ 65536 }
+        ensures pairs { IfOk result (λ dense. pairs_in_cells dense ≡ pairs_from lowest values.items) }
+        ensures small { IfOk result HasSmallGlyphs }
+        ensures answers { IfOk result (λ dense. AnswersAsPairs dense (pairs_in_cells dense)) }
+    {
+        if values.is_empty() {
+            return Ok(Dense::Search);
+        }
+        Ok(Dense::Moves(MoveArray::of_cells(alloc, lowest, values)?))
+    }
+
     /// The same with `missing` for glyphs without a value: where the values of pairs are in an array, in one of classes.
     /// Fails where its cells get no memory.
     pub(crate) fn with_classes(
@@ -78,6 +98,58 @@ impl<A: Allocator + Copy> Dense<A> {
 }
 
 impl<A: Allocator> Dense<A> {
+    /// The same cells as those of classes, with `missing` for glyphs without one.
+    pub(crate) fn as_classes(self, missing: u16) -> Dense<A>
+        requires small { HasSmallGlyphs self }
+        requires answers { AnswersAsPairs self (pairs_in_cells self) }
+        ensures pairs { pairs_in_cells result ≡ pairs_in_cells self }
+        ensures small { HasSmallGlyphs result }
+        ensures answers { AnswersAsPairs result (pairs_in_cells result) }
+    {
+        match self {
+            Dense::Moves(array) => Dense::Classes(array.into_classes(missing)),
+            dense => dense,
+        }
+    }
+
+    /// The glyphs that have a value in a cell.
+    pub(crate) fn cells(&self) -> Listing<'_>
+        requires { HasSmallGlyphs self.now }
+        ensures pairs { pairs_of_listing result ≡ pairs_in_cells self.now }
+        ensures small { AreSmall result }
+    {
+        match self {
+            Dense::Moves(array) => Listing::Values(array.lowest, &array.cells),
+            Dense::Classes(array) => Listing::Values(array.lowest, &array.cells),
+            Dense::Pages(_) | Dense::Search => Listing::Pairs(&[]),
+        }
+    }
+
+    /// The pairs of the glyphs that have a value in a cell. Fails where they get no memory.
+    pub(crate) fn to_pairs<B: Allocator>(&self, alloc: B) -> Result<Vec<(u16, u16), B>, AllocError>
+        requires { HasSmallGlyphs self.now }
+        ensures { IfOk result (λ pairs. pairs.items ≡ pairs_in_cells self.now) }
+    {
+        match self {
+            Dense::Moves(array) => pairs_from(alloc, array.lowest, &array.cells),
+            Dense::Classes(array) => pairs_from(alloc, array.lowest, &array.cells),
+            Dense::Pages(_) | Dense::Search => Ok(Vec::new(alloc)),
+        }
+    }
+
+    /// The value of a glyph in a cell, if it has one.
+    pub(crate) fn cell(&self, glyph: u16) -> Option<u16>
+        requires small { HasSmallGlyphs self.now }
+        requires answers { AnswersAsPairs self.now (pairs_in_cells self.now) }
+        ensures { result ≡ value_in (pairs_in_cells self.now) glyph }
+    {
+        match self {
+            Dense::Moves(array) => array.value(glyph),
+            Dense::Classes(array) => array.cell(glyph),
+            Dense::Pages(_) | Dense::Search => None,
+        }
+    }
+
     /// The value that pairs list for a glyph, if it has one.
     pub(crate) fn value(&self, pairs: &[(u16, u16)], glyph: u16) -> Option<u16>
         requires rising { IsRising first pairs.now }
@@ -91,11 +163,10 @@ impl<A: Allocator> Dense<A> {
         }
     }
 
-    /// What each glyph becomes, where that stands in an array. It has the values of pairs of which this tells how they
-    /// are found.
-    pub(crate) fn moves(&self, pairs: &[(u16, u16)]) -> Option<GlyphMoves<'_>>
-        requires answers { AnswersAsPairs self.now pairs.now }
-        ensures { IfSome result (λ moves. AreMovesOf moves pairs.now) }
+    /// What each glyph becomes, where that stands in an array. It has the values of all pairs that are found by this.
+    pub(crate) fn moves(&self) -> Option<GlyphMoves<'_>>
+        ensures { (pairs : List (ℕ × ℕ)) → AnswersAsPairs self.now pairs
+            → IfSome result (λ moves. AreMovesOf moves pairs) }
     {
         match self {
             Dense::Moves(array) => Some(array.moves()),

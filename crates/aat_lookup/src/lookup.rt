@@ -1,14 +1,18 @@
 //! Lookups: values of glyphs.
-ghost use Rattle.std.specs.Prelude.{◌≡◌, IfOk, IfErr, IfSome, OnOk, None, unwrap_or};
+ghost use Rattle.std.specs.Prelude.{◌≡◌, ◌+◌, ◌≤◌, IfOk, IfErr, IfSome, OnOk, None, length, unwrap_or};
+ghost use Rattle.aat_lookup.specs.EachGlyph.{pairs_of_each};
 ghost use Rattle.aat_lookup.specs.Keys.{first, first_fall, value_in, IsRising};
+ghost use Rattle.aat_lookup.specs.Listings.{pairs_from, pairs_of_listing, AreSmall};
 ghost use Rattle.aat_lookup.specs.Moves.{AreMovesOf};
 ghost use Rattle.aat_lookup.specs.Segments.{first_segment_fall, pairs_of_segments};
 ghost use Rattle.aat_lookup.specs.TableErrors.{RefusesRising};
 
 use crate::dense::Dense;
+use crate::each_glyph::{pairs_of_each, value_of_each};
 use crate::error::TableError;
 use crate::glyph_id::GlyphId;
 use crate::keys::first_fall;
+use crate::listing::Listing;
 use crate::moves::GlyphMoves;
 use crate::segments::{LookupSegment, append_segments, first_segment_fall, value_in_segments};
 use std::alloc::{AllocError, Allocator, Global};
@@ -27,8 +31,12 @@ pub struct Lookup<A: Allocator = Global> {
 pub(crate) enum Values<A: Allocator> {
     /// Pairs of a glyph and its value, and how they are found.
     Listed(Vec<(u16, u16), A>, Dense<A>),
+    /// Glyphs that follow one another, each with what stands in its cell, and no pairs besides.
+    InCells(Dense<A>),
     /// Segments, which are searched.
     Segments(Vec<LookupSegment, A>),
+    /// A value of each glyph from 0 on.
+    EachGlyph(Vec<u16, A>),
 }
 
 impl<A: Allocator> Model for Lookup<A> {
@@ -78,6 +86,22 @@ impl<A: Allocator + Copy> Lookup<A> {
         })
     }
 
+    /// The lookup of the values of glyphs that follow one another, from the lowest on. It keeps their list, and no pairs
+    /// beside it. Fails where the marks beside it get no memory. The list is then dropped.
+    pub fn of_values_from(
+        alloc: A,
+        lowest: u16,
+        values: Vec<u16, A>,
+    ) -> Result<Lookup<A>, AllocError>
+        requires { lowest + length values.items ≤ 65536 }
+        ensures { IfOk result (λ lookup. lookup ≡ pairs_from lowest values.items) }
+    {
+        let dense = Dense::of_cells(alloc, lowest, values)?;
+        Ok(Lookup {
+            values: Values::InCells(dense),
+        })
+    }
+
     /// Makes a lookup of segments, which have to rise: each has a glyph, and begins behind the end of the one before it.
     /// It takes the memory of the segments, however many glyphs these have.
     ///
@@ -98,6 +122,18 @@ impl<A: Allocator + Copy> Lookup<A> {
     }
 }
 
+impl<A: Allocator> Lookup<A> {
+    /// The lookup of a list of values, one of each glyph from 0 on, which it keeps. It takes no more memory.
+    pub fn of_values(values: Vec<u16, A>) -> Lookup<A>
+        requires { length values.items ≤ 65536 }
+        ensures { result ≡ pairs_of_each values.items }
+    {
+        Lookup {
+            values: Values::EachGlyph(values),
+        }
+    }
+}
+
 impl<A: Allocator + Copy> Lookup<A> {
     /// The same values as classes: an array of them gives way to one of classes, with `missing` for glyphs without one.
     /// Pages and segments stay. Fails where the cells get no memory.
@@ -111,6 +147,9 @@ impl<A: Allocator + Copy> Lookup<A> {
                     values: Values::Listed(pairs, dense),
                 })
             }
+            Values::InCells(dense) => Ok(Lookup {
+                values: Values::InCells(dense.as_classes(missing)),
+            }),
             values => Ok(Lookup { values }),
         }
     }
@@ -124,23 +163,42 @@ impl<A: Allocator> Lookup<A> {
     {
         match &self.values {
             Values::Listed(pairs, _) => Vec::from_slice(alloc, pairs),
+            Values::InCells(dense) => dense.to_pairs(alloc),
             Values::Segments(segments) => {
                 let mut pairs = Vec::new(alloc);
                 append_segments(segments, &mut pairs)?;
                 Ok(pairs)
             }
+            Values::EachGlyph(values) => pairs_of_each(alloc, values),
+        }
+    }
+
+    /// The values in the form in which they are kept, for who asks for those of all glyphs.
+    #[tactic(auto, using(crate::proofs::EachValues::each_listed))]
+    pub fn listing(&self) -> Listing<'_>
+        ensures pairs { pairs_of_listing result ≡ self.now }
+        ensures small { AreSmall result }
+    {
+        match &self.values {
+            Values::Listed(pairs, _) => Listing::Pairs(pairs),
+            Values::InCells(dense) => dense.cells(),
+            Values::Segments(segments) => Listing::Segments(segments),
+            Values::EachGlyph(values) => Listing::Values(0, values),
         }
     }
 
     /// The value of a glyph, if it has one. Among pairs it is found in an array over the span of the glyphs where these
     /// lie close, else on pages of 256 glyphs where these hold enough of them, and else by bisection; among segments by
-    /// bisection. In a state table, or in pairs by classes, an array has classes alone, and here pairs are searched.
+    /// bisection, and among values of each glyph at its place. In a state table, or in pairs by classes, an array has
+    /// classes alone, and here pairs are searched.
     pub fn value(&self, glyph: GlyphId) -> Option<u16>
         ensures { result ≡ value_in self.now glyph.0 }
     {
         match &self.values {
             Values::Listed(pairs, dense) => dense.value(pairs, glyph.0),
+            Values::InCells(dense) => dense.cell(glyph.0),
             Values::Segments(segments) => value_in_segments(segments, glyph.0),
+            Values::EachGlyph(values) => value_of_each(values, glyph.0),
         }
     }
 
@@ -151,9 +209,8 @@ impl<A: Allocator> Lookup<A> {
     {
         match &self.values {
             // the number that the caller gives and not the array's own, which would have to be read
-            Values::Listed(_, Dense::Classes(array)) if array.missing == missing => {
-                array.class(glyph.0, missing)
-            }
+            Values::Listed(_, Dense::Classes(array)) | Values::InCells(Dense::Classes(array))
+                if array.missing == missing => { array.class(glyph.0, missing) }
             _ => looked_up(self, missing, glyph),
         }
     }
@@ -164,8 +221,8 @@ impl<A: Allocator> Lookup<A> {
         ensures { IfSome result (λ moves. AreMovesOf moves self.now) }
     {
         match &self.values {
-            Values::Listed(pairs, dense) => dense.moves(pairs),
-            Values::Segments(_) => None,
+            Values::Listed(_, dense) | Values::InCells(dense) => dense.moves(),
+            Values::Segments(_) | Values::EachGlyph(_) => None,
         }
     }
 }

@@ -1,9 +1,11 @@
 //! What glyphs become, in arrays that have each glyph without a value as itself.
 ghost use Rattle.std.specs.Prelude.{◌≡◌, ◌+◌, ◌<◌, ◌≤◌, ◌==◌, ℕ, false, IfOk, drop, length, slice_index_or, unwrap_or};
 ghost use Rattle.aat_lookup.specs.Keys.{first, value_in, IsRising};
+ghost use Rattle.aat_lookup.specs.Listings.{pairs_from};
 ghost use Rattle.aat_lookup.specs.Moves.{kept_over, moved_by, value_by, value_of_move, AreMoved, HasCells};
-ghost use Rattle.aat_lookup.specs.inside.Dense.{is_own, keeps_one, PairsWithin};
+ghost use Rattle.aat_lookup.specs.inside.Dense.{is_own, keeps_one, AnswersAsClasses, PairsWithin};
 
+use crate::class_array::ClassArray;
 use std::alloc::{AllocError, Allocator};
 
 /// What glyphs become: the value that a lookup has for each, or the glyph itself where it has none. Which of the two it
@@ -14,7 +16,8 @@ pub struct GlyphMoves<'a> {
     pub lowest: u16,
     /// What each glyph from the lowest on becomes. Those outside stay.
     pub cells: &'a [u16],
-    /// Which of these glyphs have themselves as value. No glyph behind the last mark has.
+    /// Which of these glyphs have themselves as value. No glyph behind the last mark has. One that has another value may
+    /// be marked too.
     pub kept: &'a [bool],
 }
 
@@ -57,10 +60,11 @@ fn is_kept(kept: &[bool], lowest: u16, glyph: u16) -> bool
 #[derive(Drop)]
 pub(crate) struct MoveArray<A: Allocator> {
     /// The glyph of the first cell.
-    lowest: u16,
+    pub(crate) lowest: u16,
     /// What each glyph from the lowest to the highest becomes.
-    cells: Vec<u16, A>,
-    /// Whether it has itself as value, up to the last glyph that has. There are no marks where none has.
+    pub(crate) cells: Vec<u16, A>,
+    /// Whether it has itself as value, up to the last glyph that has. There are no marks where none has. Where all glyphs
+    /// have a value all are marked.
     kept: Vec<bool, A>,
 }
 
@@ -90,7 +94,41 @@ impl<A: Allocator + Copy> MoveArray<A> {
     }
 }
 
+impl<A: Allocator + Copy> MoveArray<A> {
+    /// The array of the values of glyphs that follow one another, from the lowest on. Fails where the marks get no memory.
+    pub(crate) fn of_cells(
+        alloc: A,
+        lowest: u16,
+        cells: Vec<u16, A>,
+    ) -> Result<MoveArray<A>, AllocError>
+        requires some { 0 < length cells.items }
+        requires small { lowest + length cells.items ≤ 65536 }
+        ensures lowest { IfOk result (λ array. array.lowest ≡ lowest) }
+        ensures cells { IfOk result (λ array. array.cells.items ≡ cells.items) }
+        ensures moved { IfOk result (λ array.
+            AreMoved array.lowest array.cells.items array.kept.items (pairs_from lowest cells.items)) }
+    {
+        let kept = vec![in alloc; true; cells.len()]?;
+        Ok(MoveArray {
+            lowest,
+            cells,
+            kept,
+        })
+    }
+}
+
 impl<A: Allocator> MoveArray<A> {
+    /// The same cells as those of classes, with `missing` for glyphs without one, where each has a value.
+    pub(crate) fn into_classes(self, missing: u16) -> ClassArray<A>
+        requires { self.lowest + length self.cells.items ≤ 65536 }
+        ensures lowest { result.lowest ≡ self.lowest }
+        ensures cells { result.cells.items ≡ self.cells.items }
+        ensures answers { AnswersAsClasses result.missing result.lowest result.cells.items
+            (pairs_from self.lowest self.cells.items) }
+    {
+        ClassArray::of_cells(self.lowest, missing, self.cells)
+    }
+
     /// What each glyph becomes.
     pub(crate) fn moves(&self) -> GlyphMoves<'_>
         ensures lowest { result.lowest ≡ self.now.lowest }

@@ -1,3 +1,4 @@
 pub mod Faultless
 pub mod GridAnswers
 pub mod RuleFaults
+pub mod RowAnswers

@@ -4,6 +4,7 @@ pub mod Coverage
 pub mod Entries
 pub mod Judged
 pub mod JudgedExamples
+pub mod Rows
 pub mod Subtables
 pub mod Table
 pub mod TableExamples

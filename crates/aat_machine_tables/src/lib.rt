@@ -12,6 +12,7 @@ mod entries;
 pub mod entry_bits;
 mod judged;
 mod morx;
+mod rows;
 mod safe_turn;
 mod state_table;
 mod subtables;

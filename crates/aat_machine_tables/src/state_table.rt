@@ -7,10 +7,12 @@ ghost use Rattle.aat_machine_tables.specs.Table.{class_of, entry_of, known_class
 ghost use Rattle.aat_machine_tables.specs.Table.{first_out_of_range, count_and_rules_fault, earlier_fault, rules_fault, table_fault};
 ghost use Rattle.aat_lookup.specs.TableErrors.{RefusesFault};
 ghost use Rattle.aat_machine_tables.specs.declared.judged.JudgedEntry.TheVariants.{Missing};
+ghost use Rattle.aat_machine_tables.specs.Rows.{count_fault, rules_of_rows, NamesEntries};
 ghost use Rattle.aat_machine_tables.specs.inside.Grid.{judged_rule, ruled_entry, state_count, states_to, AnswersAsRules, RulesBelow};
 
 use crate::entry_bits::{DONT_ADVANCE, anchor, class, stack};
 use crate::judged::{Acting, JudgedEntry, judged_among, judged_in_row, rests_at_end, ruled_entry};
+use crate::rows::{entry_in_rows, judged_in_rows, rules_of_rows};
 use aat_lookup::keys::{Keyed, first_fall};
 use aat_lookup::{GlyphId, Lookup, TableError};
 use std::alloc::{AllocError, Allocator, Global};
@@ -76,25 +78,34 @@ impl<T: Copy> GenericStateEntry<T> {
 /// Apple's TrueType Reference Manual, "Font Tables", section on state tables.
 #[derive(Drop)]
 pub struct ExtendedStateTable<T: Acting, A: Allocator = Global> {
-    class_count: u16,
     classes: Lookup<A>,
-    rules: Vec<(u16, u16, GenericStateEntry<T>), A>,
-    grid: Vec<JudgedEntry<T>, A>,
+    rules: Rules<T, A>,
+}
+
+/// How the rules of a table are kept, behind the number of its classes, which takes no room of its own here.
+#[derive(Drop)]
+pub(crate) enum Rules<T: Copy, A: Allocator> {
+    /// Rules, and the grid of states by classes in which they are found.
+    Listed(u16, Vec<(u16, u16, GenericStateEntry<T>), A>, Vec<JudgedEntry<T>, A>),
+    /// For each class of each state, row by row, the index of an entry, and the entries.
+    Rows(u16, Vec<u8, A>, Vec<GenericStateEntry<T>, A>),
 }
 
 impl<T: Acting, A: Allocator> Model for ExtendedStateTable<T, A> {
     ghost use Rattle.std.specs.Prelude.{◌<◌};
-    ghost use Rattle.aat_lookup.specs.Keys.{IsRising};
-    ghost use Rattle.aat_machine_tables.specs.Table.{TableValue, rule_key};
-    ghost use Rattle.aat_machine_tables.specs.inside.Grid.{AnswersAsRules};
+    ghost use Rattle.aat_machine_tables.specs.Table.{TableValue};
+    ghost use Rattle.aat_machine_tables.specs.inside.Kept.{AreKept, class_count_of, kept_rules};
     ghost use Rattle.aat_machine_tables.specs.declared.state_table.GenericStateEntry.{GenericStateEntry};
 
     ghost Value = { TableValue (GenericStateEntry T) };
 
-    ghost view = { λ m. record { class_count = m.class_count; classes = m.classes; rules = m.rules.items } };
+    ghost view = { λ m. record {
+      class_count = class_count_of m.rules;
+      classes = m.classes;
+      rules = kept_rules m.rules;
+    } };
 
-    ghost invariant = { λ m. (1 < m.class_count) × IsRising rule_key m.rules.items
-        × AnswersAsRules T.may_act m.class_count m.grid.items m.rules.items };
+    ghost invariant = { λ m. (1 < class_count_of m.rules) × AreKept T.may_act m.rules };
 }
 
 impl<T: Acting, A: Allocator + Copy> ExtendedStateTable<T, A> {
@@ -149,13 +160,41 @@ impl<T: Acting, A: Allocator + Copy> ExtendedStateTable<T, A> {
         ensures sound { OnOk result (count_and_rules_fault class_count rules.items ≡ None) }
         ensures refused { IfErr result (RefusesFault (count_and_rules_fault class_count rules.items)) }
     {
+        match count_and_rules_fault(class_count, &rules) {
+            Some(fault) => Err(fault),
+            None => Ok(ExtendedStateTable::over(alloc, class_count, classes, rules)?),
+        }
+    }
+
+    /// Makes a table of the number of its classes, a lookup of the classes of glyphs, rows as they stand in a font, and
+    /// entries: for each class of each state, from state 0 on, rows have the index of an entry on two bytes, of which
+    /// the first is the higher one. Each index is below the number of entries, and rows are of 65,536 states at most.
+    /// Rows and entries are kept as they are handed in, and the lookup as by [`ExtendedStateTable::with_classes`].
+    ///
+    /// Refused as 2, `FewClasses`, where the number is below 4; and else as 5, `OutOfMemory`, where an array beside the
+    /// classes gets no memory. The lookup, the rows and the entries are then dropped.
+    pub fn of_rows(
+        alloc: A,
+        class_count: u16,
+        classes: Lookup<A>,
+        rows: Vec<u8, A>,
+        entries: Vec<GenericStateEntry<T>, A>,
+    ) -> Result<ExtendedStateTable<T, A>, TableError>
+        requires few { length rows.items ≤ 131072 * class_count }
+        requires known { NamesEntries (length entries.items) rows.items }
+        ensures ok { let rules = rules_of_rows class_count entries.items rows.items in
+            IfOk result (λ table. table ≡ table_value class_count classes rules) }
+        ensures sound { OnOk result (count_fault class_count ≡ None) }
+        ensures refused { IfErr result (RefusesFault (count_fault class_count)) }
+    {
         if class_count < MIN_CLASSES {
             return Err(TableError::FewClasses);
         }
-        if let Some(fault) = faulty_rule(class_count, &rules) {
-            return Err(fault);
-        }
-        Ok(ExtendedStateTable::over(alloc, class_count, classes, rules)?)
+        let classes = classes.with_class_array(alloc, class::OUT_OF_BOUNDS)?;
+        Ok(ExtendedStateTable {
+            classes,
+            rules: Rules::Rows(class_count, rows, entries),
+        })
     }
 
     /// The table of a number of classes, which is above 1, the classes of glyphs, and rules that rise. Fails where a grid
@@ -173,10 +212,8 @@ impl<T: Acting, A: Allocator + Copy> ExtendedStateTable<T, A> {
         let grid = grid_over(alloc, class_count, &rules)?;
         let classes = classes.with_class_array(alloc, class::OUT_OF_BOUNDS)?;
         Ok(ExtendedStateTable {
-            class_count,
             classes,
-            rules,
-            grid,
+            rules: Rules::Listed(class_count, rules, grid),
         })
     }
 }
@@ -186,7 +223,9 @@ impl<T: Acting, A: Allocator> ExtendedStateTable<T, A> {
     pub fn class_count(&self) -> u16
         ensures { result ≡ self.now.class_count }
     {
-        self.class_count
+        match &self.rules {
+            Rules::Listed(count, _, _) | Rules::Rows(count, _, _) => *count,
+        }
     }
 
     /// The classes of glyphs. Where they stand in an array, it is that of [`Self::class_or_out_of_bounds`], and here they
@@ -197,11 +236,18 @@ impl<T: Acting, A: Allocator> ExtendedStateTable<T, A> {
         &self.classes
     }
 
-    /// The rules: state, class and entry, strictly rising by state, then by class.
-    pub fn rules(&self) -> &[(u16, u16, GenericStateEntry<T>)]
-        ensures { result.now ≡ self.now.rules }
+    /// The rules: state, class and entry, strictly rising by state, then by class, as a list of its own. Fails where it
+    /// gets no memory.
+    pub fn to_rules<B: Allocator>(
+        &self,
+        alloc: B,
+    ) -> Result<Vec<(u16, u16, GenericStateEntry<T>), B>, AllocError>
+        ensures { IfOk result (λ rules. rules.items ≡ self.now.rules) }
     {
-        &self.rules
+        match &self.rules {
+            Rules::Listed(_, rules, _) => Vec::from_slice(alloc, rules),
+            Rules::Rows(count, rows, entries) => rules_of_rows(alloc, *count, entries, rows),
+        }
     }
 
     /// The class of a glyph, if it has one, found as in [`ExtendedStateTable::classes`]. The class of the deleted glyph,
@@ -226,35 +272,84 @@ impl<T: Acting, A: Allocator> ExtendedStateTable<T, A> {
         self.classes.class(glyph, class::OUT_OF_BOUNDS)
     }
 
-    /// The entry of a state and a class, if there is a rule for them, found in a grid of states by classes up to the
-    /// highest state with a rule, where that has at most 65,536 cells; where it has more, and for a state above it, at
-    /// the place of its cell among the rules, where these have one for each cell, and else by bisection. A class that
-    /// is not below the number of classes is taken as 1.
+    /// The entry of a state and a class, if there is a rule for them. In rows it is found at its place. Among listed
+    /// rules it is found in a grid of states by classes up to the highest state with a rule, where that has at most
+    /// 65,536 cells; where it has more, and for a state above it, at the place of its cell among the rules, where these
+    /// have one for each cell, and else by bisection. A class that is not below the number of classes is taken as 1.
     pub fn entry(&self, state: u16, class: u16) -> Option<GenericStateEntry<T>>
         ensures { result ≡ entry_of self.now state class }
     {
-        let class = known_class(self.class_count, class);
-        let row = state as usize * self.class_count as usize;
-        match self.grid.get(row + class as usize) {
-            Some(cell) => cell.entry(),
-            None => ruled_entry(&self.rules, self.class_count, state, class),
+        match &self.rules {
+            Rules::Rows(count, rows, entries) => {
+                let class = known_class(*count, class);
+                entry_in_rows(entries, rows, *count, state, class)
+            }
+            Rules::Listed(count, rules, grid) => {
+                let class = known_class(*count, class);
+                entry_listed(rules, grid, *count, state, class)
+            }
         }
     }
 
     /// The entry of a state and a class, found as in [`ExtendedStateTable::entry`], and whether the line gets a mark
     /// before a glyph where it is taken, by the table's entries alone. A cell of the grid was judged when the table
-    /// was made; elsewhere up to two more entries are searched.
+    /// was made; elsewhere up to two more entries are looked for.
     pub fn judged_entry(&self, state: u16, class: u16) -> JudgedEntry<T>
         ensures entry { entry_in result ≡ entry_of self.now state class }
         ensures safe { IfSome (entry_of self.now state class) (λ e. is_judged_safe result
             ≡ is_safe_by T.may_act state e (entry_of self.now 0 class) (entry_of self.now state 0)) }
     {
-        let class = known_class(self.class_count, class);
-        let place = state as usize * self.class_count as usize + class as usize;
-        match self.grid.get(place) {
-            Some(cell) => *cell,
-            None => judged_among(&self.rules, self.class_count, state, class),
+        match &self.rules {
+            Rules::Rows(count, rows, entries) => {
+                let class = known_class(*count, class);
+                judged_in_rows(entries, rows, *count, state, class)
+            }
+            Rules::Listed(count, rules, grid) => {
+                let class = known_class(*count, class);
+                judged_listed(rules, grid, *count, state, class)
+            }
         }
+    }
+}
+
+/// The entry of a state and a class, found in a grid or among its rules.
+#[inline(always)]
+fn entry_listed<T: Acting>(
+    rules: &[(u16, u16, GenericStateEntry<T>)],
+    grid: &[JudgedEntry<T>],
+    class_count: u16,
+    state: u16,
+    class: u16,
+) -> Option<GenericStateEntry<T>>
+    requires rising { IsRising rule_key rules.now }
+    requires answers { AnswersAsRules T.may_act class_count grid.now rules.now }
+    requires class { class < class_count }
+    ensures { result ≡ ruled_entry rules.now state class }
+{
+    match grid.get(state as usize * class_count as usize + class as usize) {
+        Some(cell) => cell.entry(),
+        None => ruled_entry(rules, class_count, state, class),
+    }
+}
+
+/// The judged entry of a state and a class, found in a grid or among its rules.
+#[inline(always)]
+fn judged_listed<T: Acting>(
+    rules: &[(u16, u16, GenericStateEntry<T>)],
+    grid: &[JudgedEntry<T>],
+    class_count: u16,
+    state: u16,
+    class: u16,
+) -> JudgedEntry<T>
+    requires rising { IsRising rule_key rules.now }
+    requires answers { AnswersAsRules T.may_act class_count grid.now rules.now }
+    requires class { class < class_count }
+    ensures { result ≡ judged_rule T.may_act rules.now state class }
+{
+    let place = state as usize * class_count as usize + class as usize;
+    match grid.get(place) {
+        Some(cell) => *cell,
+        None => judged_among(rules, class_count, state, class),
     }
 }
 
@@ -419,4 +514,18 @@ fn faulty_rule<T: Copy>(
         return None;
     }
     earlier_fault(first_fall(rules), first_out_of_range(class_count, rules))
+}
+
+/// The first fault of a number of classes and of rules.
+fn count_and_rules_fault<T: Copy>(
+    class_count: u16,
+    rules: &[(u16, u16, GenericStateEntry<T>)],
+) -> Option<TableError>
+    ensures fault { result ≡ count_and_rules_fault class_count rules.now }
+    ensures sound { result ≡ None → rules_fault class_count rules.now ≡ None }
+{
+    if class_count < MIN_CLASSES {
+        return Some(TableError::FewClasses);
+    }
+    faulty_rule(class_count, rules)
 }

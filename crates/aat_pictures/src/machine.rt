@@ -116,7 +116,7 @@ impl Machine<'_> {
         self.members = members_of(alloc, table.classes())?;
         self.states
             .extend_from_slice(&[START_OF_TEXT, START_OF_LINE])?;
-        for (state, class, entry) in table.rules() {
+        for (state, class, entry) in &table.to_rules(alloc)? {
             let (next, deeds) = (entry.new_state, T::deeds(entry));
             self.states.extend_from_slice(&[*state, next])?;
             if next == START_OF_TEXT && deeds == NOTHING {

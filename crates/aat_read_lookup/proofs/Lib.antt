@@ -14,4 +14,5 @@ pub mod SizeBounds
 pub mod SoundUnits
 pub mod Spans
 pub mod UnitPlaces
+pub mod ValueRows
 pub mod Values

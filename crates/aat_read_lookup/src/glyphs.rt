@@ -21,7 +21,7 @@ impl UnitKind {
     }
 
     /// Whether a unit is a glyph.
-    fn is_single(self) -> bool
+    pub(crate) fn is_single(self) -> bool
         ensures { IsTrue result → self ≡ Single }
     {
         match self {

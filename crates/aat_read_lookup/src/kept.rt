@@ -1,6 +1,7 @@
 //! What is kept of the values of a lookup, and lookups that are kept as segments.
-ghost use Rattle.std.specs.Prelude.{◌≡◌, ◌++◌, ◌<◌, ◌≤◌, ◌^◌, length, map, IfOk, IsTrue, OnOk};
+ghost use Rattle.std.specs.Prelude.{◌≡◌, ◌+◌, ◌*◌, ◌++◌, ◌<◌, ◌≤◌, ◌^◌, length, map, IfOk, IsTrue, OnOk};
 ghost use Rattle.std.specs.List.{flat_map, range_with_len};
+ghost use Rattle.aat_bytes.specs.Numbers.{be16};
 ghost use Rattle.aat_read_lookup.specs.Kept.{kept_count, kept_segments, kept_value, layout_segments, row_of, single_segment, whole_segment};
 ghost use Rattle.aat_read_lookup.specs.Layouts.{unit_segments};
 ghost use Rattle.aat_read_lookup.specs.Segments.{pairs_by};
@@ -9,8 +10,9 @@ ghost use Rattle.aat_read_lookup.specs.declared.kept.Keep.TheVariants.{Value};
 ghost use Rattle.aat_read_lookup.specs.declared.layout.Layout.TheVariants.{Searched};
 
 use crate::layout::Layout;
-use crate::segment::Segment;
+use crate::segment::{Segment, ValueKind, Values};
 use crate::units::Units;
+use aat_bytes::be16;
 use aat_lookup::LookupSegment;
 use std::alloc::{AllocError, Allocator};
 
@@ -31,6 +33,24 @@ fn row_of(width: u16, value: u32) -> u16
     ensures { result ≡ row_of width value }
 {
     (value / width as u32).min(65535) as u16
+}
+
+/// So many numbers of 16 bits from a place on.
+fn words_at<A: Allocator>(
+    alloc: A,
+    bytes: &[u8],
+    at: usize,
+    count: usize,
+) -> Result<Vec<u16, A>, AllocError>
+    requires { at + 2 * count ≤ length bytes.now }
+    ensures { IfOk result (λ words. words.items ≡ map (λ k. be16 bytes.now (at + 2 * k)) (range_with_len 0 count)) }
+{
+    let bytes = &bytes[at..at + 2 * count];
+    let mut words = vec![in alloc; 0; count]?;
+    for k in 0..count {
+        words[k] = be16(bytes, 2 * k);
+    }
+    Ok(words)
 }
 
 impl Segment {
@@ -67,6 +87,28 @@ impl Segment {
             pairs.push(((self.first + k) as u16, self.kept(bytes, k, keep)))?;
         }
         Ok(())
+    }
+
+    /// What is kept of the values of the segment, in memory of their own size.
+    pub(crate) fn kept_values<A: Allocator>(
+        self,
+        alloc: A,
+        bytes: &[u8],
+        keep: Keep,
+    ) -> Result<Vec<u16, A>, AllocError>
+        requires can { CanKeep keep }
+        requires fits { Fits bytes.now self }
+        ensures { IfOk result (λ values. values.items
+            ≡ map (kept_value bytes.now keep self.values) (range_with_len 0 self.count)) }
+    {
+        if let (Keep::Value, Values::Each(ValueKind::Word, at)) = (keep, self.values) {
+            return words_at(alloc, bytes, at, self.count);
+        }
+        let mut values = Vec::with_capacity(alloc, self.count)?;
+        for k in 0..self.count {
+            values.push(self.kept(bytes, k, keep))?;
+        }
+        Ok(values)
     }
 
     /// The segment as it is kept, if its glyphs have one value.
@@ -154,6 +196,29 @@ impl Units {
 
     /// Appends what the segments of the units are kept as.
     fn append_kept<A: Allocator>(
+        self,
+        bytes: &[u8],
+        rise: bool,
+        keep: Keep,
+        segments: &mut Vec<LookupSegment, A>,
+    ) -> Result<(), AllocError>
+        requires can { CanKeep keep }
+        requires sound { AreSound bytes.now self }
+        requires rise { IsTrue rise → DoRise bytes.now self }
+        ensures { OnOk result (segments.new.items
+            ≡ segments.old.items ++ flat_map (kept_segments bytes.now keep) (unit_segments bytes.now self)) }
+    {
+        if self.are_singles(rise) {
+            return self
+                .as_singles()
+                .append_each_kept(bytes, true, keep, segments);
+        }
+        self.append_each_kept(bytes, rise, keep, segments)
+    }
+
+    /// Appends what the segments of the units are kept as, one after the other.
+    #[inline(always)]
+    fn append_each_kept<A: Allocator>(
         self,
         bytes: &[u8],
         rise: bool,

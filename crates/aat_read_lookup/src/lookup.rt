@@ -5,19 +5,20 @@ ghost use Rattle.aat_lookup.specs.Keys.{first};
 ghost use Rattle.aat_lookup.specs.Segments.{first_segment_fall, pairs_of_segments};
 ghost use Rattle.aat_read_lookup.specs.Kept.{kept_pairs};
 ghost use Rattle.aat_read_lookup.specs.Lookups.{Gives, Refuses, lookup_at};
-ghost use Rattle.aat_read_lookup.specs.inside.Sound.{AreSound, CanKeep, DoRise, IsSound, Rises};
-ghost use Rattle.aat_read_lookup.specs.declared.layout.Layout.TheVariants.{Searched};
+ghost use Rattle.aat_read_lookup.specs.inside.Sound.{AreSound, CanKeep, DoRise, Fits, IsSound, Rises};
+ghost use Rattle.aat_read_lookup.specs.declared.layout.Layout.TheVariants.{Array, Searched};
 
 use crate::kept::Keep;
 use crate::layout::Layout;
-use crate::segment::ValueKind;
+use crate::segment::{Segment, ValueKind};
 use crate::units::Units;
 use aat_bytes::{ReadError, Tag};
 use aat_lookup::{Lookup, LookupSegment, TableError};
 use std::alloc::{AllocError, Allocator};
 
-/// Appends the pairs of units.
-fn append_units<A: Allocator>(
+/// Appends the pairs of units, one after the other.
+#[inline(always)]
+fn append_each<A: Allocator>(
     units: Units,
     bytes: &[u8],
     rise: bool,
@@ -33,6 +34,25 @@ fn append_units<A: Allocator>(
         units.segment(i, bytes, rise).append(bytes, keep, pairs)?;
     }
     Ok(())
+}
+
+/// Appends the pairs of units.
+fn append_units<A: Allocator>(
+    units: Units,
+    bytes: &[u8],
+    rise: bool,
+    keep: Keep,
+    pairs: &mut Vec<(u16, u16), A>,
+) -> Result<(), AllocError>
+    requires can { CanKeep keep }
+    requires sound { AreSound bytes.now units }
+    requires rise { IsTrue rise → DoRise bytes.now units }
+    ensures { OnOk result (pairs.new.items ≡ pairs.old.items ++ kept_pairs bytes.now keep (Searched units)) }
+{
+    if units.are_singles(rise) {
+        return append_each(units.as_singles(), bytes, true, keep, pairs);
+    }
+    append_each(units, bytes, rise, keep, pairs)
 }
 
 /// The pairs of a layout, in memory of their own size.
@@ -71,6 +91,24 @@ fn lookup_of_segments<A: Allocator + Copy>(
     }
 }
 
+/// The lookup of the values of an array. Fails only where it gets no memory.
+fn array_lookup<A: Allocator + Copy>(
+    alloc: A,
+    segment: Segment,
+    bytes: &[u8],
+    keep: Keep,
+) -> Result<Lookup<A>, AllocError>
+    requires can { CanKeep keep }
+    requires sound { Fits bytes.now segment }
+    ensures { IfOk result (λ lookup. lookup ≡ kept_pairs bytes.now keep (Array segment)) }
+{
+    if segment.count == 0 {
+        return Lookup::of_rising_list(alloc, Vec::new(alloc));
+    }
+    let values = segment.kept_values(alloc, bytes, keep)?;
+    Lookup::of_values_from(alloc, segment.first as u16, values)
+}
+
 /// The lookup of a layout that is kept as pairs. Fails only where it gets no memory.
 fn listed_lookup<A: Allocator + Copy>(
     alloc: A,
@@ -84,6 +122,9 @@ fn listed_lookup<A: Allocator + Copy>(
     requires rise { IsTrue rise → Rises bytes.now layout }
     ensures { IfOk result (λ lookup. lookup ≡ kept_pairs bytes.now keep layout) }
 {
+    if let Layout::Array(segment) = layout {
+        return array_lookup(alloc, segment, bytes, keep);
+    }
     let pairs = pairs_of(alloc, layout, bytes, rise, keep)?;
     Lookup::of_rising_list(alloc, pairs)
 }
@@ -158,9 +199,10 @@ pub fn read_pairs<A: Allocator>(
 /// A glyph has the value of the unit that a bisection over all units finds for it, as in HarfBuzz. Where units rise, each
 /// is found for all its glyphs; else some are found for a part of them, or for none.
 ///
-/// `OutOfMemory` comes only if the bytes have no fault. There are at most 65,536 glyphs. They are kept as pairs, and as
-/// segments where the pairs and the cells beside them would take more than 7 bytes for each byte that the lookup is
-/// read from: so it takes at most 7 bytes for each. As segments its list is in memory twice until it is read.
+/// `OutOfMemory` comes only if the bytes have no fault. There are at most 65,536 glyphs. They are kept as pairs, of the
+/// formats 0, 8 and 10 as values alone, and as segments where the pairs and the cells beside them would take more than 7
+/// bytes for each byte that the lookup is read from: so it takes at most 7 bytes for each. As segments its list is in
+/// memory twice until it is read.
 /// `lookup_size` tells how many bytes it takes, and `lookup_bytes` how many it is read from.
 ///
 /// Apple's TrueType Reference Manual, "Font Tables", section on lookup tables.

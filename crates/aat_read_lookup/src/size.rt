@@ -145,9 +145,9 @@ impl Layout {
 /// `Lookup` itself, with the same faults. It takes no memory, and the time of some bisections for each unit.
 ///
 /// As pairs it takes 4 bytes for each glyph that has a value, and 2 or 4 for each cell beside them, counted as 4: for
-/// each glyph from the first to the last, where these are at most about 32 for each pair. As segments it takes 6 bytes
-/// for each unit of the formats 2 and 6, and for each glyph of the others. Either is at most 7 for each byte that
-/// `lookup_bytes` counts.
+/// each glyph from the first to the last, where these are at most about 32 for each pair. The values of the formats 0, 8
+/// and 10 are counted so too, and take 3 bytes for each glyph. As segments it takes 6 bytes for each unit of the formats
+/// 2 and 6, and for each glyph of the others. Either is at most 7 for each byte that `lookup_bytes` counts.
 pub fn lookup_size(table: Tag, bytes: &[u8], place: usize, glyph_count: u16) -> Result<usize, Fault>
     ensures { result ≡ lookup_size_at table bytes.now place glyph_count }
 {

@@ -4,6 +4,7 @@ ghost use Rattle.aat_bytes.specs.Bisection.{nearest};
 ghost use Rattle.aat_read_lookup.specs.Layouts.{checked_units, glyphs_found, is_terminator, record_size, segment_at, segment_of, unit_at, unit_fault, unit_place, units_at, units_fault, without_terminator};
 ghost use Rattle.aat_read_lookup.specs.Segments.{values_place};
 ghost use Rattle.aat_read_lookup.specs.inside.Sound.{AreInside, AreSound, DoRise, Fits};
+ghost use Rattle.aat_read_lookup.specs.declared.units.UnitKind.TheVariants.{Single};
 
 use crate::segment::{Segment, ValueKind, Values};
 use aat_bytes::{Fault, FaultKind, Tag, be16};
@@ -157,8 +158,35 @@ impl Units {
         }
     }
 
+    /// The same units, which are glyphs, with a kind that is seen to be so: what is done with each needs then no test of it.
+    #[inline(always)]
+    pub(crate) fn as_singles(self) -> Units
+        requires { self.kind ≡ Single }
+        ensures { result ≡ self }
+    {
+        Units {
+            kind: UnitKind::Single,
+            values: self.values,
+            start: self.start,
+            size: self.size,
+            count: self.count,
+        }
+    }
+
     /// Whether each unit begins behind the end of those before it, as units ought to.
     pub(crate) fn do_rise(self, bytes: &[u8]) -> bool
+        requires { AreInside bytes.now self }
+        ensures { IsTrue result → DoRise bytes.now self }
+    {
+        if self.kind.is_single() {
+            return self.as_singles().is_rising(bytes);
+        }
+        self.is_rising(bytes)
+    }
+
+    /// Whether each unit begins behind the end of those before it.
+    #[inline(always)]
+    fn is_rising(self, bytes: &[u8]) -> bool
         requires { AreInside bytes.now self }
         ensures { IsTrue result → DoRise bytes.now self }
     {

@@ -4,3 +4,5 @@ pub mod Entries
 pub mod Headers
 pub mod Listed
 pub mod OfBytes
+pub mod OfRows
+pub mod Walks

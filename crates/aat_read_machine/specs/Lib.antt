@@ -17,3 +17,4 @@ pub mod SubtableKinds
 pub mod Weights
 pub mod Within
 pub mod facts
+pub mod inside

@@ -11,7 +11,8 @@ use Rattle.aat_read_lookup.specs.Sizes.{lookup_size_at}
 use Rattle.aat_read_machine.specs.Kinds.{list_place}
 use Rattle.aat_read_machine.specs.declared.weights.TheConstants.{CONTEXTUAL_RULE_SIZE, INSERTION_RULE_SIZE, LIGATURE_RULE_SIZE, LOOKUP_SIZE, PLAIN_RULE_SIZE}
 
--- a machine whose rules take so many bytes each: it has a cell for each rule
+-- a machine whose rules take so many bytes each, with a cell for each rule. One that keeps its rows takes less: two
+-- bytes for each rule, and its entries, of which it has no more than rules
 abbrev pub machine_weight : {E : Type 0} → ℕ → TableValue E → ℕ
 machine_weight size machine = size * length machine.rules
 

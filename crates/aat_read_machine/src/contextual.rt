@@ -3,12 +3,13 @@ ghost use Rattle.std.specs.Prelude.{◌≡◌, ◌+◌, ◌*◌, ◌^◌, ◌<�
 ghost use Rattle.aat_read_lookup.specs.Lookups.{Gives};
 ghost use Rattle.aat_read_machine.specs.Contextual.{contextual_tables, contextual_tables_at, listed_lookup, lookups_at, lookups_within};
 ghost use Rattle.aat_read_machine.specs.StateArray.{AreIndexed, AreWhole};
+ghost use Rattle.aat_read_machine.specs.inside.OfRows.{AreNamed};
 ghost use Rattle.aat_read_machine.specs.Within.{GivesWithin, RefusesWithin};
 
 use crate::kinds::list_place;
 use crate::machine::with_classes;
 use crate::room::lookup_past_room;
-use crate::state_array::StateArray;
+use crate::state_array::{Cells, StateArray};
 use aat_bytes::tags::MORX;
 use aat_bytes::{Fault, FaultKind, ReadError, be32};
 use aat_lookup::Lookup;
@@ -88,15 +89,18 @@ fn contextual_tables(
     list: usize,
     glyph_count: u16,
     array: &StateArray,
-    cells: usize,
+    cells: Cells,
 ) -> Result<ContextualSubtable, ReadError>
     requires list { list < 2 ^ 63 + 2 ^ 32 }
-    requires few { cells ≤ 65536 * array.now.class_count }
-    requires small { cells < 2 ^ 33 }
+    requires some { 0 < cells.count }
+    requires few { cells.count ≤ 65536 * array.now.class_count }
+    requires small { cells.count < 2 ^ 33 }
     requires size { array.now.entry_size ≡ 8 }
-    requires indexed { AreIndexed array.now cells }
-    requires whole { AreWhole array.now cells }
-    ensures { GivesWithin result (contextual_tables bytes.now list glyph_count array.now cells) }
+    requires indexed { AreIndexed array.now cells.count }
+    requires whole { AreWhole array.now cells.count }
+    requires named { AreNamed array.now cells.count cells.entries }
+    requires known { cells.entries ≤ 65536 }
+    ensures { GivesWithin result (contextual_tables bytes.now list glyph_count array.now cells.count) }
 {
     let state = with_classes::<ContextualEntryData, Global>(
         alloc,
@@ -107,7 +111,7 @@ fn contextual_tables(
         cells,
     )?;
     let count = array.lookup_count(cells);
-    let room = array.room_left(cells);
+    let room = array.room_left(cells.count);
     let lookups = lookups_within(alloc, bytes, list, glyph_count, room, count)?;
     Ok(ContextualSubtable { state, lookups })
 }

@@ -1,23 +1,52 @@
 //! State tables from bytes.
-ghost use Rattle.std.specs.Prelude.{◌≡◌, ◌+◌, ◌*◌, ◌≤◌};
+ghost use Rattle.std.specs.Prelude.{◌≡◌, ◌+◌, ◌*◌, ◌^◌, ◌<◌, ◌≤◌, IfErr, IfOk, length};
+ghost use Rattle.aat_bytes.specs.declared.error.ReadError.TheVariants.{OutOfMemory};
+ghost use Rattle.aat_machine_tables.specs.Table.{table_value};
 ghost use Rattle.aat_read_lookup.specs.Lookups.{Gives, lookup_at};
 ghost use Rattle.aat_read_machine.specs.Machine.{machine_at, with_classes};
-ghost use Rattle.aat_read_machine.specs.StateArray.{AreIndexed, AreWhole, class_place};
+ghost use Rattle.aat_read_machine.specs.StateArray.{AreIndexed, AreWhole, class_place, rules_of};
+ghost use Rattle.aat_read_machine.specs.inside.OfRows.{AreNamed};
 
 use crate::entry_read::EntryRead;
-use crate::state_array::StateArray;
+use crate::state_array::{Cells, StateArray};
 use aat_bytes::{ReadError, Tag};
+use aat_lookup::Lookup;
 use aat_machine_tables::ExtendedStateTable;
 use aat_read_lookup::read_lookup;
 use std::alloc::Allocator;
 
-/// The machine of a state table whose cells are there.
-#[tactic(auto, unfolding(crate::specs::Machine::with_classes))]
-pub(crate) fn with_classes<T: EntryRead, A: Allocator + Copy>(
+/// The machine of a state table whose cells are there, with classes and with rows as they stand.
+fn of_rows<T: EntryRead, A: Allocator + Copy>(
     alloc: A,
-    table: Tag,
-    bytes: &[u8],
-    glyph_count: u16,
+    classes: Lookup<A>,
+    array: &StateArray,
+    cells: usize,
+    entries: usize,
+) -> Result<ExtendedStateTable<T, A>, ReadError>
+    requires some { 0 < cells }
+    requires few { cells ≤ 65536 * array.now.class_count }
+    requires known { entries ≤ 65536 }
+    requires size { array.now.entry_size ≡ 4 + T.SIZE }
+    requires indexed { AreIndexed array.now cells }
+    requires named { AreNamed array.now cells entries }
+    requires inside { array.now.entries + array.now.entry_size * entries ≤ length array.now.bytes }
+    ensures ok { IfOk result (λ machine. machine
+        ≡ table_value array.now.class_count classes (rules_of T.extra_at array.now cells)) }
+    ensures memory { IfErr result (λ e. e ≡ OutOfMemory) }
+{
+    let class_count = array.class_count();
+    let rows = array.rows(alloc, cells)?;
+    let entries = array.entries::<T, A>(alloc, entries)?;
+    match ExtendedStateTable::of_rows(alloc, class_count, classes, rows, entries) {
+        Ok(machine) => Ok(machine),
+        Err(_) => Err(ReadError::OutOfMemory),
+    }
+}
+
+/// The machine of a state table whose cells are there, with classes and with a rule for each cell.
+fn of_rules<T: EntryRead, A: Allocator + Copy>(
+    alloc: A,
+    classes: Lookup<A>,
     array: &StateArray,
     cells: usize,
 ) -> Result<ExtendedStateTable<T, A>, ReadError>
@@ -25,14 +54,43 @@ pub(crate) fn with_classes<T: EntryRead, A: Allocator + Copy>(
     requires size { array.now.entry_size ≡ 4 + T.SIZE }
     requires indexed { AreIndexed array.now cells }
     requires whole { AreWhole array.now cells }
-    ensures { Gives result
-        (with_classes T.extra_at array.now cells (lookup_at table bytes.now (class_place array.now) glyph_count)) }
+    ensures ok { IfOk result (λ machine. machine
+        ≡ table_value array.now.class_count classes (rules_of T.extra_at array.now cells)) }
+    ensures memory { IfErr result (λ e. e ≡ OutOfMemory) }
 {
-    let classes = read_lookup(alloc, table, bytes, array.class_place(), glyph_count)?;
     let rules = array.rules::<T, A>(alloc, cells)?;
     match ExtendedStateTable::with_classes(alloc, array.class_count(), classes, rules) {
         Ok(machine) => Ok(machine),
         Err(_) => Err(ReadError::OutOfMemory),
+    }
+}
+
+/// The machine of a state table whose cells are there. Its rows are kept as they stand, unless they name entries far
+/// apart: memory is bounded by the cells.
+#[tactic(auto, unfolding(crate::specs::Machine::with_classes))]
+pub(crate) fn with_classes<T: EntryRead, A: Allocator + Copy>(
+    alloc: A,
+    table: Tag,
+    bytes: &[u8],
+    glyph_count: u16,
+    array: &StateArray,
+    cells: Cells,
+) -> Result<ExtendedStateTable<T, A>, ReadError>
+    requires some { 0 < cells.count }
+    requires few { cells.count ≤ 65536 * array.now.class_count }
+    requires known { cells.entries ≤ 65536 }
+    requires size { array.now.entry_size ≡ 4 + T.SIZE }
+    requires indexed { AreIndexed array.now cells.count }
+    requires whole { AreWhole array.now cells.count }
+    requires named { AreNamed array.now cells.count cells.entries }
+    ensures { let classes = lookup_at table bytes.now (class_place array.now) glyph_count in
+        Gives result (with_classes T.extra_at array.now cells.count classes) }
+{
+    let classes = read_lookup(alloc, table, bytes, array.class_place(), glyph_count)?;
+    if cells.entries <= cells.count && array.has_entries(cells.entries) {
+        of_rows(alloc, classes, array, cells.count, cells.entries)
+    } else {
+        of_rules(alloc, classes, array, cells.count)
     }
 }
 

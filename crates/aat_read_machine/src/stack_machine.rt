@@ -75,7 +75,7 @@ pub fn read_stack_machine<A: Allocator + Copy>(
     let array = StateArray::read(table, bytes, place, 2)?;
     let cells = array.cells()?;
     let classes = read_lookup(alloc, table, bytes, array.class_place(), glyph_count)?;
-    let rules = array.stack_rules(alloc, cells)?;
+    let rules = array.stack_rules(alloc, cells.count)?;
     match ExtendedStateTable::with_classes(alloc, array.class_count(), classes, rules) {
         Ok(machine) => Ok(machine),
         Err(_) => Err(ReadError::OutOfMemory),

@@ -1,10 +1,12 @@
 //! The state array and the entries of a state table.
-ghost use Rattle.std.specs.Prelude.{◌≡◌, ◌+◌, ◌*◌, ◌^◌, ◌<◌, ◌≤◌, ℕ, true, IfOk, IfSome, length, nat_le};
+ghost use Rattle.std.specs.Prelude.{◌≡◌, ◌+◌, ◌*◌, ◌^◌, ◌<◌, ◌≤◌, ℕ, true, ◌-◌, false, IfOk, IfSome, MatchResult, Ok, Err, drop, length, nat_le, take};
 ghost use Rattle.aat_bytes.specs.Numbers.{be16};
 ghost use Rattle.aat_read_machine.specs.Entries.{entry_at};
-ghost use Rattle.aat_read_machine.specs.Lookups.{lookup_count, lookups_named, lookups_to};
+ghost use Rattle.aat_read_machine.specs.inside.OfRows.{AreNamed, entries_of};
+ghost use Rattle.aat_read_machine.specs.inside.Passed.{AskFor, IsWalk, NameBelow, entry_lookups, entry_states};
+ghost use Rattle.aat_read_machine.specs.Lookups.{lookup_count, lookups_to};
 ghost use Rattle.aat_read_machine.specs.Room.{room_left};
-ghost use Rattle.aat_read_machine.specs.StateArray.{AreIndexed, AreWhole, cells_of, class_place, entry_place, has_entry, has_index, header_at, index_place, missing_entry, past_end, row_fault, rule_of, rules_of, state_array_at, states_named, states_of};
+ghost use Rattle.aat_read_machine.specs.StateArray.{AreIndexed, AreWhole, cells_of, class_place, entry_place, has_entry, has_index, header_at, index_place, missing_entry, past_end, row_fault, rule_of, rules_of, state_array_at, states_of};
 
 use crate::entry_read::EntryRead;
 use aat_bytes::{Fault, FaultKind, Tag, be16, be32};
@@ -25,6 +27,22 @@ pub(crate) struct StateArray<'a> {
     states: u32,
     entries: u32,
     entry_size: u16,
+}
+
+/// What a walk over the cells of rows has found: how many states there are at least, a number that the index of each
+/// cell is below, and how many of the first entries name none but these states.
+#[derive(Clone, Copy)]
+pub(crate) struct Walk {
+    count: usize,
+    reach: usize,
+    passed: usize,
+}
+
+/// The cells of a state table: how many there are, and a number that the index of each is below.
+#[derive(Clone, Copy)]
+pub(crate) struct Cells {
+    pub(crate) count: usize,
+    pub(crate) entries: usize,
 }
 
 impl<'a> Model for StateArray<'a> {
@@ -169,20 +187,6 @@ impl<'a> StateArray<'a> {
         self.entry_place(cell) + self.entry_size as usize <= self.bytes.len()
     }
 
-    /// How many states there are at least by the entry of a cell.
-    #[tactic(auto, unfolding(crate::specs::StateArray::states_named, crate::specs::StateArray::has_entry))]
-    fn states_named(&self, cell: usize) -> usize
-        requires { cell < 2 ^ 33 }
-        ensures named { result ≡ states_named self.now cell }
-        ensures few { result ≤ 65536 }
-    {
-        if self.has_index(cell) && self.has_entry(cell) {
-            be16(self.bytes, self.entry_place(cell)) as usize + 1
-        } else {
-            0
-        }
-    }
-
     /// The fault of bytes that are not there.
     fn past_end(&self, place: usize) -> Fault
         requires { place < 2 ^ 62 }
@@ -200,74 +204,165 @@ impl<'a> StateArray<'a> {
         self.past_end(self.index_place(cell / width * width))
     }
 
-    /// The number of states, if their rows are there, or else the first row that is not.
-    fn states(&self) -> Result<usize, Fault>
-        ensures states { result ≡ states_of self.now }
-        ensures few { IfOk result (λ count. count ≤ 65536) }
-        ensures indexed { IfOk result (λ count. AreIndexed self.now (count * self.now.class_count)) }
+    /// How many states there are at least by the entry of an index: none where it reaches past the end.
+    fn entry_states(&self, index: usize) -> usize
+        requires { index < 65536 }
+        ensures named { result ≡ entry_states self.now index }
+        ensures few { result ≤ 65536 }
     {
-        let width = self.class_count as usize;
-        let mut count = 1;
-        let mut cell = 0;
-        while cell < count * width {
-            if !self.has_index(cell) {
-                return Err(self.row_fault(cell));
+        let place = self.entries as usize + self.entry_size as usize * index;
+        if place + self.entry_size as usize <= self.bytes.len() {
+            be16(self.bytes, place) as usize + 1
+        } else {
+            0
+        }
+    }
+
+    /// How many of the entries up to an index, behind some that do, name one of so many states, or none.
+    fn passed_states(&self, index: usize, count: usize, passed: usize) -> usize
+        requires index { index < 65536 }
+        requires before { NameBelow self.now passed count }
+        requires within { passed ≤ index }
+        ensures names { NameBelow self.now result count }
+        ensures within { result ≤ index + 1 }
+    {
+        let mut passed = passed;
+        while passed <= index && self.entry_states(passed) <= count {
+            passed += 1;
+        }
+        passed
+    }
+
+    /// What a walk has found one cell later.
+    ///
+    /// It stands apart, so that the loop over cells that tell nothing new stays short.
+    #[inline(never)]
+    fn walk_on(&self, walk: Walk, cell: usize) -> Walk
+        requires small { cell < 2 ^ 33 }
+        requires indexed { has_index self.now cell ≡ true }
+        requires below { cell < walk.count * self.now.class_count }
+        requires walk { IsWalk self.now cell walk }
+        requires new { walk.passed ≤ be16 self.now.bytes (index_place self.now cell) }
+        ensures walk { IsWalk self.now (cell + 1) result }
+        ensures rises { walk.count ≤ result.count }
+    {
+        let index = self.index(cell) as usize;
+        let count = walk.count.max(self.entry_states(index));
+        let passed = self.passed_states(index, count, walk.passed);
+        let reach = walk.reach.max(index + 1);
+        Walk {
+            count,
+            reach,
+            passed,
+        }
+    }
+
+    /// What a walk has found one row later. Most cells name an entry that is known to name no other state.
+    fn walk_row(&self, walk: Walk, row: usize) -> Walk
+        requires small { row + self.now.class_count ≤ 2 ^ 33 }
+        requires indexed { AreIndexed self.now (row + self.now.class_count) }
+        requires below { row + self.now.class_count ≤ walk.count * self.now.class_count }
+        requires walk { IsWalk self.now row walk }
+        ensures walk { IsWalk self.now (row + self.now.class_count) result }
+        ensures rises { walk.count ≤ result.count }
+    {
+        let mut walk = walk;
+        for cell in row..row + self.class_count as usize {
+            if self.index(cell) as usize >= walk.passed {
+                walk = self.walk_on(walk, cell);
             }
-            count = count.max(self.states_named(cell));
+        }
+        walk
+    }
+
+    /// The first cell from the start of a row on whose index is missing, where one of the row's is.
+    fn missing_from(&self, row: usize) -> usize
+        requires small { row + self.now.class_count ≤ 2 ^ 33 }
+        requires some { 0 < self.now.class_count }
+        requires missing { has_index self.now (row + self.now.class_count - 1) ≡ false }
+        requires before { AreIndexed self.now row }
+        ensures missing { has_index self.now result ≡ false }
+        ensures before { AreIndexed self.now result }
+        ensures within { result < row + self.now.class_count }
+    {
+        let mut cell = row;
+        while self.has_index(cell) {
             cell += 1;
         }
-        Ok(count)
+        cell
     }
 
-    /// The greatest index of so many cells.
-    fn greatest_index(&self, cells: usize) -> u16
-        requires small { cells < 2 ^ 33 }
-        requires indexed { AreIndexed self.now cells }
-        ensures { (cell : ℕ) → cell < cells → be16 self.now.bytes (index_place self.now cell) ≤ result }
+    /// The number of states and what their cells name, if their rows are there, or else the first row that is not.
+    fn states(&self) -> Result<Walk, Fault>
+        ensures states { MatchResult result (λ walk. states_of self.now ≡ Ok walk.count)
+            (λ e. states_of self.now ≡ Err e) }
+        ensures few { IfOk result (λ walk. walk.count ≤ 65536) }
+        ensures indexed { IfOk result (λ walk. AreIndexed self.now (walk.count * self.now.class_count)) }
+        ensures walk { IfOk result (λ walk. IsWalk self.now (walk.count * self.now.class_count) walk) }
     {
-        let mut greatest = 0;
-        for cell in 0..cells {
-            greatest = greatest.max(self.index(cell));
+        let width = self.class_count as usize;
+        let mut walk = Walk {
+            count: 1,
+            reach: 0,
+            passed: 0,
+        };
+        let mut state = 0;
+        while state < walk.count {
+            let row = state * width;
+            if !self.has_index(row + width - 1) {
+                return Err(self.row_fault(self.missing_from(row)));
+            }
+            walk = self.walk_row(walk, row);
+            state += 1;
         }
-        greatest
+        Ok(walk)
     }
 
-    /// Whether the entry of an index stands inside.
-    fn has_entry_of(&self, index: u16) -> bool
-        ensures { result ≡ nat_le (self.now.entries + self.now.entry_size * index + self.now.entry_size)
-            (length self.now.bytes) }
+    /// Whether so many entries stand inside.
+    pub(crate) fn has_entries(&self, entries: usize) -> bool
+        requires { entries ≤ 65536 }
+        ensures { result ≡ nat_le (self.now.entries + self.now.entry_size * entries) (length self.now.bytes) }
     {
-        let place = self.entries as usize + self.entry_size as usize * index as usize;
-        place + self.entry_size as usize <= self.bytes.len()
+        self.entries as usize + self.entry_size as usize * entries <= self.bytes.len()
     }
 
-    /// The first of so many cells whose entry reaches past the end. None does where that of the greatest index does
-    /// not.
-    fn missing_entry(&self, cells: usize) -> Option<usize>
+    /// The first of so many cells whose entry reaches past the end. None does where none of those entries does of which
+    /// each cell names one.
+    fn missing_entry(&self, cells: usize, entries: usize) -> Option<usize>
         requires small { cells < 2 ^ 33 }
+        requires few { entries ≤ 65536 }
         requires indexed { AreIndexed self.now cells }
+        requires named { AreNamed self.now cells entries }
         ensures first { result ≡ missing_entry self.now cells }
         ensures below { IfSome result (λ cell. cell < cells) }
     {
-        if self.has_entry_of(self.greatest_index(cells)) {
+        if self.has_entries(entries) {
             return None;
         }
         (0..cells).find(|cell| !self.has_entry(*cell))
     }
 
-    /// The number of cells, if rows and entries are there, or else the first row or else the first entry that is not.
+    /// The cells, if rows and entries are there, or else the first row or else the first entry that is not.
     #[tactic(auto, unfolding(crate::specs::StateArray::cells_of))]
-    pub(crate) fn cells(&self) -> Result<usize, Fault>
-        ensures cells { result ≡ cells_of self.now }
-        ensures few { IfOk result (λ cells. cells ≤ 65536 * self.now.class_count) }
-        ensures small { IfOk result (λ cells. cells < 2 ^ 33) }
-        ensures indexed { IfOk result (AreIndexed self.now) }
-        ensures whole { IfOk result (AreWhole self.now) }
+    pub(crate) fn cells(&self) -> Result<Cells, Fault>
+        ensures cells { MatchResult result (λ cells. cells_of self.now ≡ Ok cells.count)
+            (λ e. cells_of self.now ≡ Err e) }
+        ensures few { IfOk result (λ cells. cells.count ≤ 65536 * self.now.class_count) }
+        ensures small { IfOk result (λ cells. cells.count < 2 ^ 33) }
+        ensures some { IfOk result (λ cells. 0 < cells.count) }
+        ensures indexed { IfOk result (λ cells. AreIndexed self.now cells.count) }
+        ensures whole { IfOk result (λ cells. AreWhole self.now cells.count) }
+        ensures named { IfOk result (λ cells. AreNamed self.now cells.count cells.entries) }
+        ensures known { IfOk result (λ cells. cells.entries ≤ 65536) }
     {
-        let cells = self.states()? * self.class_count as usize;
-        match self.missing_entry(cells) {
+        let walk = self.states()?;
+        let count = walk.count * self.class_count as usize;
+        match self.missing_entry(count, walk.reach) {
             Some(cell) => Err(self.past_end(self.entry_place(cell))),
-            None => Ok(cells),
+            None => Ok(Cells {
+                count,
+                entries: walk.reach,
+            }),
         }
     }
 
@@ -337,33 +432,117 @@ impl<'a> StateArray<'a> {
         Ok(rules)
     }
 
-    /// How many lookups there are at least by the entry of a cell of a contextual machine.
-    #[tactic(auto, unfolding(crate::specs::StateArray::has_entry))]
-    fn lookups_named(&self, cell: usize) -> usize
-        requires small { cell < 2 ^ 33 }
-        requires size { self.now.entry_size ≡ 8 }
-        requires indexed { has_index self.now cell ≡ true }
-        requires whole { has_entry self.now cell ≡ true }
-        ensures named { result ≡ lookups_named self.now cell }
+    /// The rows of so many cells, as they stand.
+    pub(crate) fn rows<A: Allocator>(
+        &self,
+        alloc: A,
+        cells: usize,
+    ) -> Result<Vec<u8, A>, AllocError>
+        requires few { cells < 2 ^ 33 }
+        requires inside { self.now.states + 2 * cells ≤ length self.now.bytes }
+        ensures { IfOk result (λ rows. rows.items ≡ take (2 * cells) (drop self.now.states self.now.bytes)) }
+    {
+        let start = self.states as usize;
+        Vec::from_slice(alloc, &self.bytes[start..start + 2 * cells])
+    }
+
+    /// The entry of an index.
+    fn entry<T: EntryRead>(&self, index: usize) -> GenericStateEntry<T>
+        requires index { index < 65536 }
+        requires size { self.now.entry_size ≡ 4 + T.SIZE }
+        requires inside { self.now.entries + self.now.entry_size * index + self.now.entry_size ≤ length self.now.bytes }
+        ensures { result ≡ entry_at T.extra_at self.now.bytes (self.now.entries + self.now.entry_size * index) }
+    {
+        let place = self.entries as usize + self.entry_size as usize * index;
+        GenericStateEntry {
+            new_state: be16(self.bytes, place),
+            flags: be16(self.bytes, place + 2),
+            extra: T::read(self.bytes, place + 4),
+        }
+    }
+
+    /// So many entries, as they stand.
+    pub(crate) fn entries<T: EntryRead, A: Allocator>(
+        &self,
+        alloc: A,
+        count: usize,
+    ) -> Result<Vec<GenericStateEntry<T>, A>, AllocError>
+        requires few { count ≤ 65536 }
+        requires size { self.now.entry_size ≡ 4 + T.SIZE }
+        requires inside { self.now.entries + self.now.entry_size * count ≤ length self.now.bytes }
+        ensures { IfOk result (λ entries. entries.items ≡ entries_of T.extra_at self.now count) }
+    {
+        let mut entries = Vec::with_capacity(alloc, count)?;
+        for index in 0..count {
+            entries.push(self.entry::<T>(index))?;
+        }
+        Ok(entries)
+    }
+
+    /// How many lookups there are at least by the entry of an index of a contextual machine.
+    fn entry_lookups(&self, index: usize) -> usize
+        requires index { index < 65536 }
+        requires inside { self.now.entries + 8 * index + 8 ≤ length self.now.bytes }
+        ensures named { result ≡ entry_lookups self.now index }
         ensures few { result ≤ 65535 }
     {
-        let place = self.entry_place(cell);
+        // each has 8 bytes
+        let place = self.entries as usize + 8 * index;
         let for_mark = lookups_to(be16(self.bytes, place + 4));
         for_mark.max(lookups_to(be16(self.bytes, place + 6)))
     }
 
-    /// The number of lookups of a contextual machine of so many cells.
-    pub(crate) fn lookup_count(&self, cells: usize) -> usize
-        requires small { cells < 2 ^ 33 }
+    /// How many of so many entries, behind some that do, ask for so many lookups at most.
+    fn passed_lookups(&self, known: usize, count: usize, passed: usize) -> usize
+        requires known { known ≤ 65536 }
+        requires inside { 0 < known → self.now.entries + 8 * known ≤ length self.now.bytes }
+        requires before { AskFor self.now passed count }
+        ensures { AskFor self.now result count }
+    {
+        let mut passed = passed;
+        while passed < known && self.entry_lookups(passed) <= count {
+            passed += 1;
+        }
+        passed
+    }
+
+    /// How many of so many entries may be asked before a cell names them: all where they stand inside, and else none.
+    fn known_entries(&self, entries: usize) -> usize
+        requires few { entries ≤ 65536 }
         requires size { self.now.entry_size ≡ 8 }
-        requires indexed { AreIndexed self.now cells }
-        requires whole { AreWhole self.now cells }
-        ensures count { result ≡ lookup_count self.now cells }
+        ensures known { result ≤ 65536 }
+        ensures inside { 0 < result → self.now.entries + 8 * result ≤ length self.now.bytes }
+    {
+        if self.entries as usize + 8 * entries <= self.bytes.len() {
+            entries
+        } else {
+            0
+        }
+    }
+
+    /// The number of lookups of a contextual machine of so many cells. Cells are asked until no entry can ask for more.
+    pub(crate) fn lookup_count(&self, cells: Cells) -> usize
+        requires small { cells.count < 2 ^ 33 }
+        requires size { self.now.entry_size ≡ 8 }
+        requires indexed { AreIndexed self.now cells.count }
+        requires whole { AreWhole self.now cells.count }
+        requires named { AreNamed self.now cells.count cells.entries }
+        requires known { cells.entries ≤ 65536 }
+        ensures count { result ≡ lookup_count self.now cells.count }
         ensures few { result ≤ 65535 }
     {
+        let known = self.known_entries(cells.entries);
         let mut count = 0;
-        for cell in 0..cells {
-            count = count.max(self.lookups_named(cell));
+        let mut passed = 0;
+        for cell in 0..cells.count {
+            let index = self.index(cell) as usize;
+            if index >= passed {
+                count = count.max(self.entry_lookups(index));
+                passed = self.passed_lookups(known, count, passed);
+                if passed >= cells.entries {
+                    return count;
+                }
+            }
         }
         count
     }

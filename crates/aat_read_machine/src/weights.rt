@@ -1,4 +1,5 @@
-//! What values that are read weigh: the bytes of memory that they take.
+//! What values that are read weigh: the bytes of memory that they take, at most. A machine that keeps its rows as they
+//! stand takes two bytes for each cell and its entries, of which it has no more than cells: less than a rule and a cell.
 
 use aat_lookup::Lookup;
 use aat_machine_tables::{ContextualEntryData, GenericStateEntry, InsertionEntryData, JudgedEntry};

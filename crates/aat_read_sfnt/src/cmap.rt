@@ -1,5 +1,5 @@
 //! The character map.
-ghost use Rattle.std.specs.Prelude.{◌≡◌, ◌+◌, ◌*◌, ◌<◌, ◌≤◌, ◌==◌, IfSome, length};
+ghost use Rattle.std.specs.Prelude.{◌≡◌, ◌+◌, ◌*◌, ◌-◌, ◌%◌, ◌<◌, ◌≤◌, ◌==◌, ℕ, IfSome, Some, length};
 ghost use Rattle.aat_bytes.specs.Numbers.{be16, be32};
 ghost use Rattle.aat_read_sfnt.specs.CharacterSets.{mac_glyph, symbol_glyph};
 ghost use Rattle.aat_read_sfnt.specs.Characters.{best_encoding, cmap_of, first_encoding, glyph_of, map_of, mapped_glyph, record_place, record_with, sound_encoding, subtable_at, subtable_with};
@@ -159,6 +159,20 @@ impl<'a> Cmap<'a> {
             Cmap::SegmentedCoverage(subtable) => subtable.glyph(character),
         }
     }
+
+    /// The glyph of a number, and behind which numbers from this one on theirs may not follow it one by one: behind this
+    /// one in another format than 12.
+    fn row_until(&self, character: char) -> (Option<u16>, u64)
+        ensures is { result.0 ≡ glyph_of self.now character }
+        ensures row { IfSome result.0 (λ glyph. (c : ℕ) → character ≤ c → c < result.1
+            → glyph_of self.now c ≡ Some ((glyph + (c - character)) % 65536)) }
+        ensures some { character < result.1 }
+    {
+        match self {
+            Cmap::SegmentedCoverage(subtable) => subtable.row_until(character),
+            _ => (self.glyph(character), character as u64 + 1),
+        }
+    }
 }
 
 impl<'a> CharacterMap<'a> {
@@ -220,6 +234,20 @@ impl<'a> CharacterMap<'a> {
             CharacterSet::Unicode => self.subtable.glyph(character),
             CharacterSet::Symbol => self.symbol_glyph(character),
             CharacterSet::MacRoman => self.mac_glyph(character),
+        }
+    }
+
+    /// The glyph of a character, and behind which characters from this one on theirs may not follow it one by one, for who
+    /// asks for those of a row of characters.
+    pub fn row_until(&self, character: char) -> (Option<u16>, u64)
+        ensures is { result.0 ≡ mapped_glyph self.now character }
+        ensures row { IfSome result.0 (λ glyph. (c : ℕ) → character ≤ c → c < result.1
+            → mapped_glyph self.now c ≡ Some ((glyph + (c - character)) % 65536)) }
+        ensures some { character < result.1 }
+    {
+        match self.character_set {
+            CharacterSet::Unicode => self.subtable.row_until(character),
+            _ => (self.glyph(character), character as u64 + 1),
         }
     }
 }

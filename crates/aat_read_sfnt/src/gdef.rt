@@ -1,5 +1,5 @@
 //! The glyph definition table: classes of glyphs.
-ghost use Rattle.std.specs.Prelude.{◌≡◌, ℕ, ◌<◌, ◌≤◌};
+ghost use Rattle.std.specs.Prelude.{◌≡◌, ℕ, ◌<◌, ◌≤◌, bit_and};
 ghost use Rattle.aat_read_sfnt.specs.GlyphClasses.{class_fault, glyph_classes_of, properties_of};
 
 use crate::class_definition::ClassDefinition;
@@ -77,5 +77,16 @@ impl<'a> GlyphClasses<'a> {
             ),
             _ => (0, end),
         }
+    }
+
+    /// The property of marks, 0x08, of a glyph, 0 of every other glyph, and behind which glyphs from this one on it may
+    /// be another, for who asks for that of all glyphs in their order.
+    #[tactic(auto, using(crate::proofs::Marks::mark_has))]
+    pub fn mark_until(&self, glyph: u16) -> (u16, u32)
+        ensures same { (g : ℕ) → glyph ≤ g → g < result.1 → bit_and (properties_of self.now g) 8 ≡ result.0 }
+        ensures some { glyph < result.1 }
+    {
+        let (class, end) = self.classes.class_until(glyph);
+        if class == 3 { (0x08, end) } else { (0, end) }
     }
 }

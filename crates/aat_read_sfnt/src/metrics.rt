@@ -1,5 +1,6 @@
 //! Metrics along rows and along columns.
-ghost use Rattle.std.specs.Prelude.{◌≡◌};
+ghost use Rattle.std.specs.Prelude.{◌≡◌, ◌*◌, ◌<◌, ◌≤◌, ℕ, length, slice_index_or, unwrap_or};
+ghost use Rattle.aat_bytes.specs.Numbers.{be16};
 ghost use Rattle.aat_read_sfnt.specs.Metrics.{advance_of, bearing_of, long_metric_count, metrics_of};
 
 use crate::tags::HHEA;
@@ -89,6 +90,24 @@ impl<'a> Metrics<'a> {
         Some(be16(self.bytes, 4 * glyph.min(self.long_count - 1)))
     }
 
+    /// Writes the advance of each glyph from 0 on over numbers, one for each. Without a long metric they stay.
+    pub fn write_advances(&self, advances: &mut [u16])
+        ensures long { length advances.new ≡ length advances.old }
+        ensures each { (glyph : ℕ) → glyph < length advances.old → slice_index_or advances.new glyph 0
+            ≡ unwrap_or (advance_of self.now glyph) (slice_index_or advances.old glyph 0) }
+    {
+        if self.bearing_count == 0 {
+            return;
+        }
+        let count = advances.len();
+        let bearings = self.bearing_count.min(count);
+        let longs = self.long_count.min(bearings);
+        let last = be16(self.bytes, 4 * (self.long_count - 1));
+        write_long_advances(self.bytes, longs, advances);
+        write_run(advances, longs, bearings, last);
+        write_run(advances, bearings, count, 0);
+    }
+
     /// The bearing of a glyph on its left, or in columns on its top, in units of the font: 0 where it has none.
     pub fn bearing(&self, glyph: u16) -> i16
         ensures { result ≡ bearing_of self.now glyph }
@@ -103,5 +122,30 @@ impl<'a> Metrics<'a> {
             2 * (self.long_count + glyph)
         };
         be16(self.bytes, place).cast_signed()
+    }
+}
+
+/// Writes the advances of so many long metrics over the first numbers.
+fn write_long_advances(bytes: &[u8], count: usize, advances: &mut [u16])
+    requires metrics { 4 * count ≤ length bytes.now }
+    requires inside { count ≤ length advances.old }
+    ensures long { length advances.new ≡ length advances.old }
+    ensures each { (k : ℕ) → k < count → slice_index_or advances.new k 0 ≡ be16 bytes.now (4 * k) }
+{
+    let (metrics, _) = bytes.as_chunks::<4>();
+    for glyph in 0..count {
+        advances[glyph] = be16(&metrics[glyph], 0);
+    }
+}
+
+/// Writes an advance over the numbers from one up to another.
+fn write_run(advances: &mut [u16], from: usize, to: usize, advance: u16)
+    requires { to ≤ length advances.old }
+    ensures long { length advances.new ≡ length advances.old }
+    ensures before { (k : ℕ) → k < from → slice_index_or advances.new k 0 ≡ slice_index_or advances.old k 0 }
+    ensures written { (k : ℕ) → from ≤ k → k < to → slice_index_or advances.new k 0 ≡ advance }
+{
+    for glyph in from..to {
+        advances[glyph] = advance;
     }
 }

@@ -1,11 +1,11 @@
 -- A run of the turns from the front is the run of the machine.
-use Rattle.std.proofs.Common.{◌≡◌, ℕ, ◌+◌, ◌≤◌, Bool, true, false, cond, length, ap, sym, ◌∙◌, arith}
+use Rattle.std.proofs.Common.{◌≡◌, ℕ, ◌+◌, ◌≤◌, Bool, true, false, cond, length, ap, refl, subst, sym, ◌∙◌, ◌<◌, arith}
 use Rattle.aat_buffer.specs.Buffer.{Buffer, with_cursor, without_positions}
 use Rattle.aat_machine_tables.specs.Table.{TableValue}
 use Rattle.aat_machine_tables.specs.declared.state_table.GenericStateEntry.{GenericStateEntry}
 use Rattle.aat_run.specs.Context.{Context, Machine, first_config, is_at_end, machine_of, start}
 use Rattle.aat_run.specs.Driven.{machine_run, outcome_of, IsRefusal}
-use Rattle.aat_run.specs.Laws.{KeepsFit, PassesFit, Pays, KeepsLength}
+use Rattle.aat_run.specs.Laws.{KeepsFit, PassesFit, Pays, KeepsLength, SameSettings}
 use Rattle.aat_run.specs.Machine.{run_to_end}
 use Rattle.aat_run.specs.Outcome.{Outcome}
 use Rattle.aat_run.specs.declared.error.AatError.{AatError}
@@ -24,6 +24,36 @@ ran on table x b begun turned last turns in_place place begins run ends =
     ap {B = Outcome} (λ (d : Buffer). record { buffer = d; turns = turns }) ends
     ∙ run
     ∙ ap (λ (d : Buffer). outcome_of (run_to_end (machine_of on table x) (first_config d x.fresh))) from
+
+-- the buffer before the turns has the line of the one before it
+pub begun_line : (b begun : Buffer) (in_place : Bool) → begun ≡ with_cursor (cond in_place b (without_positions b)) 0 → begun.line ≡ b.line
+begun_line b begun true begins = ap (λ (d : Buffer). d.line) begins
+begun_line b begun false begins = ap (λ (d : Buffer). d.line) begins
+
+begun_longest : (b begun : Buffer) (in_place : Bool) → begun ≡ with_cursor (cond in_place b (without_positions b)) 0 → begun.max_len ≡ b.max_len
+begun_longest b begun true begins = ap (λ (d : Buffer). d.max_len) begins
+begun_longest b begun false begins = ap (λ (d : Buffer). d.max_len) begins
+
+-- and its settings
+pub begun_settings : (b begun : Buffer) (in_place : Bool) → begun ≡ with_cursor (cond in_place b (without_positions b)) 0 → SameSettings b begun
+begun_settings b begun true begins = subst (λ (d : Buffer). SameSettings b d) (sym begins) (record { direction = refl; cluster_level = refl; flags = refl; scratch_flags = refl; max_len = refl; successful = refl })
+begun_settings b begun false begins = subst (λ (d : Buffer). SameSettings b d) (sym begins) (record { direction = refl; cluster_level = refl; flags = refl; scratch_flags = refl; max_len = refl; successful = refl })
+
+refused_longer : (b d left : Buffer) → length d.line ≡ length b.line → d.max_len ≡ b.max_len → (e : AatError) → IsRefusal d left e → IsRefusal b (with_cursor left 0) e
+refused_longer b d left line most (AaltValue value) none = none
+refused_longer b d left line most TooLong long = omega (arith, long, most)
+refused_longer b d left line most OutOfMemory long = (omega (arith, long.0, line), omega (arith, long.1, line, most))
+refused_longer b d left line most BufferFailed none = none
+
+-- a refusal of the turns is one of the run
+pub refused_run : {T R : Type 0} (on : ℕ → Bool) (table : TableValue (GenericStateEntry T)) (x : Context R (GenericStateEntry T)) (b begun : Buffer) (in_place : Bool)
+    → in_place ≡ x.in_place → begun ≡ with_cursor (cond in_place b (without_positions b)) 0
+    → (e : AatError) → IsRefusal begun (run_to_end (machine_of on table x) (first_config begun x.fresh)).buffer e → IsRefusal b (machine_run on table x b).buffer e
+unfolding machine_run
+refused_run on table x b begun in_place place begins e refusal =
+    let from : begun ≡ (start x.in_place b x.fresh).buffer = begins ∙ ap (λ p. with_cursor (cond p b (without_positions b)) 0) place in
+    subst (λ (d : Buffer). IsRefusal b (with_cursor (run_to_end (machine_of on table x) (first_config d x.fresh)).buffer 0) e) from
+    (refused_longer b begun (run_to_end (machine_of on table x) (first_config begun x.fresh)).buffer (ap length (begun_line b begun in_place begins)) (begun_longest b begun in_place begins) e refusal)
 
 -- a run that is off at each cluster leaves the buffer, in a turn for each glyph and one more
 pub ran_past : {R E : Type 0} (m : Machine R E) (b : Buffer) (r : R) (n : ℕ) → ((x : ℕ) → m.on x ≡ false) → b.cursor ≡ 0 → n ≡ length b.line

@@ -231,9 +231,13 @@ pub fn run_machine_through<T: Acting, C: driver_context_t<T>, A: Allocator + Cop
     let _most = buffer.max_len();
     let _budget = buffer.max_ops();
     begin(buffer, context.in_place());
-    let outcome = take_turns(machine, wakers, context, buffer, ranges, feature_flags)?;
-    buffer.sync();
-    Ok(outcome)
+    match take_turns(machine, wakers, context, buffer, ranges, feature_flags) {
+        Ok(outcome) => {
+            buffer.sync();
+            Ok(outcome)
+        }
+        Err(error) => Err(error),
+    }
 }
 
 /// Runs a state table over a line in a context, from the front, and answers the number of turns. `drive` has the
@@ -274,8 +278,20 @@ pub fn run_machine<T: Acting, C: driver_context_t<T>, A: Allocator + Copy>(
     ensures in_place { C.stays_in_place ≡ true → IsOk result }
     ensures kept { C.keeps_length ≡ true → IsOk result }
 {
-    let outcome = run_machine_through(machine, wakers, context, buffer, ranges, feature_flags)?;
-    Ok(outcome.turns)
+    match run_machine_through(machine, wakers, context, buffer, ranges, feature_flags) {
+        Ok(outcome) => Ok(outcome.turns),
+        Err(error) => Err(error),
+    }
+}
+
+/// The ranges that a run carries along, none at first.
+fn ranges_in(range_flags: Option<&[range_flags_t]>) -> &[range_flags_t]
+    ensures { result.now ≡ ranges_of range_flags.entry }
+{
+    match range_flags {
+        Some(ranges) => ranges,
+        None => &[],
+    }
 }
 
 /// Runs a state table over the line of `c` in a context, from the front, in state 0 and with the registers that it
@@ -308,7 +324,7 @@ pub fn run_machine<T: Acting, C: driver_context_t<T>, A: Allocator + Copy>(
 /// are any, and no turns are added. A buffer that had failed before is run as any other.
 ///
 /// What follows of its steps is not proved. A turn takes a bounded number of them but for its act, the look-ups in the
-/// table, which search by bisection where it has no array, pages or grid, or the state is above the grid, and the
+/// table, which search by bisection where it has no array, pages, grid or rows, or the state is above the grid, and the
 /// search for the range of a cluster that lies neither in the range that was found last nor in one beside it, which
 /// bisects ranges that end at the last cluster there can be and walks through others. Where there are two ranges or
 /// more and none switches the machine on the line is passed over at once, and where each does and they end at the last
@@ -352,12 +368,13 @@ pub fn drive<T: Acting, C: driver_context_t<T>, A: Allocator + Copy>(
     ensures same { c.new.buffer.ghost_name ≡ c.old.buffer.ghost_name }
 {
     let feature_flags = c.subtable_flags;
-    let ranges = match c.range_flags {
-        Some(ranges) => ranges,
-        None => &[],
-    };
+    let ranges = ranges_in(c.range_flags);
     let buffer = &mut *c.buffer;
-    let turns = run_machine(machine, None, context, buffer, ranges, feature_flags)?;
-    c.turns += turns;
-    Ok(())
+    match run_machine(machine, None, context, buffer, ranges, feature_flags) {
+        Ok(turns) => {
+            c.turns += turns;
+            Ok(())
+        }
+        Err(error) => Err(error),
+    }
 }

@@ -60,7 +60,7 @@ fn count<A: Allocator + Copy>(buffer: &hb_buffer_t<A>, run_state: &mut RunState)
 }
 
 /// What the entries of a machine do by the registers, the cursor and the length of the line as they are here.
-#[derive(Clone, Copy)]
+#[derive(Drop)]
 struct TurnsHere<'m, 'c, 'b, T: Acting, C: driver_context_t<T>, A: Allocator + Copy> {
     machine: &'m ExtendedStateTable<T>,
     context: &'c C,

@@ -5,7 +5,7 @@ use aat_buffer::{DELETED_GLYPH, hb_buffer_t};
 use std::alloc::{AllocError, Allocator, Global};
 
 /// Which glyphs the acts of a machine change.
-#[derive(Clone, Copy, PartialEq, Eq, Debug)]
+#[derive(Clone, Copy, PartialEq)]
 pub(crate) enum Reach {
     /// Those of a span that ends at the cursor and has so many glyphs at most.
     Span(usize),
@@ -29,7 +29,7 @@ pub(crate) struct Transition {
 }
 
 /// A span of a line, and the one that stands in its place.
-#[derive(Clone, Copy, PartialEq, Eq, Debug)]
+#[derive(Clone, Copy)]
 pub(crate) struct Change {
     /// Where both begin.
     pub(crate) start: usize,

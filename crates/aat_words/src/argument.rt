@@ -1,5 +1,6 @@
 //! An argument of a command, as a row of a table.
 
+use clap::builder::ValueParser;
 use clap::{Arg, ArgAction, value_parser};
 use std::alloc::{AllocError, Global};
 
@@ -29,8 +30,8 @@ pub(crate) enum Absent {
     Value(&'static str),
     /// It has to be there.
     Error,
-    /// It has to be there where none of these is.
-    ErrorWithout(&'static [&'static str]),
+    /// It has to be there where none of those is that may not stand beside it.
+    ErrorWithoutOthers,
 }
 
 /// An argument of a command.
@@ -50,49 +51,53 @@ pub(crate) struct Argument {
     pub(crate) help: &'static str,
 }
 
-/// The argument that takes what is asked.
-fn taking<'a>(argument: Arg<'a>, takes: Takes) -> Arg<'a> {
-    let (argument, name) = match takes {
-        Takes::Nothing => return argument.action(ArgAction::SetTrue),
-        Takes::Text(name) => (argument.action(ArgAction::Set), name),
-        Takes::AnyText(name) => {
-            let argument = argument.action(ArgAction::Set).allow_hyphen_values(true);
-            (argument, name)
-        }
-        Takes::Number(name) => (argument.value_parser(value_parser!(u32)), name),
-        Takes::ShortNumber(name) => (argument.value_parser(value_parser!(u16)), name),
-        Takes::Word(name, words) => (argument.value_parser(words), name),
-    };
-    argument.value_name(name)
-}
-
-/// The argument for which this stands where it is not there.
-fn replaced<'a>(mut argument: Arg<'a>, absent: Absent) -> Result<Arg<'a>, AllocError> {
-    match absent {
-        Absent::Nothing => Ok(argument),
-        Absent::Value(value) => Ok(argument.default_value(value)),
-        Absent::Error => Ok(argument.required(true)),
-        Absent::ErrorWithout(others) => {
-            for other in others {
-                argument = argument.required_unless_present(other)?;
-            }
-            Ok(argument)
-        }
+/// What a value has to be, and what help calls it: nothing where none is taken.
+fn value_of<'a>(takes: Takes) -> Option<(&'static str, ValueParser<'a>)> {
+    match takes {
+        Takes::Nothing => None,
+        Takes::Text(name) | Takes::AnyText(name) => Some((name, ValueParser::String)),
+        Takes::Number(name) => Some((name, value_parser!(u32))),
+        Takes::ShortNumber(name) => Some((name, value_parser!(u16))),
+        Takes::Word(name, words) => Some((name, ValueParser::Names(words))),
     }
 }
 
+/// The argument that takes what is asked.
+fn taking<'a>(argument: Arg<'a>, takes: Takes) -> Arg<'a> {
+    let Some((name, parser)) = value_of(takes) else {
+        return argument.action(ArgAction::SetTrue);
+    };
+    let takes_hyphens = matches!(takes, Takes::AnyText(_));
+    argument
+        .value_parser(parser)
+        .value_name(name)
+        .allow_hyphen_values(takes_hyphens)
+}
+
 impl Argument {
-    /// The argument as the parser of words takes it.
-    pub(crate) fn arg<'a>(&self, alloc: Global) -> Result<Arg<'a>, AllocError> {
-        let argument = Arg::new(alloc, self.id).help(self.help);
-        let argument = match self.long {
-            Some(long) => argument.long(long),
-            None => argument,
-        };
-        let mut argument = replaced(taking(argument, self.takes), self.absent)?;
+    /// The argument that may not stand beside the others, and has to be there without them where that is asked.
+    fn apart<'a>(&self, mut argument: Arg<'a>) -> Result<Arg<'a>, AllocError> {
+        let is_wanted = matches!(self.absent, Absent::ErrorWithoutOthers);
         for other in self.others {
             argument = argument.conflicts_with(other)?;
+            if is_wanted {
+                argument = argument.required_unless_present(other)?;
+            }
         }
         Ok(argument)
+    }
+
+    /// The argument as the parser of words takes it.
+    pub(crate) fn arg<'a>(&self, alloc: Global) -> Result<Arg<'a>, AllocError> {
+        let mut argument = Arg::new(alloc, self.id)
+            .help(self.help)
+            .required(matches!(self.absent, Absent::Error));
+        if let Some(long) = self.long {
+            argument = argument.long(long);
+        }
+        if let Absent::Value(value) = self.absent {
+            argument = argument.default_value(value);
+        }
+        self.apart(taking(argument, self.takes))
     }
 }

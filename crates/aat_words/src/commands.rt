@@ -1,7 +1,7 @@
 //! The commands that help shows.
 
 use crate::argument::{Absent, Argument, Takes};
-use crate::shape_words::shape_arguments;
+use crate::shape_words::{form_arguments, text_arguments};
 use crate::shared::{CHANGE, DIRECTION, FEATURES, FONT, INDEX, PLAIN};
 use crate::subcommand::Subcommand;
 
@@ -15,7 +15,8 @@ pub(crate) fn shape_command() -> Subcommand {
         about: "Shapes a text, and shows its lines",
         after: "Example: aat shape font.ttf \"fila\" --features smcp --output svg",
         is_hidden: false,
-        arguments: shape_arguments(),
+        arguments: text_arguments(),
+        more: form_arguments(),
     }
 }
 
@@ -48,6 +49,7 @@ pub(crate) fn inspect_command() -> Subcommand {
         after: "Example: aat inspect font.ttf --machine 1 --output svg",
         is_hidden: false,
         arguments: &INSPECT,
+        more: &[],
     }
 }
 
@@ -88,6 +90,7 @@ pub(crate) fn dump_command() -> Subcommand {
         after: "Example: aat dump font.ttf morx",
         is_hidden: false,
         arguments: &DUMP,
+        more: &[],
     }
 }
 
@@ -99,6 +102,7 @@ pub(crate) fn faults_command() -> Subcommand {
         after: "Example: aat faults font.ttf",
         is_hidden: false,
         arguments: &FONT_ALONE,
+        more: &[],
     }
 }
 
@@ -110,6 +114,7 @@ pub(crate) fn settled_command() -> Subcommand {
         after: "Example: aat settled font.ttf",
         is_hidden: false,
         arguments: &FONT_ALONE,
+        more: &[],
     }
 }
 
@@ -134,6 +139,7 @@ pub(crate) fn check_command() -> Subcommand {
         after: "Example: aat check font.ttf\nThe status is 3 where there is an error or a warning",
         is_hidden: false,
         arguments: &CHECK,
+        more: &[],
     }
 }
 
@@ -177,6 +183,7 @@ pub(crate) fn bench_command() -> Subcommand {
         after: "Example: aat bench font.ttf --file text.txt --features smcp",
         is_hidden: false,
         arguments: &BENCH,
+        more: &[],
     }
 }
 
@@ -188,5 +195,6 @@ pub(crate) fn batch_command() -> Subcommand {
         after: "A request is the words of another command, as: shape font.ttf \"fila\" --features smcp",
         is_hidden: false,
         arguments: &[],
+        more: &[],
     }
 }

@@ -27,6 +27,7 @@ pub(crate) fn example_command() -> Subcommand {
         after: "",
         is_hidden: true,
         arguments: &EXAMPLE,
+        more: &[],
     }
 }
 
@@ -46,6 +47,7 @@ pub(crate) fn rows_command() -> Subcommand {
         after: "",
         is_hidden: true,
         arguments: &ROWS,
+        more: &[],
     }
 }
 
@@ -75,5 +77,6 @@ pub(crate) fn make_command() -> Subcommand {
         after: "Example: aat make font.json > font.ttf",
         is_hidden: true,
         arguments: &MAKE,
+        more: &[],
     }
 }

@@ -6,13 +6,13 @@ use crate::shared::{CHANGE, DIRECTION, FEATURES, FONT, INDEX, PLAIN};
 /// What help says of an option of `hb-shape` that changes nothing.
 const IDLE: &str = "Taken and passed over: no table that is read here asks for it";
 
-/// The arguments of `aat shape`, in the order of its help.
-static SHAPE: [Argument; 30] = [
+/// The arguments of `aat shape` that tell what is shaped, and how, in the order of its help.
+static TEXT: [Argument; 12] = [
     FONT,
     Argument {
         id: "text",
         takes: Takes::Text("TEXT"),
-        absent: Absent::ErrorWithout(&["file", "glyphs", "unicodes"]),
+        absent: Absent::ErrorWithoutOthers,
         others: &["file", "glyphs", "unicodes"],
         help: "The text. Each of its lines is shaped by itself",
         ..PLAIN
@@ -77,6 +77,10 @@ static SHAPE: [Argument; 30] = [
         help: "Breaks the text into lines of at most N units of the font, where that can be",
         ..PLAIN
     },
+];
+
+/// Those that tell what is written, and where the font is. They stand behind the others.
+static FORM: [Argument; 18] = [
     Argument {
         id: "output",
         long: Some("output"),
@@ -193,7 +197,12 @@ static SHAPE: [Argument; 30] = [
     CHANGE,
 ];
 
-/// The arguments of `aat shape`.
-pub(crate) fn shape_arguments() -> &'static [Argument] {
-    &SHAPE
+/// The arguments of `aat shape` that tell what is shaped, and how.
+pub(crate) fn text_arguments() -> &'static [Argument] {
+    &TEXT
+}
+
+/// Those that stand behind them: what is written, and where the font is.
+pub(crate) fn form_arguments() -> &'static [Argument] {
+    &FORM
 }

@@ -17,15 +17,28 @@ pub(crate) struct Subcommand {
     pub(crate) is_hidden: bool,
     /// Its arguments, in the order of its help.
     pub(crate) arguments: &'static [Argument],
+    /// Those that stand behind them. A long table is proved faster as two.
+    pub(crate) more: &'static [Argument],
+}
+
+/// Adds arguments as the parser of words takes them.
+fn add_args<'a>(
+    alloc: Global,
+    rows: &[Argument],
+    arguments: &mut Vec<Arg<'a>>,
+) -> Result<(), AllocError> {
+    for row in rows {
+        arguments.push(row.arg(alloc)?)?;
+    }
+    Ok(())
 }
 
 impl Subcommand {
     /// The arguments as the parser of words takes them.
     fn args<'a>(&self, alloc: Global) -> Result<Vec<Arg<'a>>, AllocError> {
         let mut arguments = Vec::new(alloc);
-        for argument in self.arguments {
-            arguments.push(argument.arg(alloc)?)?;
-        }
+        add_args(alloc, self.arguments, &mut arguments)?;
+        add_args(alloc, self.more, &mut arguments)?;
         Ok(arguments)
     }
 

@@ -75,37 +75,41 @@ fn numbered_rules(
     Ok(out)
 }
 
-/// A machine with what stands for the places of its actions. It is as sound as the machine, so it fails only where it
-/// gets no memory.
+/// A machine of given rules with what stands for the places of its actions. It is as sound as the machine, so it fails
+/// only where it gets no memory.
 fn numbered(
     alloc: Global,
     counts_bytes: bool,
     machine: &ExtendedStateTable<EntryData>,
+    rules: &[KerxRule],
 ) -> Result<ExtendedStateTable<u16>, AllocError>
-    requires { position (is_far counts_bytes) machine.now.rules ≡ None }
+    requires rules { rules.now ≡ machine.now.rules }
+    requires near { position (is_far counts_bytes) rules.now ≡ None }
     ensures { IfOk result (λ out. out ≡ numbered counts_bytes machine.now) }
 {
     let classes = machine.classes().to_pairs(alloc)?;
-    let rules = numbered_rules(alloc, counts_bytes, machine.rules())?;
+    let rules = numbered_rules(alloc, counts_bytes, rules)?;
     match ExtendedStateTable::new(alloc, machine.class_count(), &classes, &rules) {
         Ok(numbered) => Ok(numbered),
         Err(_) => Err(AllocError),
     }
 }
 
-/// The bytes of a machine without further offsets.
+/// The bytes of a machine of given rules without further offsets.
 fn plain_machine(
     alloc: Global,
     counts_bytes: bool,
     machine: &ExtendedStateTable<EntryData>,
+    rules: &[KerxRule],
 ) -> Result<Vec<u8>, SubtableWriteError>
+    requires { rules.now ≡ machine.now.rules }
     ensures is { IfOk result (λ plain. IsPlain counts_bytes machine.now plain.items) }
     ensures refused { IfErr result (RefusesWithin (table_written counts_bytes machine.now)) }
 {
-    if let Some(place) = first_far(counts_bytes, machine.rules()) {
+    if let Some(place) = first_far(counts_bytes, rules) {
         return Err(SubtableWriteError::NoIndex(place));
     }
-    let numbered = numbered(alloc, counts_bytes, machine)?;
+    let numbered = numbered(alloc, counts_bytes, machine, rules)?;
     Ok(write_machine(alloc, &numbered)?)
 }
 
@@ -135,6 +139,23 @@ fn with_number(
     Ok(out)
 }
 
+/// Writes a machine of given rules whose header ends with flags and the offset of what follows.
+fn write_with_rules(
+    alloc: Global,
+    counts_bytes: bool,
+    flags: u32,
+    machine: &ExtendedStateTable<EntryData>,
+    rules: &[KerxRule],
+) -> Result<Vec<u8>, SubtableWriteError>
+    requires flags { flags < 2 ^ 31 }
+    requires rules { rules.now ≡ machine.now.rules }
+    ensures { Writes result (machine_written counts_bytes flags machine.now) }
+{
+    let plain = plain_machine(alloc, counts_bytes, machine, rules)?;
+    let written = with_number(alloc, machine.class_count(), rules.len(), flags, &plain)?;
+    Ok(written)
+}
+
 /// Writes a machine whose header ends with flags and the offset of what follows.
 fn write_with_offset(
     alloc: Global,
@@ -145,10 +166,8 @@ fn write_with_offset(
     requires { flags < 2 ^ 31 }
     ensures { Writes result (machine_written counts_bytes flags machine.now) }
 {
-    let plain = plain_machine(alloc, counts_bytes, machine)?;
-    let cells = machine.rules().len();
-    let written = with_number(alloc, machine.class_count(), cells, flags, &plain)?;
-    Ok(written)
+    let rules = machine.to_rules(alloc)?;
+    write_with_rules(alloc, counts_bytes, flags, machine, &rules)
 }
 
 /// Appends pairs of point indexes.

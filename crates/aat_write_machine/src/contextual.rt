@@ -46,17 +46,18 @@ fn lookups_asked(rules: &[ContextualRule]) -> usize
     most
 }
 
-/// The bytes of the lookups that the entries ask for.
+/// The bytes of the lookups that the entries of a subtable's rules ask for.
 fn substitutions(
     alloc: Global,
     subtable: &ContextualSubtable,
+    rules: &[ContextualRule],
 ) -> Result<Vec<Vec<u8>>, MorxWriteError>
+    requires { rules.now ≡ subtable.now.state.rules }
     ensures writes { let written = substitutions_written subtable.now in
         MatchResult result (λ tables. written ≡ Ok (byte_lists tables.items)) (RefusesWithin written) }
     ensures few { IfOk result (λ tables. length tables.items ≤ 2 * length subtable.now.state.rules) }
     ensures short { IfOk result (λ tables. are_too_long (byte_lists tables.items) ≡ false) }
 {
-    let rules = subtable.state.rules();
     let asked = lookups_asked(rules);
     if asked != subtable.lookups.len() {
         return Err(MorxWriteError::LookupCount(asked));
@@ -71,28 +72,24 @@ fn substitutions(
     Ok(tables)
 }
 
-/// The bytes of a contextual subtable with those of its class table and of its lookups.
+/// The bytes of a contextual subtable with those of its class table and of its lookups, and its rules.
 fn contextual_bytes(
     alloc: Global,
     subtable: &ContextualSubtable,
+    rules: &[ContextualRule],
     classes: &[u8],
     tables: &[Vec<u8>],
 ) -> Result<Vec<u8>, AllocError>
     requires short { length classes.now < 2 ^ 20 }
-    requires few { length subtable.now.state.rules ≤ 65536 }
+    requires rules { rules.now ≡ subtable.now.state.rules }
+    requires few { length rules.now ≤ 65536 }
     requires lookups { length tables.now ≤ 131072 }
     requires room { are_too_long (byte_lists tables.now) ≡ false }
     ensures { IfOk result (λ out. out.items ≡ contextual_bytes classes.now (byte_lists tables.now) subtable.now) }
 {
-    let state = &subtable.state;
-    let offset = machine_end(1, 4, classes, state.rules().len());
-    let mut out = machine_bytes(
-        alloc,
-        &[offset],
-        state.class_count(),
-        classes,
-        state.rules(),
-    )?;
+    let offset = machine_end(1, 4, classes, rules.len());
+    let class_count = subtable.state.class_count();
+    let mut out = machine_bytes(alloc, &[offset], class_count, classes, rules)?;
     append_substitutions(&mut out, tables)?;
     Ok(out)
 }
@@ -115,10 +112,11 @@ pub fn write_contextual(
 ) -> Result<Vec<u8>, MorxWriteError>
     ensures { Writes result (contextual_written subtable.now) }
 {
-    let classes = class_table(alloc, &subtable.state)?;
-    let tables = match substitutions(alloc, subtable) {
+    let rules = subtable.state.to_rules(alloc)?;
+    let classes = class_table(alloc, &subtable.state, &rules)?;
+    let tables = match substitutions(alloc, subtable, &rules) {
         Ok(tables) => tables,
         Err(error) => return Err(error),
     };
-    Ok(contextual_bytes(alloc, subtable, &classes, &tables)?)
+    Ok(contextual_bytes(alloc, subtable, &rules, &classes, &tables)?)
 }

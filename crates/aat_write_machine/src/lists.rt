@@ -7,7 +7,7 @@ use crate::error::MorxWriteError;
 use crate::machine::{class_table, machine_bytes};
 use crate::numbers::append_glyphs;
 use crate::words::{append_longs, append_words};
-use aat_machine_tables::{InsertionSubtable, LigatureSubtable};
+use aat_machine_tables::{GenericStateEntry, InsertionSubtable, LigatureSubtable};
 use std::alloc::{AllocError, Global};
 
 /// How many elements a list may have.
@@ -47,18 +47,18 @@ pub fn write_insertion(
 ) -> Result<Vec<u8>, MorxWriteError>
     ensures { Writes result (insertion_written subtable.now) }
 {
-    let classes = class_table(alloc, &subtable.state)?;
+    let rules = subtable.state.to_rules(alloc)?;
+    let classes = class_table(alloc, &subtable.state, &rules)?;
     if is_too_long(&subtable.glyphs) {
         return Err(MorxWriteError::TooLong);
     }
-    let rules = subtable.state.rules();
     let offset = machine_end(1, 4, &classes, rules.len());
     let mut out = machine_bytes(
         alloc,
         &[offset],
         subtable.state.class_count(),
         &classes,
-        rules,
+        &rules,
     )?;
     append_glyphs(&mut out, &subtable.glyphs)?;
     Ok(out)
@@ -73,14 +73,15 @@ fn has_long_list(subtable: &LigatureSubtable) -> bool
         || is_too_long(&subtable.ligatures)
 }
 
-/// Where the lists of a ligature subtable start.
-fn ligature_offsets(subtable: &LigatureSubtable, classes: &[u8]) -> [u32; 3]
+/// Where the lists of a ligature subtable start, which has so many rules.
+fn ligature_offsets(subtable: &LigatureSubtable, classes: &[u8], cells: usize) -> [u32; 3]
     requires short { length classes.now < 2 ^ 20 }
-    requires few { length subtable.now.state.rules ≤ 65536 }
+    requires cells { cells ≡ length subtable.now.state.rules }
+    requires few { cells ≤ 65536 }
     requires lists { has_long_list subtable.now ≡ false }
     ensures { result ≡ ligature_offsets classes.now subtable.now }
 {
-    let end = machine_end(3, 2, classes, subtable.state.rules().len());
+    let end = machine_end(3, 2, classes, cells);
     let components = end + 4 * subtable.ligature_actions.len() as u32;
     let ligatures = components + 2 * subtable.components.len() as u32;
     [end, components, ligatures]
@@ -95,20 +96,22 @@ fn append_lists(out: &mut Vec<u8>, subtable: &LigatureSubtable) -> Result<(), Al
     append_glyphs(out, &subtable.ligatures)
 }
 
-/// The bytes of a ligature subtable with the bytes of its class table.
+/// The bytes of a ligature subtable with the bytes of its class table and its rules.
 fn ligature_bytes(
     alloc: Global,
     subtable: &LigatureSubtable,
     classes: &[u8],
+    rules: &[(u16, u16, GenericStateEntry<u16>)],
 ) -> Result<Vec<u8>, AllocError>
     requires short { length classes.now < 2 ^ 20 }
-    requires few { length subtable.now.state.rules ≤ 65536 }
+    requires rules { rules.now ≡ subtable.now.state.rules }
+    requires few { length rules.now ≤ 65536 }
     requires lists { has_long_list subtable.now ≡ false }
     ensures { IfOk result (λ out. out.items ≡ ligature_bytes classes.now subtable.now) }
 {
-    let further = ligature_offsets(subtable, classes);
-    let state = &subtable.state;
-    let mut out = machine_bytes(alloc, &further, state.class_count(), classes, state.rules())?;
+    let further = ligature_offsets(subtable, classes, rules.len());
+    let class_count = subtable.state.class_count();
+    let mut out = machine_bytes(alloc, &further, class_count, classes, rules)?;
     append_lists(&mut out, subtable)?;
     Ok(out)
 }
@@ -124,9 +127,10 @@ fn ligature_bytes(
 pub fn write_ligature(alloc: Global, subtable: &LigatureSubtable) -> Result<Vec<u8>, MorxWriteError>
     ensures { Writes result (ligature_written subtable.now) }
 {
-    let classes = class_table(alloc, &subtable.state)?;
+    let rules = subtable.state.to_rules(alloc)?;
+    let classes = class_table(alloc, &subtable.state, &rules)?;
     if has_long_list(subtable) {
         return Err(MorxWriteError::TooLong);
     }
-    Ok(ligature_bytes(alloc, subtable, &classes)?)
+    Ok(ligature_bytes(alloc, subtable, &classes, &rules)?)
 }

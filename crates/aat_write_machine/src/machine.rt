@@ -96,22 +96,28 @@ pub(crate) fn machine_bytes<T: EntryWrite, A: Allocator>(
 }
 
 /// Why the rules of a machine are not written.
-fn refusal<T: Acting, A: Allocator>(machine: &ExtendedStateTable<T, A>) -> Option<MorxWriteError>
+fn refusal<T: Acting, A: Allocator>(
+    machine: &ExtendedStateTable<T, A>,
+    rules: &[(u16, u16, GenericStateEntry<T>)],
+) -> Option<MorxWriteError>
+    requires { rules.now ≡ machine.now.rules }
     ensures { result ≡ rules_refusal machine.now.class_count machine.now.rules }
 {
-    rules_refusal(machine.class_count(), machine.rules())
+    rules_refusal(machine.class_count(), rules)
 }
 
-/// The bytes of the class table of a machine whose rules are not refused.
+/// The bytes of the class table of a machine whose rules, which are given, are not refused.
 pub(crate) fn class_table<T: EntryWrite, A: Allocator + Copy>(
     alloc: A,
     machine: &ExtendedStateTable<T, A>,
+    rules: &[(u16, u16, GenericStateEntry<T>)],
 ) -> Result<Vec<u8, A>, MorxWriteError>
+    requires { rules.now ≡ machine.now.rules }
     ensures writes { Writes result (class_table_written machine.now) }
     ensures short { IfOk result (λ classes. length classes.items < 2 ^ 20) }
     ensures few { OnOk result (length machine.now.rules ≤ 65536) }
 {
-    if let Some(error) = refusal(machine) {
+    if let Some(error) = refusal(machine, rules) {
         return Err(error);
     }
     lookup_bytes(alloc, machine.classes())
@@ -139,6 +145,7 @@ pub fn write_machine<T: EntryWrite, A: Allocator + Copy>(
 ) -> Result<Vec<u8, A>, MorxWriteError>
     ensures { Writes result (machine_written T.words_of [] machine.now) }
 {
-    let classes = class_table(alloc, machine)?;
-    Ok(machine_bytes(alloc, &[], machine.class_count(), &classes, machine.rules())?)
+    let rules = machine.to_rules(alloc)?;
+    let classes = class_table(alloc, machine, &rules)?;
+    Ok(machine_bytes(alloc, &[], machine.class_count(), &classes, &rules)?)
 }

@@ -1,7 +1,8 @@
 -- How the words of glyphs are marked. No contract but those of the words cites this.
-use Rattle.std.specs.Prelude.{◌≡◌, ◌<◌, ◌≤◌, ℕ, List}
+use Rattle.std.specs.Prelude.{◌≡◌, ◌<◌, ◌≤◌, ℕ, Bool, List, Some, true}
 use Rattle.std.specs.Int.{bit_at}
 use Rattle.aat_font.specs.Wakers.{word_of, WakeAt}
+use Rattle.aat_lookup.specs.Keys.{value_in}
 use Rattle.aat_machine_tables.specs.declared.morx.Subtable.{Subtable}
 use Rattle.aat_font.specs.declared.wakers.GlyphWords.{GlyphWords}
 
@@ -16,3 +17,11 @@ SameWords old new = (g : ℕ) → word_of new g ≡ word_of old g
 -- no subtable below a number is woken by a glyph that did not wake it
 abbrev pub KeepsWakers : List GlyphWords → List GlyphWords → ℕ → Type 0
 KeepsWakers old new number = (k : ℕ) (s : Subtable) → k < number → WakeAt s old k → WakeAt s new k
+
+-- a class whose bit is set passes a test
+abbrev pub ArePassed : (ℕ → Bool) → ℕ → Type 0
+ArePassed test passed = (class : ℕ) → bit_at passed class ≡ 1 → test class ≡ true
+
+-- where a glyph's bit is clear, the class that pairs have for it passes a test
+abbrev pub AreAwake : (ℕ → Bool) → GlyphWords → ℕ → List (ℕ × ℕ) → Type 0
+AreAwake test w bit pairs = (g class : ℕ) → bit_at (word_of w g) bit ≡ 0 → value_in pairs g ≡ Some class → test class ≡ true

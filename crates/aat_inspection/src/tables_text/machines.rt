@@ -35,7 +35,7 @@ pub(crate) fn write_machine<T: EntryText, W: Write>(
 ) -> io::Result<()> {
     writeln!(out, "  classes {}", machine.class_count())?;
     write_lookup(alloc, out, names, machine.classes(), Given::Class("class"))?;
-    let rules = machine.rules();
+    let rules = machine.to_rules(alloc)?;
     for rule in rules.iter().take(MOST_RULES) {
         write_rule(out, rule)?;
     }

@@ -1,9 +1,10 @@
 -- Arrays that answer as the rows of a table do. No contract but those of the tables and their arrays cites this.
-use Rattle.std.specs.Prelude.{◌≡◌, ◌+◌, ◌/◌, ◌%◌, ◌<◌, ◌≤◌, ℕ, Bool, List, ◌&&◌, ◌==◌, Option, None, Some, false, nat_lt, nat_le, length, slice_index_or, unwrap_or}
+use Rattle.std.specs.Prelude.{◌≡◌, ◌+◌, ◌/◌, ◌%◌, ◌<◌, ◌≤◌, ℕ, Bool, List, [], ◌&&◌, ◌==◌, Option, None, Some, false, nat_lt, nat_le, length, slice_index_or, unwrap_or}
 use Rattle.std.specs.List.{list_any}
 use Rattle.aat_lookup.specs.declared.dense.Dense.{Dense}
 use Rattle.aat_lookup.specs.declared.dense.Dense.TheVariants.{Moves, Classes, Pages, Search}
 use Rattle.aat_lookup.specs.Keys.{first, value_in}
+use Rattle.aat_lookup.specs.Listings.{pairs_from}
 use Rattle.aat_lookup.specs.Moves.{place_over, AreMoved}
 
 -- what stands at a place of a page whose cells begin at a start, nothing where the page is not kept
@@ -60,3 +61,17 @@ abbrev pub PairsWithin : ℕ → ℕ → List (ℕ × ℕ) → Type 0
 PairsWithin lowest count pairs =
     (i : ℕ) (d : ℕ × ℕ) → i < length pairs
     → (lowest ≤ first (slice_index_or pairs i d)) × (first (slice_index_or pairs i d) < lowest + count)
+
+-- the pairs of the glyphs of an array that have what stands in their cells
+abbrev pub pairs_in_cells : {A : Type 0} → Dense A → List (ℕ × ℕ)
+pairs_in_cells (Moves array) = pairs_from array.lowest array.cells.items
+pairs_in_cells (Classes array) = pairs_from array.lowest array.cells.items
+pairs_in_cells (Pages pages) = []
+pairs_in_cells Search = []
+
+-- the glyphs of an array have 16 bits
+abbrev pub HasSmallGlyphs : {A : Type 0} → Dense A → Type 0
+HasSmallGlyphs (Moves array) = array.lowest + length array.cells.items ≤ 65536
+HasSmallGlyphs (Classes array) = array.lowest + length array.cells.items ≤ 65536
+HasSmallGlyphs (Pages pages) = Unit
+HasSmallGlyphs Search = Unit

@@ -1,5 +1,5 @@
 //! Format 12 of the character map: groups of 32 bits.
-ghost use Rattle.std.specs.Prelude.{◌≡◌, ◌<◌, ◌≤◌, IfSome};
+ghost use Rattle.std.specs.Prelude.{◌≡◌, ◌+◌, ◌-◌, ◌%◌, ◌<◌, ◌≤◌, ℕ, IfSome, Some};
 ghost use Rattle.aat_bytes.specs.Numbers.{be32};
 ghost use Rattle.aat_read_sfnt.specs.SegmentedCoverage.{end_char, glyph_in_group, group_glyph, group_of, groups_at, known_glyph, start_char, start_glyph};
 
@@ -99,6 +99,39 @@ impl<'a> SegmentedCoverage<'a> {
         None
     }
 
+    /// The number of groups.
+    fn group_count(&self) -> u32
+        ensures { result ≡ be32 self.now 12 }
+    {
+        be32(self.bytes, 12)
+    }
+
+    /// The group that a bisection finds for a character, and behind which characters from this one on it may find another
+    /// one: up to there it takes the same way.
+    fn group_until(&self, character: u32) -> (Option<u32>, u64)
+        ensures same { (c : ℕ) → character ≤ c → c < result.1 → group_of self.now c ≡ result.0 }
+        ensures some { character < result.1 }
+        ensures has { IfSome result.0 (λ i. (i < be32 self.now 12) × (start_char self.now i ≤ character)) }
+    {
+        let mut from = 0;
+        let mut to = self.group_count() as usize;
+        let mut end: u64 = 0x1_0000_0000;
+        while from < to {
+            let middle = (from + (to - 1)) / 2;
+            let first = self.start_char(middle as u32);
+            let last = self.end_char(middle as u32);
+            if character < first {
+                to = middle;
+                end = end.min(first as u64);
+            } else if last < character {
+                from = middle + 1;
+            } else {
+                return (Some(middle as u32), end.min(last as u64 + 1));
+            }
+        }
+        (None, end)
+    }
+
     /// The glyph of a character in a group that has it.
     fn glyph_in_group(&self, character: u32, i: u32) -> Option<u16>
         requires below { i < be32 self.now 12 }
@@ -116,6 +149,26 @@ impl<'a> SegmentedCoverage<'a> {
         match self.group_of(character) {
             Some(i) => self.glyph_in_group(character, i),
             None => None,
+        }
+    }
+
+    /// The glyph of a character, and behind which characters from this one on theirs may not follow it one by one.
+    pub(crate) fn row_until(&self, character: char) -> (Option<u16>, u64)
+        ensures is { result.0 ≡ group_glyph self.now character }
+        ensures row { IfSome result.0 (λ glyph. (c : ℕ) → character ≤ c → c < result.1
+            → group_glyph self.now c ≡ Some ((glyph + (c - character)) % 65536)) }
+        ensures some { character < result.1 }
+    {
+        let character = character as u32;
+        match self.group_until(character) {
+            (Some(i), end) => match self.glyph_in_group(character, i) {
+                Some(glyph) => (
+                    Some(glyph),
+                    end.min(character as u64 + 65536 - glyph as u64),
+                ),
+                None => (None, end),
+            },
+            (None, end) => (None, end),
         }
     }
 }

@@ -141,11 +141,12 @@ pub(crate) fn write_machine(alloc: Global, machine: &KernMachine) -> Result<Vec<
 {
     let table = &machine.state_table;
     let classes = table.classes().to_pairs(alloc)?;
+    let rules = table.to_rules(alloc)?;
     write_lists(
         alloc,
         table.class_count(),
         &classes,
-        table.rules(),
+        &rules,
         &machine.values,
     )
 }

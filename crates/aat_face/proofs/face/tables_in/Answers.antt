@@ -4,14 +4,14 @@ use Rattle.aat_face.proofs.face.tables_in.Goals as goal
 pub returns : goal.returns
 returns c =
     rw (
-      c.in_ok-morx.ensures,
-      c.in_ok-kerx.ensures,
-      c.in_ok-kern.ensures,
-      c.in_ok-ankr.ensures,
-      c.in_ok-trak.ensures,
+      c.in_ok-substitution.ensures.morx,
+      c.in_ok-substitution.ensures.feat,
+      c.in_ok-kerning.ensures.kerx,
+      c.in_ok-kerning.ensures.kern,
+      c.in_ok-points.ensures.ankr,
+      c.in_ok-points.ensures.trak,
       c.has_gpos_in.ensures,
       c.has_stat_in.ensures,
-      c.in_ok-feat.ensures,
       c.number_in-glyph_count.ensures,
       c.row_metrics.ensures,
       c.em_in.ensures,

@@ -3,6 +3,6 @@ use Rattle.aat_face.proofs.lists.write_property.Given as goal
 
 abbrev pub invariant-loop-glyph : goal.invariant-loop-glyph
 invariant-loop-glyph l = record {
-  before : (k : ℕ) → k < l.fn.from → get_or l.pairs k (0, 0) ≡ get_or l.fn.pairs k (0, 0);
-  written : (k : ℕ) → l.fn.from ≤ k → k < l.glyph → get_or l.pairs k (0, 0) ≡ (k, l.fn.property);
+  before : (k : ℕ) → k < l.fn.from → get_or l.properties k 0 ≡ get_or l.fn.properties k 0;
+  written : (k : ℕ) → l.fn.from ≤ k → k < l.glyph → get_or l.properties k 0 ≡ l.fn.property;
 }

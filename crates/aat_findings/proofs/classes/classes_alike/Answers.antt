@@ -1,6 +1,5 @@
-use Rattle.std.proofs.Common.{◌≡◌, ◌∙◌, ℕ, ap, subst, arith}
+use Rattle.std.proofs.Common.{◌≡◌, ℕ, subst, arith}
 use Rattle.aat_findings.specs.Alike.{AreTwins}
-use Rattle.aat_findings.specs.Reached.{state_count}
 use Rattle.aat_findings.proofs.Twins.{twins_none}
 use Rattle.aat_findings.proofs.classes.classes_alike.Goals as goal
 
@@ -8,7 +7,7 @@ pub loop-class-init : goal.loop-class-init
 loop-class-init g c = twins_none c.args.table.now c.new-pairs.result.items c.new-pairs.ensures.items
 
 pub add_twin-requires-clause-states : goal.add_twin-requires-clause-states
-add_twin-requires-clause-states g c = c.state_count-states.ensures.count ∙ ap state_count c.rules-rules.ensures
+add_twin-requires-clause-states g c = c.in_ok-states.ensures.count
 
 pub returns : goal.returns
 returns g c =

@@ -13,5 +13,5 @@ returns c =
     let glyphs = c.args.glyphs.now in
     let marks = c.as_slice-of_marks.result.now in
     let are = subst (λ (l : List ℕ). AreReachMarks table l) (sym c.as_slice-of_marks.ensures.value) c.in_ok-marks.ensures in
-    let is = c.in_ok-found.ensures ∙ ap (λ (rs : List (Rule Entry)). filter (is_told table glyphs marks c.args.kind) rs) c.rules-rules.ensures in
+    let is = c.in_ok-found.ensures ∙ ap (λ (rs : List (Rule Entry)). filter (is_told table glyphs marks c.args.kind) rs) (c.deref.ensures.value ∙ c.in_ok-rules.ensures) in
     inserting_of table glyphs marks c.args.kind are c.in_ok-found.found.items is

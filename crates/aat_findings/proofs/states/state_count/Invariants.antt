@@ -4,6 +4,6 @@ use Rattle.aat_findings.proofs.states.state_count.Given as goal
 
 abbrev pub invariant-loop-rule : goal.invariant-loop-rule
 invariant-loop-rule g l = record {
-  count : state_count l.rules ≡ max l.count (state_count (drop l.rule-index l.rules));
+  count : state_count l.rule-items ≡ max l.count (state_count (drop l.rule-index l.rule-items));
   few : l.count ≤ 65536;
 }

@@ -1,5 +1,6 @@
 use Rattle.std.proofs.Common.{◌∙◌, ap, length}
 use Rattle.std.proofs.lemmas.Result.{on_ok_weaker}
+use Rattle.aat_map.specs.Builder.{Builder}
 use Rattle.aat_map.specs.Compiled.{compiled_ranges}
 use Rattle.aat_map.specs.Map.{resized, with_ranges}
 use Rattle.aat_map.proofs.OverAll.{compiled_over_all, over_all_bounded, over_all_ordered}
@@ -18,3 +19,9 @@ returns-clause-ok g c =
     (over_all_ordered requests c.requires.over_all) c.requires.over_all (over_all_bounded requests c.requires.over_all) (rw c.features.ensures at c.in_ok-kept.ensures.kept) c.in_ok-kept.ensures.rising c.set_range.ensures
     (made ∙ ap (λ m. with_ranges (compiled_ranges b chains) m) empty))
     c.push_ranges.ensures.ok
+
+pub returns-clause-requests : goal.returns-clause-requests
+returns-clause-requests g c = ap (λ (t : Builder). t.features) c.set_range.ensures
+
+pub returns-in_err-resize-clause-requests : goal.returns-in_err-resize-clause-requests
+returns-in_err-resize-clause-requests g c = ap (λ (t : Builder). t.features) c.set_range.ensures

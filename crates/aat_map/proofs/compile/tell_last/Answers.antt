@@ -45,3 +45,6 @@ returns-clause-current g c =
       kept = rw (is.first_is, is.settings_are) (IsPermutation-trans _ _ _ c.requires.kept c.in_ok-kept.ensures.kept);
       rising = rw is.settings_are (c.in_ok-kept.ensures.rising (live x requests) c.requires.kept);
     }
+
+pub returns-clause-requests : goal.returns-clause-requests
+returns-clause-requests g c = ap (λ (t : Builder). t.features) c.set_range.ensures

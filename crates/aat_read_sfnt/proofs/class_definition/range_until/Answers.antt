@@ -1,4 +1,4 @@
-use Rattle.std.proofs.Common.{◌≡◌, ℕ, ◌+◌, ◌-◌, ◌/◌, ◌<◌, ◌≤◌, Some, ◌∙◌, ap, arith, subst, sym}
+use Rattle.std.proofs.Common.{ℕ, ◌+◌, ◌<◌, ◌≤◌, arith, subst, sym}
 use Rattle.std.specs.Ordering.{ord_min}
 use Rattle.std.proofs.Common.{nat_cmp}
 use Rattle.aat_bytes.specs.Numbers.{be16}

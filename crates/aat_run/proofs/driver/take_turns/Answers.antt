@@ -28,3 +28,12 @@ returns-then-is_nowhere_on-clause-through g c =
     let m = machine_with (is_driven_on c.args.ranges.now c.args.feature_flags) c.args.machine.now context.advances context.actionable context.act in
     let off = driven_nowhere c.args.ranges.now c.args.feature_flags c.is_nowhere_on.result c.is_nowhere_on.ensures c.if-is_nowhere_on.true (omega (arith, c.if-ranges-gt1.true)) in
     through_past m b c.args.context.now off c.requires.front
+
+pub run_turns-requires-clause-others : goal.run_turns-requires-clause-others
+run_turns-requires-clause-others g c = c.requires.others
+
+pub run_turns-requires-clause-ids : goal.run_turns-requires-clause-ids
+run_turns-requires-clause-ids g c = c.requires.ids
+
+pub run_turns-requires-clause-fit : goal.run_turns-requires-clause-fit
+run_turns-requires-clause-fit g c = rw c.requires.front c.requires.fit

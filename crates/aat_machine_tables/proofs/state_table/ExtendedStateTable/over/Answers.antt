@@ -5,4 +5,4 @@ grid_over-requires-clause-rising g c = rw c.deref.ensures.value c.requires.risin
 
 pub invariant_of-result : goal.invariant_of-result
 invariant_of-result g c =
-    (c.requires.classes, c.requires.rising, rw c.deref.ensures.value at c.in_ok-grid.ensures.answers)
+    (c.requires.classes, (c.requires.rising, rw c.deref.ensures.value at c.in_ok-grid.ensures.answers))

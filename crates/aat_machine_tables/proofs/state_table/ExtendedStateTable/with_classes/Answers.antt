@@ -1,8 +1,7 @@
-use Rattle.std.proofs.Common.{sym, ◌∙◌}
 use Rattle.aat_machine_tables.proofs.RuleFaults.{rules_rise}
 use Rattle.aat_machine_tables.proofs.state_table.ExtendedStateTable.with_classes.Goals as goal
 
 pub over-requires-clause-rising : goal.over-requires-clause-rising
 over-requires-clause-rising g c =
-    let no_fault = rw c.deref.ensures.value at (sym c.faulty_rule.ensures ∙ c.in_default.is) in
+    let no_fault = rw c.deref.ensures.value at (c.count_and_rules_fault.ensures.sound c.in-None.is) in
     rules_rise c.args.class_count c.args.rules.items no_fault

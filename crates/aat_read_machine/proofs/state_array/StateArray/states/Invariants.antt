@@ -1,15 +1,14 @@
-use Rattle.std.proofs.Common.{◌≡◌, ◌*◌, ◌-◌, ◌<◌, ◌≤◌, ℕ, true}
-use Rattle.aat_read_machine.specs.StateArray.{has_index, state_count, states_named}
+use Rattle.std.proofs.Common.{◌*◌, ◌-◌, ◌≤◌}
+use Rattle.aat_read_machine.specs.StateArray.{AreIndexed}
+use Rattle.aat_read_machine.specs.inside.Passed.{IsWalk}
 use Rattle.aat_read_machine.proofs.state_array.StateArray.states.Given as goal
 
-abbrev pub invariant-loop-cell : goal.invariant-loop-cell
-invariant-loop-cell l = record {
-  low : 1 ≤ l.count;
-  high : l.count ≤ state_count l.self;
-  within : l.cell ≤ l.count * l.self.class_count;
-  indexed : (cell : ℕ) → cell < l.cell → has_index l.self cell ≡ true;
-  named : (cell : ℕ) → cell < l.cell → states_named l.self cell ≤ l.count;
+abbrev pub invariant-loop-state : goal.invariant-loop-state
+invariant-loop-state l = record {
+  walk : IsWalk l.self (l.state * l.self.class_count) l.walk;
+  indexed : AreIndexed l.self (l.state * l.self.class_count);
+  within : l.state ≤ l.walk.count;
 }
 
-abbrev pub decreases-loop-cell : goal.decreases-loop-cell
-decreases-loop-cell l = 65536 * l.self.class_count - l.cell
+abbrev pub decreases-loop-state : goal.decreases-loop-state
+decreases-loop-state l = 65536 - l.state

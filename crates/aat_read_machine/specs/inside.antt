@@ -1,0 +1,2 @@
+pub mod OfRows
+pub mod Passed
