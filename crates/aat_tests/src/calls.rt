@@ -1,7 +1,7 @@
 //! What comes of a call.
 
 /// What comes of a call.
-#[derive(Clone, Copy)]
+#[derive(Clone, Copy, PartialEq, Eq, Debug)]
 pub(crate) enum Outcome {
     /// It was done as it has to be.
     Done,
