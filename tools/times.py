@@ -9,7 +9,8 @@ HarfBuzz 6.0.0 and 12.3.2:
 
     g++ -O3 -std=c++17 -Isrc hbtime.cc src/harfbuzz.cc -o hbtime
 
-Programs run by turns, RUNS times (5), and the least time counts, in nanoseconds a character. Run it on a quiet machine.
+Programs run by turns, RUNS times (5), and the least time counts. A row has our nanoseconds a character for each length of
+a line, and what they are of the times of each HarfBuzz. Run it on a quiet machine.
 With --fonts each font is timed over each line of a text, over each word of it, and opened."""
 import math
 import os
@@ -25,15 +26,15 @@ ROWS = [
     ("mixed-two-awake", "`mixed-two-awake`"), ("mixed-each-awake", "`mixed-each-awake`"),
     ("kern-pairs", "`kern-pairs`, 4,000 pairs"), ("kerx-pairs", "`kerx-pairs`, 4,000 pairs"),
     ("kerx-classes", "`kerx-classes`"), ("kern-machine", "`kern-machine`"), ("kerx-machine", "`kerx-machine`"),
-    ("kerx-anchors", "`kerx-anchors`"),
+    ("kerx-anchors", "`kerx-anchors`"), ("256-chains-asleep", "`256-chains-asleep`"),
+    ("2048-asleep", "`2048-asleep`"), ("64000-cells", "`64000-cells`"),
 ]
 WORST_ROWS = [
-    ("130-chains-awake", "`130-chains-awake`"), ("256-chains-asleep", "`256-chains-asleep`"),
-    ("2048-asleep", "`2048-asleep`"), ("far-replacement", "`far-replacement`"), ("far-ligature", "`far-ligature`"),
-    ("far-insertion", "`far-insertion`"),
+    ("130-chains-awake", "`130-chains-awake`"), ("far-replacement", "`far-replacement`"),
+    ("far-ligature", "`far-ligature`"), ("far-insertion", "`far-insertion`"), ("insertion-31", "`insertion-31`"),
 ]
-LENGTHS = (20, 2000)
-WORST_LENGTHS = (1000, 16000, 64000)
+LENGTHS = (8, 20, 2000, 200000)
+WORST_LENGTHS = (1000, 4000, 16000, 64000)
 STEP = re.compile(r"^(\w+)\s+([\d.]+)\s+[\d.]+\s", re.M)
 
 
@@ -50,10 +51,11 @@ def theirs(program, font, text, rounds, *more):
     return float(subprocess.run(words, capture_output=True, text=True, check=True).stdout.split()[0])
 
 
-def least_of(program, folder, judges, name, lengths, rounds):
+def least_of(program, folder, judges, name, lengths):
     """The least time of each step of ours, and of each judge, by the length of the lines."""
     least = {}
     for length in lengths:
+        rounds = 7 if length < 10_000 else 1
         font, text = f"{folder}/{name}.ttf", f"{folder}/{length}.txt"
         times = ours(program, font, text, rounds)
         times.update((judge, theirs(judge, font, text, rounds)) for judge in judges)
@@ -67,22 +69,17 @@ def written(time):
 
 
 def beside(least, judges, step, lengths):
-    """The times of the judges, each with ours as a part of it."""
-    return [f"{written(least[judge, length])}:{least[step, length] / least[judge, length]:.2f}"
-            for judge in judges for length in lengths]
+    """Our times as parts of those of the judges."""
+    return [f"{least[step, length] / least[judge, length]:.2f}" for judge in judges for length in lengths]
 
 
 def workloads(program, folder, judges, runs):
-    for name, title in ROWS:
-        least = least_of(program, folder, judges, name, LENGTHS * runs, 7)
-        step = "kerning" if name.startswith("ker") else "substitution"
-        cells = [written(least[key, 2000]) for key in (step, "text", "shaping")]
-        cells += [written(least["typesetting", length]) for length in LENGTHS]
-        print(f"|{title}|{'|'.join(cells + beside(least, judges, 'typesetting', LENGTHS))}|", flush=True)
-    for name, title in WORST_ROWS:
-        least = least_of(program, folder, judges, name, WORST_LENGTHS, 1)
-        cells = [written(least["typesetting", length]) for length in WORST_LENGTHS]
-        print(f"|{title}|{'|'.join(cells + beside(least, judges, 'typesetting', WORST_LENGTHS))}|", flush=True)
+    """Rows of workloads: our nanoseconds a character for each length, and their parts of those of each judge."""
+    for rows, lengths in ((ROWS, LENGTHS), (WORST_ROWS, WORST_LENGTHS)):
+        for name, title in rows:
+            least = least_of(program, folder, judges, name, lengths * runs)
+            cells = [written(least["typesetting", length]) for length in lengths]
+            print(f"|{title}|{'|'.join(cells + beside(least, judges, 'typesetting', lengths))}|", flush=True)
 
 
 def in_words(text, folder):

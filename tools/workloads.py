@@ -42,7 +42,7 @@ LINES = {8: (185, 2, 1, 2_500), 20: (185, 2, 1, 1_000), 2_000: (185, 10, 5, 10),
 
 # The lengths of lines of the worst workloads, whose time may grow with the square of a line. A text is one line, but
 # those of a length of LINES.
-WORST_LINES = (20, 1_000, 2_000, 16_000, 64_000)
+WORST_LINES = (20, 1_000, 2_000, 4_000, 16_000, 64_000)
 
 # The numbers of a step of a generator of 64 bits, of which the upper half is taken: a low bit comes back after few steps.
 FACTOR = 6364136223846793005
@@ -301,6 +301,36 @@ def far_insertion():
     return [(5, far_machine(words(2, MARK, NONE, NONE), words(2, ONE_AT_MARK, NONE, 0), [words(5)]))]
 
 
+# A list of as many glyphs as an entry can put in at once.
+MOST_AT_ONCE = 31
+LIST = words(*(5, 17, 29, 101) * 7, 5, 17, 29)
+
+
+def insertion_31():
+    """Inserts as many glyphs as can be at the glyphs of one class."""
+    most = words(0, MOST_AT_ONCE << 5, 0, NONE)
+    return [(5, dense_machine(5, 1, lambda _state, column: most if column == 4 else words(0, 0, NONE, NONE), [LIST]))]
+
+
+def far_insertion_31():
+    """As the far insertion, as many glyphs as can be."""
+    return [(5, far_machine(words(2, MARK, NONE, NONE), words(2, MOST_AT_ONCE, NONE, 0), [LIST]))]
+
+
+def cells():
+    """A contextual machine of 64,000 cells."""
+    def entry(state, column):
+        number = number_of(state, column)
+        if column < GIVEN_CLASSES:
+            return words(0, 0, NONE, NONE)
+        marks, replaces = number % 3 == 0, number % 4 == 1
+        at_mark = number % 12 if replaces else NONE
+        return words(number % 320, MARK if marks else 0, at_mark, number % 12 if number % 2 == 0 else NONE)
+
+    lookups = [multiples(factor) for factor in (7, 9, 11, 13, 17, 19, 21, 23, 27, 29, 31, 33)]
+    return [(1, dense_machine(200, 320, entry, [lookup_list(lookups)]))]
+
+
 def sleepers(count):
     """So many subtables of all kinds, none of which acts at a glyph of a line."""
     return [(kind, sleeper(kind, [STRANGERS + number % 20])) for number in range(count) for kind in [KINDS[number % 5]]]
@@ -519,6 +549,9 @@ WORST_FONTS = {
     "256-chains-asleep": lambda: in_chains(sleepers(256)),
     "2048-asleep": lambda: substituted(sleepers(2_048)),
     "130-chains-awake": lambda: in_chains(wakers(130)),
+    "insertion-31": lambda: substituted(insertion_31()),
+    "far-insertion-31": lambda: substituted(far_insertion_31()),
+    "64000-cells": lambda: substituted(cells()),
 }
 
 

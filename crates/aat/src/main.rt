@@ -1,7 +1,11 @@
 //! Shapes text by Apple Advanced Typography and shows it, and inspects fonts.
 #![tactic(auto)]
 
-use aat_commands::{Answer, run};
+mod batch;
+mod check;
+mod command_line;
+
+use crate::command_line::{Answer, run};
 use anyhow::Result;
 use std::io::{BufWriter, ErrorKind};
 use std::process::ExitCode;

@@ -1,7 +1,7 @@
 -- The numbers of what is found, and how much harm it tells of.
 use Rattle.std.specs.Prelude.{ℕ, ◌==◌, ◌||◌, Bool, true, false, if◌then◌else◌}
 use Rattle.aat_check.specs.declared.fact.Fact.{Fact}
-use Rattle.aat_check.specs.declared.fact.Fact.TheVariants.{TableFault, LeftOut, KernBesideGpos, PointsWithoutAnkr, MortAlone, RowFalls, ReachesPast, ClassesFault, Stays, MissingEntry, NotSettled, UnreachedState, UnusedRule, ClassesAlike, UnnamedLookup, MayStay, NeverOn, NameWithoutChain, SettingWithoutName, ExclusiveSettings, ValuePast, KeyPast, ListsDeleted, Grows, UnmadeLigature, DeletedStays, DeletedReturns, DeletedGoesIn, ListedPast, MarkInPair}
+use Rattle.aat_check.specs.declared.fact.Fact.TheVariants.{TableFault, LeftOut, KernBesideGpos, KerxBesideGpos, PointsWithoutAnkr, MortAlone, RowFalls, ReachesPast, ClassesFault, Stays, MissingEntry, NotSettled, UnreachedState, UnusedRule, ClassesAlike, UnnamedLookup, MayStay, NeverOn, NameWithoutChain, SettingWithoutName, ExclusiveSettings, ValuePast, KeyPast, ListsDeleted, Grows, UnmadeLigature, DeletedStays, DeletedReturns, DeletedGoesIn, ListedPast, MarkInPair}
 use Rattle.aat_check.specs.declared.fact.Severity.{Severity}
 use Rattle.aat_check.specs.declared.fact.Severity.TheVariants.{Error, Warning, Note}
 
@@ -11,6 +11,7 @@ abbrev pub number_of : Fact → ℕ
 number_of (TableFault _) = 1
 number_of (LeftOut _) = 2
 number_of KernBesideGpos = 3
+number_of KerxBesideGpos = 3
 number_of PointsWithoutAnkr = 4
 number_of MortAlone = 5
 number_of (RowFalls _) = 6

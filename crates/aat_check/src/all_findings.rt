@@ -4,13 +4,14 @@ ghost use Rattle.std.specs.List.{list_any};
 ghost use Rattle.aat_check.specs.Numbers.{is_trouble};
 
 use crate::chains::check_chains;
-use crate::faults::{check_beside_gpos, check_faults, check_mort};
+use crate::faults::{check_beside_gpos, check_faults, check_mort, check_outline_tables};
 use crate::finding::Finding;
 use crate::glyphs::glyph_bound;
 use crate::kerning::{check_kern, check_kerx};
+use crate::kerning_bytes::check_kerning_bytes;
 use crate::names::check_names;
-use crate::pair_rows::check_pair_rows;
 use crate::parts::show_parts;
+use crate::rows::check_rows;
 use aat_face::Face;
 use aat_read_sfnt::FontFile;
 use std::alloc::{AllocError, Global};
@@ -20,8 +21,8 @@ use std::alloc::{AllocError, Global};
 /// In this order: the faults of tables; whether `mort` stands without `morx`; the names of `feat` that no chain has; for
 /// each chain of `morx` its settings, and each of its subtables by the number of what is found; the bytes of the same
 /// subtables, and their lists; the subtables of `kerx` that are left out, and its machines and pairs; the same of `kern`;
-/// listed pairs whose rows do not rise; and whether a feature of `GPOS` takes the place of `kern`. Of what a subtable or a chain has more
-/// than once the first is told.
+/// the bytes of both; rows of `ankr` and of `feat` that do not rise; and whether a feature of `GPOS` takes the place of
+/// `kern`. Of what a place has more than once the first is told.
 ///
 /// Each machine is searched over up to 65,536 states, for each class, ligatures in up to 2^28 steps, and of machines that
 /// are not settled up to 2,048 lines of at most 64 glyphs are shaped, with their parts. Fails where memory is wanting.
@@ -35,13 +36,15 @@ pub fn findings(
     let mut found = Vec::new(alloc);
     let glyph_count = glyph_bound(face);
     check_faults(face, &mut found)?;
+    check_outline_tables(file, face, &mut found)?;
     check_mort(file, &mut found)?;
     check_names(alloc, face, &mut found)?;
     check_chains(alloc, file, face.font(), glyph_count, &mut found)?;
     show_parts(alloc, face.font(), glyph_count, &mut found)?;
     check_kerx(alloc, face, glyph_count, &mut found)?;
     check_kern(alloc, face, glyph_count, &mut found)?;
-    check_pair_rows(file, &mut found)?;
+    check_kerning_bytes(file, &mut found)?;
+    check_rows(file, face, &mut found)?;
     check_beside_gpos(file, face, &mut found)?;
     Ok(found)
 }

@@ -6,7 +6,7 @@ use aat_bytes::Fault;
 use aat_cuts::Unsettled;
 
 /// How much harm a finding tells of.
-#[derive(Clone, Copy, Debug)]
+#[derive(Clone, Copy)]
 pub enum Severity {
     /// The font does not do what it is made for.
     Error,
@@ -18,14 +18,17 @@ pub enum Severity {
 
 /// What is found at a place. Where a place has it more than once, the first is told; `count`, if it has one, says how
 /// often.
-#[derive(Clone, Copy, Debug)]
+#[derive(Clone, Copy)]
 pub enum Fact {
     /// 1: a table has a fault, and is not read.
     TableFault(Fault),
     /// 2: a subtable of `kerx` or `kern` is left out.
     LeftOut(Fault),
-    /// 3: `kern` is read and no `kerx`, and `GPOS` has the feature `kern`: HarfBuzz kerns by that in the scripts that have it.
+    /// 3: `kern` is read and no `kerx`, and `GPOS` has the feature `kern`: HarfBuzz kerns by that in the scripts that
+    /// have it.
     KernBesideGpos,
+    /// 3: `kerx` is read, `GPOS` has the feature `kern`, and there is `GSUB` and no `morx`: HarfBuzz does the same.
+    KerxBesideGpos,
     /// 4: a subtable of `kerx` attaches glyphs by anchor points, and no `ankr` is read. HarfBuzz then takes each point as the
     /// origin, and here the glyphs stay.
     PointsWithoutAnkr,
@@ -37,8 +40,9 @@ pub enum Fact {
         /// The place of the first such row, in bytes from the start of the table.
         byte: usize,
     },
-    /// 7: a part of the subtable begins past its length, a lookup has rows there, or an entry puts in glyphs of its list from
-    /// there. HarfBuzz 6.0 ends lists there, or drops `morx`; 12.3.2 reads on.
+    /// 7: a part of the subtable begins past its length, a lookup has rows there, or an entry puts in glyphs of its
+    /// list from there. Of `morx` HarfBuzz 6.0 ends lists there, or drops the table; 12.3.2 reads on. Of `kerx` it is values by classes
+    /// alone, or their tuples, past what the subtable may use: HarfBuzz drops the table, and here they kern nothing.
     ReachesPast,
     /// 8: `GDEF` has a fault: the classes that have it are not read.
     ClassesFault(Fault),
@@ -160,7 +164,7 @@ impl Fact {
         match self {
             Fact::TableFault(_) => 1,
             Fact::LeftOut(_) => 2,
-            Fact::KernBesideGpos => 3,
+            Fact::KernBesideGpos | Fact::KerxBesideGpos => 3,
             Fact::PointsWithoutAnkr => 4,
             Fact::MortAlone => 5,
             Fact::RowFalls { .. } => 6,
@@ -213,6 +217,7 @@ impl Fact {
             | Fact::NeverOn
             | Fact::KeyPast { .. } => Severity::Warning,
             Fact::KernBesideGpos
+            | Fact::KerxBesideGpos
             | Fact::PointsWithoutAnkr
             | Fact::MortAlone
             | Fact::NotSettled(_)

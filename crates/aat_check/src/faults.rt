@@ -3,16 +3,13 @@
 use crate::fact::Fact;
 use crate::finding::{Finding, Place, push_fact};
 use aat_bytes::tags::{GDEF, GPOS, KERN, MORX};
-use aat_bytes::{FaultKind, Tag, tag_at, u16_at};
+use aat_bytes::{Fault, FaultKind, Tag, tag_at, u16_at};
 use aat_face::Face;
+use aat_read_charstrings::CharStrings;
+use aat_read_outlines::Outlines;
 use aat_read_pairs::LeftOutSubtable;
 use aat_read_sfnt::FontFile;
 use std::alloc::AllocError;
-
-/// Whether a table has a fault, and is not read.
-pub(crate) fn has_fault(face: &Face<'_>, table: Tag) -> bool {
-    face.faults().iter().any(|fault| fault.table == table)
-}
 
 /// Adds the faults of tables.
 pub(crate) fn check_faults(face: &Face<'_>, found: &mut Vec<Finding>) -> Result<(), AllocError> {
@@ -26,6 +23,33 @@ pub(crate) fn check_faults(face: &Face<'_>, found: &mut Vec<Finding>) -> Result<
     }
     Ok(())
 }
+
+/// Adds what is wrong with a table of outlines, which no face reads, unless the face has told it.
+fn check_outlines(
+    face: &Face<'_>,
+    fault: Option<Fault>,
+    found: &mut Vec<Finding>,
+) -> Result<(), AllocError> {
+    match fault {
+        Some(fault) if !face.faults().contains(&fault) => {
+            push_fact(found, Place::of_table(fault.table), Fact::TableFault(fault))
+        }
+        _ => Ok(()),
+    }
+}
+
+/// Adds the faults of the tables of outlines. What is wrong in a single outline is not told.
+pub(crate) fn check_outline_tables(
+    file: &FontFile<'_>,
+    face: &Face<'_>,
+    found: &mut Vec<Finding>,
+) -> Result<(), AllocError> {
+    check_outlines(face, Outlines::of_file(file).err(), found)?;
+    check_outlines(face, CharStrings::of_file(file).err(), found)
+}
+
+/// The table of substitution of OpenType.
+const GSUB: Tag = Tag(0x4753_5542);
 
 /// The older table of chains, with 8 bits for each class.
 const MORT: Tag = Tag(0x6D6F_7274);
@@ -85,19 +109,29 @@ fn kerns_by_features(bytes: &[u8]) -> bool {
     })
 }
 
-/// Adds that the feature of kerning of `GPOS` takes the place of `kern`, where it does.
+/// What HarfBuzz takes the feature of kerning of `GPOS` for: `kerx` where the font has `GSUB` and no `morx`, else `kern`
+/// alone.
+fn beside_gpos(file: &FontFile<'_>, face: &Face<'_>) -> Option<Fact> {
+    let tables = face.font().tables();
+    if tables.kerx.is_some() {
+        let is_substituted = file.table(GSUB).is_ok() && tables.morx.is_none();
+        return is_substituted.then_some(Fact::KerxBesideGpos);
+    }
+    tables.kern.is_some().then_some(Fact::KernBesideGpos)
+}
+
+/// Adds that the feature of kerning of `GPOS` takes the place of `kern`, or of `kerx`, where it does.
 pub(crate) fn check_beside_gpos(
     file: &FontFile<'_>,
     face: &Face<'_>,
     found: &mut Vec<Finding>,
 ) -> Result<(), AllocError> {
-    let tables = face.font().tables();
     let has_feature = match file.table(GPOS) {
         Ok(bytes) => kerns_by_features(bytes),
         Err(_) => false,
     };
-    if has_feature && tables.kern.is_some() && tables.kerx.is_none() {
-        push_fact(found, Place::of_table(GPOS), Fact::KernBesideGpos)?;
+    match beside_gpos(file, face) {
+        Some(fact) if has_feature => push_fact(found, Place::of_table(GPOS), fact),
+        _ => Ok(()),
     }
-    Ok(())
 }

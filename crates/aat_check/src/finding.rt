@@ -5,7 +5,7 @@ use aat_bytes::Tag;
 use std::alloc::AllocError;
 
 /// Where in a font something is found. What it has no part in is `None`.
-#[derive(Clone, Copy, Debug)]
+#[derive(Clone, Copy)]
 pub struct Place {
     /// The table.
     pub table: Tag,
@@ -40,7 +40,7 @@ impl Place {
 
 /// A line of glyphs that shows a finding, where no glyph before it changes, and the machine is on. One that is cut was
 /// shaped: its glyphs or clusters are not those of its two parts, each shaped by itself with all of the font.
-#[derive(Debug, Drop)]
+#[derive(Drop)]
 pub struct GlyphLine {
     /// The glyphs, in the order of the line.
     pub glyphs: Vec<u16>,
@@ -51,7 +51,7 @@ pub struct GlyphLine {
 }
 
 /// What is found in a font.
-#[derive(Debug, Drop)]
+#[derive(Drop)]
 pub struct Finding {
     /// What is found.
     pub fact: Fact,
@@ -73,4 +73,16 @@ pub(crate) fn push_fact(
         line: None,
     })?;
     Ok(())
+}
+
+/// Adds what is found at a place, if it is.
+pub(crate) fn add_fact(
+    place: Place,
+    fact: Option<Fact>,
+    found: &mut Vec<Finding>,
+) -> Result<(), AllocError> {
+    match fact {
+        Some(fact) => push_fact(found, place, fact),
+        None => Ok(()),
+    }
 }

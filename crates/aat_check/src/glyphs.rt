@@ -104,7 +104,7 @@ fn fact_of(kind: PairKind, value: u16, count: usize) -> Fact {
 }
 
 /// Adds the first of the pairs that are of a kind, with the line that shows it.
-pub(crate) fn add_pairs(
+fn add_pairs(
     alloc: Global,
     listed: Listed<'_>,
     kind: PairKind,

@@ -1,7 +1,7 @@
 //! The machines of subtables.
 
 use crate::fact::Fact;
-use crate::finding::{Finding, Place, push_fact};
+use crate::finding::{Finding, Place, add_fact, push_fact};
 use crate::lines::{Order, line_to};
 use aat_findings::{Same, classes_alike, missing_reached, stays, unreached_states, unused_entries};
 use aat_machine_tables::ExtendedStateTable;
@@ -77,14 +77,6 @@ fn add_cell<T: Same>(
     )?;
     found.push(Finding { fact, place, line })?;
     Ok(())
-}
-
-/// Adds what is found of a subtable, if it is.
-fn add_fact(place: Place, fact: Option<Fact>, found: &mut Vec<Finding>) -> Result<(), AllocError> {
-    match fact {
-        Some(fact) => push_fact(found, place, fact),
-        None => Ok(()),
-    }
 }
 
 /// The table in which entries that may act advance.

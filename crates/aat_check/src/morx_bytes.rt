@@ -1,9 +1,9 @@
 //! What the bytes of `morx` have that the tables which are read do not tell.
 
 use crate::fact::Fact;
-use crate::finding::{Finding, Place, push_fact};
+use crate::finding::{Finding, Place, add_fact, push_fact};
 use crate::glyphs::check_list;
-use crate::rows::Rows;
+use crate::rows::{Rows, begins_past, part_at};
 use crate::unmade::check_made;
 use aat_bytes::tags::MORX;
 use aat_bytes::u32_at;
@@ -38,12 +38,6 @@ struct Extent<'b> {
     end: usize,
     /// The font has the glyphs below this number.
     glyph_count: u32,
-}
-
-/// The place that stands in a field behind another one, and counts from there.
-fn part_at(bytes: &[u8], from: usize, field: usize) -> Option<usize> {
-    let offset = u32_at(bytes, from.saturating_add(field))?;
-    Some(from.saturating_add(offset as usize))
 }
 
 /// The fields of a kind of machine that have the place of a part: classes, states, entries, and lists.
@@ -84,13 +78,11 @@ impl Extent<'_> {
         Ok(lookups)
     }
 
-    /// Whether a part of it begins behind its end, or a lookup has rows there. An empty list may begin at its end.
+    /// Whether a part of it begins behind its end, or a lookup has rows there.
     fn reaches_past(self, kind: &SubtableKind, lookups: &[Rows]) -> bool {
-        let (bytes, body, end) = (self.bytes, self.body, self.end);
-        let begins_past = parts_of(kind).iter().any(|field| part_at(
-            bytes, body, *field,
-        ).is_some_and(|part| part > end));
-        begins_past || lookups.iter().any(|rows| rows.end() > end)
+        let end = self.end;
+        begins_past(self.bytes, self.body, parts_of(kind), end)
+            || lookups.iter().any(|rows| rows.end() > end)
     }
 }
 
@@ -162,9 +154,7 @@ fn check_extent(
     let fallen = lookups
         .iter()
         .find_map(|rows| rows.first_fallen(extent.bytes));
-    if let Some(byte) = fallen {
-        push_fact(found, place, Fact::RowFalls { byte })?;
-    }
+    add_fact(place, fallen, found)?;
     let reaches_past = extent.reaches_past(kind, &lookups);
     if reaches_past {
         push_fact(found, place, Fact::ReachesPast)?;

@@ -1,7 +1,6 @@
 //! The names of features, and the settings of chains.
 
 use crate::fact::Fact;
-use crate::faults::has_fault;
 use crate::finding::{Finding, Place, push_fact};
 use aat_bytes::tags::{FEAT, MORX};
 use aat_face::Face;
@@ -23,7 +22,7 @@ pub(crate) fn check_names(
     let Some(feat) = &font.tables().feat else {
         return Ok(());
     };
-    if has_fault(face, MORX) {
+    if face.faults().iter().any(|fault| fault.table == MORX) {
         return Ok(());
     }
     let names = names_without_chain(alloc, feat.names(), font.chains())?;

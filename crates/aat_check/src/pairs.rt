@@ -1,11 +1,11 @@
-//! Pairs of glyphs that a font does not have, and pairs that kern no marks.
+//! Pairs of glyphs that a font does not have, and pairs that have a mark.
 ghost use Rattle.std.specs.Prelude.{◌≡◌, filter, IfOk};
 ghost use Rattle.aat_check.specs.inside.Pairs.{has_mark, is_mark};
 
 use crate::fact::Fact;
 use crate::finding::{Finding, Place, push_fact};
-use crate::glyphs::{Listed, add_pairs, is_past};
-use aat_findings::PairKind;
+use crate::glyphs::is_past;
+use aat_findings::{PairKind, pairs_of};
 use aat_font::hb_font_t;
 use aat_kerning_tables::ClassPairs;
 use aat_lookup::GlyphId;
@@ -72,8 +72,7 @@ pub(crate) fn add_past(
     push_fact(found, place, Fact::KeyPast { count })
 }
 
-/// Adds the first glyph that the left classes of pairs list, or else the right ones, and a font of so many glyphs does not
-/// have.
+/// Adds the first glyph that the classes of pairs list, the left ones first, and a font of so many glyphs lacks.
 pub(crate) fn check_class_pairs(
     alloc: Global,
     pairs: &ClassPairs,
@@ -81,20 +80,19 @@ pub(crate) fn check_class_pairs(
     place: Place,
     found: &mut Vec<Finding>,
 ) -> Result<(), AllocError> {
-    for classes in [pairs.left(), pairs.right()] {
-        let listed = Listed {
-            lookups: &[],
-            classes: Some(classes),
-            glyph_count,
-            shown: None,
-        };
-        let before = found.len();
-        add_pairs(alloc, listed, PairKind::GlyphPast, place, found)?;
-        if found.len() > before {
-            return Ok(());
-        }
-    }
-    Ok(())
+    let kind = PairKind::GlyphPast;
+    let mut past = pairs_of(alloc, pairs.left(), kind, glyph_count)?;
+    let right = pairs_of(alloc, pairs.right(), kind, glyph_count)?;
+    past.extend_from_slice(&right)?;
+    let Some((glyph, _)) = past.first().copied() else {
+        return Ok(());
+    };
+    let place = Place {
+        glyph: Some(glyph),
+        ..place
+    };
+    let count = past.len();
+    push_fact(found, place, Fact::KeyPast { count })
 }
 
 /// Adds the first glyph of listed pairs that a font of so many glyphs does not have, and the first pair that has a mark.

@@ -1,6 +1,23 @@
-//! Rows of tables that are found by bisection, and do not rise.
+//! Rows of tables that are found by bisection, and do not rise, and places of parts.
 
+use crate::fact::Fact;
+use crate::finding::{Finding, Place, add_fact};
+use aat_bytes::tags::{ANKR, FEAT};
 use aat_bytes::{u16_at, u32_at};
+use aat_face::Face;
+use aat_read_sfnt::FontFile;
+use std::alloc::AllocError;
+
+/// The place that stands in a field behind another one, and counts from there.
+pub(crate) fn part_at(bytes: &[u8], from: usize, field: usize) -> Option<usize> {
+    let offset = u32_at(bytes, from.saturating_add(field))?;
+    Some(from.saturating_add(offset as usize))
+}
+
+/// Whether one of the parts whose places stand in fields begins behind an end. An empty one may begin there.
+pub(crate) fn begins_past(bytes: &[u8], from: usize, fields: &[usize], end: usize) -> bool {
+    fields.iter().any(|field| part_at(bytes, from, *field).is_some_and(|part| part > end))
+}
 
 /// What a row begins with.
 #[derive(Clone, Copy)]
@@ -11,6 +28,8 @@ pub(crate) enum RowKey {
     Glyph,
     /// A left and a right glyph.
     Pair,
+    /// A feature type, of which none ends the rows.
+    Feature,
 }
 
 impl RowKey {
@@ -22,7 +41,9 @@ impl RowKey {
                 let first = u16_at(bytes, at.saturating_add(2))?;
                 Some((u32::from(first), u32::from(last)))
             }
-            RowKey::Glyph => u16_at(bytes, at).map(|glyph| (u32::from(glyph), u32::from(glyph))),
+            RowKey::Glyph | RowKey::Feature => {
+                u16_at(bytes, at).map(|key| (u32::from(key), u32::from(key)))
+            }
             RowKey::Pair => u32_at(bytes, at).map(|pair| (pair, pair)),
         }
     }
@@ -31,7 +52,7 @@ impl RowKey {
     fn end_key(self) -> u32 {
         match self {
             RowKey::Segment | RowKey::Glyph => 0xFFFF,
-            RowKey::Pair => 0xFFFF_FFFF,
+            RowKey::Pair | RowKey::Feature => 0xFFFF_FFFF,
         }
     }
 }
@@ -50,7 +71,7 @@ pub(crate) struct Rows {
 }
 
 impl Rows {
-    /// The rows of the lookup at a place, if it has a format of rows. Values have 16 bits.
+    /// The rows of the lookup at a place, if it has a format of rows.
     ///
     /// Apple's TrueType Reference Manual, "Font Tables", section on lookup tables.
     pub(crate) fn of_lookup(bytes: &[u8], lookup: usize) -> Option<Rows> {
@@ -73,8 +94,8 @@ impl Rows {
         self.start.saturating_add(bytes)
     }
 
-    /// The place of the first row whose keys do not stand behind those of the row before it.
-    pub(crate) fn first_fallen(self, bytes: &[u8]) -> Option<usize> {
+    /// The first row whose keys do not stand behind those of the row before it.
+    pub(crate) fn first_fallen(self, bytes: &[u8]) -> Option<Fact> {
         let (mut least, mut at) = (0, self.start);
         for _ in 0..self.count {
             let (first, last) = self.key.keys_at(bytes, at)?;
@@ -82,11 +103,50 @@ impl Rows {
                 return None;
             }
             if first < least || last < first {
-                return Some(at);
+                return Some(Fact::RowFalls { byte: at });
             }
             least = last.saturating_add(1);
             at = at.saturating_add(self.size);
         }
         None
     }
+}
+
+/// The first row that does not rise of the lookup whose place stands in a field behind another one.
+pub(crate) fn fallen_in_lookup(bytes: &[u8], from: usize, field: usize) -> Option<Fact> {
+    let lookup = part_at(bytes, from, field)?;
+    Rows::of_lookup(bytes, lookup)?.first_fallen(bytes)
+}
+
+/// The first row of the names of features that does not rise.
+fn fallen_name(bytes: &[u8]) -> Option<Fact> {
+    let rows = Rows {
+        key: RowKey::Feature,
+        start: 12,
+        size: 12,
+        count: u32::from(u16_at(bytes, 4)?),
+    };
+    rows.first_fallen(bytes)
+}
+
+/// Adds the first row of the lookup of `ankr`, and of the names of `feat`, that does not rise, where they are read.
+///
+/// Apple's TrueType Reference Manual, "The 'ankr' table" and "The 'feat' table".
+pub(crate) fn check_rows(
+    file: &FontFile<'_>,
+    face: &Face<'_>,
+    found: &mut Vec<Finding>,
+) -> Result<(), AllocError> {
+    let tables = face.font().tables();
+    if tables.ankr.is_some()
+        && let Ok(bytes) = file.table(ANKR)
+    {
+        add_fact(Place::of_table(ANKR), fallen_in_lookup(bytes, 0, 4), found)?;
+    }
+    if tables.feat.is_some()
+        && let Ok(bytes) = file.table(FEAT)
+    {
+        add_fact(Place::of_table(FEAT), fallen_name(bytes), found)?;
+    }
+    Ok(())
 }

@@ -101,6 +101,10 @@ fn write_single<W: fmt::Write>(f: &mut W, fact: &Fact) -> fmt::Result {
             f,
             "HarfBuzz kerns by the feature kern of GPOS in the scripts that have it, and not by kern"
         ),
+        Fact::KerxBesideGpos => write!(
+            f,
+            "HarfBuzz kerns by the feature kern of GPOS in the scripts that have it, and not by kerx"
+        ),
         Fact::PointsWithoutAnkr => write!(
             f,
             "there is no ankr for its points, and HarfBuzz attaches each glyph by its origin"
@@ -115,7 +119,7 @@ fn write_single<W: fmt::Write>(f: &mut W, fact: &Fact) -> fmt::Result {
         ),
         Fact::ReachesPast => write!(
             f,
-            "it names a part past its length, where shapers may end lists or drop morx"
+            "it names a part past its length, where shapers may end lists or drop the table"
         ),
         Fact::ClassesFault(fault) => { write!(f, "classes of GDEF are not read: {fault}") }
         Fact::Stays => write!(

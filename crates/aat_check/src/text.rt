@@ -2,6 +2,7 @@
 
 use crate::finding::{Finding, GlyphLine, Place};
 use crate::sentences::Sentence;
+use aat_bytes::tags::MORX;
 use aat_read_metrics::GlyphNames;
 use std::io::{self, Write};
 
@@ -15,30 +16,50 @@ fn write_glyphs<W: Write>(out: &mut W, glyphs: &[u16]) -> io::Result<()> {
     write!(out, "\"")
 }
 
-/// Writes the command that shows a line of glyphs of a font, and its two parts where it is shown beside them.
+/// Writes the two parts of a line that is shown beside them.
+fn write_parts<W: Write>(out: &mut W, glyphs: &[u16], cut: usize) -> io::Result<()> {
+    let (first, second) = glyphs.split_at(cut.min(glyphs.len()));
+    write!(out, "its parts ")?;
+    write_glyphs(out, first)?;
+    write!(out, " and ")?;
+    write_glyphs(out, second)
+}
+
+/// Writes what a line of glyphs is, which no shell reads behind the command: their names, and its two parts.
+fn write_remark<W: Write>(out: &mut W, names: &GlyphNames<'_>, line: &GlyphLine) -> io::Result<()> {
+    let is_named = line
+        .glyphs
+        .iter()
+        .all(|glyph| names.name_of(*glyph).is_some());
+    if is_named {
+        write!(out, " #")?;
+        write_names(out, names, &line.glyphs)?;
+    }
+    let Some(cut) = line.cut else {
+        return Ok(());
+    };
+    write!(out, "{}", if is_named { ", " } else { " # " })?;
+    write_parts(out, &line.glyphs, cut)
+}
+
+/// Writes the command that shows a line of glyphs of a font, with the trace where substitution is shown.
 fn write_line<W: Write>(
     out: &mut W,
     font: &str,
     names: &GlyphNames<'_>,
+    place: &Place,
     line: &GlyphLine,
 ) -> io::Result<()> {
     write!(out, ": see aat shape {font} --glyphs ")?;
     write_glyphs(out, &line.glyphs)?;
-    let direction = if line.is_vertical {
-        " --direction ttb"
-    } else {
-        ""
-    };
-    write!(out, "{direction} --trace")?;
-    write_names(out, names, &line.glyphs)?;
-    let Some(cut) = line.cut else {
-        return Ok(());
-    };
-    let (first, second) = line.glyphs.split_at(cut.min(line.glyphs.len()));
-    write!(out, ", and its parts ")?;
-    write_glyphs(out, first)?;
-    write!(out, " and ")?;
-    write_glyphs(out, second)
+    if line.is_vertical {
+        write!(out, " --direction ttb")?;
+    }
+    // a trace is of substitution alone
+    if place.table == MORX {
+        write!(out, " --trace")?;
+    }
+    write_remark(out, names, line)
 }
 
 /// Writes a place, which ends with the number of a glyph where it has one, and behind that the name of the glyph.
@@ -50,19 +71,14 @@ fn write_place<W: Write>(out: &mut W, names: &GlyphNames<'_>, place: &Place) -> 
     }
 }
 
-/// Writes the names of glyphs in brackets, where each of them has one.
+/// Writes the names of glyphs that each have one.
 fn write_names<W: Write>(out: &mut W, names: &GlyphNames<'_>, glyphs: &[u16]) -> io::Result<()> {
-    if !glyphs.iter().all(|glyph| names.name_of(*glyph).is_some()) {
-        return Ok(());
-    }
-    write!(out, " (")?;
-    for (place, glyph) in glyphs.iter().enumerate() {
-        let space = if place == 0 { "" } else { " " };
+    for glyph in glyphs {
         if let Some(name) = names.name_of(*glyph) {
-            write!(out, "{space}{name}")?;
+            write!(out, " {name}")?;
         }
     }
-    write!(out, ")")
+    Ok(())
 }
 
 /// Writes a finding.
@@ -81,15 +97,15 @@ fn write_finding<W: Write>(
     write_place(out, names, &finding.place)?;
     write!(out, ": {sentence}")?;
     if let Some(line) = &finding.line {
-        write_line(out, font, names, line)?;
+        write_line(out, font, names, &finding.place, line)?;
     }
     writeln!(out)
 }
 
 /// Writes findings in their order, a line each: how much harm it tells of, its number of two digits, its place, and its
-/// sentence, with the command that shows it where there is one, for the font that is named so. Behind the number of a
-/// glyph stands its name, where it has one, and behind a line those of its glyphs, where all have one. Without any finding
-/// it writes `no finding`.
+/// sentence, and where there is a line of glyphs the command that shows it, with the words that name the font. Behind the
+/// number of a glyph stands its name, where it has one, and behind `#` those of a line's glyphs, where all have one, and
+/// its parts. Without any finding it writes `no finding`.
 ///
 /// An error is that of the writer. A part of the text may be written then.
 pub fn write_findings<W: Write>(

@@ -1,10 +1,9 @@
 //! The command `aat bench`.
 
 use crate::request::Request;
-use crate::session::Session;
-use crate::source::{FontSource, text_of_file};
 use aat_calls::{BenchFont, BenchText, TypesetsLine, measure};
 use aat_typesetter::{TextOptions, Typesetter};
+use aat_words::{Font, FontSource, Session, text_of_file};
 use anyhow::{Context, Result};
 use clap::ArgMatches;
 use std::io::Write;
@@ -22,8 +21,47 @@ impl TypesetsLine for OptionsTypesetter<'_, '_> {
     }
 }
 
+/// Tells what shaping a text in a font leaves, and how long it takes.
+fn bench_in<W: Write>(
+    rt: &HostRuntime,
+    out: &mut W,
+    font: &Font<'_>,
+    request: &Request,
+    text: &str,
+    matches: &ArgMatches<'_>,
+) -> Result<()> {
+    let bench_font = BenchFont {
+        bytes: font.bytes,
+        index: font.source.index,
+        face: font.face,
+    };
+    let bench_text = BenchText {
+        characters: text,
+        length: matches.get_one::<u32>("length"),
+        direction: request.direction,
+        script: request.script,
+        unit: request.unit,
+        level: request.level,
+    };
+    let features = request.features.as_slice();
+    let rounds = matches.get_one::<u32>("rounds").unwrap_or(0);
+    let mut typesetter = OptionsTypesetter {
+        typesetter: Typesetter::new(rt.alloc(), font.face),
+        options: request.options(),
+    };
+    measure(
+        rt,
+        out,
+        bench_font,
+        features,
+        bench_text,
+        &mut typesetter,
+        rounds,
+    )
+}
+
 /// Tells what shaping the text of a file leaves, and how long it takes.
-pub(crate) fn bench<W: Write>(
+pub fn bench<W: Write>(
     rt: &HostRuntime,
     out: &mut W,
     session: &mut Session<'_>,
@@ -35,31 +73,5 @@ pub(crate) fn bench<W: Write>(
     let text = text_of_file(rt, session.speaker, path)?;
     let font = session.fonts.font(rt, &source)?;
     font.tell_faults(rt, session.speaker)?;
-    let bench_font = BenchFont {
-        bytes: font.bytes,
-        index: source.index,
-        face: font.face,
-    };
-    let bench_text = BenchText {
-        characters: text.as_str(),
-        length: matches.get_one::<u32>("length"),
-        direction: request.direction,
-        script: request.script,
-        unit: request.unit,
-        level: request.level,
-    };
-    let mut typesetter = OptionsTypesetter {
-        typesetter: Typesetter::new(rt.alloc(), font.face),
-        options: request.options(),
-    };
-    let rounds = matches.get_one::<u32>("rounds").unwrap_or(0);
-    measure(
-        rt,
-        out,
-        bench_font,
-        &request.features,
-        bench_text,
-        &mut typesetter,
-        rounds,
-    )
+    bench_in(rt, out, font, &request, text.as_str(), matches)
 }

@@ -1,12 +1,9 @@
 //! The command `aat dump`.
 
-use crate::fonts::Font;
-use crate::output::OUTPUT;
-use crate::session::Session;
-use crate::source::FontSource;
 use aat_bytes::{Tag, tag_at};
 use aat_inspection::{write_characters, write_dump, write_face};
 use aat_read_metrics::GlyphNames;
+use aat_words::{Font, FontSource, OUTPUT, Session};
 use anyhow::{Context, Result, bail};
 use clap::ArgMatches;
 use std::alloc::Global;
@@ -44,7 +41,7 @@ fn dump_tables<W: Write>(
 }
 
 /// Writes out what is read of a font, and the glyphs of characters where these are asked.
-pub(crate) fn dump<W: Write>(
+pub fn dump<W: Write>(
     rt: &HostRuntime,
     out: &mut W,
     session: &mut Session<'_>,

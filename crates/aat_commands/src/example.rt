@@ -27,7 +27,7 @@ fn write_typeset<W: Write>(alloc: Global, out: &mut W, face: &Face<'_>, text: &s
 /// be broken.
 ///
 /// An error is that of the file, of its font, of the text or of the writer.
-pub(crate) fn write_glyphs_of<W: Write>(
+pub fn write_glyphs_of<W: Write>(
     rt: &HostRuntime,
     out: &mut W,
     path: &str,

@@ -1,15 +1,13 @@
 //! The command `aat faults`.
 
-use crate::output::OUTPUT;
-use crate::session::Session;
-use crate::source::FontSource;
 use aat_inspection::write_faults;
+use aat_words::{FontSource, OUTPUT, Session};
 use anyhow::{Context, Result};
 use clap::ArgMatches;
 use std::io::Write;
 
 /// Tells the faults of a font's tables.
-pub(crate) fn faults<W: Write>(
+pub fn faults<W: Write>(
     rt: &HostRuntime,
     out: &mut W,
     session: &mut Session<'_>,

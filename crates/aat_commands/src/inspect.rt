@@ -1,16 +1,14 @@
 //! The command `aat inspect`.
 
-use crate::output::OUTPUT;
 use crate::pictures::draw_machine;
-use crate::session::Session;
-use crate::source::FontSource;
 use aat_inspection::write_inspection;
+use aat_words::{FontSource, OUTPUT, Session};
 use anyhow::{Context, Result, ensure};
 use clap::ArgMatches;
 use std::io::Write;
 
 /// Tells of a font, or draws a machine of it.
-pub(crate) fn inspect<W: Write>(
+pub fn inspect<W: Write>(
     rt: &HostRuntime,
     out: &mut W,
     session: &mut Session<'_>,

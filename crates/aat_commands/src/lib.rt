@@ -1,36 +1,24 @@
-//! The commands of the program `aat`: a text is shaped and shown, a font is inspected, and requests of a batch are
-//! answered.
+//! The commands of the program `aat` but for `check` and `batch`: a text is shaped and shown, and a font is inspected.
 //!
 //! ```
-//! let answer = run(&rt, &words, &mut out)?;
+//! shape(&rt, &mut out, &mut session, matches)?;
 //! ```
 #![tactic(auto)]
 
-mod batch;
-mod bench;
-mod change;
-mod check;
-mod command_line;
-mod dump;
-mod example;
-mod faults;
-mod fonts;
+pub mod bench;
+pub mod dump;
+pub mod example;
+pub mod faults;
 mod glyph_list;
-mod inspect;
+pub mod inspect;
 mod line;
 mod looks;
-mod make;
+pub mod make;
 mod missing;
 mod output;
 mod pictures;
-mod progress;
 mod request;
-mod rows;
-mod session;
-mod settled;
-mod shape;
-mod size;
-mod source;
+pub mod rows;
+pub mod settled;
+pub mod shape;
 mod verify;
-
-pub use command_line::{Answer, run};

@@ -1,14 +1,13 @@
 //! What is told of a line that is typeset is put together.
 
-use crate::fonts::Font;
 use crate::request::Request;
-use crate::session::Speaker;
 use aat_calls::trace_of;
 use aat_drawing::{DrawnLine, drawn_changes, drawn_glyphs};
 use aat_read_metrics::GlyphNames;
 use aat_text::LineEnd;
 use aat_trace::Trace;
 use aat_typesetter::{Direction, Face, ShapedGlyph, TextGlyph};
+use aat_words::{Font, Speaker};
 use anyhow::Result;
 use std::alloc::Global;
 

@@ -1,7 +1,7 @@
 //! How a picture looks, as a command line asks.
 
-use crate::size::size_asked;
 use aat_drawing::{Colour, Paint};
+use aat_words::size_asked;
 use anyhow::{Context, Result, anyhow, bail, ensure};
 use clap::ArgMatches;
 use std::alloc::Global;

@@ -1,9 +1,7 @@
 //! The command `aat make`.
 
-use crate::output::OUTPUT;
-use crate::session::Session;
-use crate::source::text_of_file;
 use aat_make_font::make_font;
+use aat_words::{OUTPUT, Session, text_of_file};
 use anyhow::{Context, Result, anyhow, ensure};
 use clap::ArgMatches;
 use std::fs;
@@ -28,7 +26,7 @@ fn write_comparison<W: Write>(
 }
 
 /// Writes the font that a description tells of, or whether a file has its bytes.
-pub(crate) fn make<W: Write>(
+pub fn make<W: Write>(
     rt: &HostRuntime,
     out: &mut W,
     session: &mut Session<'_>,

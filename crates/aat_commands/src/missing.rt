@@ -1,8 +1,8 @@
 //! The characters of a text that a font lacks are told.
 
 use crate::line::Context;
-use crate::progress::Progress;
 use aat_text::missing_characters;
+use aat_words::Progress;
 use anyhow::Result;
 
 /// Tells on the error stream the first character of a line of a number that has no glyph in the font, and how many

@@ -10,12 +10,10 @@ use aat_drawing::{
 };
 use aat_read_sfnt::FontFile;
 use aat_typesetter::ShapedGlyph;
+use aat_words::OUTPUT;
 use anyhow::{Context as _, Result, anyhow, bail};
 use std::alloc::Global;
 use std::io::{self, Write};
-
-/// What an error of a writer is told of.
-pub(crate) const OUTPUT: &str = "the output";
 
 /// Writes the glyphs of a line, with their names or flags where these are asked.
 fn write_plain<W: Write>(

@@ -1,13 +1,12 @@
 //! Pictures for those who make fonts.
 
-use crate::fonts::Font;
 use crate::line::{Context, SetLine, line_trace};
-use crate::output::OUTPUT;
 use aat_drawing::LineMetrics;
 use aat_pictures::{
     DrawError, FontOutlines, MachinePicture, TraceDrawing, TracePicture, write_machine,
     write_trace_picture,
 };
+use aat_words::{Font, OUTPUT};
 use anyhow::{Context as _, Result, anyhow, bail};
 use std::alloc::Global;
 use std::io::Write;

@@ -1,12 +1,12 @@
 //! What a command line asks of `aat shape`.
 
 use crate::looks::paint_of;
-use crate::size::size_asked;
 use aat_drawing::Paint;
 use aat_typesetter::{
     ClusterLevel, ClusterUnit, Direction, Feature, FeatureListError, Script, TextOptions,
     parse_features, script_of_tag,
 };
+use aat_words::size_asked;
 use anyhow::{Context, Result, anyhow, bail, ensure};
 use clap::ArgMatches;
 use std::alloc::Global;
@@ -183,7 +183,7 @@ impl Request {
         let shows_names = matches.get_flag("names");
         ensure!(
             !shows_names || !output.is_picture(),
-            "names are shown in the forms glyphs and json alone"
+            "a picture of a text shows no names"
         );
         Ok(Request {
             features,

@@ -1,15 +1,13 @@
 //! The command `aat settled`.
 
-use crate::output::OUTPUT;
-use crate::session::Session;
-use crate::source::FontSource;
 use aat_inspection::write_settled;
+use aat_words::{FontSource, OUTPUT, Session};
 use anyhow::{Context, Result};
 use clap::ArgMatches;
 use std::io::Write;
 
 /// Tells which subtables of `morx` are settled for cuts.
-pub(crate) fn settled<W: Write>(
+pub fn settled<W: Write>(
     rt: &HostRuntime,
     out: &mut W,
     session: &mut Session<'_>,

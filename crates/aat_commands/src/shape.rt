@@ -1,19 +1,16 @@
 //! The command `aat shape`.
 
-use crate::fonts::Font;
 use crate::glyph_list::{characters_of, glyphs_of};
 use crate::line::{Context, SetLine};
 use crate::missing::tell_missing;
 use crate::output::{show_line, write_picture};
-use crate::progress::Progress;
 use crate::request::{Output, Request};
-use crate::session::{Session, Speaker};
-use crate::source::{FontSource, text_of_file};
 use crate::verify::{Whole, verify};
 use aat_calls::subtable_names;
 use aat_drawing::DrawnLine;
 use aat_text::{LineEnd, line_ends};
 use aat_typesetter::{TextGlyph, TypesetLine, Typesetter};
+use aat_words::{Font, FontSource, Progress, Session, Speaker, text_of_file};
 use anyhow::{Context as _, Result, anyhow, ensure};
 use clap::ArgMatches;
 use std::alloc::Global;
@@ -128,25 +125,17 @@ fn shape_told_lines<W: Write>(
     out: &mut W,
     context: &Context<'_, '_>,
     progress: &mut Progress,
+    typesetter: &mut Typesetter<'_>,
     text: &str,
-) -> Result<Vec<DrawnLine>> {
-    let mut typesetter = Typesetter::new(rt.alloc(), context.face);
-    let mut kept = Vec::new(rt.alloc());
+    kept: &mut Vec<DrawnLine>,
+) -> Result<()> {
     let mut number = 0usize;
     for line in text.lines() {
         number = number.saturating_add(1);
         let numbered = (number, line);
-        shape_told_line(
-            rt,
-            out,
-            context,
-            progress,
-            &mut typesetter,
-            numbered,
-            &mut kept,
-        )?;
+        shape_told_line(rt, out, context, progress, typesetter, numbered, kept)?;
     }
-    Ok(kept)
+    Ok(())
 }
 
 /// Shapes each line of a text, and writes the lines or keeps them for a picture.
@@ -157,26 +146,53 @@ fn shape_lines<W: Write>(
     text: &str,
 ) -> Result<Vec<DrawnLine>> {
     let mut progress = Progress::new(rt, text.len());
-    let kept = shape_told_lines(rt, out, context, &mut progress, text);
+    let mut typesetter = Typesetter::new(rt.alloc(), context.face);
+    let mut kept = Vec::new(rt.alloc());
+    let shaped = shape_told_lines(
+        rt,
+        out,
+        context,
+        &mut progress,
+        &mut typesetter,
+        text,
+        &mut kept,
+    );
+    drop(typesetter);
     progress.clear(rt)?;
-    kept
+    shaped?;
+    Ok(kept)
 }
 
 /// Typesets a line of glyphs, which ends only at its end, and writes it or keeps it for a picture.
+fn shape_line_of_glyphs<W: Write>(
+    alloc: Global,
+    out: &mut W,
+    context: &Context<'_, '_>,
+    typesetter: &mut Typesetter<'_>,
+    glyphs: Vec<TextGlyph>,
+    kept: &mut Vec<DrawnLine>,
+) -> Result<()> {
+    typesetter.line_of_glyphs(glyphs, &context.request.options())?;
+    if context.request.verifies {
+        let whole = Whole::Glyphs(typesetter.text());
+        verify(alloc, context, whole, typesetter.glyphs())?;
+    }
+    show_whole(alloc, out, context, typesetter, &[], kept)
+}
+
+/// Typesets the glyphs of a list in one line, and writes it or keeps it for a picture.
 fn shape_glyphs<W: Write>(
     alloc: Global,
     out: &mut W,
     context: &Context<'_, '_>,
     list: &str,
 ) -> Result<Vec<DrawnLine>> {
+    let glyphs = glyphs_of(alloc, list)?;
     let mut typesetter = Typesetter::new(alloc, context.face);
     let mut kept = Vec::new(alloc);
-    typesetter.line_of_glyphs(glyphs_of(alloc, list)?, &context.request.options())?;
-    if context.request.verifies {
-        let whole = Whole::Glyphs(typesetter.text());
-        verify(alloc, context, whole, typesetter.glyphs())?;
-    }
-    show_whole(alloc, out, context, &typesetter, &[], &mut kept)?;
+    let shaped = shape_line_of_glyphs(alloc, out, context, &mut typesetter, glyphs, &mut kept);
+    drop(typesetter);
+    shaped?;
     Ok(kept)
 }
 
@@ -242,7 +258,7 @@ fn shape_text<W: Write>(
 }
 
 /// Shapes the text that a command line gives, and writes what is shown to a file where that is asked.
-pub(crate) fn shape<W: Write>(
+pub fn shape<W: Write>(
     rt: &HostRuntime,
     out: &mut W,
     session: &mut Session<'_>,

@@ -174,8 +174,30 @@ fn holds(
     Ok(are_as_in_line(start, typesetter.glyphs(), cut.behind))
 }
 
-/// Compares a line with its two parts, each typeset by itself in the script of the line, wherever its glyphs tell that it
-/// may be broken, but at most at the first 1,000 places. An error tells the first place at which they differ.
+/// Compares a line with its two parts, each typeset by a typesetter, as `verify` does.
+fn verify_by(
+    alloc: Global,
+    context: &Context<'_, '_>,
+    typesetter: &mut Typesetter<'_>,
+    whole: Whole<'_>,
+    glyphs: &[ShapedGlyph],
+) -> Result<()> {
+    let open = glyphs.iter().enumerate();
+    let open = open.filter(|(_, glyph)| glyph.may_break_before);
+    for (index, _) in open.take(MOST_PLACES) {
+        if let Some(cut) = cut_before(glyphs, index) {
+            ensure!(
+                holds(alloc, context, typesetter, whole, cut)?,
+                "the parts at {} are not drawn as the line is",
+                cut.place
+            );
+        }
+    }
+    Ok(())
+}
+
+/// Compares a line with its two parts, each typeset by itself in the script of the line, wherever its glyphs tell that
+/// it may be broken, but at most at the first 1,000 places. An error tells the first place at which they differ.
 pub(crate) fn verify(
     alloc: Global,
     context: &Context<'_, '_>,
@@ -183,16 +205,5 @@ pub(crate) fn verify(
     glyphs: &[ShapedGlyph],
 ) -> Result<()> {
     let mut typesetter = Typesetter::new(alloc, context.face);
-    let open = glyphs.iter().enumerate();
-    let open = open.filter(|(_, glyph)| glyph.may_break_before);
-    for (index, _) in open.take(MOST_PLACES) {
-        if let Some(cut) = cut_before(glyphs, index) {
-            ensure!(
-                holds(alloc, context, &mut typesetter, whole, cut)?,
-                "the parts at {} are not drawn as the line is",
-                cut.place
-            );
-        }
-    }
-    Ok(())
+    verify_by(alloc, context, &mut typesetter, whole, glyphs)
 }

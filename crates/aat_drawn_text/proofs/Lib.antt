@@ -10,5 +10,6 @@ pub mod Rising
 pub mod ShownChains
 pub mod SteadySpans
 pub mod Taken
+pub mod TextLines
 pub mod Unattached
 pub mod Undeleted

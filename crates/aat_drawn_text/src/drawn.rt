@@ -15,9 +15,10 @@ use crate::kerned::OpenPlaces;
 use crate::kinds::kind_of_number;
 use crate::line::{KIND, MARK};
 use crate::steady::SteadySpan;
+use crate::text_line::TextLine;
 use aat_glyph::{add_up_attachments, parent_of};
 use aat_layout::buffer::{GlyphPosition, hb_buffer_t, hb_glyph_info_t};
-use aat_layout::{AatError, hb_aat_layout_remove_deleted_glyphs, is_solid};
+use aat_layout::{AatError, is_solid};
 use aat_shaped_text::{
     BreakRules, CharacterKind, ShapedGlyph, close_chained, front_of, is_kept, may_break_at,
 };
@@ -53,13 +54,15 @@ fn is_unattached<H: Allocator + Copy>(attaches_none: bool, buffer: &hb_buffer_t<
 }
 
 /// How many glyphs are kept before each place of a line.
-fn kept_counts<H: Allocator>(
+fn kept_counts<H: Allocator + Copy>(
     alloc: H,
+    buffer: &TextLine<'_, H>,
     line: &[hb_glyph_info_t],
-) -> Result<Vec<usize, H>, AllocError>
+) -> Result<Vec<u32, H>, AllocError>
+    requires line { line.now ≡ buffer.now.line }
     ensures { IfOk result (λ counts. counts.items ≡ map (kept_before line.now) (range_with_len 0 (length line.now))) }
 {
-    let mut counts = Vec::with_capacity(alloc, line.len())?;
+    let mut counts = Vec::with_capacity(alloc, buffer.len())?;
     let mut kept = 0;
     for i in 0..line.len() {
         counts.push(kept)?;
@@ -85,10 +88,8 @@ fn positions_of<H: Allocator + Copy>(
     Ok(positions)
 }
 
-/// Closes each place of a line in drawing order over which a glyph is attached, where each place of it is told of.
-/// Answers the positions of the line, where some glyph of it may be attached to another, given whether kerning is known to
-/// attach none.
-pub(crate) fn close_attached<H: Allocator + Copy>(
+/// The same as `close_attached`, of a line with its own positions.
+fn close_in<H: Allocator + Copy>(
     alloc: H,
     attaches_none: bool,
     buffer: &hb_buffer_t<H>,
@@ -112,8 +113,32 @@ pub(crate) fn close_attached<H: Allocator + Copy>(
     Ok(Some(positions))
 }
 
+/// Closes each place of a line in drawing order over which a glyph is attached, where each place of it is told of.
+/// Answers the positions of the line, where some glyph of it may be attached to another, given whether kerning is
+/// known to attach none.
+#[tactic(auto, using(crate::proofs::TextLines::own_by))]
+pub(crate) fn close_attached<H: Allocator + Copy>(
+    alloc: H,
+    attaches_none: bool,
+    buffer: &TextLine<'_, H>,
+    places: &mut [bool],
+) -> Result<Option<Vec<GlyphPosition, H>>, AllocError>
+    requires placed { IsPlaced buffer.now }
+    requires none { attaches_none ≡ true → IsUnattached buffer.now.direction (position_list buffer.now) }
+    ensures closed { length places.old ≡ length buffer.now.line → OnOk result
+        (ClosesChained buffer.now.direction (position_list buffer.now) places.old places.new) }
+    ensures attached { IfOk result (λ found. MatchOption found
+        (IsUnattached buffer.now.direction (position_list buffer.now))
+        (λ positions. positions.items ≡ position_list buffer.now)) }
+{
+    if buffer.placed_by.is_some() {
+        return Ok(None);
+    }
+    close_in(alloc, attaches_none, &buffer.buffer, places)
+}
+
 /// A place of a line as one among the glyphs that are kept.
-fn kept_place(line: &[hb_glyph_info_t], kept: &[usize], place: Option<usize>) -> Option<usize>
+fn kept_place(line: &[hb_glyph_info_t], kept: &[u32], place: Option<usize>) -> Option<u32>
     requires in_line { IfSome place (λ j. j < length line.now) }
     requires kept { kept.now ≡ map (kept_before line.now) (range_with_len 0 (length line.now)) }
     ensures { result ≡ kept_place line.now place }
@@ -130,16 +155,18 @@ struct Drawn<'l> {
     /// Its positions, with the offsets added up.
     added: &'l [GlyphPosition],
     /// How many glyphs are kept before each place.
-    kept: &'l [usize],
+    kept: &'l [u32],
 }
 
 /// The position of the glyph at a place of a line that is drawn.
+#[inline(always)]
 fn drawn_position<H: Allocator + Copy>(
-    buffer: &hb_buffer_t<H>,
+    buffer: &TextLine<'_, H>,
     line: &[hb_glyph_info_t],
     attached: Option<Drawn>,
     i: usize,
 ) -> GlyphPosition
+    requires ids { IsSmall buffer.now }
     requires placed { IsPlaced buffer.now }
     requires line { line.now ≡ buffer.now.line }
     requires in_line { i < length line.now }
@@ -149,17 +176,18 @@ fn drawn_position<H: Allocator + Copy>(
 {
     match attached {
         Some(drawn) => drawn.added[i],
-        None => *buffer.pos(i),
+        None => buffer.pos(&line[i], i),
     }
 }
 
 /// What the glyph at a place of a line is attached to, as a place among the glyphs that are kept.
+#[inline(always)]
 fn attached_to<H: Allocator + Copy>(
-    buffer: &hb_buffer_t<H>,
+    buffer: &TextLine<'_, H>,
     line: &[hb_glyph_info_t],
     attached: Option<Drawn>,
     i: usize,
-) -> Option<usize>
+) -> Option<u32>
     requires placed { IsPlaced buffer.now }
     requires in_line { i < length buffer.now.line }
     requires line { line.now ≡ buffer.now.line }
@@ -178,6 +206,7 @@ fn attached_to<H: Allocator + Copy>(
 
 /// Whether a line in drawing order may be broken before the glyph at place `i`, which begins with the deleted glyphs of its
 /// cluster in a row before it. `kept` glyphs are kept before it, and the features ask for the same over a span.
+#[inline(always)]
 fn may_break(
     breaks: Breaks,
     span: SteadySpan,
@@ -212,6 +241,7 @@ fn asks_features(breaks: Breaks) -> bool {
 }
 
 /// The span over which features ask for the same that a cluster is in, where features are asked, behind another span.
+#[inline(always)]
 fn next_span(breaks: Breaks, span: SteadySpan, cluster: u32) -> SteadySpan
     requires { IsSteady breaks.rules.features.now span }
     ensures { IsSteady breaks.entry.rules.features.now result }
@@ -248,10 +278,11 @@ fn kind_of(glyph: &hb_glyph_info_t) -> CharacterKind
 }
 
 /// The glyph at a place of a line that is drawn, before which so many glyphs are kept.
+#[inline(always)]
 fn drawn_glyph<H: Allocator + Copy>(
     breaks: Breaks,
     span: SteadySpan,
-    buffer: &hb_buffer_t<H>,
+    buffer: &TextLine<'_, H>,
     line: &[hb_glyph_info_t],
     attached: Option<Drawn>,
     kept: usize,
@@ -285,9 +316,11 @@ fn drawn_glyph<H: Allocator + Copy>(
 }
 
 /// Puts the glyphs of a line that are kept into a vector, which gets room for the whole line at once.
+// it and what it calls stand in each caller anew, so that what is known there is asked of no glyph
+#[inline(always)]
 fn put_glyphs<H: Allocator + Copy, A: Allocator>(
     breaks: Breaks,
-    buffer: &hb_buffer_t<H>,
+    buffer: &TextLine<'_, H>,
     line: &[hb_glyph_info_t],
     attached: Option<Drawn>,
     glyphs: &mut Vec<ShapedGlyph, A>,
@@ -315,12 +348,54 @@ fn put_glyphs<H: Allocator + Copy, A: Allocator>(
     Ok(())
 }
 
+/// Whether the glyphs of a line alone tell where it may be broken.
+fn are_told_by_glyphs(breaks: Breaks) -> bool
+    ensures allowed { result ≡ true → breaks.entry.is_allowed ≡ true }
+    ensures features { result ≡ true → breaks.entry.rules.features.now ≡ [] }
+    ensures open { result ≡ true → breaks.entry.left_open ≡ OpenPlaces.Each }
+{
+    breaks.is_allowed
+        && breaks.rules.features.is_empty()
+        && matches!(breaks.left_open, OpenPlaces::Each)
+}
+
+/// Puts the glyphs of a line that are kept into a vector, where none is attached to another. A line whose glyphs alone
+/// tell where it may be broken has a loop of its own, of fewer steps a glyph.
+fn put_unattached<H: Allocator + Copy, A: Allocator>(
+    breaks: Breaks,
+    buffer: &TextLine<'_, H>,
+    line: &[hb_glyph_info_t],
+    glyphs: &mut Vec<ShapedGlyph, A>,
+) -> Result<(), AatError>
+    requires ids { IsSmall buffer.now }
+    requires placed { IsPlaced buffer.now }
+    requires line { line.now ≡ buffer.now.line }
+    requires attached { IsUnattached buffer.now.direction (position_list buffer.now) }
+    requires empty { glyphs.old.items ≡ [] }
+    ensures ok { OnOk result (glyphs.new.items
+        ≡ map (drawn_glyph (may_break breaks.entry buffer.now.line) buffer.now) (kept_places buffer.now.line)) }
+    ensures memory { IfErr result (λ error. error ≡ AatError.OutOfMemory) }
+{
+    if are_told_by_glyphs(breaks) {
+        let by_glyphs = Breaks {
+            is_allowed: true,
+            rules: BreakRules {
+                is_even: true,
+                features: &[],
+            },
+            left_open: OpenPlaces::Each,
+        };
+        return put_glyphs(by_glyphs, buffer, line, None, glyphs);
+    }
+    put_glyphs(breaks, buffer, line, None, glyphs)
+}
+
 /// Puts the glyphs of a line that are kept into a vector, with what they are attached to, by its positions where some may be
 /// attached.
 fn put_drawn_glyphs<H: Allocator + Copy, A: Allocator>(
     alloc: H,
     breaks: Breaks,
-    buffer: &hb_buffer_t<H>,
+    buffer: &TextLine<'_, H>,
     attached: Option<Vec<GlyphPosition, H>>,
     glyphs: &mut Vec<ShapedGlyph, A>,
 ) -> Result<(), AatError>
@@ -336,10 +411,10 @@ fn put_drawn_glyphs<H: Allocator + Copy, A: Allocator>(
 {
     let line = buffer.from_cursor();
     let Some(mut added) = attached else {
-        return put_glyphs(breaks, buffer, line, None, glyphs);
+        return put_unattached(breaks, buffer, line, glyphs);
     };
     add_up_attachments(alloc, buffer.direction(), &mut added)?;
-    let kept = kept_counts(alloc, line)?;
+    let kept = kept_counts(alloc, buffer, line)?;
     let drawn = Drawn {
         added: &added,
         kept: &kept,
@@ -362,7 +437,7 @@ fn take_clusters(line: &[hb_glyph_info_t], glyphs: &mut [ShapedGlyph])
 pub(crate) fn draw<H: Allocator + Copy, A: Allocator>(
     alloc: H,
     breaks: Breaks,
-    buffer: &mut hb_buffer_t<H>,
+    buffer: &mut TextLine<'_, H>,
     attached: Option<Vec<GlyphPosition, H>>,
     glyphs: &mut Vec<ShapedGlyph, A>,
 ) -> Result<(), AatError>
@@ -380,8 +455,7 @@ pub(crate) fn draw<H: Allocator + Copy, A: Allocator>(
     buffer.sync();
     put_drawn_glyphs(alloc, breaks, buffer, attached, glyphs)?;
     if glyphs.len() < buffer.len() {
-        buffer.drop_positions();
-        hb_aat_layout_remove_deleted_glyphs(buffer);
+        buffer.drop_deleted();
         take_clusters(buffer.from_cursor(), glyphs);
     }
     Ok(())

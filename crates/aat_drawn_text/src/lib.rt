@@ -10,6 +10,7 @@ mod line;
 mod steady;
 mod substitution;
 mod text;
+mod text_line;
 mod tracking;
 
 pub use line::{KERNED, LONGEST_TEXT};

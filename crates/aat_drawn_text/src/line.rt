@@ -1,5 +1,5 @@
 //! The line of a text.
-ghost use Rattle.std.specs.Prelude.{◌≡◌, ◌≤◌, All, IfErr, IfOk, length, map, pos};
+ghost use Rattle.std.specs.Prelude.{◌≡◌, ◌≤◌, All, IfErr, IfOk, None, length, map, pos};
 ghost use Rattle.std.specs.List.{list_any};
 ghost use Rattle.aat_buffer.specs.Buffer.{Is16Bit};
 ghost use Rattle.aat_buffer.specs.Clusters.{IsSmall};
@@ -9,6 +9,7 @@ ghost use Rattle.aat_shaped_text.specs.TextFeatures.{is_kern, is_kerned_at};
 ghost use Rattle.aat_shaped_text.specs.ShapedText.{line_glyph, most_glyphs, most_operations, most_text, text_buffer, text_props, text_unicode_props};
 
 use crate::kinds::number_of_kind;
+use crate::text_line::TextLine;
 use aat_layout::AatError;
 use aat_layout::buffer::{Direction, hb_buffer_t, hb_glyph_info_t, hb_mask_t};
 use aat_layout::font::{Feature, GlyphId, hb_font_t};
@@ -145,24 +146,25 @@ fn line_of<H: Allocator>(
     Ok(line)
 }
 
-/// The buffer of a text.
-pub(crate) fn buffer_of<H: Allocator + Copy>(
+/// The line of a text, without positions.
+pub(crate) fn buffer_of<'f, H: Allocator + Copy>(
     alloc: H,
-    face: &hb_font_t,
+    face: &'f hb_font_t,
     direction: Direction,
     features: &[Feature],
     text: &[TextGlyph],
-) -> Result<hb_buffer_t<H>, AatError>
+) -> Result<TextLine<'f, H>, AatError>
     requires { length text.now ≤ most_text }
     ensures ok { IfOk result (λ buffer. buffer ≡ text_buffer face.now direction features.now text.now) }
     ensures ids { IfOk result IsSmall }
+    ensures bare { IfOk result (λ buffer. buffer.positions ≡ None) }
     ensures memory { IfErr result (λ error. error ≡ AatError.OutOfMemory) }
 {
     let most = most_glyphs(text.len());
     let line = line_of(alloc, face, features, text)?;
     let mut buffer = hb_buffer_t::with_line(alloc, line, most, most_operations(text.len()));
     buffer.set_direction(direction);
-    Ok(buffer)
+    Ok(TextLine::of(buffer))
 }
 
 /// Whether clusters never fall along a text.

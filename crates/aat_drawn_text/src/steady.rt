@@ -139,6 +139,9 @@ impl SteadySpan {
         requires steady { IsSteady rules.features.now self }
         ensures { may_break_by result line.now i ≡ may_break_by rules.entry line.now i }
     {
+        if rules.features.is_empty() {
+            return rules;
+        }
         let before = line[i.saturating_sub(1)].cluster;
         if self.contains(before) && self.contains(line[i].cluster) {
             BreakRules {

@@ -1,5 +1,5 @@
 //! Substitution of the line of a text, and whether its machines tell what is open.
-ghost use Rattle.std.specs.Prelude.{◌≡◌, ◌≤◌, IfOk, IfErr, IfSome, IsTrue, OnOk, true};
+ghost use Rattle.std.specs.Prelude.{◌≡◌, ◌≤◌, IfOk, IfErr, IfSome, IsTrue, None, OnOk, true};
 ghost use Rattle.std.specs.List.{list_all};
 ghost use Rattle.std.specs.Option.{option_copied};
 ghost use Rattle.aat_buffer.specs.Clusters.{IsSmall};
@@ -14,6 +14,7 @@ ghost use Rattle.aat_run.specs.Ranges.{is_whole_list};
 ghost use Rattle.aat_shaped_text.specs.Breaks.{substitutes_evenly};
 ghost use Rattle.aat_drawn_text.specs.inside.TextLine.{gives_one_range, substituted_so, tells_so, told_by};
 
+use crate::text_line::TextLine;
 use aat_closing::close_table;
 use aat_kinds::{LIGATURE_SLOTS, MAX_CONTEXT_LENGTH};
 use aat_layout::AatError;
@@ -83,7 +84,7 @@ fn close<A: Allocator + Copy, M: Allocator + Copy>(
 
 /// Substitutes under a map, and closes what the machines look at where that is asked. It answers whether they tell then
 /// what is open.
-pub(crate) fn substitute<A: Allocator + Copy, M: Allocator + Copy>(
+fn substitute_buffer<A: Allocator + Copy, M: Allocator + Copy>(
     face: &hb_font_t,
     map: Option<&hb_aat_map_t<M>>,
     closes: bool,
@@ -105,4 +106,28 @@ pub(crate) fn substitute<A: Allocator + Copy, M: Allocator + Copy>(
     }
     run_table::<LIGATURE_SLOTS, MAX_CONTEXT_LENGTH, A, M>(face, map, buffer)?;
     Ok(false)
+}
+
+/// The same of the line of a text without positions.
+#[tactic(auto, using(crate::proofs::TextLines::bare_is))]
+pub(crate) fn substitute<A: Allocator + Copy, M: Allocator + Copy>(
+    face: &hb_font_t,
+    map: Option<&hb_aat_map_t<M>>,
+    closes: bool,
+    buffer: &mut TextLine<'_, A>,
+) -> Result<bool, AatError>
+    requires whole { IfSome (option_copied map) (λ m. IsTrue (list_all is_whole_list m)) }
+    requires ids { IsSmall buffer.old }
+    requires bare { buffer.old.positions ≡ None }
+    ensures left { OnOk result (buffer.new ≡ substituted_so closes face.now (option_copied map.entry) buffer.old) }
+    ensures told { IfOk result (λ told. told ≡ tells_so closes face.now (option_copied map.entry) buffer.old) }
+    ensures ids { OnOk result (IsSmall buffer.new) }
+    ensures extent { OnOk result (extent buffer.new ≤ extent buffer.old) }
+    ensures settings { OnOk result (SameSettings buffer.old buffer.new) }
+    ensures order { OnOk result (HasOrderOf buffer.old buffer.new) }
+    ensures reason { IfErr result
+        (IsRefusal buffer.old (substituted_so closes face.now (option_copied map.entry) buffer.old)) }
+{
+    buffer.placed_by = None;
+    substitute_buffer(face, map, closes, &mut buffer.buffer)
 }

@@ -18,42 +18,44 @@ use crate::drawn::{Breaks, close_attached, draw};
 use crate::kerned::{is_told_by_glyphs, kerned_by, open_places};
 use crate::line::{buffer_of, is_rising};
 use crate::substitution::{substitute, substitutes_evenly};
+use crate::text_line::{TextLine, operations_left, turn};
 use crate::tracking::track_line;
-use aat_layout::buffer::{Direction, hb_buffer_t};
+use aat_layout::buffer::Direction;
 use aat_layout::font::{hb_font_t, hb_ot_shape_plan_t};
 use aat_layout::{AatError, compiled_map, place_with_deleted};
 use aat_shaped_text::laws::closing_draws_alike;
 use aat_shaped_text::{
-    BreakRules, ShapedGlyph, TextGlyph, kerns_apart, operations_left, place_openly,
-    takes_few_operations, turn,
+    BreakRules, ShapedGlyph, TextGlyph, is_unkerned, kerns_apart, place_openly,
+    takes_few_operations,
 };
 use std::alloc::Allocator;
 
 /// Whether nothing is left of a buffer's budget.
-fn uses_up<H: Allocator + Copy>(buffer: &hb_buffer_t<H>) -> bool
+fn uses_up<H: Allocator + Copy>(buffer: &TextLine<'_, H>) -> bool
     ensures { result ≡ not (has_operations buffer.now) }
 {
     !buffer.max_ops().is_positive()
 }
 
 /// Whether the breaks of a text are told: its machines tell what is open, and few of so many operations were taken.
-fn tells_breaks<H: Allocator + Copy>(is_told: bool, before: u64, buffer: &hb_buffer_t<H>) -> bool
+fn tells_breaks<H: Allocator + Copy>(is_told: bool, before: u64, buffer: &TextLine<'_, H>) -> bool
     ensures { result ≡ (is_told && nat_lt before (operations_left buffer.now.max_ops + 16384)) }
 {
-    is_told && takes_few_operations(before, buffer)
+    is_told && takes_few_operations(before, &buffer.buffer)
 }
 
 /// Gives the glyphs of a text their advances, kerns them, and has deleted ones take no room. Where machines tell what is
 /// open and the glyphs alone do not decide, it tells before which places of the line it may be broken by its glyphs and by
-/// what kerning leaves open; else of no place.
-fn place<H: Allocator + Copy>(
+/// what kerning leaves open; else of no place. Where nothing kerns the text its positions take no memory.
+#[tactic(auto, using(crate::proofs::TextLines::placed_anew, crate::proofs::TextLines::unkerned_placed, crate::proofs::TextLines::same_order))]
+fn place<'f, H: Allocator + Copy>(
     workspace: H,
     plan: &hb_ot_shape_plan_t,
-    face: &hb_font_t,
+    face: &'f hb_font_t,
     is_told: bool,
     by_glyphs: bool,
     rules: BreakRules,
-    buffer: &mut hb_buffer_t<H>,
+    buffer: &mut TextLine<'f, H>,
 ) -> Result<Vec<bool, H>, AatError>
     requires ids { IsSmall buffer.old }
     requires mask { plan.now.kern_mask ≡ 8 }
@@ -70,10 +72,18 @@ fn place<H: Allocator + Copy>(
     ensures settings { OnOk result (SameSettings (with_scratch_flags buffer.old buffer.new.scratch_flags) buffer.new) }
     ensures order { OnOk result (KeepsOrder buffer.old.line buffer.new.line) }
 {
+    buffer.placed_by = None;
     if is_told && !by_glyphs {
-        return place_openly(workspace, plan, face, rules, buffer);
+        return place_openly(workspace, plan, face, rules, &mut buffer.buffer);
     }
-    place_with_deleted(plan, face, buffer)?;
+    if !is_unkerned(face, buffer.direction()) {
+        place_with_deleted(plan, face, &mut buffer.buffer)?;
+        return Ok(Vec::new(workspace));
+    }
+    if !buffer.buffer.is_successful() {
+        return Err(AatError::BufferFailed);
+    }
+    buffer.take_advances(face);
     Ok(Vec::new(workspace))
 }
 

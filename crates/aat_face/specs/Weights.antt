@@ -1,5 +1,5 @@
--- What a face weighs that is read: the bytes of memory that it takes, besides those of its file, from which it borrows
--- names, characters and the bytes of features.
+-- What a face weighs that is read: the bytes of memory that it takes at most, besides those of its file, from which it
+-- borrows names, characters and the bytes of features.
 use Rattle.std.specs.Prelude.{ℕ, ◌+◌, ◌*◌, List, [], length, Option, Ok, Err}
 use Rattle.std.specs.Option.{option_map_or}
 use Rattle.aat_bytes.specs.Faults.{after}

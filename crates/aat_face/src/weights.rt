@@ -1,4 +1,4 @@
-//! What a face weighs: the bytes of memory that it takes.
+//! What a face weighs: the bytes of memory that it takes at most.
 
 use crate::face::Face;
 use aat_bytes::Fault;

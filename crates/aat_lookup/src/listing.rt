@@ -9,9 +9,9 @@ use std::alloc::{AllocError, Allocator};
 /// The values of all glyphs of a lookup, in the form in which it keeps them.
 #[derive(Clone, Copy)]
 pub enum Listing<'a> {
-    /// Pairs of a glyph and its value, which rise strictly by glyph.
+    /// Pairs of a glyph and its value. Those of a lookup rise strictly by glyph; the type does not say so.
     Pairs(&'a [(u16, u16)]),
-    /// Segments, each of which begins behind the end of the one before it.
+    /// Segments. Those of a lookup each begin behind the end of the one before; the type does not say so.
     Segments(&'a [LookupSegment]),
     /// The lowest glyph, and the values of it and of the glyphs that follow it.
     Values(u16, &'a [u16]),

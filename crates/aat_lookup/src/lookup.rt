@@ -86,8 +86,9 @@ impl<A: Allocator + Copy> Lookup<A> {
         })
     }
 
-    /// The lookup of the values of glyphs that follow one another, from the lowest on. It keeps their list, and no pairs
-    /// beside it. Fails where the marks beside it get no memory. The list is then dropped.
+    /// The lookup of the values of glyphs that follow one another, from the lowest on. The lowest glyph and the number
+    /// of values are at most 65,536 together. It keeps their list, and no pairs beside it. Fails where the marks beside
+    /// it get no memory. The list is then dropped.
     pub fn of_values_from(
         alloc: A,
         lowest: u16,
@@ -123,7 +124,8 @@ impl<A: Allocator + Copy> Lookup<A> {
 }
 
 impl<A: Allocator> Lookup<A> {
-    /// The lookup of a list of values, one of each glyph from 0 on, which it keeps. It takes no more memory.
+    /// The lookup of a list of at most 65,536 values, one of each glyph from 0 on, which it keeps. It takes no more
+    /// memory.
     pub fn of_values(values: Vec<u16, A>) -> Lookup<A>
         requires { length values.items ≤ 65536 }
         ensures { result ≡ pairs_of_each values.items }
@@ -135,8 +137,9 @@ impl<A: Allocator> Lookup<A> {
 }
 
 impl<A: Allocator + Copy> Lookup<A> {
-    /// The same values as classes: an array of them gives way to one of classes, with `missing` for glyphs without one.
-    /// Pages and segments stay. Fails where the cells get no memory.
+    /// The same values as classes: an array of pairs, or of values from a lowest glyph on, gives way to one of classes,
+    /// with `missing` for glyphs without one. All other forms stay: pages, segments, values of each glyph from 0 on,
+    /// pairs that lie apart, and an array that has classes already. Fails where the cells get no memory.
     pub fn with_class_array(self, alloc: A, missing: u16) -> Result<Lookup<A>, AllocError>
         ensures { IfOk result (λ lookup. lookup ≡ self) }
     {
@@ -189,8 +192,8 @@ impl<A: Allocator> Lookup<A> {
 
     /// The value of a glyph, if it has one. Among pairs it is found in an array over the span of the glyphs where these
     /// lie close, else on pages of 256 glyphs where these hold enough of them, and else by bisection; among segments by
-    /// bisection, and among values of each glyph at its place. In a state table, or in pairs by classes, an array has
-    /// classes alone, and here pairs are searched.
+    /// bisection, and among values of glyphs that follow one another at its place. In a state table, or in pairs by
+    /// classes, an array has classes alone: beside pairs these are searched here, and without pairs its cells are read.
     pub fn value(&self, glyph: GlyphId) -> Option<u16>
         ensures { result ≡ value_in self.now glyph.0 }
     {
@@ -215,8 +218,9 @@ impl<A: Allocator> Lookup<A> {
         }
     }
 
-    /// What each glyph becomes that gets its value here, for who asks for many glyphs: where the values stand in an array,
-    /// but not in one of classes.
+    /// What each glyph becomes that gets its value here, for who asks for many glyphs: where an array has what they
+    /// become, beside pairs or for values from a lowest glyph on, but not for classes, nor for values of each glyph
+    /// from 0 on.
     pub fn moves(&self) -> Option<GlyphMoves<'_>>
         ensures { IfSome result (λ moves. AreMovesOf moves self.now) }
     {

@@ -168,7 +168,8 @@ impl<T: Acting, A: Allocator + Copy> ExtendedStateTable<T, A> {
 
     /// Makes a table of the number of its classes, a lookup of the classes of glyphs, rows as they stand in a font, and
     /// entries: for each class of each state, from state 0 on, rows have the index of an entry on two bytes, of which
-    /// the first is the higher one. Each index is below the number of entries, and rows are of 65,536 states at most.
+    /// the first is the higher one. Each index has to be below the number of entries, and the rows have to be of 65,536
+    /// states at most. A last row may lack cells, which have no rule then, and a last odd byte is passed over.
     /// Rows and entries are kept as they are handed in, and the lookup as by [`ExtendedStateTable::with_classes`].
     ///
     /// Refused as 2, `FewClasses`, where the number is below 4; and else as 5, `OutOfMemory`, where an array beside the
@@ -228,8 +229,9 @@ impl<T: Acting, A: Allocator> ExtendedStateTable<T, A> {
         }
     }
 
-    /// The classes of glyphs. Where they stand in an array, it is that of [`Self::class_or_out_of_bounds`], and here they
-    /// are searched.
+    /// The classes of glyphs. Where they stand in an array, it is that of [`Self::class_or_out_of_bounds`]: here those
+    /// that are kept as pairs are searched, and those that are kept as values of glyphs that follow one another are read
+    /// at their places.
     pub fn classes(&self) -> &Lookup<A>
         ensures { result.now ≡ self.now.classes }
     {

@@ -1,17 +1,17 @@
 //! Compiling requests into the flags of each chain, range by range.
-ghost use Rattle.std.specs.Prelude.{◌≡◌, ◌<◌, ◌≤◌, [], length, slice_get, slice_index_or, true, All, IsTrue, IsPermutation, Some};
+ghost use Rattle.std.specs.Prelude.{◌≡◌, ◌<◌, ◌≤◌, [], length, slice_get, slice_index_or, true, filter, All, IsTrue, IsPermutation, Some};
 ghost use Rattle.std.specs.Prelude.{IfOk, IfErr, OnOk, OnErr};
 ghost use Rattle.std.specs.List.{list_all};
 ghost use Rattle.aat_font.specs.Face.{tables_of, chains_in};
 ghost use Rattle.aat_run.specs.Ranges.{last_cluster, is_whole_list};
 ghost use Rattle.aat_map.specs.Builder.{AreKeptAt};
 ghost use Rattle.aat_map.specs.Compiled.{HaveFlags, IsLastStart};
-ghost use Rattle.aat_map.specs.Live.{by_start, kept_at};
+ghost use Rattle.aat_map.specs.Live.{by_start, has_begun, infos, kept_at, IsRisingByGroup};
 ghost use Rattle.aat_map.specs.Map.{AreStarts, range_starts};
 ghost use Rattle.aat_map.specs.Spans.{spans};
 ghost use Rattle.aat_map.specs.SwitchedChains.{switched_by, by_requests};
 ghost use Rattle.aat_map.specs.inside.CompiledSpans.{compiled_lists, last_of, EndsWithinText, RiseFromZero, IsLastSpan, IsCompiled};
-ghost use Rattle.aat_map.specs.inside.Firsts.{present};
+ghost use Rattle.aat_map.specs.inside.Firsts.{firsts_of, present, AreGroupsOf};
 ghost use Rattle.aat_map.specs.inside.OverAll.{are_over_all};
 ghost use Rattle.aat_map.specs.inside.Walked.{AreWalked};
 
@@ -154,17 +154,46 @@ fn compile_spans<A: Allocator + Copy>(
     ensures err { IfErr result (λ e. e ≡ AatError.OutOfMemory) }
 {
     let mut live = live_at_start(builder.allocator(), ordered)?;
+    walk_spans(builder, chains, map, ordered, ending, starts, &mut live)?;
+    Ok(live)
+}
+
+/// Walks on from what is live at the start, and compiles the range of each start in turn. It leaves what is live in the
+/// last one.
+fn walk_spans<A: Allocator + Copy>(
+    builder: &hb_aat_map_builder_t<A>,
+    chains: &[Chain],
+    map: &mut hb_aat_map_t<A>,
+    ordered: &[feature_range_t],
+    ending: &[feature_range_t],
+    starts: &[u32],
+    live: &mut Live<A>,
+) -> Result<(), AatError>
+    requires ordered { ordered.now ≡ by_start builder.now.features }
+    requires walked { AreWalked ordered.now ending.now }
+    requires starts { RiseFromZero starts.now }
+    requires lists { map.old ≡ compiled_lists builder.now.features chains.now [] }
+    requires active { live.old.active.items ≡ infos (filter (has_begun 0) ordered.now) }
+    requires groups { AreGroupsOf (infos ordered.now) live.old.groups.items }
+    requires rising { IsRisingByGroup live.old.groups.items }
+    requires firsts { live.old.firsts.items ≡ firsts_of live.old.groups.items live.old.active.items }
+    requires changed { live.old.is_changed ≡ true }
+    ensures lists { OnOk result (map.new ≡ compiled_lists builder.now.features chains.now (spans starts.now)) }
+    ensures kept { OnOk result (IsPermutation (kept_at (last_of starts.now) builder.now.features)
+        (present live.new.firsts.items)) }
+    ensures err { IfErr result (λ e. e ≡ AatError.OutOfMemory) }
+{
     let placed = placed_in(builder.allocator(), &live.groups, chains)?;
     let mut flags = vec![in builder.allocator(); 0; chains.len()]?;
     let mut passed = (count_up_to(ordered, 0), count_ending(ending, 0));
     for i in 0..starts.len() {
         let span = span_at(starts, i);
-        passed = go_on(&mut live, passed, ordered, ending, span.0)?;
-        renew(&mut flags, chains, &placed, &live);
+        passed = go_on(live, passed, ordered, ending, span.0)?;
+        renew(&mut flags, chains, &placed, live);
         live.is_changed = false;
         push_flags(&flags, span, map)?;
     }
-    Ok(live)
+    Ok(())
 }
 
 /// The first and the last cluster of a range, from where they begin.

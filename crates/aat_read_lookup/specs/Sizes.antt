@@ -1,4 +1,4 @@
--- How much memory a lookup that is read takes, and how many bytes it is read from.
+-- How much memory a lookup that is read takes at most, and how many bytes it is read from.
 use Rattle.std.specs.Prelude.{ℕ, ◌+◌, ◌*◌, ◌/◌, List, length, if◌then◌else◌, ◌==◌, nat_lt, nat_le, Bool, Result, Ok}
 use Rattle.aat_bytes.specs.Faults.{after}
 use Rattle.aat_bytes.specs.declared.error.Fault.{Fault}
@@ -35,7 +35,7 @@ pairs_size pairs = 4 * length pairs + 4 * cells_beside (length pairs) (glyph_spa
 abbrev pub is_spread : List ℕ → Layout → Bool
 is_spread bytes layout = nat_lt (7 * bytes_of bytes layout) (pairs_size (pairs_of bytes layout))
 
--- how many bytes the lookup of a layout takes: 6 for each segment, or those of its pairs
+-- how many bytes the lookup of a layout takes at most: 6 for each segment, or those of its pairs
 abbrev pub layout_size : List ℕ → Layout → ℕ
 layout_size bytes layout =
     if is_spread bytes layout then 6 * length (layout_segments bytes Value layout) else pairs_size (pairs_of bytes layout)
@@ -45,7 +45,7 @@ abbrev pub lookup_bytes_at : Tag → List ℕ → ℕ → ℕ → Result ℕ Fau
 lookup_bytes_at table bytes place glyph_count =
     after (layout_at table bytes place glyph_count Word) (λ layout. Ok (bytes_of bytes layout))
 
--- how many bytes the lookup at a place takes, or its first fault
+-- how many bytes the lookup at a place takes at most, or its first fault
 abbrev pub lookup_size_at : Tag → List ℕ → ℕ → ℕ → Result ℕ Fault
 lookup_size_at table bytes place glyph_count =
     after (layout_at table bytes place glyph_count Word) (λ layout. Ok (layout_size bytes layout))

@@ -200,10 +200,10 @@ pub fn read_pairs<A: Allocator>(
 /// is found for all its glyphs; else some are found for a part of them, or for none.
 ///
 /// `OutOfMemory` comes only if the bytes have no fault. There are at most 65,536 glyphs. They are kept as pairs, of the
-/// formats 0, 8 and 10 as values alone, and as segments where the pairs and the cells beside them would take more than 7
-/// bytes for each byte that the lookup is read from: so it takes at most 7 bytes for each. As segments its list is in
-/// memory twice until it is read.
-/// `lookup_size` tells how many bytes it takes, and `lookup_bytes` how many it is read from.
+/// formats 0, 8 and 10 as values alone, and as segments where pairs and the cells beside them would take more than 7
+/// bytes for each byte that the lookup is read from, as of format 10 with values of one byte: so it takes at most 7
+/// bytes for each. As segments its list is in memory twice until it is read. `lookup_size` tells how many bytes it
+/// takes at most, and `lookup_bytes` how many it is read from.
 ///
 /// Apple's TrueType Reference Manual, "Font Tables", section on lookup tables.
 pub fn read_lookup<A: Allocator + Copy>(

@@ -1,4 +1,4 @@
-//! How much memory a lookup that is read takes, and how many bytes it is read from.
+//! How much memory a lookup that is read takes at most, and how many bytes it is read from.
 ghost use Rattle.std.specs.Prelude.{◌≡◌, ◌+◌, ◌*◌, ◌^◌, ◌≤◌, ◌<◌, IsTrue};
 ghost use Rattle.aat_lookup.specs.Keys.{first};
 ghost use Rattle.aat_lookup.specs.GlyphSpans.{glyph_span};

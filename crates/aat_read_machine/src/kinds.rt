@@ -1,14 +1,17 @@
 //! The kinds of subtables of `morx` that have lists, from bytes.
-ghost use Rattle.std.specs.Prelude.{◌≡◌, ◌+◌, ◌^◌, ◌<◌, ◌≤◌, length};
+ghost use Rattle.std.specs.Prelude.{◌≡◌, ◌+◌, ◌^◌, ◌<◌, ◌≤◌, IfOk, length};
 ghost use Rattle.aat_read_lookup.specs.Lookups.{Gives};
 ghost use Rattle.aat_read_machine.specs.Kinds.{insertion_tables_at, ligature_at, list_at, list_place};
+ghost use Rattle.aat_read_machine.specs.Lists.{glyphs_from, numbers16, numbers32};
 
 use crate::lists::{glyphs_from, numbers16, numbers32};
 use crate::machine::read_machine;
 use aat_bytes::tags::MORX;
 use aat_bytes::{Fault, FaultKind, ReadError, be32};
-use aat_machine_tables::{InsertionEntryData, InsertionSubtable, LigatureSubtable};
-use std::alloc::Global;
+use aat_machine_tables::{
+    ExtendedStateTable, InsertionEntryData, InsertionSubtable, LigatureSubtable,
+};
+use std::alloc::{AllocError, Global};
 
 /// Where a list starts whose offset, from the subtable's place, stands so many bytes behind that place.
 pub(crate) fn list_place(bytes: &[u8], place: usize, at: u8) -> usize
@@ -28,6 +31,33 @@ fn list_at(bytes: &[u8], place: usize, at: u8) -> Result<usize, Fault>
         return Err(Fault::new(MORX, FaultKind::PastEnd, place + at as usize));
     }
     Ok(list_place(bytes, place, at))
+}
+
+/// A subtable of ligature substitution of a machine, and of lists that start at these places.
+fn with_lists(
+    alloc: Global,
+    bytes: &[u8],
+    state: ExtendedStateTable<u16>,
+    actions: usize,
+    components: usize,
+    ligatures: usize,
+) -> Result<LigatureSubtable, AllocError>
+    ensures { IfOk result (λ tables. tables ≡ record {
+      state = state;
+      actions = numbers32 bytes.now actions;
+      components = numbers16 bytes.now components;
+      ligatures = glyphs_from bytes.now ligatures;
+    }) }
+{
+    let ligature_actions = numbers32(alloc, bytes, actions)?;
+    let components = numbers16(alloc, bytes, components)?;
+    let ligatures = glyphs_from(alloc, bytes, ligatures)?;
+    Ok(LigatureSubtable {
+        state,
+        ligature_actions,
+        components,
+        ligatures,
+    })
 }
 
 /// Reads a subtable of ligature substitution, whose state table starts at a place of the table `morx`. `bytes` is the
@@ -55,15 +85,7 @@ pub fn read_ligature(
     let components = list_at(bytes, place, 20)?;
     let ligatures = list_at(bytes, place, 24)?;
     let state = read_machine::<u16, Global>(alloc, MORX, bytes, place, glyph_count)?;
-    let ligature_actions = numbers32(alloc, bytes, actions)?;
-    let components = numbers16(alloc, bytes, components)?;
-    let ligatures = glyphs_from(alloc, bytes, ligatures)?;
-    Ok(LigatureSubtable {
-        state,
-        ligature_actions,
-        components,
-        ligatures,
-    })
+    Ok(with_lists(alloc, bytes, state, actions, components, ligatures)?)
 }
 
 /// Reads a subtable of glyph insertion, whose state table starts at a place of the table `morx`. `bytes` is the table

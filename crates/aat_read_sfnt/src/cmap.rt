@@ -160,8 +160,8 @@ impl<'a> Cmap<'a> {
         }
     }
 
-    /// The glyph of a number, and behind which numbers from this one on theirs may not follow it one by one: behind this
-    /// one in another format than 12.
+    /// The glyph of a number, and a number above it: where there is a glyph, the numbers from this one on and below
+    /// that one have those that follow it one by one, modulo 65,536. In another format than 12 it is the next number.
     fn row_until(&self, character: char) -> (Option<u16>, u64)
         ensures is { result.0 ≡ glyph_of self.now character }
         ensures row { IfSome result.0 (λ glyph. (c : ℕ) → character ≤ c → c < result.1
@@ -237,8 +237,9 @@ impl<'a> CharacterMap<'a> {
         }
     }
 
-    /// The glyph of a character, and behind which characters from this one on theirs may not follow it one by one, for who
-    /// asks for those of a row of characters.
+    /// The glyph of a character, and a number above it: where there is a glyph, the characters from this one on and
+    /// below that number have those that follow it one by one, modulo 65,536. For who asks for those of a row of
+    /// characters.
     pub fn row_until(&self, character: char) -> (Option<u16>, u64)
         ensures is { result.0 ≡ mapped_glyph self.now character }
         ensures row { IfSome result.0 (λ glyph. (c : ℕ) → character ≤ c → c < result.1

@@ -60,8 +60,8 @@ impl<'a> GlyphClasses<'a> {
         self.properties_until(glyph).0
     }
 
-    /// The properties of a glyph, and behind which glyphs from this one on they may be others, for who asks for those of
-    /// all glyphs in their order.
+    /// The properties of a glyph, and a number above it: the glyphs from this one on and below that number have the
+    /// same ones. For who asks for those of all glyphs in their order.
     pub fn properties_until(&self, glyph: u16) -> (u16, u32)
         ensures same { (g : ℕ) → glyph ≤ g → g < result.1 → properties_of self.now g ≡ result.0 }
         ensures some { glyph < result.1 }
@@ -79,8 +79,8 @@ impl<'a> GlyphClasses<'a> {
         }
     }
 
-    /// The property of marks, 0x08, of a glyph, 0 of every other glyph, and behind which glyphs from this one on it may
-    /// be another, for who asks for that of all glyphs in their order.
+    /// The property of marks of a glyph, 0x08 where it is one and else 0, and a number above it: the glyphs from this
+    /// one on and below that number have the same. For who asks for that of all glyphs in their order.
     #[tactic(auto, using(crate::proofs::Marks::mark_has))]
     pub fn mark_until(&self, glyph: u16) -> (u16, u32)
         ensures same { (g : ℕ) → glyph ≤ g → g < result.1 → bit_and (properties_of self.now g) 8 ≡ result.0 }

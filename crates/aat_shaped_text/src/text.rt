@@ -131,5 +131,5 @@ pub struct ShapedGlyph {
     pub y_offset: i32,
     /// The place, among the glyphs that are drawn, of the glyph that it is attached to, if any. That one stands before
     /// it. There is none where that glyph was deleted.
-    pub attached_to: Option<usize>,
+    pub attached_to: Option<u32>,
 }

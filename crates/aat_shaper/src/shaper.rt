@@ -286,10 +286,12 @@ impl<'f, A: Allocator + Copy> Shaper<'f, A> {
     /// glyph says so only where a machine attaches it otherwise, or detaches it.
     ///
     /// A text that is no longer than the one before it, with no more features, is mostly shaped without a request for
-    /// memory. It takes as many steps as its line is long for each subtable and for each act, as many as there are features
-    /// for each glyph, those of compiling the features, and those of the budget. An act that inserts far behind the place
-    /// where the line is read moves the glyphs between: at most as many times as the budget has operations, and each time at
-    /// most the line. So such a text of 16,000 glyphs may take 7 times as long as in HarfBuzz 12.3.2, which does not move them.
+    /// memory, unless that one had more than some 200,000 glyphs: what they were shaped in is given back. It takes as
+    /// many steps as its line is long for each subtable and for each act, as many as there are features for each glyph,
+    /// those of compiling the features, and those of the budget. An act that inserts far behind the place where the
+    /// line is read moves the glyphs between: at most as many times as the budget has operations, and each time at most
+    /// the line. So such a text of 16,000 glyphs may take 9 times as long as in HarfBuzz 12.3.2, whose budget ends
+    /// after some 4,096 acts.
     ///
     /// Refused first as 2, `TooLong`, where the text has more than 2^24 glyphs. Then as 1, `AaltValue`, with the first
     /// value above 65535 that a feature `aalt` asks for, where the font has settings of character alternatives; as 2,

@@ -2,6 +2,9 @@
 use bumpalo::Bump;
 use std::alloc::{AllocError, Allocator, Global};
 
+/// The most bytes that an arena keeps behind a text that was shaped, what some 200,000 glyphs are given.
+const MOST_KEPT: usize = 1 << 25;
+
 /// An arena in which texts are shaped, one after the other.
 #[derive(Drop)]
 pub(crate) struct Workspace<A: Allocator + Copy = Global> {
@@ -41,9 +44,13 @@ impl<A: Allocator + Copy> Workspace<A> {
     }
 
     /// Empties the arena. One that took more than so many bytes, in several chunks, has as much in one from now on. Where
-    /// memory is wanting the next text asks for it.
+    /// memory is wanting the next text asks for it. More than `MOST_KEPT` bytes are given back.
     pub(crate) fn empty(&mut self, alloc: A, room: usize) {
         let used = self.arena.allocated_bytes();
+        if used > MOST_KEPT {
+            self.arena = Bump::new(alloc);
+            return;
+        }
         if self.arena.reset().is_ok() && used > room {
             let _kept = self.make_room(alloc, used);
         }

@@ -1,19 +1,17 @@
 -- Steps over glyphs that are drawn, of which the ignorable ones are hidden.
-use Rattle.std.proofs.Common.{◌≡◌, ℕ, ◌+◌, ◌<◌, ◌≤◌, Bool, true, false, not, cond, List, [], ◌∷◌, ◌++◌, length, map, take, get_or, Option, Some, None, sym, ap, ap₂, ◌∙◌, append-nil, ⊎_elim, arith, zero-add}
+use Rattle.std.proofs.Common.{◌≡◌, ℕ, ◌+◌, ◌<◌, ◌≤◌, Bool, true, false, not, cond, List, [], ◌∷◌, ◌++◌, length, map, take, get_or, Option, Some, None, sym, ap, ap₂, ◌∙◌, append-nil, ⊎_elim, arith, length-take, zero-add}
 use Rattle.std.proofs.Math.Path.{fun_ext}
 use Rattle.std.proofs.lemmas.Bool.{cases_lt}
-use Rattle.std.proofs.lemmas.List.{map-append, map-id, take_more}
+use Rattle.std.proofs.lemmas.List.{map-append, map-id}
 use Rattle.std.proofs.lemmas.List.FromFn.{filter_of_map_range_with_len_more, get_or-map-range_with_len, length-map-range_with_len, map-range_with_len_more}
-use Rattle.std.proofs.lemmas.List.Sums.{count_by_more_no, count_by_more_yes}
+use Rattle.std.proofs.lemmas.List.Sums.{count_by-le-length, count_by_more_no, count_by_more_yes}
 use Rattle.std.proofs.lemmas.Option.{slice_get-get_or, slice_get_past}
 use Rattle.std.specs.List.{count_by, filter, range_with_len}
-use Rattle.std.specs.Prelude.{option_and_then, slice_get, if◌then◌else◌}
-use Rattle.aat_glyph.specs.declared.glyph.Direction.{Direction}
-use Rattle.aat_lookup.specs.declared.glyph_id.GlyphId.{GlyphId}
+use Rattle.std.specs.Prelude.{IfSome, option_and_then, slice_get, if◌then◌else◌}
 use Rattle.aat_shaped_text.specs.Parts.{no_shaped_glyph, shaped_at}
 use Rattle.aat_shaped_text.specs.declared.text.ShapedGlyph.{ShapedGlyph}
-use Rattle.aat_showing.specs.Ignorables.{as_space, kept_glyph, kept_place, space_for, stays, with_spaces}
-use Rattle.aat_showing.specs.inside.Listed.{listed_place}
+use Rattle.aat_showing.specs.Ignorables.{kept_glyph, kept_place, stays}
+use Rattle.aat_showing.specs.inside.Listed.{AreAtMost, listed_place}
 
 -- places that pass a test, one more
 pub passed_more :
@@ -28,28 +26,6 @@ module _ (glyphs : List ShapedGlyph) (i : ℕ) (low : i < length glyphs) where
   -- the glyph at the place
   abbrev here : ShapedGlyph
   here = get_or glyphs i no_shaped_glyph
-
-  -- one more glyph as a space, or as it is
-  spaces_more :
-      (d : Direction) (space : GlyphId) (done made : List ShapedGlyph) (shown : ShapedGlyph) → shown ≡ space_for d space here
-      → made ≡ done ++ shown ∷ [] → done ≡ with_spaces d space (take i glyphs) → made ≡ with_spaces d space (take (i + 1) glyphs)
-  spaces_more d space done made shown is put h =
-      put ∙ ap₂ (λ xs x. xs ++ x ∷ []) h is
-      ∙ sym (ap (with_spaces d space) (take_more glyphs i no_shaped_glyph low)
-      ∙ map-append (space_for d space) (take i glyphs) (here ∷ []))
-
-  pub space_put :
-      (d : Direction) (space : GlyphId) (done made : List ShapedGlyph) (shown : ShapedGlyph)
-      → here.is_ignorable ≡ true → shown ≡ as_space d space here
-      → made ≡ done ++ shown ∷ [] → done ≡ with_spaces d space (take i glyphs) → made ≡ with_spaces d space (take (i + 1) glyphs)
-  space_put d space done made shown gone is =
-      spaces_more d space done made shown (is ∙ sym (ap (λ b. if b then as_space d space here else here) gone))
-
-  pub glyph_put :
-      (d : Direction) (space : GlyphId) (done made : List ShapedGlyph) → here.is_ignorable ≡ false
-      → made ≡ done ++ here ∷ [] → done ≡ with_spaces d space (take i glyphs) → made ≡ with_spaces d space (take (i + 1) glyphs)
-  glyph_put d space done made seen =
-      spaces_more d space done made here (sym (ap (λ b. if b then as_space d space here else here) seen))
 
   -- the place of one more glyph
   kept_place_at : kept_place glyphs i ≡ (if here.is_ignorable then None else Some (count_by stays (take i glyphs)))
@@ -116,3 +92,19 @@ module _ (glyphs : List ShapedGlyph) (places : List (Option ℕ)) where
   pub attached_kept : places ≡ map (kept_place glyphs) (range_with_len 0 (length glyphs)) → (o : Option ℕ)
       → listed_place places o ≡ option_and_then (kept_place glyphs) o
   attached_kept listed o = ap (λ f. option_and_then f o) (fun_ext (place_listed listed))
+
+  -- and no more stay before a place than stand there
+  pub few_listed : places ≡ map (kept_place glyphs) (range_with_len 0 (length glyphs)) → AreAtMost places
+  few_listed listed i = rw (place_listed listed i) (by_glyph (slice_get glyphs i))
+    where
+      few : count_by stays (take i glyphs) ≤ i
+      few = omega (arith, count_by-le-length stays (take i glyphs), length-take i glyphs)
+
+      by_seen : (t : Bool) → IfSome (if t then None else Some (count_by stays (take i glyphs))) (λ kept. kept ≤ i)
+      by_seen true = tt
+      by_seen false = few
+
+      by_glyph : (o : Option ShapedGlyph)
+          → IfSome (option_and_then (λ (g : ShapedGlyph). if g.is_ignorable then None else Some (count_by stays (take i glyphs))) o) (λ kept. kept ≤ i)
+      by_glyph None = tt
+      by_glyph (Some g) = by_seen g.is_ignorable

@@ -2,8 +2,8 @@
 ghost use Rattle.std.specs.Prelude.{◌≡◌, ◌<◌, ◌-◌, ◌&&◌, length, map, IfOk};
 ghost use Rattle.std.specs.List.{range_with_len};
 ghost use Rattle.aat_shaped_text.specs.Parts.{shaped_at};
-ghost use Rattle.aat_showing.specs.Ignorables.{as_space, drawn_without_ignorables, kept_glyph, kept_glyphs, kept_place, on_line, stays, with_spaces};
-ghost use Rattle.aat_showing.specs.inside.Listed.{listed_place};
+ghost use Rattle.aat_showing.specs.Ignorables.{as_space, drawn_without_ignorables, kept_glyph, kept_glyphs, kept_place, on_line, space_for, stays, with_spaces};
+ghost use Rattle.aat_showing.specs.inside.Listed.{AreAtMost, listed_place};
 
 use aat_glyph::Direction;
 use aat_lookup::GlyphId;
@@ -40,6 +40,28 @@ fn as_space(direction: Direction, space: GlyphId, glyph: ShapedGlyph) -> ShapedG
     on_line(direction, narrow)
 }
 
+/// A glyph, as a space where it is ignorable.
+fn space_for(direction: Direction, space: GlyphId, glyph: ShapedGlyph) -> ShapedGlyph
+    ensures { result ≡ space_for direction space glyph }
+{
+    if glyph.is_ignorable {
+        as_space(direction, space, glyph)
+    } else {
+        glyph
+    }
+}
+
+/// Draws ignorable glyphs as the space of the font, as [`hide_ignorables`] does where it has one.
+///
+/// It takes no memory, and cannot be refused.
+pub fn hide_as_spaces(glyphs: &mut [ShapedGlyph], direction: Direction, space: GlyphId)
+    ensures { glyphs.new ≡ with_spaces direction space glyphs.old }
+{
+    for i in 0..glyphs.len() {
+        glyphs[i] = space_for(direction, space, glyphs[i]);
+    }
+}
+
 /// Glyphs, with the ignorable ones as spaces.
 fn with_spaces<A: Allocator>(
     alloc: A,
@@ -49,14 +71,8 @@ fn with_spaces<A: Allocator>(
 ) -> Result<Vec<ShapedGlyph, A>, AllocError>
     ensures { IfOk result (λ drawn. drawn.items ≡ with_spaces direction space glyphs.now) }
 {
-    let mut drawn = Vec::with_capacity(alloc, glyphs.len())?;
-    for glyph in glyphs {
-        if glyph.is_ignorable {
-            drawn.push(as_space(direction, space, *glyph))?;
-        } else {
-            drawn.push(*glyph)?;
-        }
-    }
+    let mut drawn = Vec::from_slice(alloc, glyphs)?;
+    hide_as_spaces(&mut drawn, direction, space);
     Ok(drawn)
 }
 
@@ -82,12 +98,13 @@ fn kept_places<A: Allocator>(
 }
 
 /// The place at which a glyph stays, if it does.
-fn kept_place(places: &[Option<usize>], place: Option<usize>) -> Option<usize>
+fn kept_place(places: &[Option<usize>], place: Option<u32>) -> Option<u32>
+    requires { AreAtMost places.now }
     ensures { result ≡ listed_place places.now place }
 {
-    match places.get(place?) {
-        Some(kept) => *kept,
-        None => None,
+    match places.get(place? as usize) {
+        Some(Some(kept)) => Some(*kept as u32),
+        _ => None,
     }
 }
 
@@ -105,6 +122,7 @@ fn attached_glyph(
     glyph: ShapedGlyph,
     may_break_before: bool,
 ) -> ShapedGlyph
+    requires { AreAtMost places.now }
     ensures { result ≡ record glyph {
       attached_to = listed_place places.now glyph.attached_to;
       may_break_before = may_break_before;

@@ -24,7 +24,7 @@ mod spaces;
 pub mod worked;
 
 pub use columns::set_in_columns;
-pub use ignorables::hide_ignorables;
+pub use ignorables::{hide_as_spaces, hide_ignorables};
 pub use mark_boxes::place_marks;
 pub use marks::zero_marks;
 pub use spaces::widen_spaces;

@@ -14,7 +14,7 @@ const TIMES: usize = 20;
 type Line<'h> = hb_buffer_t<&'h LocalHeap>;
 
 /// A call of a buffer.
-#[derive(Clone, Copy, PartialEq)]
+#[derive(Clone, Copy)]
 pub(crate) enum Growth {
     Add,
     Copy,
@@ -48,7 +48,7 @@ fn repeat(buffer: &mut Line, growth: Growth, times: usize) -> Result<(), BufferE
 
 /// Whether a line is what all calls leave.
 fn is_grown(buffer: &Line, growth: Growth) -> bool {
-    let is_placed = growth == Growth::Positions;
+    let is_placed = matches!(growth, Growth::Positions);
     let len = if is_placed { 2 } else { 2 + TIMES };
     buffer.len() == len && buffer.has_positions() == is_placed
 }

@@ -1,7 +1,7 @@
 //! What comes of a call.
 
 /// What comes of a call.
-#[derive(Clone, Copy, PartialEq, Eq, Debug)]
+#[derive(Clone, Copy)]
 pub(crate) enum Outcome {
     /// It was done as it has to be.
     Done,

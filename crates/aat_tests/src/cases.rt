@@ -165,7 +165,7 @@ const RUNS_BEHIND: Case = Case {
 };
 
 /// Long lines by machines of each kind, which a quadratic run would not end.
-pub(crate) static LONG: [Case; 6] = [
+static LONG: [Case; 6] = [
     EXCHANGED,
     // clusters stay apart, and the greater one is marked
     Case {
@@ -271,8 +271,8 @@ const FIRST: &[Left] = &[(9, 0, ANY), (5, 1, ANY)];
 
 const BOTH: &[Left] = &[(9, 0, ANY), (9, 1, ANY)];
 
-/// Places, states, indexes and lists at their ends.
-pub(crate) static AT_ENDS: [Case; 17] = [
+/// Places, states, actions and runs at their ends.
+static AT_ENDS: [Case; 7] = [
     PAST_16_BITS,
     Case {
         name: "a mark at the place 65535",
@@ -301,6 +301,10 @@ pub(crate) static AT_ENDS: [Case; 17] = [
         ends: &[(20, 0, ANY), (9, 1, ANY)],
         ..LAST_RUN
     },
+];
+
+/// Lookups at the ends of their lists.
+static LOOKUPS_AT_ENDS: [Case; 10] = [
     lookup_case!("the only lookup, marked", 0, NONE, 1, FIRST),
     lookup_case!("the only lookup, current", NONE, 0, 1, BOTH),
     lookup_case!("a lookup past the list, marked", 1, NONE, 1, NEITHER),
@@ -324,3 +328,23 @@ pub(crate) static AT_ENDS: [Case; 17] = [
     lookup_case!("no lookup at 65535, marked", 65535, NONE, 65536, NEITHER),
     lookup_case!("no lookup at 65535, current", NONE, 65535, 65536, NEITHER),
 ];
+
+/// All cases, in groups.
+pub(crate) fn all_cases() -> [&'static [Case]; 3] {
+    [long_cases(), cases_at_ends(), lookup_cases()]
+}
+
+/// The long lines. What names a table is proved with all that it holds, and takes less with one at a time.
+fn long_cases() -> &'static [Case] {
+    &LONG
+}
+
+/// The cases of places, states, actions and runs.
+fn cases_at_ends() -> &'static [Case] {
+    &AT_ENDS
+}
+
+/// The cases of lookups.
+fn lookup_cases() -> &'static [Case] {
+    &LOOKUPS_AT_ENDS
+}

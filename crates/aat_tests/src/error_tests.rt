@@ -1,4 +1,5 @@
-//! The texts of errors that no font file brings about.
+//! The texts of errors and of a reason that no font file brings about.
+use aat_cuts::Unsettled;
 use aat_layout::AatError;
 use aat_layout::buffer::BufferError;
 use aat_layout::font::TableError;
@@ -39,6 +40,11 @@ const LAYOUT_ERRORS: [(AatError, &str); 4] = [
     (AatError::BufferFailed, "the buffer had failed before"),
 ];
 
+const UNSETTLED: [(Unsettled, &str); 1] = [(
+    Unsettled::MissingEntry(0, 3),
+    "state 0 has no entry for class 3",
+)];
+
 /// Asserts the text of each error.
 fn assert_texts<E: Display + Drop + Copy>(
     rt: &impl Abort,
@@ -57,5 +63,6 @@ fn assert_texts<E: Display + Drop + Copy>(
 fn each_error_has_its_text(rt: HostRuntime) -> Result<(), Fail> {
     assert_texts(&rt, rt.alloc(), &BUFFER_ERRORS)?;
     assert_texts(&rt, rt.alloc(), &TABLE_ERRORS)?;
-    assert_texts(&rt, rt.alloc(), &LAYOUT_ERRORS)
+    assert_texts(&rt, rt.alloc(), &LAYOUT_ERRORS)?;
+    assert_texts(&rt, rt.alloc(), &UNSETTLED)
 }

@@ -1,5 +1,6 @@
 //! The fonts.
 
+use crate::kerning::kern_pairs;
 use aat_layout::font::entry_bits::NO_INDEX;
 use aat_layout::font::entry_bits::insertion::CURRENT_INSERT_COUNT;
 use aat_layout::font::{
@@ -61,15 +62,15 @@ fn attaching_kern(alloc: Global) -> Result<Kern, Fail> {
 /// line none of which it has. Both glyphs are 100 wide.
 pub(crate) fn inserting(alloc: Global) -> Result<hb_font_t, Fail> {
     let advances = Lookup::new(alloc, &[(5, 100), (6, 100)])?;
-    let tables = FaceTables::default().with_kern(attaching_kern(alloc)?);
-    let tables = tables.with_morx(inserting_morx(alloc)?);
+    let kern = attaching_kern(alloc)?;
+    let morx = inserting_morx(alloc)?;
+    let tables = FaceTables::default().with_kern(kern).with_morx(morx);
     Ok(hb_font_t::new(tables, None, Some(advances)))
 }
 
 /// A font in which 1 and 2 are 100 wide, and 10 less where 1 stands to the left of 2.
 pub(crate) fn kerning(alloc: Global) -> Result<hb_font_t, Fail> {
     let advances = Lookup::new(alloc, &[(1, 100), (2, 100)])?;
-    let pairs = KernKind::Pairs(Pairs::new(alloc, &[(1, 2, -10)])?);
-    let kern = Kern::new(vec![in alloc; KernSubtable::new(pairs, true)]?)?;
+    let kern = kern_pairs(alloc, &[(1, 2, -10)])?;
     Ok(hb_font_t::new(FaceTables::default().with_kern(kern), None, Some(advances)))
 }

@@ -20,15 +20,21 @@ fn chain_of(alloc: Global, default_flags: u32, flags: &[u32]) -> Result<Chain, F
     Ok(Chain::new(default_flags, vec![in alloc; feature]?, subtables))
 }
 
-/// A font of two chains.
-fn font_of(alloc: Global) -> Result<hb_font_t, Fail> {
-    let feat = Feat::new(alloc, &[FeatureName::new(1, 4, false)])?;
-    let tables = FaceTables::default().with_feat(feat);
+/// A table of two chains.
+fn morx_of(alloc: Global) -> Result<Morx, Fail> {
     let mut chains = Vec::new(alloc);
     for (default_flags, flags) in [(1, &[1][..]), (0, &[4, 2, 6])] {
         chains.push(chain_of(alloc, default_flags, flags)?)?;
     }
-    Ok(hb_font_t::from_tables(tables.with_morx(Morx::new(chains)?)))
+    Ok(Morx::new(chains)?)
+}
+
+/// A font of that table.
+fn font_of(alloc: Global) -> Result<hb_font_t, Fail> {
+    let feat = Feat::new(alloc, &[FeatureName::new(1, 4, false)])?;
+    let morx = morx_of(alloc)?;
+    let tables = FaceTables::default().with_feat(feat).with_morx(morx);
+    Ok(hb_font_t::from_tables(tables))
 }
 
 /// What is printed of ligatures over two clusters.

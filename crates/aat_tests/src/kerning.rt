@@ -42,7 +42,7 @@ pub(crate) enum Way {
 const CLASSES: [(u16, u16); 4] = [(0, 4), (1, 4), (2, 5), (3, 65535)];
 
 /// What an entry holds of the index that it names.
-pub(crate) trait Extra: Acting {
+trait Extra: Acting {
     fn of(index: u16) -> Self;
 }
 
@@ -61,10 +61,7 @@ impl Extra for EntryData {
 }
 
 /// The state table of a machine.
-pub(crate) fn machine_of<T: Extra>(
-    alloc: Global,
-    rules: &[Rule],
-) -> Result<ExtendedStateTable<T>, Fail> {
+fn machine_of<T: Extra>(alloc: Global, rules: &[Rule]) -> Result<ExtendedStateTable<T>, Fail> {
     let mut entries = Vec::new(alloc);
     for (state, class, new_state, flags, index) in rules {
         let entry = GenericStateEntry {
@@ -89,24 +86,15 @@ fn values_of(alloc: Global, values: Values) -> Result<Vec<i16>, Fail> {
     }
 }
 
-/// A `kern` table of so many machines.
-pub(crate) fn kern_machines(
-    alloc: Global,
-    rules: &[Rule],
-    values: Values,
-    count: usize,
-) -> Result<Kern, Fail> {
-    let mut subtables = Vec::new(alloc);
-    for _ in 0..count {
-        let values = values_of(alloc, values)?;
-        let state_table = machine_of(alloc, rules)?;
-        let kind = KernKind::Machine(KernMachine {
-            state_table,
-            values,
-        });
-        subtables.push(KernSubtable::new(kind, true))?;
-    }
-    Ok(Kern::new(subtables)?)
+/// A `kern` table of a machine.
+fn kern_machine(alloc: Global, rules: &[Rule], values: Values) -> Result<Kern, Fail> {
+    let values = values_of(alloc, values)?;
+    let state_table = machine_of(alloc, rules)?;
+    let kind = KernKind::Machine(KernMachine {
+        state_table,
+        values,
+    });
+    Ok(Kern::new(vec![in alloc; KernSubtable::new(kind, true)]?)?)
 }
 
 /// The anchor points: 100, 200 of the glyphs 0 and 1, 30, -50 of 2, and those at both ends of 65535.
@@ -167,14 +155,14 @@ fn kerx_of(alloc: Global, way: Way) -> Result<Kerx, Fail> {
 }
 
 /// The tables of a font of one subtable.
-pub(crate) fn tables_of(alloc: Global, way: Way) -> Result<FaceTables, Fail> {
+fn tables_of(alloc: Global, way: Way) -> Result<FaceTables, Fail> {
     match way {
         Way::KernPairs(pairs) => {
             let kern = kern_pairs(alloc, pairs)?;
             Ok(FaceTables::default().with_kern(kern))
         }
         Way::KernStack(rules, values) => {
-            let kern = kern_machines(alloc, rules, values, 1)?;
+            let kern = kern_machine(alloc, rules, values)?;
             Ok(FaceTables::default().with_kern(kern))
         }
         _ => {

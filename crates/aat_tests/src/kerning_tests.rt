@@ -1,10 +1,7 @@
-//! Kerning of long lines, and at the ends of glyphs, states, classes, indexes and sums; and deleted glyphs of a long line.
+//! Kerning of long lines, and at the ends of glyphs, states, classes, indexes and sums.
 
 use crate::kerning::{Line, Rule, Seen, Values, Way, is_kerned};
-use aat_layout::buffer::{BufferError, Direction, GlyphPosition, hb_buffer_t, hb_glyph_info_t};
-use aat_layout::{
-    DELETED_GLYPH, hb_aat_layout_remove_deleted_glyphs, hb_aat_layout_zero_width_deleted_glyphs,
-};
+use aat_layout::buffer::Direction;
 use std::alloc::Global;
 use std::process::Abort;
 use std::test::Fail;
@@ -221,8 +218,8 @@ macro_rules! by_kerx {
     };
 }
 
-/// Kerning at its ends. `kerx` takes no value whose next index is above 65535, and `kern` takes 0 for a missing one.
-static AT_ENDS: [Line; 18] = [
+/// Kerning at its ends, by machines and by pairs.
+static AT_ENDS: [Line; 9] = [
     KERN_AT_ENDS,
     Line {
         name: "kerx at its ends",
@@ -246,6 +243,11 @@ static AT_ENDS: [Line; 18] = [
     // the start and -16,384, and the start and 16,383 or 16,384, modulo 2^32
     sums!(LEAST, i16::MIN, 2147467264, 2147467264, 2147467264),
     sums!(MOST, i16::MAX, -2147467266, -2147467265, -2147467265),
+];
+
+/// Values at the ends of their lists. `kerx` takes none whose next index is above 65535, and `kern` takes 0 for a
+/// missing one.
+static VALUES_AT_ENDS: [Line; 9] = [
     widths!(by_kern!(65534), 500, 508, 504),
     widths!(by_kern!(NONE), 500, 500, 500),
     widths!(by_kerx!(65534, 0), 500, 500, 504),
@@ -257,60 +259,34 @@ static AT_ENDS: [Line; 18] = [
     widths!(by_kerx!(0, u32::MAX), 500, 500, 500),
 ];
 
-#[test]
-fn long_lines_and_ends(rt: HostRuntime) -> Result<(), Fail> {
-    for line in &LONG {
-        assert!(&rt; is_kerned(rt.alloc(), line)?, "{}", line.name);
-    }
-    for (number, line) in AT_ENDS.iter().enumerate() {
-        assert!(&rt; is_kerned(rt.alloc(), line)?, "{} {number}", line.name);
+/// The long lines. What names a table is proved with all that it holds, and takes less with one at a time.
+fn long_lines() -> &'static [Line] {
+    &LONG
+}
+
+/// The lines by machines and by pairs.
+fn lines_at_ends() -> &'static [Line] {
+    &AT_ENDS
+}
+
+/// The lines by values.
+fn values_at_ends() -> &'static [Line] {
+    &VALUES_AT_ENDS
+}
+
+/// Ends the test where one of these lines is kerned otherwise.
+fn check_all(rt: &impl Abort, alloc: Global, lines: &[Line]) -> Result<(), Fail> {
+    for (number, line) in lines.iter().enumerate() {
+        let is_kerned = is_kerned(alloc, line)?;
+        assert!(rt; is_kerned, "{} {number}", line.name);
     }
     Ok(())
 }
 
-/// Ten thousand glyphs 7 wide, each second of which is deleted, with falling clusters.
-fn half_deleted(alloc: Global) -> Result<hb_buffer_t, BufferError> {
-    let mut buffer = hb_buffer_t::new(alloc, 16384, 16384);
-    for i in 0..10_000u32 {
-        let id = if i % 2 == 0 { i } else { DELETED_GLYPH };
-        buffer.add(hb_glyph_info_t::new(id, 9_999 - i))?;
-    }
-    buffer.clear_positions()?;
-    for place in 0..buffer.len() {
-        if buffer.has_positions() && place < buffer.len() {
-            buffer.pos_mut(place).x_advance = 7;
-        }
-    }
-    Ok(buffer)
-}
-
-/// Whether a line has these widths by turns, and five thousand glyphs or ten.
-fn has_widths(buffer: &hb_buffer_t, even: i32, odd: i32, len: usize) -> bool {
-    for place in 0..buffer.len() {
-        let width = if place % 2 == 0 { even } else { odd };
-        if !buffer.has_positions() || buffer.pos(place).x_advance != width {
-            return false;
-        }
-    }
-    buffer.len() == len
-}
-
-/// Whether the glyph at a place has this id and this cluster.
-fn is_glyph(buffer: &hb_buffer_t, place: usize, id: u32, cluster: u32) -> bool {
-    if place >= buffer.len() {
-        return false;
-    }
-    let glyph = buffer.info(place);
-    glyph.glyph_id == id && glyph.cluster == cluster
-}
-
 #[test]
-fn deleted_glyphs_of_a_long_line(rt: HostRuntime) -> Result<(), Fail> {
-    let mut buffer = half_deleted(rt.alloc())?;
-    hb_aat_layout_zero_width_deleted_glyphs(&mut buffer);
-    assert!(&rt; has_widths(&buffer, 7, 0, 10_000));
-    hb_aat_layout_remove_deleted_glyphs(&mut buffer);
-    assert!(&rt; has_widths(&buffer, 7, 7, 5_000));
-    assert!(rt; is_glyph(&buffer, 4_999, 9_998, 0));
+fn long_lines_and_ends(rt: HostRuntime) -> Result<(), Fail> {
+    for lines in [long_lines(), lines_at_ends(), values_at_ends()] {
+        check_all(&rt, rt.alloc(), lines)?;
+    }
     Ok(())
 }

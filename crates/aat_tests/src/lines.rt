@@ -73,6 +73,21 @@ fn fill_beside<'h>(
     refused_if(answer == Some(false) && fills(alloc, heap, shaper) == Some(true))
 }
 
+/// What comes of lines while so many blocks are left of the heap of a shaper, which fills them before or does not.
+fn outcome_behind<'h>(
+    alloc: Global,
+    heap: &'h LocalHeap,
+    shaper: &mut Shaper<'_, &'h LocalHeap>,
+    is_again: bool,
+    blocks: usize,
+) -> Result<Outcome, Fail> {
+    if is_again && fills(alloc, heap, shaper) != Some(true) {
+        return Ok(Outcome::Wrong);
+    }
+    let hoard = Hoard::but(alloc, heap, blocks)?;
+    Ok(fill_beside(alloc, heap, hoard, shaper))
+}
+
 /// What comes of lines while so many blocks are left of the heap of a shaper, which has filled them before or not.
 pub(crate) fn outcome_of_lines(
     alloc: Global,
@@ -82,9 +97,5 @@ pub(crate) fn outcome_of_lines(
 ) -> Result<Outcome, Fail> {
     let heap = new_heap(alloc)?;
     let mut shaper = Shaper::new_in(alloc, &heap, font);
-    if is_again && fills(alloc, &heap, &mut shaper) != Some(true) {
-        return Ok(Outcome::Wrong);
-    }
-    let hoard = Hoard::but(alloc, &heap, blocks)?;
-    Ok(fill_beside(alloc, &heap, hoard, &mut shaper))
+    outcome_behind(alloc, &heap, &mut shaper, is_again, blocks)
 }

@@ -116,26 +116,10 @@ pub(crate) fn subtable_of(alloc: Global, kind: Kind) -> Result<SubtableKind, Fai
     }
 }
 
-/// One subtable fewer than so many, which are always on and do nothing.
-fn idle_subtables(alloc: Global, count: usize) -> Result<Vec<Subtable>, Fail> {
-    let mut subtables = Vec::new(alloc);
-    for _ in 1..count {
-        let idle = SubtableKind::NonContextual(Lookup::new(alloc, &[])?);
-        subtables.push(Subtable::new(idle, Coverage::ALL_DIRECTIONS, 1))?;
-    }
-    Ok(subtables)
-}
-
-/// A chain of so many subtables that are always on: the last one is this, and the others do nothing.
-fn chain_of(alloc: Global, last: SubtableKind, count: usize) -> Result<Chain, Fail> {
-    let mut subtables = idle_subtables(alloc, count)?;
-    subtables.push(Subtable::new(last, Coverage::ALL_DIRECTIONS, 1))?;
-    Ok(Chain::new(1, Vec::new(alloc), subtables))
-}
-
-/// A font of such a chain.
-pub(crate) fn font_of(alloc: Global, last: SubtableKind, count: usize) -> Result<hb_font_t, Fail> {
-    let chain = chain_of(alloc, last, count)?;
+/// A font of a subtable that is always on.
+pub(crate) fn font_of(alloc: Global, kind: SubtableKind) -> Result<hb_font_t, Fail> {
+    let subtable = Subtable::new(kind, Coverage::ALL_DIRECTIONS, 1);
+    let chain = Chain::new(1, Vec::new(alloc), vec![in alloc; subtable]?);
     let morx = Morx::new(vec![in alloc; chain]?)?;
     Ok(hb_font_t::from_tables(FaceTables::default().with_morx(morx)))
 }

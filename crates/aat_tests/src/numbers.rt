@@ -1,5 +1,4 @@
 //! Each constant beside its number, and each row of the table of features.
-ghost use Rattle.std.specs.Prelude.{◌<◌};
 
 use aat_layout::buffer::glyph_flag;
 use aat_layout::constants::*;
@@ -174,8 +173,11 @@ static NUMBERS: [u8; 155] = [
     0, 1, 2, 3, 255,
 ];
 
-/// The rows of the table of features in their order: the tag, the feature type, and the selectors for on and off.
-const ROWS: [(&[u8; 4], u8, u8, u8); 78] = [
+/// A row of the table of features: the tag, the feature type, and the selectors for on and off.
+type Row = (&'static [u8; 4], u8, u8, u8);
+
+/// The rows in their order.
+static ROWS: [Row; 78] = [
     (b"afrc", 11, 1, 0),
     (b"c2pc", 38, 2, 0),
     (b"c2sc", 38, 1, 0),
@@ -256,12 +258,27 @@ const ROWS: [(&[u8; 4], u8, u8, u8); 78] = [
     (b"zero", 14, 4, 5),
 ];
 
+/// The constants. What names a table is proved with all that it holds, and takes less with one at a time.
+fn constants() -> &'static [u8] {
+    &CONSTANTS
+}
+
+/// Their numbers.
+fn numbers() -> &'static [u8] {
+    &NUMBERS
+}
+
+/// The rows.
+fn rows() -> &'static [Row] {
+    &ROWS
+}
+
 /// Whether the row at a place has this tag and these numbers.
-fn is_row(place: usize, wanted: (&[u8; 4], u8, u8, u8)) -> bool
-    requires { place < 78 }
-{
+fn is_row(place: usize, wanted: Row) -> bool {
     let (tag, kind, enable, disable) = wanted;
-    let row = feature_mappings[place];
+    let Some(row) = feature_mappings.get(place) else {
+        return false;
+    };
     row.ot_feature_tag == hb_tag_t::from_bytes(tag)
         && row.aat_feature_type == kind
         && row.selector_to_enable == enable
@@ -270,8 +287,8 @@ fn is_row(place: usize, wanted: (&[u8; 4], u8, u8, u8)) -> bool
 
 #[test]
 fn constants_have_their_numbers(rt: HostRuntime) {
-    for (place, number) in NUMBERS.iter().enumerate() {
-        assert!(&rt; CONSTANTS.get(place) == Some(number), "constant {place}");
+    for (place, number) in numbers().iter().enumerate() {
+        assert!(&rt; constants().get(place) == Some(number), "constant {place}");
     }
     let flags = [
         glyph_flag::UNSAFE_TO_BREAK,
@@ -280,7 +297,7 @@ fn constants_have_their_numbers(rt: HostRuntime) {
         glyph_flag::DEFINED,
     ];
     assert!(&rt; flags == [1, 2, 4, 7]);
-    for (place, row) in ROWS.iter().enumerate() {
+    for (place, row) in rows().iter().enumerate() {
         assert!(&rt; is_row(place, *row), "row {place}");
     }
 }

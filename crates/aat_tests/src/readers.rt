@@ -1,6 +1,6 @@
 //! The readers of tables that take an allocator, over a heap.
 
-use aat_bytes::{ReadError, Tag};
+use aat_bytes::ReadError;
 use aat_layout::buffer::Direction;
 use aat_layout::font::{ExtendedStateTable, GlyphId};
 use aat_read_lookup::{read_feat, read_lookup};
@@ -55,31 +55,50 @@ pub(crate) enum Reader {
     Outline,
 }
 
+/// Whether feature names are read over a heap, and have a type.
+fn is_feat_read(heap: &LocalHeap) -> Result<bool, ReadError> {
+    let feat = read_feat(heap, &FEAT)?;
+    Ok(feat.find(3).is_some())
+}
+
+/// Whether a lookup is read over a heap, and has the value of a glyph.
+fn is_lookup_read(heap: &LocalHeap) -> Result<bool, ReadError> {
+    let lookup = read_lookup(heap, MORX, &LOOKUP, 0, 9)?;
+    Ok(lookup.value(GlyphId(7)) == Some(8))
+}
+
 /// Whether a machine is read over a heap, and has the class of a glyph.
-fn is_machine_read(heap: &LocalHeap, table: Tag) -> Result<bool, ReadError> {
-    let machine: ExtendedStateTable<(), &LocalHeap> = read_machine(heap, table, &MACHINE, 0, 9)?;
+fn is_machine_read(heap: &LocalHeap) -> Result<bool, ReadError> {
+    let machine: ExtendedStateTable<(), &LocalHeap> = read_machine(heap, MORX, &MACHINE, 0, 9)?;
     Ok(machine.class(GlyphId(5)) == Some(4))
+}
+
+/// Whether pairs are read over a heap, and have the value of two glyphs.
+fn are_pairs_read(heap: &LocalHeap) -> Result<bool, ReadError> {
+    let pairs = read_kern_pairs(heap, &PAIRS, 0)?;
+    Ok(pairs.glyphs_kerning(GlyphId(1), GlyphId(2)) == Some(-25))
+}
+
+/// Whether tracks are read over a heap, and have their value at a size.
+fn are_tracks_read(heap: &LocalHeap) -> Result<bool, ReadError> {
+    let tracking = read_trak(heap, &TRACKS)?;
+    Ok(tracking.tracking_at(Direction::LeftToRight, 0, 12 * 65536) == 9)
+}
+
+/// Whether an outline is read over a heap, and has its points.
+fn is_outline_read(heap: &LocalHeap) -> Result<bool, ReadError> {
+    let outline = Outlines::new(&GLYPH, &PLACES, false, 1).outline(heap, 0)?;
+    Ok(outline.points().len() == 4)
 }
 
 /// Whether a table is read over a heap, and answers what its bytes say.
 pub(crate) fn is_read(heap: &LocalHeap, reader: Reader) -> Result<bool, ReadError> {
     match reader {
-        Reader::Feat => Ok(read_feat(heap, &FEAT)?.find(3).is_some()),
-        Reader::Lookup => {
-            Ok(read_lookup(heap, MORX, &LOOKUP, 0, 9)?.value(GlyphId(7)) == Some(8))
-        }
-        Reader::Machine => is_machine_read(heap, MORX),
-        Reader::Pairs => {
-            let pairs = read_kern_pairs(heap, &PAIRS, 0)?;
-            Ok(pairs.glyphs_kerning(GlyphId(1), GlyphId(2)) == Some(-25))
-        }
-        Reader::Tracks => {
-            let tracking = read_trak(heap, &TRACKS)?;
-            Ok(tracking.tracking_at(Direction::LeftToRight, 0, 12 * 65536) == 9)
-        }
-        Reader::Outline => {
-            let outline = Outlines::new(&GLYPH, &PLACES, false, 1).outline(heap, 0)?;
-            Ok(outline.points().len() == 4)
-        }
+        Reader::Feat => is_feat_read(heap),
+        Reader::Lookup => is_lookup_read(heap),
+        Reader::Machine => is_machine_read(heap),
+        Reader::Pairs => are_pairs_read(heap),
+        Reader::Tracks => are_tracks_read(heap),
+        Reader::Outline => is_outline_read(heap),
     }
 }

@@ -45,24 +45,33 @@ enum Call {
     Filled(bool),
 }
 
+/// What comes of a call that leaves nothing and takes a face, over this heap.
+fn outcome_of_face(alloc: Global, heap: &LocalHeap, face: &Face, call: Call) -> Outcome {
+    match call {
+        Call::Answered(text) => outcome_of(is_answered(heap, face, text), TextError::OutOfMemory),
+        Call::Typeset(setting) => outcome_of(
+            is_set(alloc, heap, face, setting),
+            TypesetError::OutOfMemory,
+        ),
+        _ => Outcome::Wrong,
+    }
+}
+
+/// What comes of such a call with the face of the file.
+fn outcome_in_face(alloc: Global, heap: &LocalHeap, call: Call) -> Result<Outcome, Fail> {
+    let face = Face::read(alloc, &FILE, 0)?;
+    let outcome = outcome_of_face(alloc, heap, &face, call);
+    drop(face);
+    Ok(outcome)
+}
+
 /// What comes of a call that leaves nothing, over this heap.
 fn outcome_over(alloc: Global, heap: &LocalHeap, call: Call) -> Result<Outcome, Fail> {
-    Ok(match call {
-        Call::Made(table) => outcome_of(is_made(heap, table), TableError::OutOfMemory),
-        Call::Read(reader) => outcome_of(is_read(heap, reader), ReadError::OutOfMemory),
-        Call::Answered(text) => {
-            let face = Face::read(alloc, &FILE, 0)?;
-            outcome_of(is_answered(heap, &face, text), TextError::OutOfMemory)
-        }
-        Call::Typeset(setting) => {
-            let face = Face::read(alloc, &FILE, 0)?;
-            outcome_of(
-                is_set(alloc, heap, &face, setting),
-                TypesetError::OutOfMemory,
-            )
-        }
-        _ => Outcome::Wrong,
-    })
+    match call {
+        Call::Made(table) => Ok(outcome_of(is_made(heap, table), TableError::OutOfMemory)),
+        Call::Read(reader) => Ok(outcome_of(is_read(heap, reader), ReadError::OutOfMemory)),
+        _ => outcome_in_face(alloc, heap, call),
+    }
 }
 
 /// What comes of a call in a font while so many blocks are left of its heap.
@@ -178,9 +187,14 @@ static CALLS: [(&str, Call, usize); 40] = [
     ("the same lines again", Call::Filled(true), 5),
 ];
 
+/// The calls. What names a table is proved with all that it holds.
+fn calls() -> &'static [(&'static str, Call, usize)] {
+    &CALLS
+}
+
 #[test]
 fn each_request_for_memory_is_refused(rt: HostRuntime) -> Result<(), Fail> {
-    for (name, call, least) in &CALLS {
+    for (name, call, least) in calls() {
         let blocks = blocks_for(rt.alloc(), *call)?;
         assert!(&rt; blocks.unwrap_or(0) >= *least, "{name}: {blocks:?}");
     }
@@ -201,14 +215,23 @@ fn is_too_long(alloc: Global, font: &hb_font_t, room: usize) -> Result<bool, Fai
     Ok(is_answer && runs_in(&buffer) == Some(room / 31))
 }
 
+/// The first room for so many glyphs at which a line comes out otherwise.
+fn failing_room(alloc: Global, font: &hb_font_t) -> Result<Option<usize>, Fail> {
+    for room in [0, 1, 30, 31, 61, 62, 93, 123, 124] {
+        if !is_too_long(alloc, font, room)? {
+            return Ok(Some(room));
+        }
+    }
+    Ok(None)
+}
+
 /// The greatest length is looked at before memory is asked for.
 #[test]
 fn a_run_that_is_too_long_leaves_the_line(rt: HostRuntime) -> Result<(), Fail> {
     let font = inserting(rt.alloc())?;
-    for room in [0, 1, 30, 31, 61, 62, 93, 123, 124] {
-        let is_right = is_too_long(rt.alloc(), &font, room)?;
-        assert!(&rt; is_right, "room for {room}");
-    }
+    let failing = failing_room(rt.alloc(), &font);
     drop_font(font);
+    let failing = failing?;
+    assert!(rt; failing.is_none(), "room for {failing:?}");
     Ok(())
 }

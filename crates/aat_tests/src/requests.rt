@@ -16,7 +16,7 @@ type Builder<'h> = hb_aat_map_builder_t<&'h LocalHeap>;
 type Map<'h> = hb_aat_map_t<&'h LocalHeap>;
 
 /// A call of a builder or of a map.
-#[derive(Clone, Copy, PartialEq)]
+#[derive(Clone, Copy)]
 pub(crate) enum Asking {
     Add,
     WithFeatures,
@@ -71,7 +71,7 @@ fn compile<'h>(
     builder: &mut Builder<'h>,
     map: &mut Map<'h>,
 ) -> Result<(), AatError> {
-    if asking == Asking::Compile {
+    if matches!(asking, Asking::Compile) {
         return builder.compile(font, map);
     }
     if builder.range() == (0, u32::MAX) && map.chain_flags().is_empty() {
@@ -82,7 +82,7 @@ fn compile<'h>(
 
 /// Whether a map is that of row 5, or that of no request.
 fn is_compiled(asking: Asking, map: &Map) -> bool {
-    let flags = if asking == Asking::Compile {
+    let flags = if matches!(asking, Asking::Compile) {
         (Some(3), Some(5))
     } else {
         (Some(1), Some(1))
@@ -108,6 +108,20 @@ fn compile_beside<'h>(
     refused_if(is_left && is_done && is_compiled(asking, map))
 }
 
+/// What comes of compiling the requests of row 5 over a heap while so many blocks are left of it.
+fn outcome_of_map<'h>(
+    alloc: Global,
+    heap: &'h LocalHeap,
+    asking: Asking,
+    font: &hb_font_t,
+    builder: &mut Builder<'h>,
+    blocks: usize,
+) -> Result<Outcome, Fail> {
+    let hoard = Hoard::but(alloc, heap, blocks)?;
+    let mut map = hb_aat_map_t::default(heap);
+    Ok(compile_beside(asking, font, hoard, builder, &mut map))
+}
+
 /// What comes of compiling the requests of row 5 while so many blocks are left of a heap.
 fn outcome_of_compiling(
     alloc: Global,
@@ -117,9 +131,7 @@ fn outcome_of_compiling(
 ) -> Result<Outcome, Fail> {
     let heap = new_heap(alloc)?;
     let mut builder = hb_aat_map_builder_t::with_features(&heap, font, &features())?;
-    let mut map = hb_aat_map_t::default(&heap);
-    let hoard = Hoard::but(alloc, &heap, blocks)?;
-    Ok(compile_beside(asking, font, hoard, &mut builder, &mut map))
+    outcome_of_map(alloc, &heap, asking, font, &mut builder, blocks)
 }
 
 /// Whether the features of row 5 make their requests, or a map.
@@ -129,7 +141,7 @@ fn is_asked(
     font: &hb_font_t,
     heap: &LocalHeap,
 ) -> Result<bool, AatError> {
-    if asking == Asking::WithFeatures {
+    if matches!(asking, Asking::WithFeatures) {
         let builder = hb_aat_map_builder_t::with_features(heap, font, &features())?;
         return Ok(builder.features().len() == 3);
     }

@@ -64,28 +64,6 @@ fn assert_refused(rt: &impl Abort, alloc: Global, words: &[&str], step: usize) -
     Ok(())
 }
 
-/// The text of row 1.
-const ROW_1: &str = "\
-    row 1\n\
-    9 0 0\n\
-    6 1 0\n\
-    9 2 0\n\
-    turns 3 budget 16384\n";
-
-/// Words that name no row.
-const UNKNOWN: [&[&str]; 6] = [&["0"], &["1a"], &["3a"], &[""], &["row"], &["1", "1"]];
-
-#[test]
-fn one_row_or_an_unknown_one(rt: HostRuntime) -> Result<(), Fail> {
-    let (status, out) = printed(rt.alloc(), &["1"], usize::MAX)?;
-    assert!(&rt; status == 0 && out.text.as_slice() == ROW_1.as_bytes());
-    for words in UNKNOWN {
-        let (status, out) = printed(rt.alloc(), words, usize::MAX)?;
-        assert!(&rt; status == 2 && out.text.as_slice() == b"unknown row\n".as_slice());
-    }
-    Ok(())
-}
-
 /// Each write of rows of each form, and of unknown words; and one of forty of all rows.
 #[test]
 fn a_refused_write_ends_with_1(rt: HostRuntime) -> Result<(), Fail> {

@@ -80,6 +80,19 @@ fn shape_beside<'h>(
     refused_if(is_left && again == Ok(4) && is_line(buffer, 20, 2, true))
 }
 
+/// What comes of shaping the line while so many blocks are left of the heap of the map.
+fn outcome_on_heap(
+    alloc: Global,
+    plan: &hb_ot_shape_plan_t,
+    font: &hb_font_t,
+    buffer: &mut hb_buffer_t,
+    blocks: usize,
+) -> Result<Outcome, Fail> {
+    let heap = new_heap(alloc)?;
+    let hoard = Hoard::but(alloc, &heap, blocks)?;
+    Ok(shape_beside(&heap, hoard, plan, font, buffer))
+}
+
 /// What comes of shaping row 38a while so many blocks are left of the heap of the map.
 pub(crate) fn outcome_beside(
     alloc: Global,
@@ -88,9 +101,7 @@ pub(crate) fn outcome_beside(
 ) -> Result<Outcome, Fail> {
     let plan = plan_of(alloc)?;
     let mut buffer = line_of(alloc)?;
-    let heap = new_heap(alloc)?;
-    let hoard = Hoard::but(alloc, &heap, blocks)?;
-    Ok(shape_beside(&heap, hoard, &plan, font, &mut buffer))
+    outcome_on_heap(alloc, &plan, font, &mut buffer, blocks)
 }
 
 /// Shapes the line while its heap is full but for some blocks. A refusal of its positions leaves it substituted, failed
@@ -112,6 +123,19 @@ fn shape_within<'h>(
     refused_if(is_left && again == Err(AatError::BufferFailed))
 }
 
+/// What comes of shaping the line of a heap while so many blocks are left of that.
+fn outcome_of_line(
+    alloc: Global,
+    heap: &LocalHeap,
+    plan: &hb_ot_shape_plan_t,
+    font: &hb_font_t,
+    blocks: usize,
+) -> Result<Outcome, Fail> {
+    let mut buffer = line_of(heap)?;
+    let hoard = Hoard::but(alloc, heap, blocks)?;
+    Ok(shape_within(alloc, hoard, plan, font, &mut buffer))
+}
+
 /// What comes of shaping row 38a while so many blocks are left of the heap of the line.
 pub(crate) fn outcome_within(
     alloc: Global,
@@ -120,9 +144,7 @@ pub(crate) fn outcome_within(
 ) -> Result<Outcome, Fail> {
     let plan = plan_of(alloc)?;
     let heap = new_heap(alloc)?;
-    let mut buffer = line_of(&heap)?;
-    let hoard = Hoard::but(alloc, &heap, blocks)?;
-    Ok(shape_within(alloc, hoard, &plan, font, &mut buffer))
+    outcome_of_line(alloc, &heap, &plan, font, blocks)
 }
 
 /// A text of so many glyphs 6, of a cluster each.
@@ -141,8 +163,11 @@ fn is_drawn(shaper: &Shaper<&LocalHeap>, count: usize) -> bool {
     for (place, glyph) in glyphs.iter().enumerate() {
         let id = if place % each == 0 { 6 } else { 5 };
         let is_here = glyph.cluster as usize == place / each && glyph.x_advance == 100;
-        let parent = if place == 0 { None } else { Some(place - 1) };
-        if glyph.glyph_id != id || !is_here || glyph.attached_to != parent {
+        let is_attached = match glyph.attached_to {
+            Some(before) => before as usize + 1 == place,
+            None => place == 0,
+        };
+        if glyph.glyph_id != id || !is_here || !is_attached {
             return false;
         }
     }
@@ -177,6 +202,21 @@ fn draw_beside<'h>(
     refused_if(is_done && is_shorter)
 }
 
+/// What comes of a text while so many blocks are left of the heap of a shaper, which shapes the text before or none.
+fn outcome_by<'h>(
+    alloc: Global,
+    heap: &'h LocalHeap,
+    shaper: &mut Shaper<'_, &'h LocalHeap>,
+    shorter: &[TextGlyph],
+    text: &[TextGlyph],
+    blocks: usize,
+) -> Result<Outcome, Fail> {
+    let is_first = shorter.is_empty() || draws(shaper, shorter) == Some(true);
+    let hoard = Hoard::but(alloc, heap, blocks)?;
+    let outcome = draw_beside(hoard, shaper, shorter, text);
+    Ok(if is_first { outcome } else { Outcome::Wrong })
+}
+
 /// What comes of a text while so many blocks are left of the heap of a shaper, which has shaped the text before or none.
 fn outcome_behind(
     alloc: Global,
@@ -187,10 +227,7 @@ fn outcome_behind(
 ) -> Result<Outcome, Fail> {
     let heap = new_heap(alloc)?;
     let mut shaper = Shaper::new_in(alloc, &heap, font);
-    let is_first = shorter.is_empty() || draws(&mut shaper, shorter) == Some(true);
-    let hoard = Hoard::but(alloc, &heap, blocks)?;
-    let outcome = draw_beside(hoard, &mut shaper, shorter, text);
-    Ok(if is_first { outcome } else { Outcome::Wrong })
+    outcome_by(alloc, &heap, &mut shaper, shorter, text, blocks)
 }
 
 /// What comes of a text of so many glyphs behind one of so many others, or none.

@@ -122,6 +122,20 @@ fn substitute_beside<'h>(
     refused_if(is_left && again == Ok(2) && buffer.len() == 3)
 }
 
+/// What comes of substitution of a line of one glyph, while so many blocks are left of the heap of the map.
+fn outcome_of_plan(
+    alloc: Global,
+    heap: &LocalHeap,
+    plan: &hb_ot_shape_plan_t,
+    font: &hb_font_t,
+    blocks: usize,
+) -> Result<Outcome, Fail> {
+    let mut buffer = hb_buffer_t::new(alloc, 100, 2);
+    buffer.add(hb_glyph_info_t::new(5, 3))?;
+    let hoard = Hoard::but(alloc, heap, blocks)?;
+    Ok(substitute_beside(heap, hoard, plan, font, &mut buffer))
+}
+
 /// What comes of substitution by row 13 with a request, while so many blocks are left of the heap of the map.
 pub(crate) fn outcome_of_map(
     alloc: Global,
@@ -129,9 +143,6 @@ pub(crate) fn outcome_of_map(
     blocks: usize,
 ) -> Result<Outcome, Fail> {
     let plan = hb_ot_shape_plan_t::new(vec![in alloc; liga(0, 1, 2)]?);
-    let mut buffer = hb_buffer_t::new(alloc, 100, 2);
-    buffer.add(hb_glyph_info_t::new(5, 3))?;
     let heap = new_heap(alloc)?;
-    let hoard = Hoard::but(alloc, &heap, blocks)?;
-    Ok(substitute_beside(&heap, hoard, &plan, font, &mut buffer))
+    outcome_of_plan(alloc, &heap, &plan, font, blocks)
 }

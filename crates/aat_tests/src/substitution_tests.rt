@@ -1,9 +1,9 @@
 //! Substitution of long lines, and at the ends of places, states, indexes and lists.
 
-use crate::cases::{ANY, AT_ENDS, Case, LONG, Left};
+use crate::cases::{ANY, Case, Left, all_cases};
 use crate::machines::{font_of, subtable_of};
 use aat_layout::buffer::{BufferError, hb_buffer_t, hb_glyph_info_t};
-use aat_layout::font::{Lookup, SubtableKind, hb_font_t, hb_ot_shape_plan_t};
+use aat_layout::font::{hb_font_t, hb_ot_shape_plan_t};
 use aat_layout::hb_aat_layout_substitute;
 use aat_shape::described::drop_font;
 use std::alloc::Global;
@@ -106,7 +106,7 @@ fn failing_level(alloc: Global, case: &Case, font: &hb_font_t) -> Result<Option<
 
 /// Ends the test where a case comes out otherwise.
 fn check(rt: &impl Abort, alloc: Global, case: &Case) -> Result<(), Fail> {
-    let font = font_of(alloc, subtable_of(alloc, case.kind)?, 1)?;
+    let font = font_of(alloc, subtable_of(alloc, case.kind)?)?;
     let failing = failing_level(alloc, case, &font);
     drop_font(font);
     let failing = failing?;
@@ -114,33 +114,18 @@ fn check(rt: &impl Abort, alloc: Global, case: &Case) -> Result<(), Fail> {
     Ok(())
 }
 
-#[test]
-fn long_lines_and_ends(rt: HostRuntime) -> Result<(), Fail> {
-    for case in &LONG {
-        check(&rt, rt.alloc(), case)?;
-    }
-    for case in &AT_ENDS {
-        check(&rt, rt.alloc(), case)?;
+/// Ends the test where one of these cases comes out otherwise.
+fn check_all(rt: &impl Abort, alloc: Global, cases: &[Case]) -> Result<(), Fail> {
+    for case in cases {
+        check(rt, alloc, case)?;
     }
     Ok(())
 }
 
-/// Whether the last of 65,535 subtables acts on two glyphs, and each looks at both.
-fn last_acts(alloc: Global, font: &hb_font_t) -> Result<bool, BufferError> {
-    let mut buffer = hb_buffer_t::new(alloc, 2, 0);
-    buffer.add(hb_glyph_info_t::new(5, 0))?;
-    buffer.add(hb_glyph_info_t::new(5, 1))?;
-    let turns = turns_of(alloc, font, &mut buffer);
-    Ok(turns == Some(131_070) && is_glyph(&buffer, 1, (9, 1, 0), 0))
-}
-
-/// The last of 65,535 subtables acts, and each looks at both glyphs.
 #[test]
-fn as_many_subtables_as_there_can_be(rt: HostRuntime) -> Result<(), Fail> {
-    let last = SubtableKind::NonContextual(Lookup::new(rt.alloc(), &[(5, 9)])?);
-    let font = font_of(rt.alloc(), last, 65535)?;
-    let acts = last_acts(rt.alloc(), &font);
-    drop_font(font);
-    assert!(rt; acts?);
+fn long_lines_and_ends(rt: HostRuntime) -> Result<(), Fail> {
+    for cases in all_cases() {
+        check_all(&rt, rt.alloc(), cases)?;
+    }
     Ok(())
 }

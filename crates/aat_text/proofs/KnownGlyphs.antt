@@ -6,5 +6,5 @@ use Rattle.aat_face.specs.Faces.{FaceValue}
 use Rattle.aat_text.specs.inside.KnownGlyphs.{AreKnown}
 
 -- no character is kept
-pub none_kept : (face : FaceValue) → AreKnown face (record { characters = replicate 64 0; glyphs = replicate 64 0 })
-none_kept face = λ i below some. absurd (omega (arith, some, get_or-replicate {A = ℕ} 64 i 0 0 below))
+pub none_kept : (face : FaceValue) → AreKnown face (record { characters = replicate 256 0; glyphs = replicate 256 0 })
+none_kept face = λ i below some. absurd (omega (arith, some, get_or-replicate {A = ℕ} 256 i 0 0 below))

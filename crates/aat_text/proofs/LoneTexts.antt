@@ -102,6 +102,17 @@ pub lone_done : {X : Type 0} (f : PlacedCharacter → List X) (width : ℕ → �
 lone_done f width done all place bs e h =
     sym (append-nil done) ∙ ap (λ cs. done ++ flat_map f (map placed (with_places width place cs))) (sym (chars_of_empty bs e)) ∙ h
 
+module _ (p : ℕ → Bool) (all : Bool) (bs : List ℕ) where
+  -- whether characters stand apart is told of the first one and of those behind it
+  pub apart_past : (rest : List ℕ) (c : ℕ) (one : Bool) → IsUtf8 bs → bs ≡ encode_utf8 c ++ rest → one ≡ p c
+      → list_all p (chars bs) ≡ all → (one && list_all p (chars rest)) ≡ all
+  apart_past rest c one u e is h =
+      ap (λ b. b && list_all p (chars rest)) is ∙ ap (list_all p) (sym (chars_past_char bs rest c u e)) ∙ h
+
+  -- none is left
+  pub apart_done : length bs ≡ 0 → list_all p (chars bs) ≡ all → true ≡ all
+  apart_done e h = ap (list_all p) (sym (chars_of_empty bs e)) ∙ h
+
 -- a glyph that the font has is that of its character
 pub kept_glyph : (face : FaceValue) (c : PlacedCharacter) → (placed_glyph face c).glyph_id ≢ 0 → placed_glyph face c ∷ [] ≡ lone_glyphs face c
 kept_glyph face c h =

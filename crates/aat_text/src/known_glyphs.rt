@@ -5,8 +5,8 @@ ghost use Rattle.aat_text.specs.inside.KnownGlyphs.{glyph_id_in, AreKnown};
 
 use aat_face::Face;
 
-/// How many characters are kept: more than an alphabet of one case has letters.
-const KEPT: usize = 64;
+/// How many characters are kept, as in HarfBuzz.
+const KEPT: usize = 256;
 
 /// The glyphs of the characters past ASCII that a text had last, one for each place that a character may have among so
 /// many. A text has few different characters, and a font takes long to find one. Those of ASCII are asked of the face, which
@@ -42,7 +42,7 @@ impl KnownGlyphs {
 
     /// Keeps the glyph of a character.
     fn keep(&mut self, at: usize, character: u32, glyph_id: u16)
-        requires { at < 64 }
+        requires { at < 256 }
         ensures { (face : FaceValue) → glyph_id ≡ glyph_id_in face character → AreKnown face self.old
             → AreKnown face self.new }
     {

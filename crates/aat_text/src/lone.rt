@@ -9,7 +9,7 @@ ghost use Rattle.aat_text.specs.Prepared.{exchanged, exchanged_at, own_character
 ghost use Rattle.aat_text.specs.inside.KnownGlyphs.{AreKnown};
 ghost use Rattle.aat_text.specs.inside.Lone.{IsWrittenAlone, exchanged_glyphs, lone_glyphs, stand_apart};
 
-use crate::clusters::{exchanged, exchanged_at};
+use crate::clusters::exchanged_at;
 use crate::glyphs::placed_glyph;
 use crate::known_glyphs::KnownGlyphs;
 use crate::plain::is_plain;
@@ -32,30 +32,6 @@ fn is_apart(character: char) -> bool
         return true;
     }
     !extends(character) && !is_regional_indicator(character)
-}
-
-/// Whether a character of a text that runs in a direction is a cluster by itself, also as it is exchanged.
-fn is_apart_in(face: &Face, direction: Direction, character: char) -> bool
-    ensures { result ≡ (is_apart character && is_apart (exchanged (has_glyph face.now) direction character)) }
-{
-    if !is_apart(character) {
-        return false;
-    }
-    match direction {
-        Direction::LeftToRight => true,
-        _ => {
-            let seen = exchanged(face, direction, character);
-            seen == character || is_apart(seen)
-        }
-    }
-}
-
-/// Whether each character of a text that runs in a direction is a cluster by itself.
-pub(crate) fn stand_apart(face: &Face, direction: Direction, text: &str) -> bool
-    ensures { result ≡ stand_apart (has_glyph face.now) direction text.now }
-{
-    text.chars()
-        .all(|character| is_apart_in(face, direction, character))
 }
 
 /// Puts the glyphs of characters behind others.
@@ -84,6 +60,7 @@ fn may_be_replaced(character: char) -> bool
 }
 
 /// Whether a character is not decomposed.
+#[inline(never)]
 fn is_undecomposed(character: char) -> bool
     ensures { result ≡ true → decompose_canonical character ≡ character ∷ [] }
 {
@@ -112,13 +89,6 @@ fn put_lone<B: Allocator + Copy, A: Allocator>(
     ensures known { AreKnown face.now known.new }
     ensures glyphs { OnOk result (glyphs.new.items ≡ glyphs.old.items ++ lone_glyphs face.now character) }
 {
-    if character.space.is_none() && is_plain(character.character) {
-        let glyph_id = known.glyph_id(face, character.character);
-        if is_written_alone(glyph_id, character.character) {
-            glyphs.push(TextGlyph::new(glyph_id, character.place))?;
-            return Ok(());
-        }
-    }
     let glyph = placed_glyph(face, known, character);
     if glyph.glyph_id != 0 {
         glyphs.push(glyph)?;
@@ -139,32 +109,93 @@ fn seen_at(face: &Face, direction: Direction, character: PlacedCharacter) -> Pla
     }
 }
 
+/// Whether a character is a cluster by itself, and so is the one that is seen for it.
+fn are_apart(own: char, seen: char) -> bool
+    ensures { result ≡ (is_apart own && is_apart seen) }
+{
+    is_apart(own) && (seen == own || is_apart(seen))
+}
+
+/// Puts the glyphs of what is seen for a character behind others, if both are clusters by themselves, and tells whether
+/// they are.
+#[inline(never)]
+fn put_if_apart<B: Allocator + Copy, A: Allocator>(
+    scratch: B,
+    face: &Face,
+    known: &mut KnownGlyphs,
+    own: char,
+    seen: PlacedCharacter,
+    glyphs: &mut Vec<TextGlyph, A>,
+) -> Result<bool, AllocError>
+    requires { AreKnown face.now known.now }
+    ensures known { AreKnown face.now known.new }
+    ensures apart { IfOk result (λ apart. apart ≡ (is_apart own && is_apart seen.character)) }
+    ensures glyphs { IfOk result (λ apart. apart ≡ true
+        → glyphs.new.items ≡ glyphs.old.items ++ lone_glyphs face.now seen) }
+{
+    if !are_apart(own, seen.character) {
+        return Ok(false);
+    }
+    put_lone(scratch, face, known, seen, glyphs)?;
+    Ok(true)
+}
+
+/// Puts the glyphs of a character of a text that runs in a direction behind others, if it is a cluster by itself, also
+/// as it is exchanged, and tells whether that is so. Most characters are plain, stay as they are, and are written alone.
+fn put_apart<B: Allocator + Copy, A: Allocator>(
+    scratch: B,
+    face: &Face,
+    known: &mut KnownGlyphs,
+    direction: Direction,
+    own: PlacedCharacter,
+    glyphs: &mut Vec<TextGlyph, A>,
+) -> Result<bool, AllocError>
+    requires { AreKnown face.now known.now }
+    ensures known { AreKnown face.now known.new }
+    ensures apart { IfOk result (λ apart. apart
+        ≡ (is_apart own.character && is_apart (exchanged (has_glyph face.now) direction own.character))) }
+    ensures glyphs { IfOk result (λ apart. apart ≡ true
+        → glyphs.new.items ≡ glyphs.old.items ++ exchanged_glyphs face.now direction own) }
+{
+    let seen = seen_at(face, direction, own);
+    if seen.character == own.character && seen.space.is_none() && is_plain(seen.character) {
+        let glyph_id = known.glyph_id(face, seen.character);
+        if is_written_alone(glyph_id, seen.character) {
+            glyphs.push(TextGlyph::new(glyph_id, seen.place))?;
+            return Ok(true);
+        }
+    }
+    put_if_apart(scratch, face, known, own.character, seen, glyphs)
+}
+
 /// How many glyphs there is room for at first, or as many as the text has bytes, if these are fewer.
 const ROOM: usize = 64;
 
-/// The glyphs of the characters of a text that runs in a direction, each by itself, in the memory of an empty vector.
-pub(crate) fn lone_glyphs<B: Allocator + Copy, A: Allocator>(
+/// Whether each character of a text that runs in a direction is a cluster by itself. If so their glyphs are put into an
+/// empty vector, those of each character by itself.
+pub(crate) fn put_lone_glyphs<B: Allocator + Copy, A: Allocator>(
     scratch: B,
-    room: Vec<TextGlyph, A>,
     face: &Face,
     direction: Direction,
     unit: ClusterUnit,
     text: &str,
-) -> Result<Vec<TextGlyph, A>, AllocError>
+    glyphs: &mut Vec<TextGlyph, A>,
+) -> Result<bool, AllocError>
     requires short { length text.now < 2 ^ 32 }
-    requires empty { room.items ≡ [] }
-    ensures { IfOk result (λ glyphs. glyphs.items
+    requires empty { glyphs.old.items ≡ [] }
+    ensures apart { IfOk result (λ apart. apart ≡ stand_apart (has_glyph face.now) direction text.now) }
+    ensures glyphs { IfOk result (λ apart. apart ≡ true → glyphs.new.items
         ≡ flat_map (exchanged_glyphs face.now direction) (own_characters unit text.now)) }
 {
-    let mut glyphs = room;
     glyphs.reserve(text.len().min(ROOM))?;
     let mut known = KnownGlyphs::none();
     let mut place = 0;
     for character in text.chars() {
         let own = PlacedCharacter::new(place as u32, character);
-        let seen = seen_at(face, direction, own);
-        put_lone(scratch, face, &mut known, seen, &mut glyphs)?;
+        if !put_apart(scratch, face, &mut known, direction, own, glyphs)? {
+            return Ok(false);
+        }
         place += unit.width_of(character);
     }
-    Ok(glyphs)
+    Ok(true)
 }

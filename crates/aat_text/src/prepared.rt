@@ -9,7 +9,7 @@ use crate::clusters::{ClusterLevel, placed_text, turned_text};
 use crate::error::TextError;
 use crate::glyphs::{LONGEST_TEXT, placed_glyph};
 use crate::known_glyphs::KnownGlyphs;
-use crate::lone::{lone_glyphs, stand_apart};
+use crate::lone::put_lone_glyphs;
 use crate::unit::ClusterUnit;
 use aat_characters::{
     PlacedCharacter, Script, native_direction, natural_direction, normalized, told_script,
@@ -101,11 +101,13 @@ fn prepared_glyphs<B: Allocator + Copy, A: Allocator>(
     ensures { IfOk result (λ glyphs. glyphs.items
         ≡ map (placed_glyph face.now) (characters_when (has_glyph face.now) is_turned direction level unit text.now)) }
 {
-    if !is_turned && stand_apart(face, direction, text) {
-        return lone_glyphs(scratch, room, face, direction, unit, text);
+    let mut glyphs = room;
+    if !is_turned && put_lone_glyphs(scratch, face, direction, unit, text, &mut glyphs)? {
+        return Ok(glyphs);
     }
+    glyphs.clear();
     let characters = shaped_characters(scratch, face, unit, level, is_turned, direction, text)?;
-    glyphs_of(room, face, &characters)
+    glyphs_of(glyphs, face, &characters)
 }
 
 /// The text that a `Shaper` takes for a text in a face, as HarfBuzz has it for a font whose `morx`, `kerx` or `kern`

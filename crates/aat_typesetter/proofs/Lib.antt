@@ -6,5 +6,4 @@ pub mod Hanging
 pub mod NotFound
 pub mod Plain
 pub mod Refusals
-pub mod Unattached
 mod Unhidden

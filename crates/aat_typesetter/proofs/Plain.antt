@@ -1,7 +1,7 @@
--- Plain glyphs in rows are drawn as they are, where the font has a space or none is attached.
-use Rattle.std.proofs.Common.{◌≡◌, ◌∙◌, ap, refl, sym, true≢false, true, ◌||◌, List, Option, Some, None}
+-- Plain glyphs in rows are drawn as they are, where the font has a space, or they are attached among one another.
+use Rattle.std.proofs.Common.{◌≡◌, ◌∙◌, ap, refl, sym, true≢false, true, List, Option, Some, None}
 use Rattle.std.specs.List.{list_all}
-use Rattle.std.specs.Prelude.{is_some, option_map}
+use Rattle.std.specs.Prelude.{option_map}
 use Rattle.aat_face.specs.Faces.{FaceValue}
 use Rattle.aat_glyph.specs.Directions.{is_horizontal}
 use Rattle.aat_glyph.specs.declared.glyph.Direction.{Direction}
@@ -15,12 +15,10 @@ use Rattle.aat_showing.specs.MarkBoxes.{place_marks}
 use Rattle.aat_showing.specs.Marks.{zero_marks}
 use Rattle.aat_showing.specs.Spaces.{widen_spaces}
 use Rattle.aat_showing.specs.facts.Plain.{is_plain, none_ignorable, unboxed, unwidened, unzeroed}
-use Rattle.aat_lookup.specs.declared.glyph_id.GlyphId.{GlyphId}
 use Rattle.aat_typesetter.specs.Typeset.{columns_for}
 use Rattle.aat_typesetter.specs.declared.showing.Shown.{Shown}
-use Rattle.aat_typesetter.specs.inside.Drawn.{is_unattached}
+use Rattle.aat_typesetter.specs.inside.Drawn.{keeps_all}
 use Rattle.aat_typesetter.specs.inside.Inside.{showing_by}
-use Rattle.aat_typesetter.proofs.Unattached.{untaken}
 use Rattle.aat_typesetter.proofs.Unhidden.{unhidden}
 
 -- what is asked changes nothing
@@ -45,17 +43,10 @@ in_places face s gs row plain =
     ∙ (ap (asked place_marks boxes) (unasked zero_marks gs (λ moves. unzeroed moves gs plain) s.marks)
     ∙ unasked place_marks gs (λ p. unboxed p gs plain) boxes))
 
--- none is taken out or becomes a space
-stays_hidden :
-    (d : Direction) (space : Option GlyphId) (gs : List ShapedGlyph) → list_all is_plain gs ≡ true
-    → (is_some space || list_all is_unattached gs) ≡ true → drawn_without_ignorables d space gs ≡ gs
-stays_hidden d None gs plain kept = untaken gs plain kept
-stays_hidden d (Some s) gs plain kept = unhidden d (Some s) gs refl (none_ignorable gs plain)
-
 pub shown_plainly :
     (face : FaceValue) (s : Shown) (gs : List ShapedGlyph) → is_horizontal s.direction ≡ true → list_all is_plain gs ≡ true
-    → (is_some s.space || list_all is_unattached gs) ≡ true → gs ≡ shown (showing_by face s) gs
+    → keeps_all s.space gs ≡ true → gs ≡ shown (showing_by face s) gs
 shown_plainly face s gs row plain kept =
     sym
     (ap (drawn_without_ignorables s.direction s.space) (in_places face s gs row plain)
-    ∙ stays_hidden s.direction s.space gs plain kept)
+    ∙ unhidden s.direction s.space gs (none_ignorable gs plain) kept)

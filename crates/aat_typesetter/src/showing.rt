@@ -1,5 +1,5 @@
 //! How what is drawn is shown.
-ghost use Rattle.std.specs.Prelude.{◌≡◌, ◌||◌, IfOk, is_some, option_map, true};
+ghost use Rattle.std.specs.Prelude.{◌≡◌, IfOk, option_map, true};
 ghost use Rattle.std.specs.List.{list_all, list_any};
 ghost use Rattle.aat_showing.specs.Columns.{in_columns};
 ghost use Rattle.aat_showing.specs.FaceMetrics.{mark_placing};
@@ -9,7 +9,7 @@ ghost use Rattle.aat_showing.specs.MarkBoxes.{place_marks};
 ghost use Rattle.aat_showing.specs.Marks.{zero_marks};
 ghost use Rattle.aat_showing.specs.facts.Plain.{is_plain};
 ghost use Rattle.aat_typesetter.specs.Typeset.{columns_for, showing_for};
-ghost use Rattle.aat_typesetter.specs.inside.Drawn.{drawn_by, is_unattached};
+ghost use Rattle.aat_typesetter.specs.inside.Drawn.{are_attached_within, drawn_by, is_within, keeps_all};
 ghost use Rattle.aat_typesetter.specs.inside.Inside.{showing_by};
 
 use crate::script_settings::{boxes_for, marks_for};
@@ -19,7 +19,9 @@ use aat_font::hb_font_t;
 use aat_glyph::Direction;
 use aat_lookup::GlyphId;
 use aat_shaped_text::{CharacterKind, ShapedGlyph};
-use aat_showing::{hide_ignorables, place_marks, set_in_columns, widen_spaces, zero_marks};
+use aat_showing::{
+    hide_as_spaces, hide_ignorables, place_marks, set_in_columns, widen_spaces, zero_marks,
+};
 use std::alloc::{AllocError, Allocator};
 
 /// How what is drawn of a text in a face is shown.
@@ -97,8 +99,34 @@ fn has_ignorables(glyphs: &[ShapedGlyph]) -> bool
     glyphs.iter().any(|glyph| glyph.is_ignorable)
 }
 
-/// Hides the ignorable ones of some glyphs. Where the font has a space, and none of them is ignorable, they are as they
-/// were, without another copy.
+/// Whether a place is one among so many, if it is any.
+fn is_within(len: usize, place: Option<u32>) -> bool
+    ensures { result ≡ is_within len place }
+{
+    match place {
+        Some(place) => (place as usize) < len,
+        None => true,
+    }
+}
+
+/// Whether each of some glyphs is attached to none, or to one of them.
+fn are_attached_within(glyphs: &[ShapedGlyph]) -> bool
+    ensures { result ≡ are_attached_within glyphs.now }
+{
+    let len = glyphs.len();
+    glyphs.iter().all(|glyph| is_within(len, glyph.attached_to))
+}
+
+/// Whether glyphs, none of which is ignorable, are as they were once ignorable ones are hidden: the font has a space,
+/// so that no glyph is taken out, or each is attached to none, or to one of them.
+fn keeps_all(space: Option<GlyphId>, glyphs: &[ShapedGlyph]) -> bool
+    ensures { result ≡ keeps_all space glyphs.now }
+{
+    space.is_some() || are_attached_within(glyphs)
+}
+
+/// Hides the ignorable ones of some glyphs, without another copy where the font has a space, or none of them is
+/// ignorable and none attached to one that is not there.
 #[tactic(auto, using(crate::proofs::Unhidden::unhidden))]
 fn hide<A: Allocator + Copy>(
     alloc: A,
@@ -108,10 +136,17 @@ fn hide<A: Allocator + Copy>(
 ) -> Result<Vec<ShapedGlyph, A>, AllocError>
     ensures { IfOk result (λ out. out.items ≡ drawn_without_ignorables direction space glyphs.items) }
 {
-    if space.is_some() && !has_ignorables(&glyphs) {
+    if !has_ignorables(&glyphs) && keeps_all(space, &glyphs) {
         return Ok(glyphs);
     }
-    hide_ignorables(alloc, direction, space, &glyphs)
+    match space {
+        Some(space) => {
+            let mut shown = glyphs;
+            hide_as_spaces(&mut shown, direction, space);
+            Ok(shown)
+        }
+        None => hide_ignorables(alloc, direction, None, &glyphs),
+    }
 }
 
 /// What is drawn of glyphs that were shaped.
@@ -151,27 +186,12 @@ fn are_plain(glyphs: &[ShapedGlyph]) -> bool
     glyphs.iter().all(|glyph| is_plain(glyph))
 }
 
-/// Whether none of some glyphs is attached to another.
-fn are_unattached(glyphs: &[ShapedGlyph]) -> bool
-    ensures { result ≡ list_all is_unattached glyphs.now }
-{
-    glyphs.iter().all(|glyph| glyph.attached_to.is_none())
-}
-
-/// Whether what is attached to a glyph stays so where none is ignorable: the font has a space, so that no glyph is taken
-/// out, or none of some glyphs is attached.
-fn keeps_places(space: Option<GlyphId>, glyphs: &[ShapedGlyph]) -> bool
-    ensures { result ≡ (is_some space || list_all is_unattached glyphs.now) }
-{
-    space.is_some() || are_unattached(glyphs)
-}
-
 /// Whether glyphs are known to be drawn as they are.
 #[tactic(auto, using(crate::proofs::Plain::shown_plainly))]
 fn is_shown_as_shaped(face: &Face<'_>, showing: Shown, glyphs: &[ShapedGlyph]) -> bool
     ensures { result ≡ true → glyphs.now ≡ shown (showing_by face.now showing) glyphs.now }
 {
-    showing.direction.is_horizontal() && are_plain(glyphs) && keeps_places(showing.space, glyphs)
+    showing.direction.is_horizontal() && are_plain(glyphs) && keeps_all(showing.space, glyphs)
 }
 
 /// Glyphs as they are shown, in the memory of a vector whose own glyphs are dropped.

@@ -19,11 +19,11 @@ static EXAMPLE: [Argument; 2] = [
     },
 ];
 
-/// The command that runs the example of the README.
+/// The command that runs a first program.
 pub(crate) fn example_command() -> Subcommand {
     Subcommand {
         name: "example",
-        about: "Typesets a text, as the program of the README does",
+        about: "Typesets a text, as a first program does",
         after: "",
         is_hidden: true,
         arguments: &EXAMPLE,

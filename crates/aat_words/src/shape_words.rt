@@ -6,6 +6,9 @@ use crate::shared::{CHANGE, DIRECTION, FEATURES, FONT, INDEX, PLAIN};
 /// What help says of an option of `hb-shape` that changes nothing.
 const IDLE: &str = "Taken and passed over: no table that is read here asks for it";
 
+/// What help says of the language, by which `morx` asks for settings of type 39.
+const UNREAD: &str = "Taken and passed over: ltag, by which morx asks for it, is not read";
+
 /// The arguments of `aat shape` that tell what is shaped, and how, in the order of its help.
 static TEXT: [Argument; 12] = [
     FONT,
@@ -58,7 +61,7 @@ static TEXT: [Argument; 12] = [
         id: "language",
         long: Some("language"),
         takes: Takes::AnyText("TEXT"),
-        help: IDLE,
+        help: UNREAD,
         ..PLAIN
     },
     FEATURES,
@@ -121,7 +124,7 @@ static FORM: [Argument; 18] = [
     Argument {
         id: "flags",
         long: Some("show-flags"),
-        help: "Writes #1 behind a glyph before which the text may not be broken, in the form glyphs",
+        help: "Writes #1 behind a glyph whose may_break_before is false, in the form glyphs",
         ..PLAIN
     },
     Argument {

@@ -1,4 +1,4 @@
--- Pairs that kern no marks. Apple's TrueType Reference Manual, "The 'kern' table" and "The 'kerx' table", format 0.
+-- Pairs that have a mark. Apple's TrueType Reference Manual, "The 'kern' table" and "The 'kerx' table", format 0.
 use Rattle.std.specs.Prelude.{ℕ, ℤ, pos, ◌==◌, ◌&&◌, ◌||◌, Bool, not, bit_and}
 use Rattle.std.specs.Ordering.{int_eq}
 use Rattle.aat_font.specs.Face.{props_of}

@@ -28,10 +28,14 @@ NameBelow m passed count = (index : ℕ) → index < passed → entry_states m i
 
 -- what a walk over so many cells has found
 pub record IsWalk (m : StateArray) (cells : ℕ) (walk : Walk) : Type 0 where
+  -- the states that are counted: at least state 0, and no more than there are
   pub low : 1 ≤ walk.count
   pub high : walk.count ≤ state_count m
+  -- no cell names a state behind those
   pub named : (cell : ℕ) → cell < cells → states_named m cell ≤ walk.count
+  -- the entries of the cells are the first ones, so many of them, of 65,536 at most
   pub reached : AreNamed m cells walk.reach
   pub few : walk.reach ≤ 65536
+  -- the first of these entries are asked already, and name no state behind those that are counted
   pub passed : NameBelow m walk.passed walk.count
   pub within : walk.passed ≤ walk.reach

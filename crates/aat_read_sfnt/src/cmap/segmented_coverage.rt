@@ -152,7 +152,8 @@ impl<'a> SegmentedCoverage<'a> {
         }
     }
 
-    /// The glyph of a character, and behind which characters from this one on theirs may not follow it one by one.
+    /// The glyph of a character, and a number above it: where there is a glyph, the characters from this one on and
+    /// below that number have those that follow it one by one, modulo 65,536.
     pub(crate) fn row_until(&self, character: char) -> (Option<u16>, u64)
         ensures is { result.0 ≡ group_glyph self.now character }
         ensures row { IfSome result.0 (λ glyph. (c : ℕ) → character ≤ c → c < result.1

@@ -17,8 +17,8 @@ fn of_line(glyph: &ShapedGlyph, from: usize, is_first: bool) -> ShapedGlyph
     ensures { looks result ≡ looks glyph.now }
 {
     let attached_to = match glyph.attached_to {
-        Some(place) => place.checked_sub(from),
-        None => None,
+        Some(place) if place as usize >= from => Some((place as usize - from) as u32),
+        _ => None,
     };
     ShapedGlyph {
         attached_to,

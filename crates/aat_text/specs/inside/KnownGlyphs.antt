@@ -15,4 +15,4 @@ IsKnown face known i =
 
 -- so has all that is kept
 abbrev pub AreKnown : FaceValue → KnownGlyphs → Type 0
-AreKnown face known = (i : ℕ) → i < 64 → IsKnown face known i
+AreKnown face known = (i : ℕ) → i < 256 → IsKnown face known i

@@ -1,25 +1,25 @@
-use Rattle.std.proofs.Common.{◌∙◌, ◌≤◌, List, ap, arith, length, sym}
+use Rattle.std.proofs.Common.{◌≡◌, ◌∙◌, ◌≤◌, List, ap, arith, length, refl, sym}
 use Rattle.std.proofs.lemmas.List.{length-map}
-use Rattle.aat_buffer.specs.Buffer.{Buffer}
+use Rattle.aat_buffer.specs.Buffer.{Buffer, without_positions}
 use Rattle.aat_glyph.specs.declared.glyph.hb_glyph_info_t.{hb_glyph_info_t}
 use Rattle.aat_shaped_text.specs.ShapedText.{drawn_glyph, drawn_glyphs, kept_places, with_clusters_of}
 use Rattle.aat_shaped_text.specs.declared.text.ShapedGlyph.{ShapedGlyph}
 use Rattle.aat_drawn_text.specs.inside.Drawing.{clusters_of, may_break}
 use Rattle.aat_drawn_text.proofs.DrawnPlaces.{clusters_drawn, few_drawn, lent_long, whole_drawn}
 use Rattle.aat_drawn_text.proofs.Kept.{few_kept}
-use Rattle.aat_drawn_text.proofs.Undeleted.{clusters_whole, drawn_whole, from_front, left_bare, order_at_front, others_bare}
+use Rattle.aat_drawn_text.proofs.Undeleted.{clusters_whole, drawn_whole, from_front, left_bare, order_at_front}
 use Rattle.aat_drawn_text.proofs.drawn.draw.Goals as goal
 
 pub take_clusters-requires : goal.take_clusters-requires
 take_clusters-requires g c =
     let b = c.sync.new.self in
-    let left = c.hb_aat_layout_remove_deleted_glyphs.new.buffer in
-    let bare = c.drop_positions.new.self in
-    let bare_is = c.drop_positions.ensures in
-    let gone = c.hb_aat_layout_remove_deleted_glyphs.ensures.removed in
+    let left = c.drop_deleted.new.self in
+    let bare = without_positions b in
+    let bare_is : bare ≡ without_positions b = refl in
+    let gone = c.drop_deleted.ensures.removed in
     record {
       count = lent_long (drawn_glyph (may_break c.args.breaks b.line) b) b left c.deref_mut.result.now c.put_drawn_glyphs.new.glyphs.items
-          (others_bare b bare left bare_is gone c.hb_aat_layout_remove_deleted_glyphs.ensures.others) c.deref_mut.ensures.value c.in_ok-put_drawn_glyphs.ensures.ok
+          c.drop_deleted.ensures.others c.deref_mut.ensures.value c.in_ok-put_drawn_glyphs.ensures.ok
           ∙ ap (λ (gs : List hb_glyph_info_t). length gs)
           (sym (from_front bare left c.from_cursor.result.now gone c.from_cursor.ensures));
     }
@@ -27,12 +27,12 @@ take_clusters-requires g c =
 pub returns-then-len-clause-ok : goal.returns-then-len-clause-ok
 returns-then-len-clause-ok g c =
     let b = c.sync.new.self in
-    let left = c.hb_aat_layout_remove_deleted_glyphs.new.buffer in
-    let bare = c.drop_positions.new.self in
-    let bare_is = c.drop_positions.ensures in
-    let gone = c.hb_aat_layout_remove_deleted_glyphs.ensures.removed in
+    let left = c.drop_deleted.new.self in
+    let bare = without_positions b in
+    let bare_is : bare ≡ without_positions b = refl in
+    let gone = c.drop_deleted.ensures.removed in
     whole_drawn (drawn_glyph (may_break c.args.breaks b.line) b) b left c.deref_mut.result.now c.put_drawn_glyphs.new.glyphs.items
-    (others_bare b bare left bare_is gone c.hb_aat_layout_remove_deleted_glyphs.ensures.others) c.deref_mut.ensures.value c.in_ok-put_drawn_glyphs.ensures.ok
+    c.drop_deleted.ensures.others c.deref_mut.ensures.value c.in_ok-put_drawn_glyphs.ensures.ok
     c.take_clusters.new.glyphs c.put_drawn_glyphs.new.glyphs.len (left_bare b bare left bare_is gone)
     (c.take_clusters.ensures ∙ ap (λ (gs : List hb_glyph_info_t). with_clusters_of gs c.deref_mut.result.now) (from_front bare left c.from_cursor.result.now gone c.from_cursor.ensures))
     c.deref_mut.ensures.len
@@ -41,12 +41,12 @@ returns-then-len-clause-ok g c =
 pub returns-then-len-clause-clusters : goal.returns-then-len-clause-clusters
 returns-then-len-clause-clusters g c =
     let b = c.sync.new.self in
-    let left = c.hb_aat_layout_remove_deleted_glyphs.new.buffer in
-    let bare = c.drop_positions.new.self in
-    let bare_is = c.drop_positions.ensures in
-    let gone = c.hb_aat_layout_remove_deleted_glyphs.ensures.removed in
+    let left = c.drop_deleted.new.self in
+    let bare = without_positions b in
+    let bare_is : bare ≡ without_positions b = refl in
+    let gone = c.drop_deleted.ensures.removed in
     clusters_drawn (drawn_glyph (may_break c.args.breaks b.line) b) b left c.deref_mut.result.now c.put_drawn_glyphs.new.glyphs.items
-    (others_bare b bare left bare_is gone c.hb_aat_layout_remove_deleted_glyphs.ensures.others) c.deref_mut.ensures.value c.in_ok-put_drawn_glyphs.ensures.ok
+    c.drop_deleted.ensures.others c.deref_mut.ensures.value c.in_ok-put_drawn_glyphs.ensures.ok
     c.take_clusters.new.glyphs c.put_drawn_glyphs.new.glyphs.len (left_bare b bare left bare_is gone)
     (c.take_clusters.ensures ∙ ap (λ (gs : List hb_glyph_info_t). with_clusters_of gs c.deref_mut.result.now) (from_front bare left c.from_cursor.result.now gone c.from_cursor.ensures))
     c.deref_mut.ensures.len
@@ -54,14 +54,14 @@ returns-then-len-clause-clusters g c =
 pub returns-then-len-clause-count : goal.returns-then-len-clause-count
 returns-then-len-clause-count g c =
     let b = c.sync.new.self in
-    let left = c.hb_aat_layout_remove_deleted_glyphs.new.buffer in
-    let bare = c.drop_positions.new.self in
-    let bare_is = c.drop_positions.ensures in
-    let gone = c.hb_aat_layout_remove_deleted_glyphs.ensures.removed in
+    let left = c.drop_deleted.new.self in
+    let bare = without_positions b in
+    let bare_is : bare ≡ without_positions b = refl in
+    let gone = c.drop_deleted.ensures.removed in
     omega (
       arith,
       few_drawn (drawn_glyph (may_break c.args.breaks b.line) b) b left c.deref_mut.result.now c.put_drawn_glyphs.new.glyphs.items
-          (others_bare b bare left bare_is gone c.hb_aat_layout_remove_deleted_glyphs.ensures.others) c.deref_mut.ensures.value c.in_ok-put_drawn_glyphs.ensures.ok
+          c.drop_deleted.ensures.others c.deref_mut.ensures.value c.in_ok-put_drawn_glyphs.ensures.ok
           c.take_clusters.new.glyphs c.put_drawn_glyphs.new.glyphs.len (left_bare b bare left bare_is gone)
           (c.take_clusters.ensures ∙ ap (λ (gs : List hb_glyph_info_t). with_clusters_of gs c.deref_mut.result.now) (from_front bare left c.from_cursor.result.now gone c.from_cursor.ensures))
           c.deref_mut.ensures.len,

@@ -1,5 +1,6 @@
-use Rattle.std.proofs.Common.{◌<◌, arith, length, refl}
+use Rattle.std.proofs.Common.{◌<◌, List, ap, arith, length, refl}
 use Rattle.aat_buffer.specs.Buffer.{glyph_at}
+use Rattle.aat_glyph.specs.declared.glyph.hb_glyph_info_t.{hb_glyph_info_t}
 use Rattle.aat_shaped_text.proofs.KeptCounts.{counted_gone, counted_kept, few_before}
 use Rattle.aat_drawn_text.proofs.DrawnPlaces.{counts_more}
 use Rattle.aat_drawn_text.proofs.drawn.kept_counts.Goals as goal
@@ -7,7 +8,15 @@ use Rattle.aat_drawn_text.proofs.drawn.kept_counts.Goals.{then-is_kept, else-is_
 
 pub overflow_add-kept : goal.overflow_add-kept
 overflow_add-kept g c =
-    omega (arith, c.loop-i.invariant.counted, few_before c.args.line.now c.loop-i.i, c.loop-i-test.true, c.loop-i.auto.i-end)
+    omega (
+      arith,
+      c.loop-i.invariant.counted,
+      few_before c.args.line.now c.loop-i.i,
+      c.loop-i-test.true,
+      c.len.ensures.small,
+      c.len.ensures.count,
+      ap (λ (gs : List hb_glyph_info_t). length gs) c.requires.line,
+    )
 
 pub loop-i-preserved : goal.loop-i-preserved
 loop-i-preserved g c =

@@ -1,8 +1,8 @@
-use Rattle.std.proofs.Common.{◌≡◌, ◌∙◌, ◌+◌, ap, length, nat_lt, refl, subst, sym, w32}
+use Rattle.std.proofs.Common.{◌≡◌, ◌∙◌, ◌+◌, Bool, true, false, ap, arith, cond, length, nat_lt, refl, subst, sym, w32}
 use Rattle.std.proofs.lemmas.Int.{to_z-of_z}
 use Rattle.std.proofs.lemmas.Result.{err_from_is_err_and}
 use Rattle.std.specs.Option.{option_copied}
-use Rattle.aat_buffer.specs.Buffer.{Buffer}
+use Rattle.aat_buffer.specs.Buffer.{Buffer, reversed}
 use Rattle.aat_buffer.specs.Clusters.{IsRisingLine}
 use Rattle.aat_font.specs.Face.{advance_of, chains_in, tables_of}
 use Rattle.aat_glyph.specs.Directions.{is_backward}
@@ -12,7 +12,7 @@ use Rattle.aat_map.specs.Map.{lists_for}
 use Rattle.aat_map.specs.SwitchedChains.{plan_requests, switched, switched_by}
 use Rattle.aat_run.specs.Budget.{operations_left}
 use Rattle.aat_shaped_text.specs.KernedPlaces.{TellsOpenPlaces}
-use Rattle.aat_shaped_text.specs.ShapedText.{tracked_line}
+use Rattle.aat_shaped_text.specs.ShapedText.{most_glyphs, tracked_line}
 use Rattle.aat_shaped_text.specs.declared.breaks.BreakRules.{BreakRules}
 use Rattle.aat_layout.specs.Shaping.{with_advances}
 use Rattle.aat_drawn_text.specs.declared.drawn.Breaks.{Breaks}
@@ -184,3 +184,21 @@ close_attached-requires-clause-none g c = λ apart.
     attached_none v face d features text closes c.turn.new.buffer (sym c.kerns_apart-attaches_none.ensures ∙ apart)
     (sym (ap (λ (b : Buffer). b.direction) before) ∙ text_direction v face d features text asked made behind c.in_ok-buffer.ensures.ok c.in_ok-is_told.ensures.settings.direction)
     (drawn_text_so v face d features text closes left c.track_line.new.buffer c.turn.new.buffer is wider c.turn.ensures.after)
+
+-- a line that is turned round may grow as far
+as_far : (b : Buffer) → (in_processing_order b).max_len ≡ b.max_len
+as_far b = by_way (is_backward b.direction)
+  where
+    by_way : (t : Bool) → (cond t (reversed b) b).max_len ≡ b.max_len
+    by_way true = refl
+    by_way false = refl
+
+pub returns-clause-bounded : goal.returns-clause-bounded
+returns-clause-bounded g c =
+    let most : c.turn.new.buffer.max_len ≡ most_glyphs (length c.args.text.now) =
+    ap (λ (b : Buffer). b.max_len) c.turn.ensures.after
+    ∙ (as_far c.track_line.new.buffer
+    ∙ (ap (λ (b : Buffer). b.max_len) c.in_ok-track_line.ensures.ok
+    ∙ (c.in_ok-places.ensures.settings.max_len
+    ∙ (c.in_ok-is_told.ensures.settings.max_len ∙ ap (λ (b : Buffer). b.max_len) c.in_ok-buffer.ensures.ok)))) in
+    omega (arith, c.in_ok-draw.ensures.count, c.turn.ensures.within, most)

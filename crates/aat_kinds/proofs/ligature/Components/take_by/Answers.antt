@@ -1,5 +1,8 @@
-use Rattle.std.proofs.Common.{ap, arith, refl}
-use Rattle.aat_kinds.specs.Ligature.{Registers}
+use Rattle.std.proofs.Common.{◌≡◌, ◌∙◌, true, false, ap, arith, refl}
+use Rattle.std.proofs.lemmas.Bool.Decides.{nat_tests}
+use Rattle.aat_machine_tables.specs.Subtables.{LigatureTables}
+use Rattle.aat_kinds.specs.Ligature.{Registers, is_last, is_store}
+use Rattle.aat_kinds.proofs.Ligating.{found_in, missing_in, taken_missing, taken_last, taken_further}
 use Rattle.aat_kinds.proofs.ligature.Components.take_by.Goals as goal
 
 pub returns-then-action-eq0-clause-goes_on : goal.returns-then-action-eq0-clause-goes_on
@@ -70,3 +73,28 @@ returns-clause-ids g c = c.store.ensures.ids
 
 pub returns-clause-count : goal.returns-clause-count
 returns-clause-count g c = c.store.ensures.count
+
+pub returns-in_default-clause-stops : goal.returns-in_default-clause-stops
+returns-in_default-clause-stops g c =
+    let t = c.args.subtable.now in
+    let stores : is_store c.args.action ≡ true = grind (arith, nat_tests, c.if-action-eq0.false) in
+    let same = c.deref.ensures.value ∙ ap (λ (x : LigatureTables). x.ligatures) c.subtable.view_is in
+    λ _. taken_missing t c.args.c c.args.self.now c.args.buffer.now c.args.action c.args.sum stores (missing_in c.deref.result.now t.ligatures c.args.sum same c.in_default.ensures.lookup.0)
+
+pub returns-then-action-ne0-clause-stops : goal.returns-then-action-ne0-clause-stops
+returns-then-action-ne0-clause-stops g c =
+    let t = c.args.subtable.now in
+    let stores : is_store c.args.action ≡ true = grind (arith, nat_tests, c.if-action-eq0.false) in
+    let last : is_last c.args.action ≡ true = grind (arith, nat_tests, c.if-action-ne0.true) in
+    let same = c.deref.ensures.value ∙ ap (λ (x : LigatureTables). x.ligatures) c.subtable.view_is in
+    let found = found_in c.deref.result.now t.ligatures c.args.sum c.in-Some.ligature.now same c.in-Some.ensures.lookup.0 c.in-Some.ensures.lookup.1 in
+    λ _. taken_last t c.args.c c.args.self.now c.args.buffer.now c.args.action c.args.sum stores c.in-Some.ligature.now found c.store.new.self c.store.new.buffer c.store.ensures.held c.store.ensures.stored last
+
+pub returns-clause-goes_on : goal.returns-clause-goes_on
+returns-clause-goes_on g c =
+    let t = c.args.subtable.now in
+    let stores : is_store c.args.action ≡ true = grind (arith, nat_tests, c.if-action-eq0.false) in
+    let more : is_last c.args.action ≡ false = grind (arith, nat_tests, c.if-action-ne0.false) in
+    let same = c.deref.ensures.value ∙ ap (λ (x : LigatureTables). x.ligatures) c.subtable.view_is in
+    let found = found_in c.deref.result.now t.ligatures c.args.sum c.in-Some.ligature.now same c.in-Some.ensures.lookup.0 c.in-Some.ensures.lookup.1 in
+    taken_further t c.args.c c.args.self.now c.args.buffer.now c.args.action c.args.sum stores c.in-Some.ligature.now found c.store.new.self c.store.new.buffer c.store.ensures.held c.store.ensures.stored more
