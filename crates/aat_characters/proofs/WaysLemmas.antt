@@ -1,12 +1,12 @@
 -- Which way to write a character is chosen.
-use Rattle.std.proofs.Common.{◌≡◌, ℕ, zero, suc, ◌+◌, ◌<◌, ◌≤◌, Bool, true, false, cond, List, [], ◌∷◌, ◌++◌, length, map, drop, reverse, slice_get, get_or, Option, Some, None, refl, sym, ap, ap₂, ◌∙◌, arith}
+use Rattle.std.proofs.Common.{◌≡◌, ℕ, zero, suc, ◌+◌, ◌<◌, ◌≤◌, Bool, true, false, ◌&&◌, ◌==◌, cond, List, [], ◌∷◌, ◌++◌, length, map, drop, reverse, slice_get, get_or, Option, Some, None, refl, sym, ap, ap₂, ◌∙◌, arith}
 use Rattle.std.proofs.lemmas.List.{drop_all, reverse-append}
 use Rattle.std.specs.List.{find, list_all}
 use Rattle.std.specs.Option.{option_map_or, option_or}
-use Rattle.std.specs.Prelude.{option_and_then, option_map}
+use Rattle.std.specs.Prelude.{if◌then◌else◌, option_and_then, option_map}
 use Rattle.unicode_normalization.specs.Compose.{primary_composite}
 use Rattle.unicode_normalization.specs.Decompose.{decompose_canonical}
-use Rattle.aat_characters.specs.Decomposed.{chosen_way, decomposed_character, stand_in, ways, ways_from, ways_of_parts}
+use Rattle.aat_characters.specs.Decomposed.{chosen_way, decomposed_character, is_other_space, stand_in, ways, ways_from, ways_of_parts}
 use Rattle.aat_characters.specs.PlacedCharacters.{written_as}
 use Rattle.aat_characters.specs.declared.placed_character.PlacedCharacter.{PlacedCharacter}
 use Rattle.aat_characters.specs.inside.Ways.{passing, way_at}
@@ -129,3 +129,26 @@ written_some has shortest c parts way e = ap (λ o. option_map_or (map (written_
 pub written_none : (has : ℕ → Bool) (shortest : Bool) (c : PlacedCharacter)
     → None ≡ chosen_way has shortest (ways c.character) → stand_in has c ∷ [] ≡ decomposed_character has shortest c
 written_none has shortest c e = ap (λ o. option_map_or (map (written_as c)) o (stand_in has c ∷ [])) e
+
+-- a character that is not decomposed, and for which no other one stands, is written as itself
+pub stays_written : (has : ℕ → Bool) (shortest : Bool) (c : PlacedCharacter) → decompose_canonical c.character ≡ c.character ∷ []
+    → is_other_space c.character ≡ false → (c.character == 0x2011) ≡ false → decomposed_character has shortest c ≡ c ∷ []
+stays_written has shortest c parts space hyphen =
+    ap (λ ps. option_map_or (map (written_as c)) (chosen_way has shortest ((c.character ∷ []) ∷ ways_of_parts ps)) (stand_in has c ∷ [])) parts
+    ∙ ap₂ (λ way other. option_map_or (map (written_as c)) way (other ∷ [])) (two shortest) stands
+    ∙ one (has c.character)
+  where
+    two : (s : Bool) → chosen_way has s ((c.character ∷ []) ∷ (c.character ∷ []) ∷ [])
+        ≡ cond (has c.character && true) (Some (c.character ∷ [])) (cond (has c.character && true) (Some (c.character ∷ [])) None)
+    two true = refl
+    two false = refl
+
+    stands : stand_in has c ≡ c
+    stands =
+        ap₂ (λ s h. if s && has 0x20 then record c { character = 0x20; space = Some c.character } else if h && has 0x2010 then written_as c 0x2010 else c)
+        space hyphen
+
+    one : (b : Bool) → option_map_or (map (written_as c)) (cond (b && true) (Some (c.character ∷ [])) (cond (b && true) (Some (c.character ∷ [])) None)) (c ∷ [])
+        ≡ c ∷ []
+    one true = refl
+    one false = refl

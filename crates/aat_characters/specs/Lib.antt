@@ -4,9 +4,7 @@ pub mod Clusters
 pub mod Composed
 pub mod Decomposed
 pub mod Exchanges
-pub mod Lengths
 pub mod MarkExamples
-pub mod MarkPlaces
 pub mod Marks
 pub mod MirroredRows
 pub mod Native

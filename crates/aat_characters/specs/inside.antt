@@ -1,2 +1,4 @@
 pub mod Composing
+pub mod KeptTexts
+pub mod Ordering
 pub mod Ways

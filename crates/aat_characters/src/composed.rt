@@ -6,6 +6,7 @@ ghost use Rattle.aat_characters.specs.Composed.{composed, composed_from, composi
 ghost use Rattle.aat_characters.specs.Decomposed.{has_glyph};
 
 use crate::decomposed::{decomposed, has_glyph};
+use crate::kept::are_kept;
 use crate::ordered::ordered;
 use crate::placed_character::{PlacedCharacter, put_moved};
 use aat_face::Face;
@@ -23,7 +24,7 @@ fn is_free(between: &[PlacedCharacter], character: PlacedCharacter) -> bool
 }
 
 /// The composite of two characters, if the font has it.
-fn composite_in(face: &Face, first: char, second: char) -> Option<char>
+pub(crate) fn composite_in(face: &Face, first: char, second: char) -> Option<char>
     ensures { result ≡ composite_in (has_glyph face.now) first second }
 {
     let composite = compose(first, second)?;
@@ -34,7 +35,7 @@ fn composite_in(face: &Face, first: char, second: char) -> Option<char>
     }
 }
 
-/// What a starter and a mark become, if they compose.
+/// What a starter and a mark become, if they compose. Few characters have a composite: so that is asked first.
 fn composite_of(
     face: &Face,
     starter: PlacedCharacter,
@@ -43,16 +44,11 @@ fn composite_of(
 ) -> Option<PlacedCharacter>
     ensures { result ≡ composite_of (has_glyph face.now) starter between.now character }
 {
+    let composite = composite_in(face, starter.character, character.character)?;
     if !character.is_mark() || !is_free(between, character) {
         return None;
     }
-    match composite_in(face, starter.character, character.character) {
-        Some(composite) => Some(PlacedCharacter::new(
-            starter.place.min(character.place),
-            composite,
-        )),
-        None => None,
-    }
+    Some(PlacedCharacter::new(starter.place.min(character.place), composite))
 }
 
 /// Characters that are composed, a starter behind them, and those behind it that did not compose with it.
@@ -69,6 +65,9 @@ fn put_starter<A: Allocator>(composer: &mut Composer<A>) -> Result<(), AllocErro
         ≡ composer.old.done.items ++ composer.old.starter ∷ composer.old.between.items) }
 {
     composer.done.push(composer.starter)?;
+    if composer.between.is_empty() {
+        return Ok(());
+    }
     composer.done.extend_from_slice(&composer.between)
 }
 
@@ -143,6 +142,7 @@ fn has_marks(characters: &[PlacedCharacter]) -> bool
 /// The characters of a text as the font can write them. Where no mark stands behind another character, each is written
 /// by itself, with as few characters as the font has. Else they are decomposed, their marks are put in order, and they
 /// are composed again.
+#[tactic(auto, using(crate::proofs::KeptTexts::kept_text))]
 pub fn normalized<A: Allocator + Copy>(
     alloc: A,
     face: &Face,
@@ -150,10 +150,15 @@ pub fn normalized<A: Allocator + Copy>(
 ) -> Result<Vec<PlacedCharacter, A>, AllocError>
     ensures { IfOk result (λ out. out.items ≡ normalized (has_glyph face.now) characters.now) }
 {
-    let apart = decomposed(alloc, face, characters)?;
     if !has_marks(characters) {
-        return Ok(apart);
+        return decomposed(alloc, face, characters);
     }
-    let placed = ordered(alloc, &apart)?;
+    if are_kept(face, characters) {
+        let mut kept = Vec::with_capacity(alloc, characters.len())?;
+        kept.extend_from_slice(characters)?;
+        return Ok(kept);
+    }
+    let apart = decomposed(alloc, face, characters)?;
+    let placed = ordered(alloc, apart)?;
     composed(alloc, face, &placed)
 }

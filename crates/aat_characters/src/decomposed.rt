@@ -1,5 +1,5 @@
 //! Characters that the font lacks as others that it has, and letters apart from their marks.
-ghost use Rattle.std.specs.Prelude.{◌≡◌, ◌<◌, ◌≤◌, ◌++◌, [], ◌∷◌, ◌==◌, length, drop, map, reverse, slice_get, find, flat_map, option_map, option_and_then, IfOk, IfSome, OnOk};
+ghost use Rattle.std.specs.Prelude.{◌≡◌, ◌<◌, ◌≤◌, ◌++◌, [], ◌∷◌, ◌==◌, false, true, length, drop, map, reverse, slice_get, find, flat_map, option_map, option_and_then, IfOk, IfSome, OnOk};
 ghost use Rattle.std.specs.List.{list_all};
 ghost use Rattle.unicode_normalization.specs.Compose.{primary_composite};
 ghost use Rattle.unicode_normalization.specs.Decompose.{decompose_canonical};
@@ -142,8 +142,25 @@ fn put_written<A: Allocator>(
     Ok(())
 }
 
-/// Puts a character behind others, as the font can write it. One that it has is the shortest way to write it.
-#[tactic(auto, using(crate::proofs::Apart::kept_character))]
+/// Whether a character is known to be written as itself, whatever a font has: it is not decomposed, and is none of the
+/// spaces, nor the hyphen, for which others stand. Where it answers `false` nothing is said.
+#[inline(never)]
+pub fn is_written_as_itself(character: char) -> bool
+    ensures parts { result ≡ true → decompose_canonical character ≡ character ∷ [] }
+    ensures space { result ≡ true → is_other_space character ≡ false }
+    ensures hyphen { result ≡ true → (character == 0x2011) ≡ false }
+{
+    if is_other_space(character) || character == '\u{2011}' {
+        return false;
+    }
+    let mut room = ['\0'; 3];
+    let parts = decomposition(character, Form::Nfd, &mut room);
+    parts.len() == 1 && parts[0] == character
+}
+
+/// Puts a character behind others, as the font can write it. Most are written as themselves: so the font need not be
+/// asked for them. One that it has is the shortest way to write it.
+#[tactic(auto, using(crate::proofs::Apart::kept_character, crate::proofs::WaysLemmas::stays_written))]
 fn put_character<A: Allocator>(
     face: &Face,
     shortest: bool,
@@ -153,6 +170,10 @@ fn put_character<A: Allocator>(
     ensures { OnOk result (out.new.items
         ≡ out.old.items ++ decomposed_character (has_glyph face.now) shortest character) }
 {
+    if is_written_as_itself(character.character) {
+        out.push(character)?;
+        return Ok(());
+    }
     if shortest && has_glyph(face, character.character) {
         out.push(character)?;
         return Ok(());
@@ -169,7 +190,7 @@ fn put_character<A: Allocator>(
 }
 
 /// Whether a character is a variation selector, which chooses a glyph for the character before it.
-fn is_variation_selector(character: char) -> bool
+pub(crate) fn is_variation_selector(character: char) -> bool
     ensures { result ≡ is_variation_selector character }
 {
     let code = character as u32;
@@ -223,7 +244,7 @@ pub(crate) fn decomposed<A: Allocator>(
 ) -> Result<Vec<PlacedCharacter, A>, AllocError>
     ensures { IfOk result (λ out. out.items ≡ decomposed (has_glyph face.now) characters.now) }
 {
-    let mut out = Vec::new(alloc);
+    let mut out = Vec::with_capacity(alloc, characters.len())?;
     let mut start = 0;
     for (i, character) in characters.iter().enumerate() {
         if !character.is_mark() {

@@ -3,6 +3,7 @@ ghost use Rattle.std.specs.Prelude.{◌≡◌};
 ghost use Rattle.std.specs.List.{list_any};
 ghost use Rattle.aat_check.specs.Numbers.{is_trouble};
 
+use crate::asked::show_features;
 use crate::chains::check_chains;
 use crate::faults::{check_beside_gpos, check_faults, check_mort, check_outline_tables};
 use crate::finding::Finding;
@@ -25,7 +26,10 @@ use std::alloc::{AllocError, Global};
 /// `kern`. Of what a place has more than once the first is told.
 ///
 /// Each machine is searched over up to 65,536 states, for each class, ligatures in up to 2^28 steps, and of machines that
-/// are not settled up to 2,048 lines of at most 64 glyphs are shaped, with their parts. Fails where memory is wanting.
+/// are not settled up to 2,048 lines of at most 64 glyphs are shaped, with their parts. Of the first 256 cells at which a
+/// machine stays the one is told to which a shortest line leads. What components and ligatures are read past a length is
+/// asked at the first 256 entries with actions. A line of a subtable that is off by default has the first of 412 features
+/// that switches it on. Fails where memory is wanting.
 ///
 /// Apple's TrueType Reference Manual, "The 'morx' table", "The 'kerx' table", "The 'feat' table", and "Font Tables".
 pub fn findings(
@@ -41,6 +45,7 @@ pub fn findings(
     check_names(alloc, face, &mut found)?;
     check_chains(alloc, file, face.font(), glyph_count, &mut found)?;
     show_parts(alloc, face.font(), glyph_count, &mut found)?;
+    show_features(alloc, face.font(), &mut found)?;
     check_kerx(alloc, face, glyph_count, &mut found)?;
     check_kern(alloc, face, glyph_count, &mut found)?;
     check_kerning_bytes(file, &mut found)?;

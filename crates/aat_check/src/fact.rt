@@ -40,9 +40,10 @@ pub enum Fact {
         /// The place of the first such row, in bytes from the start of the table.
         byte: usize,
     },
-    /// 7: a part of the subtable begins past its length, a lookup has rows there, or an entry puts in glyphs of its
-    /// list from there. Of `morx` HarfBuzz 6.0 ends lists there, or drops the table; 12.3.2 reads on. Of `kerx` it is values by classes
-    /// alone, or their tuples, past what the subtable may use: HarfBuzz drops the table, and here they kern nothing.
+    /// 7: a part of the subtable begins or goes on past its length: rows, entries, a lookup; or an entry has actions,
+    /// components, a ligature or glyphs to insert there. Of `morx` HarfBuzz 6.0 ends lists there, or drops the table; 12.3.2
+    /// reads on. Of `kerx` it is values by classes alone, or their tuples, past what the subtable may use: HarfBuzz drops
+    /// the table, and here they kern nothing.
     ReachesPast,
     /// 8: `GDEF` has a fault: the classes that have it are not read.
     ClassesFault(Fault),

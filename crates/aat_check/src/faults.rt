@@ -24,28 +24,27 @@ pub(crate) fn check_faults(face: &Face<'_>, found: &mut Vec<Finding>) -> Result<
     Ok(())
 }
 
-/// Adds what is wrong with a table of outlines, which no face reads, unless the face has told it.
-fn check_outlines(
-    face: &Face<'_>,
-    fault: Option<Fault>,
-    found: &mut Vec<Finding>,
-) -> Result<(), AllocError> {
-    match fault {
-        Some(fault) if !face.faults().contains(&fault) => {
-            push_fact(found, Place::of_table(fault.table), Fact::TableFault(fault))
-        }
-        _ => Ok(()),
-    }
-}
-
-/// Adds the faults of the tables of outlines. What is wrong in a single outline is not told.
+/// Adds the faults of the tables of outlines, which no face reads, unless the face has told them. What is wrong in a
+/// single outline is not told.
 pub(crate) fn check_outline_tables(
     file: &FontFile<'_>,
     face: &Face<'_>,
     found: &mut Vec<Finding>,
 ) -> Result<(), AllocError> {
-    check_outlines(face, Outlines::of_file(file).err(), found)?;
-    check_outlines(face, CharStrings::of_file(file).err(), found)
+    let faults: [Option<Fault>; 2] = [
+        Outlines::of_file(file).err(),
+        CharStrings::of_file(file).err(),
+    ];
+    for fault in faults.iter().flatten() {
+        if !face.faults().contains(fault) {
+            push_fact(
+                found,
+                Place::of_table(fault.table),
+                Fact::TableFault(*fault),
+            )?;
+        }
+    }
+    Ok(())
 }
 
 /// The table of substitution of OpenType.

@@ -2,6 +2,8 @@
 
 use crate::fact::Fact;
 use aat_bytes::Tag;
+use aat_font::{Feature, hb_font_t};
+use aat_machine_tables::{Chain, Subtable};
 use std::alloc::AllocError;
 
 /// Where in a font something is found. What it has no part in is `None`.
@@ -36,6 +38,13 @@ impl Place {
             feature: None,
         }
     }
+
+    /// The chain and the subtable of `morx` where it is, if it is in one.
+    pub(crate) fn subtable_in<'f>(&self, font: &'f hb_font_t) -> Option<(&'f Chain, &'f Subtable)> {
+        let chain = font.chains().get(self.chain?)?;
+        let subtable = chain.subtables.get(self.subtable?)?;
+        Some((chain, subtable))
+    }
 }
 
 /// A line of glyphs that shows a finding, where no glyph before it changes, and the machine is on. One that is cut was
@@ -46,6 +55,8 @@ pub struct GlyphLine {
     pub glyphs: Vec<u16>,
     /// Whether the subtable is for text in columns alone.
     pub is_vertical: bool,
+    /// A feature that switches the subtable on, where it is off by default and one does.
+    pub feature: Option<Feature>,
     /// How many of its glyphs stand in its first part, where it is shown beside its two parts.
     pub cut: Option<usize>,
 }

@@ -47,6 +47,7 @@ impl Listed<'_> {
                 Ok(Some(GlyphLine {
                     glyphs: Vec::from_slice(alloc, &[glyph])?,
                     is_vertical: order.is_vertical,
+                    feature: None,
                     cut: None,
                 }))
             }
@@ -93,16 +94,6 @@ fn pairs_listed(
     Ok(found)
 }
 
-/// What is told of the first of so many pairs of a kind, which has a value.
-fn fact_of(kind: PairKind, value: u16, count: usize) -> Fact {
-    match kind {
-        PairKind::GlyphPast => Fact::KeyPast { count },
-        PairKind::ValuePast => Fact::ValuePast { value, count },
-        PairKind::Deletes => Fact::DeletedStays { count },
-        PairKind::Restores => Fact::DeletedReturns { value },
-    }
-}
-
 /// Adds the first of the pairs that are of a kind, with the line that shows it.
 fn add_pairs(
     alloc: Global,
@@ -120,7 +111,13 @@ fn add_pairs(
         ..place
     };
     let line = listed.line_of(alloc, kind, glyph)?;
-    let fact = fact_of(kind, value, pairs.len());
+    let count = pairs.len();
+    let fact = match kind {
+        PairKind::GlyphPast => Fact::KeyPast { count },
+        PairKind::ValuePast => Fact::ValuePast { value, count },
+        PairKind::Deletes => Fact::DeletedStays { count },
+        PairKind::Restores => Fact::DeletedReturns { value },
+    };
     found.push(Finding { fact, place, line })?;
     Ok(())
 }

@@ -3,6 +3,7 @@
 use crate::fact::Fact;
 use crate::finding::{Finding, GlyphLine, Place};
 use crate::sentences::Sentence;
+use crate::text::write_feature;
 use aat_read_metrics::GlyphNames;
 use serde_json::Value;
 use std::alloc::{AllocError, Global};
@@ -59,7 +60,13 @@ fn write_names<W: Write>(out: &mut W, names: &GlyphNames<'_>, glyphs: &[u16]) ->
 /// Writes the members of the line that shows a finding.
 fn write_line<W: Write>(out: &mut W, names: &GlyphNames<'_>, line: &GlyphLine) -> io::Result<()> {
     let direction = if line.is_vertical { "ttb" } else { "ltr" };
-    write!(out, ",\"direction\":\"{direction}\",\"glyphs\":")?;
+    write!(out, ",\"direction\":\"{direction}\"")?;
+    if let Some(feature) = &line.feature {
+        write!(out, ",\"features\":\"")?;
+        write_feature(out, feature)?;
+        write!(out, "\"")?;
+    }
+    write!(out, ",\"glyphs\":")?;
     let mut before = "[";
     for glyph in &line.glyphs {
         write!(out, "{before}{glyph}")?;
@@ -96,8 +103,8 @@ fn write_object<W: Write>(
 
 /// Writes findings in their order as an array of objects, a line each. An object has `number`, `severity`, `table`, and
 /// those of `chain`, `subtable`, `feature`, `state`, `class` and `glyph` that its place has, `name` where that glyph has one,
-/// then `sentence`, and where a line shows it `direction` and `glyphs`, `names` where all of these have one, and `cut`, how
-/// many of them stand in the first of its two parts, where it is shown beside them.
+/// then `sentence`, and where a line shows it `direction`, `features` where one has to be asked for, `glyphs`, `names` where
+/// all of these have one, and `cut`, how many of them stand in the first of its two parts, where it is shown beside them.
 ///
 /// An error is that of the writer, or `OutOfMemory`. A part of the text may be written then.
 pub fn write_findings_as_json<W: Write>(

@@ -7,6 +7,7 @@
 #![tactic(auto)]
 
 mod all_findings;
+mod asked;
 mod chains;
 mod fact;
 mod faults;
@@ -19,6 +20,7 @@ mod lines;
 mod machines;
 mod morx_bytes;
 mod names;
+mod overrun;
 mod pairs;
 mod parts;
 mod rows;

@@ -1,7 +1,7 @@
 //! Lines of glyphs that show a finding.
 
 use crate::finding::GlyphLine;
-use crate::search::way_to;
+use crate::search::Search;
 use aat_findings::{DELETED_GLYPH, taken_as};
 use aat_lookup::GlyphId;
 use aat_machine_tables::entry_bits::class;
@@ -76,20 +76,6 @@ pub(crate) fn glyphs_of(
     Ok(Some(glyphs))
 }
 
-/// The glyphs of a line that brings a machine to a state at a glyph of a class.
-fn glyphs_to<T: Acting>(
-    alloc: Global,
-    table: &ExtendedStateTable<T>,
-    glyph_count: u32,
-    cell: (u16, u16),
-) -> Result<Option<Vec<u16>>, AllocError> {
-    let shown = shown_classes(alloc, table, &[], 0, glyph_count)?;
-    let Some(way) = way_to(alloc, table, &shown, cell)? else {
-        return Ok(None);
-    };
-    glyphs_of(alloc, &shown, &way.before, cell.1)
-}
-
 /// A shortest line of glyphs that brings a machine to a state at a glyph of a class, where a line of at least one glyph
 /// is found that does.
 pub(crate) fn line_to<T: Acting>(
@@ -99,7 +85,12 @@ pub(crate) fn line_to<T: Acting>(
     order: Order,
     cell: (u16, u16),
 ) -> Result<Option<GlyphLine>, AllocError> {
-    let Some(mut glyphs) = glyphs_to(alloc, table, glyph_count, cell)? else {
+    let shown = shown_classes(alloc, table, &[], 0, glyph_count)?;
+    let search = Search::everywhere(alloc, table, &shown, None)?;
+    let Some(way) = search.way_to(alloc, table, cell)? else {
+        return Ok(None);
+    };
+    let Some(mut glyphs) = glyphs_of(alloc, &shown, &way.before, cell.1)? else {
         return Ok(None);
     };
     if glyphs.is_empty() {
@@ -112,6 +103,7 @@ pub(crate) fn line_to<T: Acting>(
     Ok(Some(GlyphLine {
         glyphs,
         is_vertical,
+        feature: None,
         cut: None,
     }))
 }

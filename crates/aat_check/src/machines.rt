@@ -2,7 +2,8 @@
 
 use crate::fact::Fact;
 use crate::finding::{Finding, Place, add_fact, push_fact};
-use crate::lines::{Order, line_to};
+use crate::lines::{Order, line_to, shown_classes};
+use crate::search::{Search, staying_state};
 use aat_findings::{Same, classes_alike, missing_reached, stays, unreached_states, unused_entries};
 use aat_machine_tables::ExtendedStateTable;
 use aat_machine_tables::entry_bits::state::START_OF_LINE;
@@ -79,33 +80,53 @@ fn add_cell<T: Same>(
     Ok(())
 }
 
-/// The table in which entries that may act advance.
-fn resting_table<T: Same>(
+/// Of the cells at which a machine stays, in a table in which it rests there, the one to which a shortest line leads,
+/// if it is among those that are noted; else one of them, if there is one.
+fn nearest_cell<T: Same>(
     alloc: Global,
     table: &ExtendedStateTable<T>,
-) -> Result<ExtendedStateTable<T>, AllocError> {
-    let mut rules = table.to_rules(alloc)?;
-    for rule in rules.iter_mut() {
-        if T::acts(&rule.2) {
-            rule.2.flags &= !DONT_ADVANCE;
-        }
+    resting: &ExtendedStateTable<T>,
+    glyph_count: u32,
+) -> Result<Option<(u16, u16)>, AllocError> {
+    let first = stays(alloc, resting)?;
+    if first.is_none() {
+        return Ok(None);
     }
-    let resting = ExtendedStateTable::new(alloc, table.class_count(), &[], &rules);
-    resting.map_err(|_| AllocError)
+    let shown = shown_classes(alloc, table, &[], 0, glyph_count)?;
+    let search = Search::everywhere(alloc, table, &shown, None)?;
+    let mut cells = search.staying.iter().copied();
+    Ok(
+        cells
+            .find(|cell| staying_state(resting, cell.0, cell.1).is_some())
+            .or(first),
+    )
 }
 
-/// A cell at which a machine stays and leaves the glyphs as they are, if it stays at one at all.
+/// A cell at which a machine stays: the one that is given of a contextual machine, which may change the glyph, else one
+/// where the glyphs stay as they are, if there is one.
 fn resting_cell<T: Same>(
     alloc: Global,
     table: &ExtendedStateTable<T>,
     machine: Machine,
     staying: Option<(u16, u16)>,
 ) -> Result<Option<(u16, u16)>, AllocError> {
-    if staying.is_none() || !machine.changes_glyphs {
-        return Ok(staying);
+    if staying.is_none() || machine.turning.is_some() {
+        return Ok(machine.turning);
     }
-    let resting = resting_table(alloc, table)?;
-    stays(alloc, &resting)
+    if !machine.changes_glyphs {
+        return nearest_cell(alloc, table, table, machine.glyph_count);
+    }
+    // entries that may act advance in it
+    let mut rules = table.to_rules(alloc)?;
+    for rule in rules.iter_mut() {
+        if T::acts(&rule.2) {
+            rule.2.flags &= !DONT_ADVANCE;
+        }
+    }
+    match ExtendedStateTable::new(alloc, table.class_count(), &[], &rules) {
+        Ok(resting) => nearest_cell(alloc, table, &resting, machine.glyph_count),
+        Err(_) => Err(AllocError),
+    }
 }
 
 /// The first cell that is missing, unless it is one of state 1, where lines begin, and no entry leads there: no run here
@@ -158,22 +179,8 @@ fn check_rules<T: Same>(
     push_fact(found, place, Fact::UnusedRule { count })
 }
 
-/// The classes of the font's own that are alike to one before them, each behind that one, if that is one of these too, or
-/// what is out of bounds is alike to it. `pairs` are all that are alike, rising.
-fn own_pairs(alloc: Global, pairs: &[(u16, u16)]) -> Result<Vec<(u16, u16)>, AllocError> {
-    let out = match pairs.first() {
-        Some((least, class::OUT_OF_BOUNDS)) => *least,
-        _ => class::OUT_OF_BOUNDS,
-    };
-    pairs
-        .iter()
-        .filter(|pair| pair.1 > class::END_OF_LINE
-            && (pair.0 > class::END_OF_LINE || pair.0 == out))
-        .copied()
-        .collect(alloc)
-}
-
-/// Adds the first class that no rule tells from one before it.
+/// Adds the first class of the font's own that no rule tells from one before it, if that is one of these too, or what is
+/// out of bounds is alike to it.
 fn check_classes<T: Same>(
     alloc: Global,
     table: &ExtendedStateTable<T>,
@@ -181,8 +188,14 @@ fn check_classes<T: Same>(
     found: &mut Vec<Finding>,
 ) -> Result<(), AllocError> {
     let pairs = classes_alike(alloc, table)?;
-    let pairs = own_pairs(alloc, &pairs)?;
-    let Some((other, class)) = pairs.first().copied() else {
+    let out = match pairs.first() {
+        Some((least, class::OUT_OF_BOUNDS)) => *least,
+        _ => class::OUT_OF_BOUNDS,
+    };
+    let mut own = pairs.iter().copied().filter(|(other, class)| {
+        *class > class::END_OF_LINE && (*other > class::END_OF_LINE || *other == out)
+    });
+    let Some((other, class)) = own.next() else {
         return Ok(());
     };
     let place = Place {
@@ -191,7 +204,7 @@ fn check_classes<T: Same>(
     };
     // the least class that is alike to out of bounds stands for it
     let other = other.max(class::OUT_OF_BOUNDS);
-    let count = pairs.len();
+    let count = own.count().saturating_add(1);
     push_fact(found, place, Fact::ClassesAlike { other, count })
 }
 
@@ -203,7 +216,7 @@ pub(crate) fn check_machine<T: Same>(
     found: &mut Vec<Finding>,
 ) -> Result<(), AllocError> {
     let staying = stays(alloc, table)?;
-    let resting = resting_cell(alloc, table, machine, staying)?.or(machine.turning);
+    let resting = resting_cell(alloc, table, machine, staying)?;
     add_cell(alloc, table, machine, resting, Fact::Stays, found)?;
     let missing = missing_cell(alloc, table)?;
     add_cell(alloc, table, machine, missing, Fact::MissingEntry, found)?;

@@ -3,13 +3,14 @@
 use crate::fact::Fact;
 use crate::finding::{Finding, Place, add_fact, push_fact};
 use crate::glyphs::check_list;
-use crate::rows::{Rows, begins_past, part_at};
+use crate::overrun::{Counts, overrunning_cell};
+use crate::rows::{Rows, begins_past, lookup_end, part_at};
 use crate::unmade::check_made;
 use aat_bytes::tags::MORX;
-use aat_bytes::u32_at;
+use aat_bytes::{u16_at, u32_at};
 use aat_findings::{current_run, marked_run};
 use aat_machine_tables::entry_bits::NO_INDEX;
-use aat_machine_tables::{Chain, InsertionSubtable, SubtableKind};
+use aat_machine_tables::{Chain, SubtableKind};
 use std::alloc::{AllocError, Global};
 
 /// How many bytes the header of a chain has.
@@ -21,11 +22,14 @@ const SETTING: usize = 12;
 /// How many bytes the header of a subtable has.
 const SUBTABLE_HEADER: usize = 12;
 
+/// The field of a ligature subtable that has the place of its components.
+const COMPONENTS: usize = 20;
+
 /// The field of a ligature subtable that has the place of its ligatures.
 const LIGATURES: usize = 24;
 
-/// The field of a subtable of insertion that has the place of the glyphs that go in.
-const INSERTED: usize = 16;
+/// The field of a machine that has the place of its first list: of lookups, of actions, or of glyphs that go in.
+const LIST: usize = 16;
 
 /// A subtable in the bytes of its table.
 #[derive(Clone, Copy)]
@@ -40,49 +44,72 @@ struct Extent<'b> {
     glyph_count: u32,
 }
 
-/// The fields of a kind of machine that have the place of a part: classes, states, entries, and lists.
-fn parts_of(kind: &SubtableKind) -> &'static [usize] {
+/// The fields of a kind of machine that have the place of a part: classes, states, entries, and lists. And how many
+/// bytes an entry has, if there are entries.
+fn parts_of(kind: &SubtableKind) -> (&'static [usize], Option<usize>) {
     match kind {
-        SubtableKind::NonContextual(_) => &[],
-        SubtableKind::Rearrangement(_) => &[4, 8, 12],
-        SubtableKind::Contextual(_) | SubtableKind::Insertion(_) => &[4, 8, 12, 16],
-        SubtableKind::Ligature(_) => &[4, 8, 12, 16, 20, 24],
+        SubtableKind::NonContextual(_) => (&[], None),
+        SubtableKind::Rearrangement(_) => (&[4, 8, 12], Some(4)),
+        SubtableKind::Contextual(_) | SubtableKind::Insertion(_) => (&[4, 8, 12, 16], Some(8)),
+        SubtableKind::Ligature(_) => (&[4, 8, 12, 16, 20, 24], Some(6)),
     }
 }
 
 impl Extent<'_> {
-    /// Adds the place of a lookup, if there is one.
-    fn add_lookup(self, lookup: Option<usize>, lookups: &mut Vec<Rows>) -> Result<(), AllocError> {
-        if let Some(rows) = lookup.and_then(|place| Rows::of_lookup(self.bytes, place)) {
-            lookups.push(rows)?;
-        }
-        Ok(())
-    }
-
-    /// The rows of its lookups: that of the classes first.
-    fn rows(self, alloc: Global, kind: &SubtableKind) -> Result<Vec<Rows>, AllocError> {
+    /// The places of its lookups: that of the classes first.
+    fn lookups(self, alloc: Global, kind: &SubtableKind) -> Result<Vec<usize>, AllocError> {
         let mut lookups = Vec::new(alloc);
-        if let SubtableKind::NonContextual(_) = kind {
-            self.add_lookup(Some(self.body), &mut lookups)?;
-            return Ok(lookups);
-        }
-        self.add_lookup(part_at(self.bytes, self.body, 4), &mut lookups)?;
+        let first = match kind {
+            SubtableKind::NonContextual(_) => Some(self.body),
+            _ => part_at(self.bytes, self.body, 4),
+        };
+        lookups.push(first.unwrap_or(self.body))?;
         if let SubtableKind::Contextual(subtable) = kind
-            && let Some(list) = part_at(self.bytes, self.body, 16)
+            && let Some(list) = part_at(self.bytes, self.body, LIST)
         {
             for number in 0..subtable.lookups.len() {
                 let lookup = part_at(self.bytes, list, number.saturating_mul(4));
-                self.add_lookup(lookup, &mut lookups)?;
+                lookups.push(lookup.unwrap_or(list))?;
             }
         }
         Ok(lookups)
     }
 
-    /// Whether a part of it begins behind its end, or a lookup has rows there.
-    fn reaches_past(self, kind: &SubtableKind, lookups: &[Rows]) -> bool {
-        let end = self.end;
-        begins_past(self.bytes, self.body, parts_of(kind), end)
-            || lookups.iter().any(|rows| rows.end() > end)
+    /// The place behind the rows of its states and the entries that these name, which have so many bytes. There are
+    /// rows up to the highest state that one of these entries names.
+    fn cells_end(self, entry_size: usize) -> Option<usize> {
+        let class_count = u32_at(self.bytes, self.body)? as usize;
+        let rows = part_at(self.bytes, self.body, 8)?;
+        let entries = part_at(self.bytes, self.body, 12)?;
+        let (mut cells, mut end) = (class_count, 0);
+        for cell in 0..self.bytes.len() {
+            if cell >= cells {
+                break;
+            }
+            let index_end = rows
+                .saturating_add(cell.saturating_mul(2))
+                .saturating_add(2);
+            let index = u16_at(self.bytes, index_end.saturating_sub(2))?;
+            let entry = entries.saturating_add(entry_size.saturating_mul(usize::from(index)));
+            let states = usize::from(u16_at(self.bytes, entry)?).saturating_add(1);
+            cells = cells.max(states.saturating_mul(class_count));
+            end = end.max(index_end).max(entry.saturating_add(entry_size));
+        }
+        Some(end)
+    }
+
+    /// Whether a part of it begins behind its end or goes on there, but for lists of glyphs, components and actions.
+    fn reaches_past(self, kind: &SubtableKind, lookups: &[usize]) -> bool {
+        let (fields, entry_size) = parts_of(kind);
+        let cells = entry_size.and_then(|size| self.cells_end(size));
+        let goes_past = |end: Option<usize>| end.is_some_and(|end| end > self.end);
+        begins_past(self.bytes, self.body, fields, self.end)
+            || goes_past(cells)
+            || lookups.iter().any(|place| goes_past(lookup_end(
+                self.bytes,
+                *place,
+                self.glyph_count,
+            )))
     }
 }
 
@@ -93,7 +120,8 @@ fn list_count(extent: Extent<'_>, kind: &SubtableKind, field: usize) -> usize {
         return 0;
     };
     let mut end = extent.end;
-    for field in parts_of(kind) {
+    let (fields, _) = parts_of(kind);
+    for field in fields {
         if let Some(part) = part_at(extent.bytes, extent.body, *field)
             && part > list
             && part < end
@@ -104,34 +132,63 @@ fn list_count(extent: Extent<'_>, kind: &SubtableKind, field: usize) -> usize {
     end.saturating_sub(list) / 2
 }
 
-/// Whether glyphs of a list go past so many of it, by an index and how many they are from there on.
-fn goes_past((index, glyphs): (u16, u16), count: usize) -> bool {
-    let end = usize::from(index).saturating_add(usize::from(glyphs));
-    index != NO_INDEX && glyphs != 0 && end > count
+/// How many numbers of 16 bits stand from a list on whose place stands in a field, by the length of the subtable.
+fn list_size(extent: Extent<'_>, field: usize) -> usize {
+    let list = part_at(extent.bytes, extent.body, field).unwrap_or(extent.end);
+    extent.end.saturating_sub(list) / 2
 }
 
-/// The state and the class of the first entry that puts in glyphs past so many of the list.
+/// The state and the class of the first entry that goes past what its list has by the length of the subtable: that puts
+/// in glyphs from there, or reads actions, components or a ligature there.
 fn first_past(
     alloc: Global,
-    subtable: &InsertionSubtable,
-    count: usize,
+    extent: Extent<'_>,
+    kind: &SubtableKind,
 ) -> Result<Option<(u16, u16)>, AllocError> {
-    let rules = subtable.state.to_rules(alloc)?;
-    let first = rules.iter().find(|(_, _, entry)| {
-        goes_past(current_run(entry), count) || goes_past(marked_run(entry), count)
-    });
-    Ok(first.map(|(state, class, _)| (*state, *class)))
+    match kind {
+        SubtableKind::Insertion(subtable) => {
+            let count = list_size(extent, LIST);
+            let rules = subtable.state.to_rules(alloc)?;
+            let goes_past = |run: (u16, u16)| {
+                let end = usize::from(run.0).saturating_add(usize::from(run.1));
+                run.0 != NO_INDEX && run.1 != 0 && end > count
+            };
+            let first = rules.iter().find(|(_, _, entry)| {
+                goes_past(current_run(entry)) || goes_past(marked_run(entry))
+            });
+            Ok(first.map(|(state, class, _)| (*state, *class)))
+        }
+        SubtableKind::Ligature(subtable) => {
+            let counts = Counts {
+                actions: list_size(extent, LIST) / 2,
+                components: list_size(extent, COMPONENTS),
+                ligatures: list_size(extent, LIGATURES),
+            };
+            overrunning_cell(alloc, subtable, extent.glyph_count, counts)
+        }
+        _ => Ok(None),
+    }
 }
 
-/// Adds the first entry that puts in glyphs past so many of the list.
-fn check_runs(
+/// Adds the first row of a subtable that does not rise, and that it goes past its length: a part as a whole, or else
+/// the first entry that does.
+fn check_reach(
     alloc: Global,
-    subtable: &InsertionSubtable,
-    count: usize,
+    extent: Extent<'_>,
+    kind: &SubtableKind,
     place: Place,
     found: &mut Vec<Finding>,
 ) -> Result<(), AllocError> {
-    let Some((state, class)) = first_past(alloc, subtable, count)? else {
+    let lookups = extent.lookups(alloc, kind)?;
+    let fallen = lookups.iter().find_map(|lookup| Rows::of_lookup(
+        extent.bytes,
+        *lookup,
+    )?.first_fallen(extent.bytes));
+    add_fact(place, fallen, found)?;
+    if extent.reaches_past(kind, &lookups) {
+        return push_fact(found, place, Fact::ReachesPast);
+    }
+    let Some((state, class)) = first_past(alloc, extent, kind)? else {
         return Ok(());
     };
     let place = Place {
@@ -150,15 +207,7 @@ fn check_extent(
     place: Place,
     found: &mut Vec<Finding>,
 ) -> Result<(), AllocError> {
-    let lookups = extent.rows(alloc, kind)?;
-    let fallen = lookups
-        .iter()
-        .find_map(|rows| rows.first_fallen(extent.bytes));
-    add_fact(place, fallen, found)?;
-    let reaches_past = extent.reaches_past(kind, &lookups);
-    if reaches_past {
-        push_fact(found, place, Fact::ReachesPast)?;
-    }
+    check_reach(alloc, extent, kind, place, found)?;
     let glyph_count = extent.glyph_count;
     match kind {
         SubtableKind::Ligature(subtable) => {
@@ -167,10 +216,7 @@ fn check_extent(
             check_list(&subtable.ligatures, count, glyph_count, place, found)
         }
         SubtableKind::Insertion(subtable) => {
-            let count = list_count(extent, kind, INSERTED);
-            if !reaches_past {
-                check_runs(alloc, subtable, count, place, found)?;
-            }
+            let count = list_count(extent, kind, LIST);
             check_list(&subtable.glyphs, count, glyph_count, place, found)
         }
         _ => Ok(()),

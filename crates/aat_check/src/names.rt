@@ -36,66 +36,25 @@ pub(crate) fn check_names(
     Ok(())
 }
 
-/// The settings of other types than that of all features, which no tag asks for, and fonts leave without a name.
-fn own_settings(alloc: Global, settings: &[ChainFeature]) -> Result<Vec<ChainFeature>, AllocError> {
-    settings
-        .iter()
-        .filter(|setting| setting.kind != ALL_FEATURES)
-        .copied()
-        .collect(alloc)
-}
-
-/// Adds the first of the settings of a chain that have no name.
+/// Adds the first of the settings of a chain that have no name, but for those of the type of all features, which no tag
+/// asks for, and fonts leave without a name.
 fn add_unnamed(
-    alloc: Global,
     place: Place,
     unnamed: &[ChainFeature],
     found: &mut Vec<Finding>,
 ) -> Result<(), AllocError> {
-    let unnamed = own_settings(alloc, unnamed)?;
-    let Some(first) = unnamed.first() else {
+    let mut unnamed = unnamed
+        .iter()
+        .filter(|setting| setting.kind != ALL_FEATURES);
+    let Some(first) = unnamed.next() else {
         return Ok(());
     };
     let place = Place {
         feature: Some(first.kind),
         ..place
     };
-    let (setting, count) = (first.setting, unnamed.len());
+    let (setting, count) = (first.setting, unnamed.count().saturating_add(1));
     push_fact(found, place, Fact::SettingWithoutName { setting, count })
-}
-
-/// Adds the first of the settings of a chain, at their places, that are on by default and exclude another one.
-fn add_exclusive(
-    place: Place,
-    features: &[ChainFeature],
-    exclusive: &[usize],
-    found: &mut Vec<Finding>,
-) -> Result<(), AllocError> {
-    let first = exclusive.first().and_then(|first| features.get(*first));
-    let Some(first) = first else {
-        return Ok(());
-    };
-    let place = Place {
-        feature: Some(first.kind),
-        ..place
-    };
-    let (setting, count) = (first.setting, exclusive.len());
-    push_fact(found, place, Fact::ExclusiveSettings { setting, count })
-}
-
-/// Adds what is found of the settings of a chain by the names of features.
-fn check_named(
-    alloc: Global,
-    feat: &Feat,
-    chain: &Chain,
-    place: Place,
-    found: &mut Vec<Finding>,
-) -> Result<(), AllocError> {
-    let features = chain.features.as_slice();
-    let unnamed = features_without_name(alloc, feat, features)?;
-    add_unnamed(alloc, place, &unnamed, found)?;
-    let exclusive = exclusive_settings(alloc, feat, chain.default_flags, features)?;
-    add_exclusive(place, features, &exclusive, found)
 }
 
 /// Adds what is found of the settings of a chain. Without `feat` none of them has a name.
@@ -106,8 +65,21 @@ pub(crate) fn check_settings(
     place: Place,
     found: &mut Vec<Finding>,
 ) -> Result<(), AllocError> {
-    match feat {
-        Some(feat) => check_named(alloc, feat, chain, place, found),
-        None => add_unnamed(alloc, place, &chain.features, found),
-    }
+    let features = chain.features.as_slice();
+    let Some(feat) = feat else {
+        return add_unnamed(place, features, found);
+    };
+    let unnamed = features_without_name(alloc, feat, features)?;
+    add_unnamed(place, &unnamed, found)?;
+    let exclusive = exclusive_settings(alloc, feat, chain.default_flags, features)?;
+    let first = exclusive.first().and_then(|first| features.get(*first));
+    let Some(first) = first else {
+        return Ok(());
+    };
+    let place = Place {
+        feature: Some(first.kind),
+        ..place
+    };
+    let (setting, count) = (first.setting, exclusive.len());
+    push_fact(found, place, Fact::ExclusiveSettings { setting, count })
 }

@@ -152,6 +152,7 @@ fn line_of_parts(
     Ok(Some(GlyphLine {
         glyphs,
         is_vertical: order.is_vertical,
+        feature: None,
         cut: Some(cut),
     }))
 }
@@ -317,14 +318,7 @@ fn line_at(
     reason: Unsettled,
     glyph_count: u32,
 ) -> Result<Option<GlyphLine>, AllocError> {
-    let (Some(chain), Some(number)) = (place.chain, place.subtable) else {
-        return Ok(None);
-    };
-    let chains = trials.shaper.font().chains();
-    let Some(chain) = chains.get(chain) else {
-        return Ok(None);
-    };
-    let Some(subtable) = chain.subtables.get(number) else {
+    let Some((chain, subtable)) = place.subtable_in(trials.shaper.font()) else {
         return Ok(None);
     };
     if chain.default_flags & subtable.feature_flags == 0 {

@@ -88,10 +88,24 @@ impl Rows {
         })
     }
 
-    /// The place behind the last row.
-    pub(crate) fn end(self) -> usize {
-        let bytes = self.size.saturating_mul(self.count as usize);
-        self.start.saturating_add(bytes)
+    /// The place behind the last of the values that segments of the lookup at a place name.
+    fn values_end(self, bytes: &[u8], lookup: usize) -> usize {
+        let (mut end, mut at) = (0, self.start);
+        for _ in 0..self.count {
+            let keys = self.key.keys_at(bytes, at);
+            let (Some((first, last)), Some(offset)) = (keys, u16_at(bytes, at.saturating_add(4)))
+            else {
+                return end;
+            };
+            if first == self.key.end_key() {
+                return end;
+            }
+            let count = last.saturating_add(1).saturating_sub(first) as usize;
+            let values = lookup.saturating_add(usize::from(offset));
+            end = end.max(values.saturating_add(count.saturating_mul(2)));
+            at = at.saturating_add(self.size);
+        }
+        end
     }
 
     /// The first row whose keys do not stand behind those of the row before it.
@@ -112,21 +126,31 @@ impl Rows {
     }
 }
 
+/// The place behind the rows and the values of the lookup at a place, in a font of so many glyphs.
+///
+/// Apple's TrueType Reference Manual, "Font Tables", section on lookup tables.
+pub(crate) fn lookup_end(bytes: &[u8], lookup: usize, glyph_count: u32) -> Option<usize> {
+    let word = |field: usize| u16_at(bytes, lookup.saturating_add(field)).map(usize::from);
+    let (header, size, count) = match word(0)? {
+        // 65,536 glyphs stand for no `maxp`, and then it has no values
+        0 => (2, 2, glyph_count as usize % 0x1_0000),
+        8 => (6, 2, word(4)?),
+        10 => (8, word(2)?, word(6)?),
+        _ => (12, word(2)?, word(4)?),
+    };
+    let end = lookup
+        .saturating_add(header)
+        .saturating_add(size.saturating_mul(count));
+    match Rows::of_lookup(bytes, lookup) {
+        Some(rows) if word(0) == Some(4) => Some(end.max(rows.values_end(bytes, lookup))),
+        _ => Some(end),
+    }
+}
+
 /// The first row that does not rise of the lookup whose place stands in a field behind another one.
 pub(crate) fn fallen_in_lookup(bytes: &[u8], from: usize, field: usize) -> Option<Fact> {
     let lookup = part_at(bytes, from, field)?;
     Rows::of_lookup(bytes, lookup)?.first_fallen(bytes)
-}
-
-/// The first row of the names of features that does not rise.
-fn fallen_name(bytes: &[u8]) -> Option<Fact> {
-    let rows = Rows {
-        key: RowKey::Feature,
-        start: 12,
-        size: 12,
-        count: u32::from(u16_at(bytes, 4)?),
-    };
-    rows.first_fallen(bytes)
 }
 
 /// Adds the first row of the lookup of `ankr`, and of the names of `feat`, that does not rise, where they are read.
@@ -146,7 +170,13 @@ pub(crate) fn check_rows(
     if tables.feat.is_some()
         && let Ok(bytes) = file.table(FEAT)
     {
-        add_fact(Place::of_table(FEAT), fallen_name(bytes), found)?;
+        let names = Rows {
+            key: RowKey::Feature,
+            start: 12,
+            size: 12,
+            count: u16_at(bytes, 4).map_or(0, u32::from),
+        };
+        add_fact(Place::of_table(FEAT), names.first_fallen(bytes), found)?;
     }
     Ok(())
 }

@@ -3,6 +3,7 @@ ghost use Rattle.std.specs.Prelude.{◌≡◌, IfOk, IfSome, Some};
 ghost use Rattle.aat_findings.specs.Reached.{state_after};
 
 use aat_findings::state_after;
+use aat_machine_tables::entry_bits::class;
 use aat_machine_tables::{Acting, ExtendedStateTable};
 use std::alloc::{AllocError, Global};
 
@@ -19,13 +20,21 @@ struct Step {
     class: u16,
 }
 
-/// The states to which lines came so far.
+/// The most cells of a table that are noted where a machine stays.
+const MOST_CELLS: usize = 256;
+
+/// The states to which lines come, and where a machine stays at a glyph.
 #[derive(Drop)]
 pub(crate) struct Search {
     /// How a line came to each state first.
     steps: Vec<Option<Step>>,
     /// The states, in the order in which lines came to them.
     pub(crate) order: Vec<u16>,
+    /// The states and classes at which a machine stays, but for class 0, by the first 256 ways there, shorter lines
+    /// first.
+    pub(crate) staying: Vec<(u16, u16)>,
+    /// The first 256 states and classes, but class 0, whose entry does not advance, shorter lines first.
+    pub(crate) waiting: Vec<(u16, u16)>,
 }
 
 /// The state in which a machine leaves a glyph of a class to which it comes in a state, if it leaves it soon.
@@ -67,18 +76,44 @@ pub(crate) fn turns_to<T: Acting>(
     None
 }
 
-impl Search {
-    /// A search in which lines came to state 0 alone.
-    fn new(alloc: Global) -> Result<Search, AllocError> {
-        let mut steps = vec![in alloc; None; STATES]?;
-        let mut order = Vec::new(alloc);
-        order.push(0)?;
-        if let Some(first) = steps.first_mut() {
-            *first = Some(Step { state: 0, class: 0 });
+/// The state behind so many entries that stay at a glyph of a class, if each of them does.
+fn stay_on<T: Acting>(
+    table: &ExtendedStateTable<T>,
+    start: u16,
+    class: u16,
+    turns: usize,
+) -> Option<u16> {
+    let mut state = start;
+    for _turn in 0..turns {
+        let entry = table.entry(state, class)?;
+        if entry.has_advance() {
+            return None;
         }
-        Ok(Search { steps, order })
+        state = entry.new_state;
     }
+    Some(state)
+}
 
+/// The first state to which a machine that comes to one at a glyph of a class comes back there, if it does soon.
+pub(crate) fn staying_state<T: Acting>(
+    table: &ExtendedStateTable<T>,
+    start: u16,
+    class: u16,
+) -> Option<u16> {
+    let far = stay_on(table, start, class, MOST_TURNS)?;
+    let behind = stay_on(table, far, class, 1)?;
+    turns_to(table, behind, class, far)?;
+    let mut state = start;
+    for _turn in 0..MOST_TURNS {
+        if turns_to(table, far, class, state).is_some() {
+            return Some(state);
+        }
+        state = stay_on(table, state, class, 1)?;
+    }
+    None
+}
+
+impl Search {
     /// Notes how a line came to a state, unless one did before.
     fn note(&mut self, state: u16, step: Step) -> Result<(), AllocError> {
         let Some(slot) = self.steps.get_mut(state as usize) else {
@@ -91,7 +126,7 @@ impl Search {
         Ok(())
     }
 
-    /// Notes the states to which the classes that glyphs show lead from one.
+    /// Notes the states to which the classes that glyphs show lead from one, and those at which a machine stays.
     fn follow<T: Acting>(
         &mut self,
         table: &ExtendedStateTable<T>,
@@ -99,33 +134,26 @@ impl Search {
         state: u16,
     ) -> Result<(), AllocError> {
         for class in 0..table.class_count() {
-            if is_shown(shown, class)
-                && let Some(next) = state_behind(table, state, class)
+            if !is_shown(shown, class) {
+                continue;
+            }
+            if class != class::END_OF_TEXT
+                && self.waiting.len() < MOST_CELLS
+                && let Some(entry) = table.entry(state, class)
+                && !entry.has_advance()
             {
+                self.waiting.push((state, class))?;
+            }
+            if let Some(next) = state_behind(table, state, class) {
                 self.note(next, Step { state, class })?;
+            } else if class != class::END_OF_TEXT
+                && self.staying.len() < MOST_CELLS
+                && let Some(staying) = staying_state(table, state, class)
+            {
+                self.staying.push((staying, class))?;
             }
         }
         Ok(())
-    }
-
-    /// Goes on until a line comes to a state from which the machine comes to the state of a cell at a glyph of its class,
-    /// and answers that state, if there is one.
-    fn run<T: Acting>(
-        &mut self,
-        table: &ExtendedStateTable<T>,
-        shown: &[Option<u16>],
-        cell: (u16, u16),
-    ) -> Result<Option<u16>, AllocError> {
-        for place in 0..STATES {
-            let Some(state) = self.order.get(place).copied() else {
-                return Ok(None);
-            };
-            if turns_to(table, state, cell.1, cell.0).is_some() {
-                return Ok(Some(state));
-            }
-            self.follow(table, shown, state)?;
-        }
-        Ok(None)
     }
 
     /// A search of all states to which lines come from state 0, or of those to which lines come whose first glyph is of a
@@ -136,7 +164,13 @@ impl Search {
         shown: &[Option<u16>],
         first: Option<u16>,
     ) -> Result<Search, AllocError> {
-        let mut search = Search::new(alloc)?;
+        let mut search = Search {
+            steps: vec![in alloc; None; STATES]?,
+            order: Vec::new(alloc),
+            staying: Vec::new(alloc),
+            waiting: Vec::new(alloc),
+        };
+        search.note(0, Step { state: 0, class: 0 })?;
         if let Some(class) = first {
             search.order.clear();
             if let Some(next) = state_behind(table, 0, class) {
@@ -226,24 +260,28 @@ pub(crate) struct Way {
     pub(crate) taken: Vec<u16>,
 }
 
-/// A shortest line of classes that glyphs show, from state 0 on, that brings a machine to the state of a cell at a glyph
-/// of its class, if one is found. Fails where memory is wanting.
-pub(crate) fn way_to<T: Acting>(
-    alloc: Global,
-    table: &ExtendedStateTable<T>,
-    shown: &[Option<u16>],
-    cell: (u16, u16),
-) -> Result<Option<Way>, AllocError>
-    ensures { IfOk result (λ found. IfSome found (λ way. state_after table.now 0 way.taken.items ≡ Some cell.0)) }
-{
-    let mut search = Search::new(alloc)?;
-    let Some(state) = search.run(table, shown, cell)? else {
-        return Ok(None);
-    };
-    let before = search.classes_to(alloc, state)?;
-    let taken = taken_over(alloc, table, &before, cell)?;
-    if state_after(table, 0, &taken) == Some(cell.0) {
-        return Ok(Some(Way { before, taken }));
+impl Search {
+    /// A shortest line of classes that glyphs show, from state 0 on, that brings a machine to the state of a cell at a
+    /// glyph of its class, if one is found. Fails where memory is wanting.
+    pub(crate) fn way_to<T: Acting>(
+        &self,
+        alloc: Global,
+        table: &ExtendedStateTable<T>,
+        cell: (u16, u16),
+    ) -> Result<Option<Way>, AllocError>
+        ensures { IfOk result (λ found. IfSome found (λ way.
+            state_after table.now 0 way.taken.items ≡ Some cell.0)) }
+    {
+        let mut states = self.order.iter().copied();
+        let Some(state) = states.find(|state| turns_to(table, *state, cell.1, cell.0).is_some())
+        else {
+            return Ok(None);
+        };
+        let before = self.classes_to(alloc, state)?;
+        let taken = taken_over(alloc, table, &before, cell)?;
+        if state_after(table, 0, &taken) == Some(cell.0) {
+            return Ok(Some(Way { before, taken }));
+        }
+        Ok(None)
     }
-    Ok(None)
 }

@@ -2,7 +2,9 @@
 
 use crate::finding::{Finding, GlyphLine, Place};
 use crate::sentences::Sentence;
+use aat_bytes::Tag;
 use aat_bytes::tags::MORX;
+use aat_font::Feature;
 use aat_read_metrics::GlyphNames;
 use std::io::{self, Write};
 
@@ -16,13 +18,13 @@ fn write_glyphs<W: Write>(out: &mut W, glyphs: &[u16]) -> io::Result<()> {
     write!(out, "\"")
 }
 
-/// Writes the two parts of a line that is shown beside them.
-fn write_parts<W: Write>(out: &mut W, glyphs: &[u16], cut: usize) -> io::Result<()> {
-    let (first, second) = glyphs.split_at(cut.min(glyphs.len()));
-    write!(out, "its parts ")?;
-    write_glyphs(out, first)?;
-    write!(out, " and ")?;
-    write_glyphs(out, second)
+/// Writes a feature as the option of features takes it, without its value where that is 1.
+pub(crate) fn write_feature<W: Write>(out: &mut W, feature: &Feature) -> io::Result<()> {
+    let (tag, value) = (Tag(feature.tag.0), feature.value);
+    match value {
+        1 => write!(out, "{tag}"),
+        _ => write!(out, "{tag}={value}"),
+    }
 }
 
 /// Writes what a line of glyphs is, which no shell reads behind the command: their names, and its two parts.
@@ -38,8 +40,11 @@ fn write_remark<W: Write>(out: &mut W, names: &GlyphNames<'_>, line: &GlyphLine)
     let Some(cut) = line.cut else {
         return Ok(());
     };
-    write!(out, "{}", if is_named { ", " } else { " # " })?;
-    write_parts(out, &line.glyphs, cut)
+    let (first, second) = line.glyphs.split_at(cut.min(line.glyphs.len()));
+    write!(out, "{}its parts ", if is_named { ", " } else { " # " })?;
+    write_glyphs(out, first)?;
+    write!(out, " and ")?;
+    write_glyphs(out, second)
 }
 
 /// Writes the command that shows a line of glyphs of a font, with the trace where substitution is shown.
@@ -54,6 +59,10 @@ fn write_line<W: Write>(
     write_glyphs(out, &line.glyphs)?;
     if line.is_vertical {
         write!(out, " --direction ttb")?;
+    }
+    if let Some(feature) = &line.feature {
+        write!(out, " --features ")?;
+        write_feature(out, feature)?;
     }
     // a trace is of substitution alone
     if place.table == MORX {

@@ -1,6 +1,7 @@
 //! Contextual machines that stay at a glyph and change it.
 
 use crate::lines::shown_classes;
+use crate::search::Search;
 use aat_findings::{stays, taken_as};
 use aat_lookup::GlyphId;
 use aat_machine_tables::entry_bits::{DONT_ADVANCE, NO_INDEX};
@@ -26,9 +27,13 @@ fn next_turn(subtable: &ContextualSubtable, state: u16, glyph: u16) -> Option<(u
     Some((entry.new_state, value.unwrap_or(glyph)))
 }
 
-/// Whether a machine that comes to a state at a glyph stays there until the budget of a short text is used up.
-fn keeps_on(subtable: &ContextualSubtable, state: u16, glyph: u16) -> bool {
-    let (mut state, mut glyph) = (state, glyph);
+/// Whether a machine that comes to a state at the glyph that shows a class stays there until the budget of a short text is
+/// used up.
+fn keeps_on(subtable: &ContextualSubtable, shown: &[Option<u16>], cell: (u16, u16)) -> bool {
+    let Some(mut glyph) = shown.get(cell.1 as usize).copied().flatten() else {
+        return false;
+    };
+    let mut state = cell.0;
     for _turn in 0..MOST_TURNS {
         match next_turn(subtable, state, glyph) {
             Some(next) => (state, glyph) = next,
@@ -38,7 +43,9 @@ fn keeps_on(subtable: &ContextualSubtable, state: u16, glyph: u16) -> bool {
     true
 }
 
-/// The state and the class at which a contextual machine stays, at the least glyph of the class, whatever it does to it.
+/// A state and a class at which a contextual machine stays, at the least glyph of the class, whatever it does to it: one
+/// of those that are noted, to which a shortest line leads, where entries of one class lead back, and else where entries
+/// of the classes do that the glyph comes to.
 pub(crate) fn turning_of(
     alloc: Global,
     kind: &SubtableKind,
@@ -47,12 +54,14 @@ pub(crate) fn turning_of(
     let SubtableKind::Contextual(subtable) = kind else {
         return Ok(None);
     };
-    let Some((state, class)) = stays(alloc, &subtable.state)? else {
-        return Ok(None);
-    };
+    let first = stays(alloc, &subtable.state)?;
     let shown = shown_classes(alloc, &subtable.state, &[], 0, glyph_count)?;
-    match shown.get(class as usize) {
-        Some(Some(glyph)) if keeps_on(subtable, state, *glyph) => Ok(Some((state, class))),
-        _ => Ok(None),
-    }
+    let search = Search::everywhere(alloc, &subtable.state, &shown, None)?;
+    let mut cells = search
+        .staying
+        .iter()
+        .copied()
+        .chain(first)
+        .chain(search.waiting.iter().copied());
+    Ok(cells.find(|cell| keeps_on(subtable, &shown, *cell)))
 }

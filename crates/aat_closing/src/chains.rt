@@ -7,6 +7,7 @@ ghost use Rattle.aat_closing.specs.ClosingChains.{closing_chain};
 ghost use Rattle.aat_closing.specs.ClosingRuns.{IsTold, told_in_order};
 ghost use Rattle.aat_machine_tables.specs.Chains.{subtable_count};
 ghost use Rattle.aat_font.specs.Morx.{chains_of};
+ghost use Rattle.aat_font.specs.Blocks.{blocks_of};
 ghost use Rattle.aat_font.specs.Wakers.{AreWakers};
 ghost use Rattle.aat_kinds.specs.Kinds.{sizes_of};
 ghost use Rattle.aat_map.specs.Map.{lists_for};
@@ -17,7 +18,7 @@ ghost use Rattle.aat_run.specs.Ranges.{IsGapless, is_whole_list, switch_for};
 
 use crate::subtable::close_subtable;
 use aat_buffer::hb_buffer_t;
-use aat_font::{GlyphWords, Morx, hb_font_t};
+use aat_font::{Morx, SubtableWords, hb_font_t};
 use aat_kinds::SubtableRun;
 use aat_machine_tables::{Chain, Subtable};
 use aat_map::{default_range, hb_aat_map_t, ranges_of};
@@ -46,7 +47,7 @@ fn close_chain<const SLOTS: usize, const LONGEST: usize, A: Allocator + Copy>(
     ranges: &[range_flags_t],
     subtables: &[Subtable],
     first: usize,
-    words: &[GlyphWords],
+    words: &SubtableWords,
     known: &mut LineWord,
     buffer: &mut hb_buffer_t<A>,
 ) -> Result<MachineRun, AatError>
@@ -54,7 +55,7 @@ fn close_chain<const SLOTS: usize, const LONGEST: usize, A: Allocator + Copy>(
     requires memory { SLOTS ≤ 2 ^ 59 }
     requires few { length subtables.now ≤ 65535 }
     requires start { first ≤ 65535 }
-    requires wakers { AreWakers subtables.now words.now first }
+    requires wakers { AreWakers subtables.now (blocks_of words.now) first }
     requires tells { TellsOf known.old words.now buffer.old.line }
     requires gapless { IsGapless ranges.now }
     requires whole { IsTrue (is_whole_list ranges.now) }
@@ -124,7 +125,7 @@ pub(crate) fn close_chains<
         is_through: true,
     };
     let words = morx.wakers();
-    let mut known = LineWord::unknown();
+    let mut known = LineWord::unknown(words);
     let mut first = 0;
     for (i, chain) in chains.iter().enumerate() {
         let default = [default_range(chain)];

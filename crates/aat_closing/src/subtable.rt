@@ -4,6 +4,7 @@ ghost use Rattle.aat_buffer.specs.Clusters.{IsSmall};
 ghost use Rattle.aat_closing.specs.ClosingChains.{closing_subtable};
 ghost use Rattle.aat_closing.specs.ClosingRuns.{IsTold, closing_ordered, closing_run, may_split, turned};
 ghost use Rattle.aat_font.specs.Idle.{is_idle};
+ghost use Rattle.aat_font.specs.Blocks.{blocks_of};
 ghost use Rattle.aat_font.specs.Wakers.{WakeAt};
 ghost use Rattle.aat_kinds.specs.Idle.{SleepOthers};
 ghost use Rattle.aat_kinds.specs.Kinds.{is_reversed, sizes_of};
@@ -14,7 +15,7 @@ ghost use Rattle.aat_run.specs.Ranges.{IsGapless, is_whole_list, switch_for};
 
 use crate::runs::close_kind;
 use aat_buffer::{Direction, hb_buffer_t};
-use aat_font::GlyphWords;
+use aat_font::SubtableWords;
 use aat_kinds::{SubtableRun, pass_over};
 use aat_machine_tables::{Subtable, SubtableKind};
 use aat_morx::{LineWord, is_reversed, is_skipped};
@@ -110,7 +111,7 @@ pub(crate) fn close_subtable<const SLOTS: usize, const LONGEST: usize, A: Alloca
     run: &SubtableRun,
     subtable: &Subtable,
     known: &mut LineWord,
-    words: &[GlyphWords],
+    words: &SubtableWords,
     number: usize,
     buffer: &mut hb_buffer_t<A>,
 ) -> Result<MachineRun, AatError>
@@ -121,7 +122,7 @@ pub(crate) fn close_subtable<const SLOTS: usize, const LONGEST: usize, A: Alloca
     requires whole { IsTrue (is_whole_list run.now.ranges.now) }
     requires wakers { IfSome run.now.wakers (SleepOthers (is_idle subtable.now.kind)) }
     requires ids { IsSmall buffer.old }
-    requires wake { WakeAt subtable.now words.now number }
+    requires wake { WakeAt subtable.now (blocks_of words.now) number }
     requires tells { TellsOf known.old words.now buffer.old.line }
     ensures run { IfOk result (IsTold (closing_subtable (sizes_of SLOTS LONGEST run.now.face.now)
         (switch_for run.now.ranges.now) subtable.now buffer.old) buffer.new) }

@@ -4,6 +4,6 @@ use Rattle.aat_face.specs.declared.weights.TheConstants.{FACE_SIZE, FAULT_SIZE, 
 
 -- the sizes, in bytes
 pub record SizesAreKnown : Type 0 where
-  pub face : FACE_SIZE ≡ 768
+  pub face : FACE_SIZE ≡ 800
   pub fault : FAULT_SIZE ≡ 16
   pub feature_name : FEATURE_NAME_SIZE ≡ 6

@@ -3,3 +3,4 @@ pub mod MoreBits
 pub mod MoreWakers
 pub mod Numbered
 pub mod SegmentBits
+pub mod SummedWords

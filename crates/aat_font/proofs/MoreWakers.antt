@@ -66,11 +66,14 @@ module _ (words : List GlyphWords) (place : ℕ) (was word : GlyphWords) (within
   pub marked_keeps : (number : ℕ) → KeepsWakers words marked number
   marked_keeps number = λ k s below wake w found. at_place k s wake w found (cases_eq (k / 64) place)
 
-  -- the subtable whose bits they are
-  pub marked_wakes : (number : ℕ) (s : Subtable) → number / 64 ≡ place → IsAwakeIn s word (number % 64) → WakeAt s marked number
-  marked_wakes number s here awake = λ w found.
-      let new : word ≡ w = sym (get_or-set_same words place word w within) ∙ (ap (λ (j : ℕ). get_or marked j w) (sym here) ∙ read_in (number / 64) w found) in
-      subst (λ (z : GlyphWords). IsAwakeIn s z (number % 64)) new awake
+-- the subtable whose bits a word of a list gets
+pub marked_wakes :
+    (words : List GlyphWords) (place : ℕ) (word : GlyphWords) → place < length words
+    → (number : ℕ) (s : Subtable) → number / 64 ≡ place → IsAwakeIn s word (number % 64) → WakeAt s (set words place word) number
+marked_wakes words place word within number s here awake w found =
+    let read : get_or (set words place word) (number / 64) w ≡ w = get_or_from_slice_get (set words place word) (number / 64) w w found in
+    let new : word ≡ w = sym (get_or-set_same words place word w within) ∙ (ap (λ (j : ℕ). get_or (set words place word) j w) (sym here) ∙ read) in
+    subst (λ (z : GlyphWords). IsAwakeIn s z (number % 64)) new awake
 
 -- behind the last word no subtable has one
 pub without_word : (words : List GlyphWords) (number : ℕ) (s : Subtable) → length words ≤ number / 64 → WakeAt s words number

@@ -1,3 +1,4 @@
+pub mod Blocks
 pub mod Face
 pub mod Idle
 pub mod Morx

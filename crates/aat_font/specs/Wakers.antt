@@ -31,3 +31,11 @@ AreWakers subtables words first = (i : ℕ) (s : Subtable) → slice_get subtabl
 abbrev pub AreChainWakers : List Chain → List GlyphWords → Type 0
 AreChainWakers chains words =
     (i : ℕ) (c : Chain) → slice_get chains i ≡ Some c → AreWakers c.subtables.items words (subtable_count (take i chains))
+
+-- where a glyph's bit is clear in a summary, its word of a block is 0
+abbrev pub IsSummedAt : GlyphWords → ℕ → GlyphWords → Type 0
+IsSummedAt summary bit block = (g : ℕ) → bit_at (word_of summary g) bit ≡ 0 → word_of block g ≡ 0
+
+-- a summary tells of each block by the bit of its number, counted from 0 again behind each 64
+abbrev pub IsSummaryOf : GlyphWords → List GlyphWords → Type 0
+IsSummaryOf summary blocks = (i : ℕ) (block : GlyphWords) → slice_get blocks i ≡ Some block → IsSummedAt summary (i % 64) block

@@ -22,4 +22,4 @@ pub use idle::{
 pub use morx::Morx;
 pub use plan::{Feature, hb_ot_shape_plan_t};
 pub use tag::hb_tag_t;
-pub use wakers::{GlyphWords, word_at};
+pub use wakers::{GlyphWords, SubtableWords, word_at};

@@ -1,9 +1,10 @@
 //! The extended glyph metamorphosis table.
 ghost use Rattle.std.specs.Prelude.{◌≡◌, ◌≤◌, IfOk, IfErr, OnOk};
 ghost use Rattle.aat_machine_tables.specs.Chains.{subtable_count};
+ghost use Rattle.aat_font.specs.Blocks.{blocks_of};
 ghost use Rattle.aat_font.specs.Wakers.{AreChainWakers};
 
-use crate::wakers::{GlyphWords, words_where_memory};
+use crate::wakers::{SubtableWords, words_where_memory};
 use aat_lookup::TableError;
 use aat_machine_tables::{Chain, MAX_SUBTABLES};
 
@@ -13,15 +14,16 @@ use aat_machine_tables::{Chain, MAX_SUBTABLES};
 #[derive(Drop)]
 pub struct Morx {
     chains: Vec<Chain>,
-    wakers: Vec<GlyphWords>,
+    wakers: SubtableWords,
     ghost few: { subtable_count chains.items ≤ 65535 },
-    ghost awake: { AreChainWakers chains.items wakers.items },
+    ghost awake: { AreChainWakers chains.items wakers.blocks.items },
 }
 
 impl Morx {
     ghost use Rattle.std.specs.Prelude.{◌≡◌, ◌≤◌, IfOk, IfErr, OnOk};
     ghost use Rattle.aat_machine_tables.specs.Chains.{subtable_count};
     ghost use Rattle.aat_font.specs.Morx.{chains_of};
+    ghost use Rattle.aat_font.specs.Blocks.{blocks_of};
     ghost use Rattle.aat_font.specs.Wakers.{AreChainWakers};
     ghost use Rattle.aat_lookup.specs.TableErrors.{RefusesMany};
 
@@ -47,10 +49,11 @@ impl Morx {
         Ok(Morx { chains, wakers })
     }
 
-    /// The words that tell which subtables a glyph may wake, one for each 64 subtables. Those of all chains are numbered
-    /// one behind the other. Fewer words are right too: a subtable without one runs. How many there are is not proved.
-    pub fn wakers(&self) -> &[GlyphWords]
-        ensures { AreChainWakers (chains_of self.now) result.now }
+    /// The words that tell which subtables a glyph may wake, one for each 64 subtables, and their summary. Subtables of
+    /// all chains are numbered one behind the other. Fewer words are right too: a subtable without one runs. How many
+    /// there are is not proved.
+    pub fn wakers(&self) -> &SubtableWords
+        ensures { AreChainWakers (chains_of self.now) (blocks_of result.now) }
     {
         &self.wakers
     }

@@ -2,14 +2,15 @@
 //!
 //! A subtable that no glyph of a line wakes does nothing over it, and is passed over. The words are made once, with the
 //! table, and the subtables of all chains are numbered one behind the other. Where there is no memory for words, or
-//! behind `MOST_CELLS`, there are none, and subtables run.
+//! behind `MOST_CELLS`, there are none, and subtables run. A summary of the words spares a line a pass for each 64
+//! subtables.
 ghost use Rattle.std.specs.Prelude.{◌≡◌, ◌+◌, ◌%◌, ◌/◌, ◌<◌, ◌≤◌, ℕ, Some, None, IfOk, IsTrue, OnOk, true, is_none, length, slice_get, slice_index_or};
 ghost use Rattle.std.specs.Int.{bit_at};
 ghost use Rattle.aat_font.specs.Idle.{is_idle_class, is_idle_glyph};
 ghost use Rattle.aat_lookup.specs.Keys.{value_in};
 ghost use Rattle.aat_lookup.specs.Listings.{pairs_from};
 ghost use Rattle.aat_lookup.specs.Segments.{pairs_of_segments};
-ghost use Rattle.aat_font.specs.Wakers.{word_of, word_place, IsAwakeIn, AreWakers, AreChainWakers, WakeAt};
+ghost use Rattle.aat_font.specs.Wakers.{word_of, word_place, IsAwakeIn, AreWakers, AreChainWakers, IsSummedAt, IsSummaryOf, WakeAt};
 ghost use Rattle.aat_font.specs.inside.MarkedWords.{AreAwake, ArePassed, KeepsBits, KeepsWakers, SameWords};
 ghost use Rattle.aat_machine_tables.specs.Chains.{subtable_count};
 ghost use Rattle.aat_machine_tables.specs.declared.morx.Subtable.{Subtable};
@@ -26,16 +27,19 @@ const STEP: usize = 256;
 /// The number of subtables that have a bit in a word.
 const WORD: usize = 64;
 
-/// The number of cells behind which no more words are begun. The glyphs of 64 subtables have at most 65,536, so that all
-/// have at most 2^20 cells of 8 bytes. It bounds the time that a hostile font takes too: a cell is looked at once for each
-/// of its subtables.
-const MOST_CELLS: usize = (1 << 20) - (1 << 16);
+/// The number of places in a list of words: one for each glyph.
+const PLACES: usize = 1 << 16;
+
+/// The number of cells behind which no more words are begun. The glyphs of 64 subtables have at most 65,536, and so has
+/// the summary, so that all have at most 2^20 cells of 8 bytes. It bounds the time that a hostile font takes too: a cell
+/// is looked at once for each of its subtables.
+const MOST_CELLS: usize = (1 << 20) - (2 << 16);
 
 /// The glyph that a machine puts in the place of one that it deletes.
 const DELETED: u16 = 0xFFFF;
 
-/// For each glyph a word of 64 bits, one for each of 64 subtables: where it is clear the subtable does nothing over the
-/// glyph.
+/// For each glyph a word of 64 bits, one for each of 64 subtables, or in a summary of 64 blocks of them: where it is
+/// clear these do nothing over the glyph.
 #[derive(Drop)]
 pub struct GlyphWords {
     /// The bits that each glyph has.
@@ -301,6 +305,50 @@ impl GlyphWords {
             SubtableKind::Insertion(tables) => self.mark_machine(&tables.state, bit),
         }
     }
+
+    /// Sets a bit of each glyph that has another word than 0 in a block. Fails where it gets no memory.
+    fn sum_up(&mut self, block: &GlyphWords, bit: u32) -> Result<(), AllocError>
+        requires bit { bit < 64 }
+        ensures kept { OnOk result (KeepsBits self.old self.new) }
+        ensures summed { OnOk result (IsSummedAt self.new bit block.now) }
+    {
+        if block.everywhere != 0 {
+            self.mark_everywhere(bit);
+            return Ok(());
+        }
+        for place in 0..block.words.len().min(PLACES) {
+            if block.words[place] != 0 {
+                self.mark((place as u16).wrapping_sub(1), bit)?;
+            }
+        }
+        Ok(())
+    }
+}
+
+/// Which subtables of chains a glyph may wake.
+#[derive(Drop)]
+pub struct SubtableWords {
+    blocks: Vec<GlyphWords>,
+    summary: GlyphWords,
+    ghost summed: { IsSummaryOf summary blocks.items },
+}
+
+impl SubtableWords {
+    /// The words, one for each block of 64 subtables.
+    pub fn blocks(&self) -> &[GlyphWords]
+        ensures { result.now ≡ self.now.blocks.items }
+    {
+        &self.blocks
+    }
+
+    /// The words that sum up the blocks, by a bit for each of them, of which the 65th has the bit of the first one again:
+    /// where it is clear the glyph wakes no subtable of the block. Of fewer than two blocks, or where there is no memory,
+    /// they have all bits, and tell nothing.
+    pub fn summary(&self) -> &GlyphWords
+        ensures { result.now ≡ self.now.summary }
+    {
+        &self.summary
+    }
 }
 
 /// Sets a bit of each word from one up to another.
@@ -365,33 +413,17 @@ fn cells_of(words: &[GlyphWords]) -> usize {
 fn begin_word(alloc: Global, words: &mut Vec<GlyphWords>, number: usize) -> Result<(), AllocError>
     ensures kept { OnOk result (KeepsWakers words.old.items words.new.items number) }
 {
-    let is_next = number % WORD == 0 && words.len() == number / WORD;
-    if is_next && cells_of(words) <= MOST_CELLS {
-        words.push(GlyphWords {
-            everywhere: 0,
-            words: Vec::new(alloc),
-        })?;
+    if number % WORD != 0 || words.len() != number / WORD || cells_of(words) > MOST_CELLS {
+        return Ok(());
     }
+    words.push(GlyphWords {
+        everywhere: 0,
+        words: Vec::new(alloc),
+    })?;
     Ok(())
 }
 
-/// Sets the bits of a subtable in its word, where it has one. Fails where they get no memory.
-fn mark_in(
-    words: &mut Vec<GlyphWords>,
-    number: usize,
-    subtable: &Subtable,
-) -> Result<(), AllocError>
-    ensures kept { OnOk result (KeepsWakers words.old.items words.new.items number) }
-    ensures awake { OnOk result (WakeAt subtable.now words.new.items number) }
-{
-    let block = number / WORD;
-    if block >= words.len() {
-        return Ok(());
-    }
-    words[block].mark_subtable(subtable, (number % WORD) as u32)
-}
-
-/// Gives words the bits of the subtable with this number. Fails where they get no memory.
+/// Gives words the bits of the subtable with this number, where it has a word. Fails where they get no memory.
 fn add_subtable(
     alloc: Global,
     words: &mut Vec<GlyphWords>,
@@ -402,8 +434,11 @@ fn add_subtable(
     ensures awake { OnOk result (WakeAt subtable.now words.new.items number) }
 {
     begin_word(alloc, words, number)?;
-    mark_in(words, number, subtable)?;
-    Ok(())
+    let block = number / WORD;
+    if block >= words.len() {
+        return Ok(());
+    }
+    words[block].mark_subtable(subtable, (number % WORD) as u32)
 }
 
 /// Gives words the bits of the subtables of a chain, whose first one has this number. Fails where they get no memory.
@@ -437,13 +472,44 @@ fn words_of_chains(alloc: Global, chains: &[Chain]) -> Result<Vec<GlyphWords>, A
     Ok(words)
 }
 
-/// The words of the subtables of chains, as far as there is room for them. None where they get no memory.
-pub(crate) fn words_where_memory(alloc: Global, chains: &[Chain]) -> Vec<GlyphWords>
-    requires few { subtable_count chains.now ≤ 65535 }
-    ensures { AreChainWakers chains.now result.items }
+/// The summary of blocks. Fails where it gets no memory.
+fn summary_of(alloc: Global, blocks: &[GlyphWords]) -> Result<GlyphWords, AllocError>
+    ensures { IfOk result (λ summary. IsSummaryOf summary blocks.now) }
 {
-    match words_of_chains(alloc, chains) {
-        Ok(words) => words,
-        Err(_) => Vec::new(alloc),
+    let mut summary = GlyphWords {
+        everywhere: 0,
+        words: Vec::new(alloc),
+    };
+    for (i, block) in blocks.iter().enumerate() {
+        summary.sum_up(block, (i % WORD) as u32)?;
     }
+    Ok(summary)
+}
+
+/// The summary of blocks. One that tells nothing, of fewer than two blocks and where it gets no memory.
+fn summary_where_memory(alloc: Global, blocks: &[GlyphWords]) -> GlyphWords
+    ensures { IsSummaryOf result blocks.now }
+{
+    if blocks.len() > 1 {
+        if let Ok(summary) = summary_of(alloc, blocks) {
+            return summary;
+        }
+    }
+    GlyphWords {
+        everywhere: u64::MAX,
+        words: Vec::new(alloc),
+    }
+}
+
+/// The words of the subtables of chains, as far as there is room for them. None where they get no memory.
+pub(crate) fn words_where_memory(alloc: Global, chains: &[Chain]) -> SubtableWords
+    requires few { subtable_count chains.now ≤ 65535 }
+    ensures { AreChainWakers chains.now result.blocks.items }
+{
+    let blocks = match words_of_chains(alloc, chains) {
+        Ok(blocks) => blocks,
+        Err(_) => Vec::new(alloc),
+    };
+    let summary = summary_where_memory(alloc, &blocks);
+    SubtableWords { blocks, summary }
 }

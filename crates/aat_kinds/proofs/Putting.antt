@@ -1,8 +1,8 @@
 -- A run of glyphs that goes into a line.
-use Rattle.std.proofs.Common.{◌≡◌, ◌<◌, ◌+◌, ◌-◌, ℕ, [], ◌∷◌, ◌++◌, List, take, drop, length, get_or, set, min, nat_lt, not, Bool, true, cond, Some, All, append_assoc, refl, ap, ◌∙◌, arith}
+use Rattle.std.proofs.Common.{◌≡◌, ◌<◌, ◌≤◌, ◌+◌, ◌-◌, ℕ, [], ◌∷◌, ◌++◌, List, take, drop, length, get_or, set, min, nat_lt, not, Bool, true, cond, Some, All, append_assoc, refl, ap, ◌∙◌, arith}
 use Rattle.std.proofs.lemmas.Bool.Decides.{nat_tests}
 use Rattle.std.proofs.lemmas.List.{drop_more, get_or-append_right, length-append, length-drop, length-take-le, set-append_right, take_more}
-use Rattle.std.proofs.lemmas.List.Elements.{All-append, All-take, All-drop}
+use Rattle.std.proofs.lemmas.List.Elements.{All-append, All-cons, All-drop, All-nil, All-set, All-take}
 use Rattle.aat_glyph.specs.declared.glyph.hb_glyph_info_t.{hb_glyph_info_t}
 use Rattle.std.specs.Prelude.{None, ◌&&◌}
 use Rattle.aat_buffer.specs.Buffer.{Buffer, Is16Bit, glyph_at, model_at, no_glyph, with_glyphs_at, with_info}
@@ -60,6 +60,15 @@ put_behind_by b n run p g d m h one lt at model made read id =
     ∙ ap (λ (q : ℕ). with_info n n.cursor (record (glyph_at n.line n.cursor) { glyph_id = q })) id
     ∙ ap (λ (x : Buffer). with_info x x.cursor (record (glyph_at x.line x.cursor) { glyph_id = (get_or run 0 d).0 })) is
     ∙ ap (λ (gs : List hb_glyph_info_t). record b { line = gs; cursor = b.cursor + 1; positions = None }) (put_behind b.line run b.cursor d one lt)
+
+-- a copy of the glyph at the cursor goes in there, and the glyph behind it gets an id of 16 bits
+pub small_put_behind : (b n : Buffer) (p g : ℕ) (m h : hb_glyph_info_t) → All Is16Bit b.line → b.cursor < length b.line
+    → m ≡ glyph_at b.line b.cursor → n ≡ with_glyphs_at b p (m ∷ []) → g ≤ 65535 → All Is16Bit (set n.line n.cursor (record h { glyph_id = g }))
+small_put_behind b n p g m h small inside model made fits =
+    let copied : Is16Bit m = rw model (small b.cursor no_glyph inside) in
+    let line : All Is16Bit n.line =
+    rw made (small_of_made p b.line (m ∷ []) small (All-cons Is16Bit m [] copied (All-nil Is16Bit))) in
+    All-set Is16Bit n.line n.cursor (record h { glyph_id = g }) fits line
 
 -- a run of glyphs of 16 bits goes into a line of such glyphs
 pub small_of_inserted : (run : List GlyphId) (p : ℕ) (behind : Bool) (line : List hb_glyph_info_t) → All Is16Bit line → All Is16Bit (copies (model_at line p) run) → All Is16Bit (inserted run p behind line)

@@ -19,8 +19,8 @@ pub use aat_buffer as buffer;
 /// The typed tables of a font, from crates of their own.
 pub mod font {
     pub use aat_font::{
-        FaceTables, Feature, GlyphWords, Morx, constants, contextual_entry_rests, hb_font_t,
-        hb_ot_shape_plan_t, hb_tag_t, insertion_entry_rests, ligature_entry_rests,
+        FaceTables, Feature, GlyphWords, Morx, SubtableWords, constants, contextual_entry_rests,
+        hb_font_t, hb_ot_shape_plan_t, hb_tag_t, insertion_entry_rests, ligature_entry_rests,
         rearrangement_entry_rests, word_at,
     };
     pub use aat_kerning_tables::{

@@ -198,10 +198,8 @@ impl<A: Allocator> Lookup<A> {
         ensures { result ≡ value_in self.now glyph.0 }
     {
         match &self.values {
-            Values::Listed(pairs, dense) => dense.value(pairs, glyph.0),
-            Values::InCells(dense) => dense.cell(glyph.0),
-            Values::Segments(segments) => value_in_segments(segments, glyph.0),
             Values::EachGlyph(values) => value_of_each(values, glyph.0),
+            _ => value_found(self, glyph),
         }
     }
 
@@ -228,6 +226,20 @@ impl<A: Allocator> Lookup<A> {
             Values::Listed(_, dense) | Values::InCells(dense) => dense.moves(),
             Values::Segments(_) | Values::EachGlyph(_) => None,
         }
+    }
+}
+
+/// The value that a lookup has for a glyph, if it has one. It stands apart, so that what is read at the glyph's own place,
+/// as advances are, stays short.
+#[inline(never)]
+fn value_found<A: Allocator>(lookup: &Lookup<A>, glyph: GlyphId) -> Option<u16>
+    ensures { result ≡ value_in lookup.now glyph.0 }
+{
+    match &lookup.values {
+        Values::Listed(pairs, dense) => dense.value(pairs, glyph.0),
+        Values::InCells(dense) => dense.cell(glyph.0),
+        Values::Segments(segments) => value_in_segments(segments, glyph.0),
+        Values::EachGlyph(values) => value_of_each(values, glyph.0),
     }
 }
 

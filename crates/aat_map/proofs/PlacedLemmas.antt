@@ -1,7 +1,7 @@
 -- What is kept of a setting's groups is looked for where they stand.
 use Rattle.std.proofs.Common.{◌≡◌, ◌∙◌, ap, sym, refl, ℕ, zero, suc, ◌+◌, ◌<◌, ◌≤◌, ◌==◌, ◌&&◌, ◌||◌, Bool, true, false, not, cond, List, [], ◌∷◌, ◌++◌, map, fold, take, drop, get_or, length, arith, Option, Some, None, Vec, bit_and, bit_or}
 use Rattle.std.specs.List.{AllByRecursion, prefix_len}
-use Rattle.std.proofs.lemmas.List.{get_or-map, length-map, take_more}
+use Rattle.std.proofs.lemmas.List.{get_or-map, length-map, map-append, map_more, take_more}
 use Rattle.std.proofs.lemmas.List.Folds.{length-prefix_len}
 use Rattle.std.proofs.lemmas.List.Sums.{fold_push}
 use Rattle.std.proofs.lemmas.Bool.Decides.{nat_tests}
@@ -227,3 +227,20 @@ pub place_behind :
 place_behind gs x p n le lower is =
     let q : feature_info_t → Bool = λ g. not (in_group x g) in
     ap (λ m. p + m) (is ∙ length-prefix_len q (drop p gs)) ∙ sym (passed gs x p le lower) ∙ sym (length-prefix_len q gs)
+
+-- what is made of one thing more is pushed
+pub mapped_more :
+    {X Y : Type 0} (f : X → Y) (xs : List X) (i : ℕ) (x : X) (done now : List Y) (y : Y)
+    → i < length xs → x ≡ get_or xs i x → done ≡ map f (take i xs) → y ≡ f x → now ≡ done ++ y ∷ []
+    → now ≡ map f (take (i + 1) xs)
+mapped_more {Y = Y} f xs i x done now y below read so_far made pushed =
+    pushed
+    ∙ ap (λ (ys : List Y). ys ++ y ∷ []) so_far
+    ∙ ap (λ (z : Y). map f (take i xs) ++ z ∷ []) (made ∙ ap f read)
+    ∙ sym (map_more f xs i x below)
+
+-- a list more in a vector of vectors
+pub lists_pushed :
+    {Z : Type 0} (vectors now : List (Vec (ℕ × ℕ) Z)) (v : Vec (ℕ × ℕ) Z)
+    → now ≡ vectors ++ v ∷ [] → place_lists now ≡ place_lists vectors ++ v.items ∷ []
+lists_pushed {Z} vectors now v is = ap place_lists is ∙ map-append (λ (w : Vec (ℕ × ℕ) Z). w.items) vectors (v ∷ [])

@@ -1,34 +1,63 @@
 -- What the bits of a line's glyphs tell.
-use Rattle.std.proofs.Common.{◌≡◌, ◌∙◌, ap, sym, subst, ℕ, ◌+◌, ◌/◌, ◌%◌, ◌<◌, ◌≤◌, ◌⊎◌, inl, inr, List, Some, length, get_or, bit_or, arith}
+use Rattle.std.proofs.Common.{◌≡◌, ◌∙◌, ap, sym, subst, true, ℕ, ◌+◌, ◌/◌, ◌%◌, ◌<◌, ◌≤◌, ◌⊎◌, inl, inr, List, Some, length, get_or, bit_or, arith}
 use Rattle.std.specs.Int.{bit_at}
 use Rattle.std.specs.List.{slice_get}
 use Rattle.std.proofs.lemmas.Bool.{cases_lt}
-use Rattle.std.proofs.lemmas.Nat.Bits.{bit_at_or}
+use Rattle.std.proofs.lemmas.Nat.Bits.{bit_at_or, bit_at-zero}
 use Rattle.std.proofs.lemmas.Option.{get_or_from_slice_get}
 use Rattle.aat_buffer.specs.Buffer.{glyph_at}
 use Rattle.aat_machine_tables.specs.declared.morx.Subtable.{Subtable}
-use Rattle.aat_font.specs.Wakers.{WakeAt, word_place}
+use Rattle.aat_font.specs.Wakers.{WakeAt, word_of, word_place}
 use Rattle.aat_font.specs.declared.wakers.GlyphWords.{GlyphWords}
+use Rattle.aat_font.specs.declared.wakers.SubtableWords.{SubtableWords}
 use Rattle.aat_glyph.specs.declared.glyph.hb_glyph_info_t.{hb_glyph_info_t}
+use Rattle.aat_morx.specs.declared.waking.KnownBits.{KnownBits}
 use Rattle.aat_morx.specs.declared.waking.LineWord.{LineWord}
-use Rattle.aat_morx.specs.LineWords.{HasBitsOf, IsAsleep, TellsOf}
+use Rattle.aat_morx.specs.LineWords.{AreBitsOf, HasBitsOf, IsAsleep, IsClearIn, KnowsNothing, TellsOf}
 
 -- a subtable whose bit is clear sleeps
 pub asleep_by :
-    (s : Subtable) (words : List GlyphWords) (i : ℕ) (w : GlyphWords) (word : ℕ) (line : List hb_glyph_info_t)
-    → slice_get words (i / 64) ≡ Some w → HasBitsOf w word line → bit_at word (i % 64) ≡ 0 → WakeAt s words i → IsAsleep s line
-asleep_by s words i w word line at has clear wake =
-    let bits = has (i % 64) (omega arith) clear in
-    (bits.0, λ k low. wake w at (glyph_at line k).glyph_id (bits.1 k low))
+    (s : Subtable) (words : SubtableWords) (i : ℕ) (w : GlyphWords) (line : List hb_glyph_info_t)
+    → slice_get words.blocks.items (i / 64) ≡ Some w → IsClearIn w (i % 64) line → WakeAt s words.blocks.items i → IsAsleep s line
+asleep_by s words i w line at clear wake = (clear.0, λ k low. wake w at (glyph_at line k).glyph_id (clear.1 k low))
+
+-- so does one whose block's bit is clear in the summary
+pub asleep_by_summary :
+    (s : Subtable) (words : SubtableWords) (i : ℕ) (w : GlyphWords) (line : List hb_glyph_info_t)
+    → slice_get words.blocks.items (i / 64) ≡ Some w → IsClearIn words.summary (i / 64 % 64) line → WakeAt s words.blocks.items i → IsAsleep s line
+asleep_by_summary s words i w line at clear wake = (
+  clear.0,
+  λ k low.
+      let g = (glyph_at line k).glyph_id in
+      let none : word_of w g ≡ 0 = words.summed (i / 64) w at g (clear.1 k low) in
+      wake w at g (ap (λ (x : ℕ). bit_at x (i % 64)) none ∙ bit_at-zero (i % 64)),
+)
 
 -- the bits of one block tell of the line
-pub tells_of :
-    (known : LineWord) (words : List GlyphWords) (block : ℕ) (w : GlyphWords) (line : List hb_glyph_info_t)
-    → slice_get words block ≡ Some w → known.block ≡ block → HasBitsOf w known.word line → TellsOf known words line
-tells_of known words block w line at same has is_known v found =
-    let found_there : slice_get words block ≡ Some v = sym (ap (slice_get words) same) ∙ found in
-    let one : w ≡ v = sym (get_or_from_slice_get words block w w at) ∙ get_or_from_slice_get words block v w found_there in
-    subst (λ (x : GlyphWords). HasBitsOf x known.word line) one has
+pub bits_of_block :
+    (known : KnownBits) (blocks : List GlyphWords) (block own : ℕ) (w : GlyphWords) (line : List hb_glyph_info_t)
+    → slice_get blocks block ≡ Some w → own ≡ block → AreBitsOf known w line
+    → (v : GlyphWords) → slice_get blocks own ≡ Some v → AreBitsOf known v line
+bits_of_block known blocks block own w line at same has v found =
+    let found_there : slice_get blocks block ≡ Some v = sym (ap (slice_get blocks) same) ∙ found in
+    let one : w ≡ v = sym (get_or_from_slice_get blocks block w w at) ∙ get_or_from_slice_get blocks block v w found_there in
+    subst (λ (x : GlyphWords). AreBitsOf known x line) one has
+
+-- bits that are still known are those of the same block
+pub bits_stay :
+    (old new : KnownBits) (blocks : List GlyphWords) (own block : ℕ) (w : GlyphWords) (line : List hb_glyph_info_t)
+    → ((v : GlyphWords) → slice_get blocks own ≡ Some v → AreBitsOf old v line) → slice_get blocks block ≡ Some w
+    → (new.are_known ≡ true → (new ≡ old) × (own ≡ block)) → AreBitsOf new w line
+bits_stay old new blocks own block w line has at stays known =
+    let same = stays known in
+    let there : slice_get blocks own ≡ Some w = ap (slice_get blocks) same.1 ∙ at in
+    let was : AreBitsOf new w line = subst (λ (bits : KnownBits). AreBitsOf bits w line) (sym same.0) (has w there) in
+    was known
+
+-- who knows nothing tells of any line
+pub nothing_tells : (known : LineWord) (words : SubtableWords) (line : List hb_glyph_info_t) → KnowsNothing known → TellsOf known words line
+nothing_tells known words line nothing =
+    (λ w found is_known. absurd (cc (is_known, nothing.0)), λ is_known. absurd (cc (is_known, nothing.1)))
 
 module _ (listed : List ℕ) (gs : List hb_glyph_info_t) (index word new : ℕ)
     (has : (k i : ℕ) → i < index → bit_at (get_or listed (word_place (glyph_at gs i).glyph_id) 0) k ≤ bit_at word k)

@@ -5,6 +5,7 @@ ghost use Rattle.std.specs.Option.{option_copied};
 ghost use Rattle.aat_buffer.specs.Clusters.{IsSmall};
 ghost use Rattle.aat_machine_tables.specs.Chains.{subtable_count};
 ghost use Rattle.aat_font.specs.Morx.{chains_of};
+ghost use Rattle.aat_font.specs.Blocks.{blocks_of};
 ghost use Rattle.aat_font.specs.Wakers.{AreWakers};
 ghost use Rattle.aat_kinds.specs.Kinds.{sizes_of};
 ghost use Rattle.aat_map.specs.Map.{lists_for};
@@ -18,7 +19,7 @@ ghost use Rattle.aat_run.specs.Ranges.{IsGapless, is_whole_list, switch_for};
 use crate::subtable::run_subtable;
 use crate::waking::{LineWord, wakers_at};
 use aat_buffer::hb_buffer_t;
-use aat_font::{GlyphWords, Morx, hb_font_t};
+use aat_font::{Morx, SubtableWords, hb_font_t};
 use aat_kinds::SubtableRun;
 use aat_machine_tables::{Chain, Subtable};
 use aat_map::{default_range, hb_aat_map_t, ranges_of};
@@ -33,7 +34,7 @@ fn run_chain<const SLOTS: usize, const LONGEST: usize, A: Allocator + Copy>(
     ranges: &[range_flags_t],
     subtables: &[Subtable],
     first: usize,
-    words: &[GlyphWords],
+    words: &SubtableWords,
     known: &mut LineWord,
     buffer: &mut hb_buffer_t<A>,
 ) -> Result<u64, AatError>
@@ -41,7 +42,7 @@ fn run_chain<const SLOTS: usize, const LONGEST: usize, A: Allocator + Copy>(
     requires memory { SLOTS ≤ 2 ^ 59 }
     requires few { length subtables.now ≤ 65535 }
     requires start { first ≤ 65535 }
-    requires wakers { AreWakers subtables.now words.now first }
+    requires wakers { AreWakers subtables.now (blocks_of words.now) first }
     requires tells { TellsOf known.old words.now buffer.old.line }
     requires gapless { IsGapless ranges.now }
     requires whole { IsTrue (is_whole_list ranges.now) }
@@ -101,7 +102,7 @@ pub(crate) fn run_chains<
     let _length = buffer.len();
     let _budget = buffer.max_ops();
     let words = morx.wakers();
-    let mut known = LineWord::unknown();
+    let mut known = LineWord::unknown(words);
     let mut first = 0;
     let mut turns = 0;
     for (i, chain) in chains.iter().enumerate() {

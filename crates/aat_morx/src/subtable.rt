@@ -2,6 +2,7 @@
 ghost use Rattle.std.specs.Prelude.{◌≡◌, ◌^◌, ◌<◌, ◌≤◌, IfOk, IfErr, OnOk, OnErr, IfSome, IsTrue, false, length, true};
 ghost use Rattle.aat_buffer.specs.Clusters.{IsSmall};
 ghost use Rattle.aat_font.specs.Idle.{is_idle};
+ghost use Rattle.aat_font.specs.Blocks.{blocks_of};
 ghost use Rattle.aat_font.specs.Wakers.{WakeAt};
 ghost use Rattle.aat_kinds.specs.Idle.{SleepOthers};
 ghost use Rattle.aat_kinds.specs.Kinds.{is_for, is_reversed, kind_run, ordered_run, reversed_run, sizes_of};
@@ -14,7 +15,7 @@ ghost use Rattle.aat_run.specs.Ranges.{IsGapless, is_whole_list, switch_for};
 
 use crate::waking::LineWord;
 use aat_buffer::{Direction, hb_buffer_t};
-use aat_font::GlyphWords;
+use aat_font::SubtableWords;
 use aat_kinds::{SubtableRun, pass_over, run_kind};
 use aat_machine_tables::{Coverage, Subtable};
 use aat_run::AatError;
@@ -119,7 +120,7 @@ pub(crate) fn run_subtable<const SLOTS: usize, const LONGEST: usize, A: Allocato
     run: &SubtableRun,
     subtable: &Subtable,
     known: &mut LineWord,
-    words: &[GlyphWords],
+    words: &SubtableWords,
     number: usize,
     buffer: &mut hb_buffer_t<A>,
 ) -> Result<u64, AatError>
@@ -130,7 +131,7 @@ pub(crate) fn run_subtable<const SLOTS: usize, const LONGEST: usize, A: Allocato
     requires whole { IsTrue (is_whole_list run.now.ranges.now) }
     requires wakers { IfSome run.now.wakers (SleepOthers (is_idle subtable.now.kind)) }
     requires ids { IsSmall buffer.old }
-    requires wake { WakeAt subtable.now words.now number }
+    requires wake { WakeAt subtable.now (blocks_of words.now) number }
     requires tells { TellsOf known.old words.now buffer.old.line }
     ensures run { IfOk result (IsOutcome (subtable_run (sizes_of SLOTS LONGEST run.now.face.now)
         (switch_for run.now.ranges.now) subtable.now buffer.old) buffer.new) }

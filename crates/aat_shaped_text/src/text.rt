@@ -105,11 +105,10 @@ impl TextGlyph {
 /// A pen stands at the origin of the first glyph. Each glyph is drawn at the pen, moved by its offset, and then the pen
 /// moves by its advance.
 #[derive(Clone, Copy, PartialEq, Eq, Debug)]
+// the short fields stand in a row, by which a glyph takes 36 bytes: lists of them are most of a long line's memory
 pub struct ShapedGlyph {
     /// The number of the glyph in the font.
     pub glyph_id: u16,
-    /// The character that it came from, or the first of several.
-    pub cluster: u32,
     /// Whether the glyph of the text that it came from is ignorable.
     pub is_ignorable: bool,
     /// Whether it is a mark: whether it has the property of marks (8) when the line is kerned. A glyph of the text has
@@ -121,6 +120,8 @@ pub struct ShapedGlyph {
     /// Whether the text may be broken between the glyph that is drawn before it and this one: its two parts then look
     /// by themselves as they do here. Where it is `false` nothing is said. It is `false` at the first glyph.
     pub may_break_before: bool,
+    /// The character that it came from, or the first of several.
+    pub cluster: u32,
     /// How far the pen moves to the right.
     pub x_advance: i32,
     /// How far the pen moves up: in vertical text it is usually below 0.

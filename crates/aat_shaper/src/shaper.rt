@@ -286,7 +286,7 @@ impl<'f, A: Allocator + Copy> Shaper<'f, A> {
     /// glyph says so only where a machine attaches it otherwise, or detaches it.
     ///
     /// A text that is no longer than the one before it, with no more features, is mostly shaped without a request for
-    /// memory, unless that one had more than some 200,000 glyphs: what they were shaped in is given back. It takes as
+    /// memory, unless that one had more than some 400,000 glyphs: what they were shaped in is given back. It takes as
     /// many steps as its line is long for each subtable and for each act, as many as there are features for each glyph,
     /// those of compiling the features, and those of the budget. An act that inserts far behind the place where the
     /// line is read moves the glyphs between: at most as many times as the budget has operations, and each time at most

@@ -2,8 +2,8 @@
 use bumpalo::Bump;
 use std::alloc::{AllocError, Allocator, Global};
 
-/// The most bytes that an arena keeps behind a text that was shaped, what some 200,000 glyphs are given.
-const MOST_KEPT: usize = 1 << 25;
+/// The most bytes that an arena keeps behind a text that was shaped, what some 400,000 glyphs are given.
+const MOST_KEPT: usize = 1 << 26;
 
 /// An arena in which texts are shaped, one after the other.
 #[derive(Drop)]

@@ -2,7 +2,7 @@
 use Rattle.std.specs.Prelude.{ℕ, Bool, true, List, map, if◌then◌else◌}
 use Rattle.aat_read_metrics.specs.declared.glyph_metrics.Origin.{Origin}
 use Rattle.aat_shaped_text.specs.declared.text.ShapedGlyph.{ShapedGlyph}
-use Rattle.aat_characters.specs.Lengths.{minus, plus, signed}
+use Rattle.aat_showing.specs.Lengths.{minus, plus, signed}
 
 -- how glyphs stand in columns: how far the pen moves for one in a row and in a column, and its origin in a column
 pub record ColumnMetrics : Type 0 where

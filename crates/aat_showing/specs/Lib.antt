@@ -3,7 +3,9 @@ pub mod FaceMetrics
 pub mod HiddenExamples
 pub mod HiddenParts
 pub mod Ignorables
+pub mod Lengths
 pub mod MarkBoxes
+pub mod MarkPlaces
 pub mod Marks
 pub mod PlacedExamples
 pub mod Spaces

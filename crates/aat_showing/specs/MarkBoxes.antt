@@ -7,8 +7,8 @@ use Rattle.aat_glyph.specs.declared.glyph.Direction.{Direction}
 use Rattle.aat_shaped_text.specs.declared.text.CharacterKind.{CharacterKind}
 use Rattle.aat_shaped_text.specs.declared.text.CharacterKind.TheVariants.{Mark}
 use Rattle.aat_shaped_text.specs.declared.text.ShapedGlyph.{ShapedGlyph}
-use Rattle.aat_characters.specs.Lengths.{minus, plus}
-use Rattle.aat_characters.specs.MarkPlaces.{beside, over, with_mark}
+use Rattle.aat_showing.specs.Lengths.{minus, plus}
+use Rattle.aat_showing.specs.MarkPlaces.{beside, over, with_mark}
 use Rattle.aat_showing.specs.Marks.{zeroed_mark}
 use Rattle.aat_showing.specs.declared.mark_bases.Base.{Base}
 use Rattle.aat_showing.specs.declared.mark_bases.MarkBase.{MarkBase}

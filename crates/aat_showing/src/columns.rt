@@ -4,12 +4,12 @@ ghost use Rattle.aat_showing.specs.Columns.{in_column, in_columns, with_advance}
 ghost use Rattle.aat_showing.specs.FaceMetrics.{column_metrics};
 
 use crate::face_metrics::{column_advance, column_origin, row_advance};
-use aat_characters::{minus, plus};
+use crate::mark_places::{minus, plus};
 use aat_face::Face;
 use aat_shaped_text::ShapedGlyph;
 
 /// A glyph with another advance along the line in place of its own.
-#[tactic(auto, unfolding(aat_characters::specs::Lengths::signed))]
+#[tactic(auto, unfolding(crate::specs::Lengths::signed))]
 pub(crate) fn with_advance(is_column: bool, own: u32, other: u32, glyph: ShapedGlyph) -> ShapedGlyph
     ensures { result ≡ with_advance is_column own other glyph }
 {

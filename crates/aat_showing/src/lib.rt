@@ -17,6 +17,7 @@ mod ignorables;
 pub mod laws;
 mod mark_bases;
 mod mark_boxes;
+mod mark_places;
 mod marks;
 mod spaces;
 /// Worked examples, as theorems.

@@ -2,7 +2,7 @@
 ghost use Rattle.std.specs.Prelude.{◌≡◌};
 ghost use Rattle.aat_showing.specs.MarkBoxes.{base_behind, base_box, base_with, boxed_base, drawn_at, farther, from_pen, seen, set_on, stack_for, stack_with};
 
-use aat_characters::{beside, minus, over, plus, with_mark};
+use crate::mark_places::{beside, minus, over, plus, with_mark};
 use aat_face::GlyphBox;
 use aat_glyph::Direction;
 use aat_shaped_text::ShapedGlyph;

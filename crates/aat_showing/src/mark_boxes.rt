@@ -1,5 +1,6 @@
 //! Marks that are placed by the boxes of glyphs.
 ghost use Rattle.std.specs.Prelude.{◌≡◌, if◌then◌else◌};
+ghost use Rattle.std.specs.List.{list_all};
 ghost use Rattle.aat_glyph.specs.Directions.{is_backward};
 ghost use Rattle.aat_showing.specs.FaceMetrics.{mark_placing};
 ghost use Rattle.aat_showing.specs.MarkBoxes.{base_after, base_of, begins_run, class_of, followed_base, held, held_runs, next_base, place_marks, placed, placed_in_order, placed_on};
@@ -207,6 +208,13 @@ fn hold_runs(direction: Direction, glyphs: &mut [ShapedGlyph])
     }
 }
 
+/// Whether each of some glyphs begins a run, so that there is no mark.
+fn all_begin_runs(glyphs: &[ShapedGlyph]) -> bool
+    ensures { result ≡ list_all begins_run glyphs.now }
+{
+    glyphs.iter().all(|glyph| begins_run(*glyph))
+}
+
 /// Places marks by the boxes of glyphs. `glyphs` is what a `Shaper` of the face draws of a text that runs in
 /// `direction`, before ignorable glyphs are hidden.
 ///
@@ -228,6 +236,9 @@ fn hold_runs(direction: Direction, glyphs: &mut [ShapedGlyph])
 pub fn place_marks(glyphs: &mut [ShapedGlyph], face: &Face<'_>, direction: Direction, moves: bool)
     ensures { glyphs.new ≡ place_marks (mark_placing face.now direction moves) glyphs.old }
 {
+    if all_begin_runs(glyphs) {
+        return;
+    }
     if direction.is_backward() {
         glyphs.reverse();
         place_in_order(face, direction, moves, glyphs);

@@ -1,6 +1,7 @@
 pub mod Chars
 pub mod ClusterStarts
 pub mod EndsRise
+pub mod Exchanged
 pub mod KnownGlyphs
 pub mod LoneTexts
 pub mod Passed

@@ -40,6 +40,7 @@ use Rattle.aat_text.specs.Prepared.{placed_glyph}
 use Rattle.aat_characters.specs.declared.placed_character.PlacedCharacter.{PlacedCharacter}
 use Rattle.aat_text.specs.TextGlyphs.{is_mark_of, text_glyph}
 use Rattle.aat_text.specs.inside.ClusterStarts.{begins_at, goes_on_linked, is_joined, is_prepend, known_behind, known_behind_plain}
+use Rattle.aat_text.specs.inside.KnownGlyphs.{glyph_id_in, glyph_of_id}
 use Rattle.aat_text.specs.inside.Plain.{is_plain, plain_ranges}
 use Rattle.aat_text.specs.declared.cluster_starts.TextBefore.{TextBefore}
 
@@ -139,18 +140,13 @@ plain_kind c h =
     sym (ap (λ class. option_map_or Kind.Mark class Kind.Other)
     (no_class (general_category c) (Some (placing_class c (mark_class c))) (Some (mark_class c)) (plain_mark c h)))
 
-pub plain_glyph : (face : FaceValue) (cluster c : ℕ) → is_plain c ≡ true → record {
-  glyph_id = option_map_or (λ glyph. glyph.0) (glyph_of_character face c) 0;
-  cluster = cluster;
-  is_ignorable = false;
-  is_mark = false;
-  kind = Kind.Other;
-} ≡ text_glyph face cluster c
-plain_glyph face cluster c h =
+pub plain_with_id : (id cluster c : ℕ) → is_plain c ≡ true
+    → record { glyph_id = id; cluster = cluster; is_ignorable = false; is_mark = false; kind = Kind.Other } ≡ glyph_of_id id cluster c
+plain_with_id id cluster c h =
     let shown = sym (ap (λ ignorable. ignorable && not (is_shown_character c)) (plain_shown c h)) in
-    ap₂ (λ ignorable mark. record { glyph_id = option_map_or (λ glyph. glyph.0) (glyph_of_character face c) 0; cluster = cluster; is_ignorable = ignorable; is_mark = mark; kind = Kind.Other })
+    ap₂ (λ ignorable mark. record { glyph_id = id; cluster = cluster; is_ignorable = ignorable; is_mark = mark; kind = Kind.Other })
     shown (sym (no_mark (general_category c) c (plain_mark c h)))
-    ∙ ap (λ kind. record (text_glyph face cluster c) { kind = kind }) (plain_kind c h)
+    ∙ ap (λ kind. record (glyph_of_id id cluster c) { kind = kind }) (plain_kind c h)
 
 -- so is the glyph of one that stands for no space
 pub plain_placed : (face : FaceValue) (c : PlacedCharacter) → c.space ≡ None → is_plain c.character ≡ true → record {
@@ -161,7 +157,7 @@ pub plain_placed : (face : FaceValue) (c : PlacedCharacter) → c.space ≡ None
   kind = Kind.Other;
 } ≡ placed_glyph face c
 plain_placed face c e h =
-    plain_glyph face c.place c.character h
+    plain_with_id (glyph_id_in face c.character) c.place c.character h
     ∙ ap (λ space. record (text_glyph face c.place c.character) { kind = option_map_or space_kind space (character_kind c.character) }) (sym e)
 
 -- ---- a plain character is a cluster by itself

@@ -68,10 +68,14 @@ pub(crate) fn exchanged_at(
     }
 }
 
-/// Exchanges the characters of a text that runs in a direction.
+/// Exchanges the characters of a text that runs in a direction. From left to right none is exchanged.
+#[tactic(auto, using(crate::proofs::Exchanged::none_exchanged))]
 fn exchange(face: &Face, direction: Direction, characters: &mut [PlacedCharacter])
     ensures { characters.new ≡ map (exchanged_at (has_glyph face.now) direction) characters.old }
 {
+    if matches!(direction, Direction::LeftToRight) {
+        return;
+    }
     for i in 0..characters.len() {
         characters[i] = exchanged_at(face, direction, characters[i]);
     }

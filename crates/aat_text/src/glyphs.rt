@@ -1,7 +1,8 @@
 //! The glyphs of a text.
 ghost use Rattle.std.specs.Prelude.{◌≡◌, ◌<◌, ◌≤◌, ◌^◌, ◌↔◌, length, if◌then◌else◌, IfErr, IfOk, IsErrOf};
 ghost use Rattle.aat_text.specs.Prepared.{placed_glyph};
-ghost use Rattle.aat_text.specs.inside.KnownGlyphs.{AreKnown};
+ghost use Rattle.aat_face.specs.Faces.{FaceValue};
+ghost use Rattle.aat_text.specs.inside.KnownGlyphs.{AreKnown, glyph_of_id};
 ghost use Rattle.aat_text.specs.TextGlyphs.{is_mark_character, text_glyph, text_of};
 ghost use Rattle.aat_text.specs.declared.error.TextError.TheVariants as errors;
 
@@ -31,8 +32,23 @@ fn is_mark_character(character: char) -> bool
     }
 }
 
+/// A character of a cluster as a glyph with a number.
+pub(crate) fn glyph_of_id(glyph_id: u16, cluster: u32, character: char) -> TextGlyph
+    ensures { result ≡ glyph_of_id glyph_id cluster character }
+{
+    if is_plain(character) {
+        return TextGlyph::new(glyph_id, cluster);
+    }
+    TextGlyph {
+        glyph_id,
+        cluster,
+        is_ignorable: is_ignorable_character(character),
+        is_mark: is_mark_character(character),
+        kind: character_kind(character),
+    }
+}
+
 /// A character of a cluster as a glyph.
-#[tactic(auto, using(crate::proofs::PlainCharacters::plain_glyph))]
 pub(crate) fn text_glyph(
     face: &Face,
     known: &mut KnownGlyphs,
@@ -43,16 +59,20 @@ pub(crate) fn text_glyph(
     ensures glyph { result ≡ text_glyph face.now cluster character }
     ensures known { AreKnown face.now known.new }
 {
-    let glyph_id = known.glyph_id(face, character);
-    if is_plain(character) {
-        return TextGlyph::new(glyph_id, cluster);
-    }
-    TextGlyph {
-        glyph_id,
-        cluster,
-        is_ignorable: is_ignorable_character(character),
-        is_mark: is_mark_character(character),
-        kind: character_kind(character),
+    glyph_of_id(known.glyph_id(face, character), cluster, character)
+}
+
+/// The glyph of a character at its place: of the kind of the space for which it stands, if it stands for one.
+pub(crate) fn in_place(glyph: TextGlyph, character: PlacedCharacter) -> TextGlyph
+    ensures { (face : FaceValue) → glyph ≡ text_glyph face character.place character.character
+        → result ≡ placed_glyph face character }
+{
+    match character.space {
+        None => glyph,
+        Some(_) => TextGlyph {
+            kind: placed_kind(character),
+            ..glyph
+        },
     }
 }
 
@@ -67,13 +87,7 @@ pub(crate) fn placed_glyph(
     ensures known { AreKnown face.now known.new }
 {
     let glyph = text_glyph(face, known, character.place, character.character);
-    match character.space {
-        None => glyph,
-        Some(_) => TextGlyph {
-            kind: placed_kind(character),
-            ..glyph
-        },
-    }
+    in_place(glyph, character)
 }
 
 /// The place of the cluster of a character: its own where a cluster begins there, and else that of the one before it.

@@ -1,10 +1,9 @@
 //! The glyphs of a text in which each character is a cluster by itself, as in most texts without marks: no character is
 //! merged with others, composed or put in order, so that each is written as it comes.
-ghost use Rattle.std.specs.Prelude.{◌≡◌, ◌<◌, ◌^◌, ◌++◌, ◌∷◌, ◌&&◌, ◌==◌, [], false, flat_map, length, map, true, IfOk, OnOk};
+ghost use Rattle.std.specs.Prelude.{◌≡◌, ◌<◌, ◌^◌, ◌++◌, ◌&&◌, [], flat_map, length, map, true, IfOk, OnOk};
 ghost use Rattle.aat_characters.specs.PlacedCharacters.{placed};
 ghost use Rattle.aat_characters.specs.Apart.{is_apart};
-ghost use Rattle.aat_characters.specs.Decomposed.{has_glyph, is_other_space};
-ghost use Rattle.unicode_normalization.specs.Decompose.{decompose_canonical};
+ghost use Rattle.aat_characters.specs.Decomposed.{has_glyph};
 ghost use Rattle.aat_text.specs.Prepared.{exchanged, exchanged_at, own_characters, placed_glyph};
 ghost use Rattle.aat_text.specs.inside.KnownGlyphs.{AreKnown};
 ghost use Rattle.aat_text.specs.inside.Lone.{IsWrittenAlone, exchanged_glyphs, lone_glyphs, stand_apart};
@@ -14,13 +13,13 @@ use crate::glyphs::placed_glyph;
 use crate::known_glyphs::KnownGlyphs;
 use crate::plain::is_plain;
 use crate::unit::ClusterUnit;
-use aat_characters::{PlacedCharacter, extends, is_regional_indicator, normalized};
+use aat_characters::{
+    PlacedCharacter, extends, is_regional_indicator, is_written_as_itself, normalized,
+};
 use aat_face::Face;
 use aat_glyph::Direction;
 use aat_shaped_text::TextGlyph;
 use std::alloc::{AllocError, Allocator};
-use unicode_normalization::Form;
-use unicode_normalization::char::decomposition;
 
 /// Whether a character continues no cluster and is no half of a flag: in a text of such characters each is a cluster by
 /// itself, and none is a mark.
@@ -35,7 +34,7 @@ fn is_apart(character: char) -> bool
 }
 
 /// Puts the glyphs of characters behind others.
-fn put_placed<A: Allocator>(
+pub(crate) fn put_placed<A: Allocator>(
     face: &Face,
     known: &mut KnownGlyphs,
     characters: &[PlacedCharacter],
@@ -51,30 +50,12 @@ fn put_placed<A: Allocator>(
     Ok(())
 }
 
-/// Whether another character may stand for one that the font lacks.
-fn may_be_replaced(character: char) -> bool
-    ensures space { result ≡ false → is_other_space character ≡ false }
-    ensures hyphen { result ≡ false → (character == 0x2011) ≡ false }
-{
-    character == '\u{A0}' || ('\u{2000}' <= character && character <= '\u{3000}')
-}
-
-/// Whether a character is not decomposed.
-#[inline(never)]
-fn is_undecomposed(character: char) -> bool
-    ensures { result ≡ true → decompose_canonical character ≡ character ∷ [] }
-{
-    let mut room = ['\0'; 3];
-    let parts = decomposition(character, Form::Nfd, &mut room);
-    parts.len() == 1 && parts[0] == character
-}
-
 /// Whether a character, whose glyph has this number, is known to be written as itself: the font has it, or no other one
 /// could be written.
 fn is_written_alone(glyph_id: u16, character: char) -> bool
     ensures { result ≡ true → glyph_id ≡ 0 → IsWrittenAlone character }
 {
-    glyph_id != 0 || (!may_be_replaced(character) && is_undecomposed(character))
+    glyph_id != 0 || is_written_as_itself(character)
 }
 
 /// Puts the glyphs of a character by itself behind others: one, if the font has it.

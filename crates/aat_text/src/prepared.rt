@@ -1,5 +1,5 @@
 //! A text as HarfBuzz hands it to the layer.
-ghost use Rattle.std.specs.Prelude.{◌≡◌, ◌<◌, ◌≤◌, ◌^◌, ◌↔◌, [], length, map, IfOk, IsErrOf};
+ghost use Rattle.std.specs.Prelude.{◌≡◌, ◌<◌, ◌≤◌, ◌^◌, ◌↔◌, ◌++◌, [], length, map, IfOk, IsErrOf, OnOk};
 ghost use Rattle.aat_characters.specs.Native.{native_direction, told_script};
 ghost use Rattle.aat_characters.specs.Decomposed.{has_glyph};
 ghost use Rattle.aat_text.specs.Prepared.{is_turned, placed_glyph, prepared_glyphs, told_direction};
@@ -7,9 +7,9 @@ ghost use Rattle.aat_text.specs.inside.Turning.{characters_when, is_turned_to};
 
 use crate::clusters::{ClusterLevel, placed_text, turned_text};
 use crate::error::TextError;
-use crate::glyphs::{LONGEST_TEXT, placed_glyph};
-use crate::known_glyphs::KnownGlyphs;
-use crate::lone::put_lone_glyphs;
+use crate::glyphs::{LONGEST_TEXT, in_place};
+use crate::known_glyphs::{KnownGlyphs, KnownTextGlyphs};
+use crate::lone::{put_lone_glyphs, put_placed};
 use crate::unit::ClusterUnit;
 use aat_characters::{
     PlacedCharacter, Script, native_direction, natural_direction, normalized, told_script,
@@ -66,6 +66,25 @@ fn shaped_characters<A: Allocator + Copy>(
     }
 }
 
+/// From how many characters on what is asked of each is kept: for fewer the room takes longer than it spares.
+const MANY: usize = 32;
+
+/// Puts the glyphs of many characters behind others.
+fn put_many<A: Allocator>(
+    face: &Face,
+    characters: &[PlacedCharacter],
+    glyphs: &mut Vec<TextGlyph, A>,
+) -> Result<(), AllocError>
+    ensures { OnOk result (glyphs.new.items ≡ glyphs.old.items ++ map (placed_glyph face.now) characters.now) }
+{
+    let mut known = KnownTextGlyphs::none();
+    for character in characters {
+        let glyph = known.text_glyph(face, character.place, character.character);
+        glyphs.push(in_place(glyph, *character))?;
+    }
+    Ok(())
+}
+
 /// The glyphs of characters, in the memory of an empty vector.
 fn glyphs_of<A: Allocator>(
     room: Vec<TextGlyph, A>,
@@ -77,9 +96,10 @@ fn glyphs_of<A: Allocator>(
 {
     let mut glyphs = room;
     glyphs.reserve(characters.len())?;
-    let mut known = KnownGlyphs::none();
-    for character in characters {
-        glyphs.push(placed_glyph(face, &mut known, *character))?;
+    if characters.len() < MANY {
+        put_placed(face, &mut KnownGlyphs::none(), characters, &mut glyphs)?;
+    } else {
+        put_many(face, characters, &mut glyphs)?;
     }
     Ok(glyphs)
 }

@@ -9,7 +9,7 @@ ghost use Rattle.aat_showing.specs.MarkBoxes.{place_marks};
 ghost use Rattle.aat_showing.specs.Marks.{zero_marks};
 ghost use Rattle.aat_showing.specs.facts.Plain.{is_plain};
 ghost use Rattle.aat_typesetter.specs.Typeset.{columns_for, showing_for};
-ghost use Rattle.aat_typesetter.specs.inside.Drawn.{are_attached_within, drawn_by, is_within, keeps_all};
+ghost use Rattle.aat_typesetter.specs.inside.Drawn.{are_attached_within, are_kept_plain, drawn_by, is_within, keeps_all};
 ghost use Rattle.aat_typesetter.specs.inside.Inside.{showing_by};
 
 use crate::script_settings::{boxes_for, marks_for};
@@ -179,19 +179,22 @@ fn is_plain(glyph: &ShapedGlyph) -> bool
     !glyph.is_ignorable && !glyph.is_mark && matches!(glyph.kind, CharacterKind::Other)
 }
 
-/// Whether all of some glyphs are drawn so.
-fn are_plain(glyphs: &[ShapedGlyph]) -> bool
-    ensures { result ≡ list_all is_plain glyphs.now }
+/// Whether all of some glyphs are drawn so, and stay as they are once ignorable ones are hidden. A glyph is asked both at
+/// once: those of a long line are read from far.
+fn are_kept_plain(space: Option<GlyphId>, glyphs: &[ShapedGlyph]) -> bool
+    ensures { result ≡ are_kept_plain space glyphs.now }
 {
-    glyphs.iter().all(|glyph| is_plain(glyph))
+    let len = glyphs.len();
+    let keeps = space.is_some();
+    glyphs.iter().all(|glyph| is_plain(glyph) && (keeps || is_within(len, glyph.attached_to)))
 }
 
 /// Whether glyphs are known to be drawn as they are.
-#[tactic(auto, using(crate::proofs::Plain::shown_plainly))]
+#[tactic(auto, using(crate::proofs::Plain::shown_as_they_are))]
 fn is_shown_as_shaped(face: &Face<'_>, showing: Shown, glyphs: &[ShapedGlyph]) -> bool
     ensures { result ≡ true → glyphs.now ≡ shown (showing_by face.now showing) glyphs.now }
 {
-    showing.direction.is_horizontal() && are_plain(glyphs) && keeps_all(showing.space, glyphs)
+    showing.direction.is_horizontal() && are_kept_plain(showing.space, glyphs)
 }
 
 /// Glyphs as they are shown, in the memory of a vector whose own glyphs are dropped.

@@ -1,9 +1,11 @@
 -- What is written of each of some things.
-use Rattle.std.proofs.Common.{◌≡◌, ℕ, zero, suc, ◌+◌, ◌<◌, List, [], ◌∷◌, ◌++◌, length, get_or, drop, map, All, Result, Ok, Err, refl, sym, ap, ◌∙◌, subst, append_assoc, arith}
+use Rattle.std.proofs.Common.{◌≡◌, ℕ, zero, suc, ◌+◌, ◌<◌, ◌≤◌, List, [], ◌∷◌, ◌++◌, length, get_or, drop, map, All, Result, Ok, Err, refl, sym, ap, ◌∙◌, subst, append_assoc, arith}
 use Rattle.std.specs.List.{AllZip}
-use Rattle.aat_write_machine.specs.MorxWriteErrors.{after_written}
+use Rattle.std.proofs.lemmas.List.{append-nil, drop_all}
+use Rattle.aat_write_machine.specs.MorxWriteErrors.{RefusesWithin, after_written}
 use Rattle.aat_write_machine.specs.declared.error.MorxWriteError.{MorxWriteError}
 use Rattle.aat_write_machine.specs.MorxBytes.{each_written}
+use Rattle.aat_write_machine.proofs.Refused.{refuses_whole}
 
 -- what comes after something is written comes of it
 pub parts :
@@ -48,6 +50,26 @@ module _ {X Y : Type 0} (write : X → Result Y MorxWriteError) where
       ∙ one_more done y (r (drop (suc i) xs))
       ∙ ap (λ (d : List Y). behind d (drop (suc i) xs)) (sym pushed)
       ∙ ap (λ k. behind now (drop k xs)) next
+
+  -- what refuses one of them refuses all
+  pub is_refused :
+      (xs : List X) (i : ℕ) (x : X) (done : List Y) (e : MorxWriteError)
+      → i < length xs → x ≡ get_or xs i x
+      → each_written write xs ≡ behind done (drop i xs) → RefusesWithin (write x) e → RefusesWithin (each_written write xs) e
+  is_refused xs i x done e below item so_far is =
+      let r : List X → Result (List Y) MorxWriteError = each_written write in
+      refuses_whole (write x) (each_written write xs) e
+      (λ f refused.
+      so_far
+      ∙ ap (behind done) (dropped_from xs i x below item)
+      ∙ ap (λ (one : Result Y MorxWriteError). after_written (after_written one (λ z. after_written (r (drop (suc i) xs)) (λ ys. Ok (z ∷ ys)))) (λ ys. Ok (done ++ ys))) refused)
+      is
+
+  -- when none is left, those that are written are all
+  pub are_written :
+      (xs : List X) (i : ℕ) (done : List Y)
+      → length xs ≤ i → each_written write xs ≡ behind done (drop i xs) → each_written write xs ≡ Ok done
+  are_written xs i done all so_far = so_far ∙ ap (behind done) (drop_all i xs all) ∙ ap Ok (append-nil done)
 
   -- each is what is written of its thing
   pub zipped :

@@ -3,13 +3,14 @@ use Rattle.std.proofs.Common.{◌≡◌, ℕ, zero, suc, ◌+◌, ◌<◌, ◌�
 use Rattle.std.specs.Int.{w32, to_be_bytes}
 use Rattle.std.specs.declared.vec.Vec.{Vec}
 use Rattle.std.proofs.lemmas.Bool.{lt-ltb}
-use Rattle.std.proofs.lemmas.List.{length-append, map-append}
+use Rattle.std.proofs.lemmas.List.{append-nil, drop_all, length-append, map-append}
 use Rattle.std.proofs.lemmas.List.Concat.{flat_map-append}
 use Rattle.aat_write_machine.specs.Contextual.{are_too_long, byte_lists, joined, lookups_written, starts_from}
 use Rattle.aat_write_machine.specs.Words.{long_bytes}
-use Rattle.aat_write_machine.specs.MorxWriteErrors.{after_written, of_lookup}
+use Rattle.aat_write_machine.specs.MorxWriteErrors.{RefusesWithin, after_written, of_lookup}
 use Rattle.aat_write_machine.specs.declared.error.MorxWriteError.{MorxWriteError}
 use Rattle.aat_write_machine.specs.Lookups.{lookup_written}
+use Rattle.aat_write_machine.proofs.Refused.{refuses_whole}
 
 -- the first elements and one more
 taken_more : {X : Type 0} (xs : List X) (i : ℕ) (x : X) → i < length xs → x ≡ get_or xs i x → take (suc i) xs ≡ take i xs ++ x ∷ []
@@ -107,6 +108,31 @@ lookup_is_pushed lookups i x acc more table below is so_far written pushed =
     ∙ regrouped acc table (lookups_written rest)
     ∙ ap (λ k. after_written (lookups_written (drop k lookups)) (λ r. Ok ((acc ++ table ∷ []) ++ r))) next
     ∙ ap (λ m. after_written (lookups_written (drop (i + 1) lookups)) (λ r. Ok (m ++ r))) (sym pushed)
+
+-- a lookup that is refused refuses all
+pub lookup_is_refused :
+    (lookups : List (List (ℕ × ℕ))) (i : ℕ) (x : List (ℕ × ℕ)) (acc : List (List ℕ)) (e : MorxWriteError)
+    → i < length lookups → x ≡ get_or lookups i x
+    → lookups_written lookups ≡ after_written (lookups_written (drop i lookups)) (λ rest. Ok (acc ++ rest))
+    → RefusesWithin (of_lookup (lookup_written x)) e → RefusesWithin (lookups_written lookups) e
+lookup_is_refused lookups i x acc e below is so_far refused =
+    let rest = drop (suc i) lookups in
+    refuses_whole (of_lookup (lookup_written x)) (lookups_written lookups) e
+    (λ f fails.
+    so_far
+    ∙ ap (λ xs. after_written (lookups_written xs) (λ r. Ok (acc ++ r))) (dropped_from lookups i x below is)
+    ∙ ap (λ (r : Result (List ℕ) MorxWriteError). after_written (after_written r (λ t. after_written (lookups_written rest) (λ tables. Ok (t ∷ tables)))) (λ r. Ok (acc ++ r))) fails)
+    refused
+
+-- when none is left, the tables so far are all
+pub lookups_are_written :
+    (lookups : List (List (ℕ × ℕ))) (i : ℕ) (acc : List (List ℕ)) → length lookups ≤ i
+    → lookups_written lookups ≡ after_written (lookups_written (drop i lookups)) (λ rest. Ok (acc ++ rest))
+    → lookups_written lookups ≡ Ok acc
+lookups_are_written lookups i acc all so_far =
+    so_far
+    ∙ ap (λ xs. after_written (lookups_written xs) (λ r. Ok (acc ++ r))) (drop_all i lookups all)
+    ∙ ap Ok (append-nil acc)
 
 pub lists_pushed : {Z : Type 0} (tables now : List (Vec ℕ Z)) (x : Vec ℕ Z) → now ≡ tables ++ x ∷ [] → byte_lists now ≡ byte_lists tables ++ x.items ∷ []
 lists_pushed tables now x is = ap byte_lists is ∙ map-append (λ (v : Vec ℕ _). v.items) tables (x ∷ [])

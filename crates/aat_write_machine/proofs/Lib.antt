@@ -1,5 +1,6 @@
 pub mod Appended
 pub mod Begins
+pub mod Behind
 pub mod ChainRefusals
 pub mod ChainsAgain
 pub mod ClassTables
@@ -25,3 +26,4 @@ pub mod Substituted
 pub mod SubtablesAgain
 pub mod TablePlaces
 pub mod TablesAgain
+pub mod Units

@@ -4,7 +4,7 @@ use Rattle.aat_machine_tables.specs.Table.{TableValue}
 use Rattle.aat_machine_tables.specs.declared.state_table.GenericStateEntry.{GenericStateEntry}
 use Rattle.aat_write_machine.specs.MachineRefusals.{rules_refusal}
 use Rattle.aat_write_machine.specs.Machines.{class_table_written}
-use Rattle.aat_write_machine.specs.MorxWriteErrors.{RefusesWithin, of_lookup, unless_refused}
+use Rattle.aat_write_machine.specs.MorxWriteErrors.{RefusesWithin, after_written, of_lookup, unless_refused}
 use Rattle.aat_write_machine.specs.declared.error.MorxWriteError.{MorxWriteError}
 use Rattle.aat_write_machine.specs.declared.error.MorxWriteError.TheVariants.{FewClasses, TooManyRules, OutOfPlace, NoRow, NotNamed, NotRising, TooManyPairs, LookupCount, TooManyLookups, TooLong, OutOfMemory}
 use Rattle.aat_write_machine.specs.Lookups.{lookup_written}
@@ -44,3 +44,10 @@ refuses_whole part whole (LookupCount count) carried is = carried (LookupCount c
 refuses_whole part whole TooManyLookups carried is = carried TooManyLookups is
 refuses_whole part whole TooLong carried is = carried TooLong is
 refuses_whole part whole OutOfMemory carried is = tt
+
+-- what refuses a part refuses what comes of it
+pub refused_behind :
+    {X Y : Type 0} (part : Result X MorxWriteError) (next : X → Result Y MorxWriteError) (e : MorxWriteError)
+    → RefusesWithin part e → RefusesWithin (after_written part next) e
+refused_behind {X = X} part next e is =
+    refuses_whole part (after_written part next) e (λ f refused. ap (λ (r : Result X MorxWriteError). after_written r next) refused) is

@@ -1,7 +1,7 @@
 -- How the words of glyphs are marked. No contract but those of the words cites this.
-use Rattle.std.specs.Prelude.{◌≡◌, ◌<◌, ◌≤◌, ℕ, Bool, List, Some, true}
+use Rattle.std.specs.Prelude.{◌≡◌, ◌<◌, ◌≤◌, ℕ, Bool, List, Some, slice_index_or, true}
 use Rattle.std.specs.Int.{bit_at}
-use Rattle.aat_font.specs.Wakers.{word_of, WakeAt}
+use Rattle.aat_font.specs.Wakers.{word_of, word_place, WakeAt}
 use Rattle.aat_lookup.specs.Keys.{value_in}
 use Rattle.aat_machine_tables.specs.declared.morx.Subtable.{Subtable}
 use Rattle.aat_font.specs.declared.wakers.GlyphWords.{GlyphWords}
@@ -25,3 +25,8 @@ ArePassed test passed = (class : ℕ) → bit_at passed class ≡ 1 → test cla
 -- where a glyph's bit is clear, the class that pairs have for it passes a test
 abbrev pub AreAwake : (ℕ → Bool) → GlyphWords → ℕ → List (ℕ × ℕ) → Type 0
 AreAwake test w bit pairs = (g class : ℕ) → bit_at (word_of w g) bit ≡ 0 → value_in pairs g ≡ Some class → test class ≡ true
+
+-- a glyph whose place is below one, and whose bit is clear in a summary, has no bit of its own in a block
+abbrev pub IsSummedBelow : GlyphWords → ℕ → GlyphWords → ℕ → Type 0
+IsSummedBelow summary bit block place =
+    (g : ℕ) → word_place g < place → bit_at (word_of summary g) bit ≡ 0 → slice_index_or block.words.items (word_place g) 0 ≡ 0

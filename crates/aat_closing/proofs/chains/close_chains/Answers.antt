@@ -1,19 +1,16 @@
-use Rattle.std.proofs.Common.{◌≡◌, ◌∙◌, ◌+◌, List, Some, ap, arith, length, refl, subst, sym, take}
-use Rattle.std.proofs.lemmas.Option.{slice_get_read}
-use Rattle.std.specs.List.{slice_get}
+use Rattle.std.proofs.Common.{◌+◌, arith, length, refl, subst, sym, take}
 use Rattle.std.specs.Option.{option_copied}
 use Rattle.std.proofs.lemmas.Result.{err_from_is_err_and}
 use Rattle.aat_font.proofs.Numbered.{number_behind, number_is_few, wakers_of_chain}
 use Rattle.aat_font.specs.Morx.{chains_of}
 use Rattle.aat_kinds.specs.Kinds.{sizes_of}
-use Rattle.aat_machine_tables.specs.declared.morx.Chain.{Chain}
-use Rattle.aat_machine_tables.specs.declared.morx.Subtable.{Subtable}
 use Rattle.aat_machine_tables.specs.Chains.{subtable_count}
 use Rattle.aat_run.specs.Driven.{StaysWithin}
 use Rattle.aat_run.specs.declared.driver.MachineRun.{MachineRun}
 use Rattle.aat_map.specs.Map.{lists_for}
 use Rattle.aat_map.proofs.DefaultLists.{list_for}
 use Rattle.aat_morx.proofs.Chained.{stays_with_more}
+use Rattle.aat_morx.proofs.LineBits.{nothing_tells}
 use Rattle.aat_run.specs.facts.Settings.{settings_stay}
 use Rattle.aat_closing.proofs.ClosingChained.{all_chains_told, closing_chain_ran, closing_chain_refused}
 use Rattle.aat_closing.specs.ClosingRuns.{told_in_order}
@@ -24,7 +21,7 @@ unfolding told_in_order
 loop-i-init g c = record {
   same = refl;
   first = refl;
-  tells = λ known. absurd (cc (known, c.unknown-known.ensures));
+  tells = nothing_tells c.unknown-known.result c.wakers-words.result.now c.args.buffer.now.line c.unknown-known.ensures;
   within = record { ids = c.requires.ids; counted = omega arith; extent = omega arith; settings = settings_stay c.args.buffer.now };
 }
 
@@ -32,7 +29,7 @@ pub close_chain-requires-clause-wakers : goal.close_chain-requires-clause-wakers
 close_chain-requires-clause-wakers g c =
     let l = c.loop-i in
     let chain = c.index-chains-i.result in
-    wakers_of_chain (chains_of c.args.morx.now) c.args.chains.now c.wakers-words.result.now l.i chain c.deref.result.now l.first
+    wakers_of_chain (chains_of c.args.morx.now) c.args.chains.now c.wakers-words.result.now.blocks.items l.i chain c.deref.result.now l.first
     c.wakers-words.ensures c.requires.chains c.loop-i-test.true c.index-chains-i.is c.deref.ensures.value l.invariant.first
 
 pub close_chain-requires-clause-start : goal.close_chain-requires-clause-start

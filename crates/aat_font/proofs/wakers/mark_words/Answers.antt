@@ -1,5 +1,4 @@
-use Rattle.std.proofs.Common.{◌≡◌, ◌<◌, ◌≤◌, ℕ, ◌*◌, ◌%◌, ◌^◌, get_or, set, bit_or, length, arith}
-use Rattle.std.specs.Int.{bit_at}
+use Rattle.std.proofs.Common.{◌<◌, ◌*◌, ◌%◌, ◌^◌, length, arith}
 use Rattle.std.proofs.lemmas.Grind.{common_steps}
 use Rattle.aat_font.proofs.MoreBits.{words_wider}
 use Rattle.aat_font.proofs.SegmentBits.{set_more}

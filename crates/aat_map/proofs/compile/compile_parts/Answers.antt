@@ -1,4 +1,4 @@
-use Rattle.std.proofs.Common.{◌≡◌, ◌∙◌, refl, length, [], rules, Result, Ok, Err, OnOk}
+use Rattle.std.proofs.Common.{◌≡◌, ◌∙◌, refl, length, [], Result, Ok, Err, OnOk}
 use Rattle.std.proofs.lemmas.Result.{on_ok_weaker}
 use Rattle.aat_map.specs.Map.{AreStarts, resized}
 use Rattle.aat_map.proofs.CompiledLemmas.{rise_from_zero}
@@ -16,7 +16,8 @@ pub compile_spans-requires-clause-starts : goal.compile_spans-requires-clause-st
 compile_spans-requires-clause-starts g c =
     let requests = c.args.builder.now.features in
     let is : AreStarts requests c.in_ok-starts.starts.items =
-    starts_of_requests requests c.args.ordered.now c.deref.result.now c.in_ok-starts.starts.items c.requires.ordered (search rules) c.in_ok-starts.ensures.ok in
+    starts_of_requests requests c.args.ordered.now c.deref.result.now c.in_ok-starts.starts.items c.requires.ordered
+    (rw c.deref.ensures.value c.in_ok-ending.ensures.same) c.in_ok-starts.ensures.ok in
     rw c.deref-3.ensures.value (rise_from_zero requests c.in_ok-starts.starts.items is c.requires.bounded)
 
 pub compile_spans-requires-clause-lists : goal.compile_spans-requires-clause-lists
@@ -27,20 +28,23 @@ compile_spans-requires-clause-lists g c =
 
 pub compile_spans-requires-clause-walked : goal.compile_spans-requires-clause-walked
 compile_spans-requires-clause-walked g c =
-    are_walked c.args.builder.now.features c.args.ordered.now c.deref-2.result.now c.requires.ordered (search rules) (search rules)
+    are_walked c.args.builder.now.features c.args.ordered.now c.deref-2.result.now c.requires.ordered
+    (rw c.deref-2.ensures.value c.in_ok-ending.ensures.same) (rw c.deref-2.ensures.value c.in_ok-ending.ensures.rising)
 
 pub tell_last-requires-clause-starts : goal.tell_last-requires-clause-starts
 tell_last-requires-clause-starts g c =
     let requests = c.args.builder.now.features in
     let is : AreStarts requests c.in_ok-starts.starts.items =
-    starts_of_requests requests c.args.ordered.now c.deref.result.now c.in_ok-starts.starts.items c.requires.ordered (search rules) c.in_ok-starts.ensures.ok in
+    starts_of_requests requests c.args.ordered.now c.deref.result.now c.in_ok-starts.starts.items c.requires.ordered
+    (rw c.deref.ensures.value c.in_ok-ending.ensures.same) c.in_ok-starts.ensures.ok in
     rw c.deref-4.ensures.value (rise_from_zero requests c.in_ok-starts.starts.items is c.requires.bounded)
 
 pub returns-clause-ok : goal.returns-clause-ok
 returns-clause-ok g c =
     let requests = c.args.builder.now.features in
     let is : AreStarts requests c.in_ok-starts.starts.items =
-    starts_of_requests requests c.args.ordered.now c.deref.result.now c.in_ok-starts.starts.items c.requires.ordered (search rules) c.in_ok-starts.ensures.ok in
+    starts_of_requests requests c.args.ordered.now c.deref.result.now c.in_ok-starts.starts.items c.requires.ordered
+    (rw c.deref.ensures.value c.in_ok-ending.ensures.same) c.in_ok-starts.ensures.ok in
     let told = both_ok _ _ c.tell_last.result c.tell_last.ensures.range c.tell_last.ensures.current in
     on_ok_weaker
     c.tell_last.result
@@ -53,3 +57,10 @@ returns-clause-ok g c =
       current = t.1;
     })
     told
+
+pub compile_spans-requires-clause-ordered : goal.compile_spans-requires-clause-ordered
+compile_spans-requires-clause-ordered g c = c.requires.ordered
+
+pub tell_last-requires-clause-kept : goal.tell_last-requires-clause-kept
+tell_last-requires-clause-kept g c =
+    rw (c.deref-4.ensures.value, c.deref-5.ensures.value) (rw c.deref-3.ensures.value at c.in_ok-live.ensures.kept)

@@ -1,13 +1,14 @@
-use Rattle.std.proofs.Common.{◌≡◌, ◌∙◌, ◌<◌, ◌≤◌, ◌-◌, ◌+◌, ap, sym, arith, length, take, slice_index_or, IsPermutation}
+use Rattle.std.proofs.Common.{◌≡◌, ◌∙◌, ◌<◌, ◌≤◌, ◌-◌, ◌+◌, ap, sym, arith, length, take, slice_index_or, IsPermutation, List, Option}
 use Rattle.std.proofs.lemmas.List.{take_all, with_items_is, length-map}
 use Rattle.std.proofs.lemmas.List.Folds.{length-prefix_len}
 use Rattle.aat_run.specs.Ranges.{next_start}
 use Rattle.aat_map.specs.Live.{has_begun, infos, kept_at, live as live_at}
 use Rattle.aat_map.specs.Map.{list_at, with_ranges}
 use Rattle.aat_map.specs.Spans.{spans}
-use Rattle.aat_map.specs.inside.CompiledSpans.{compiled_lists, ranges_with}
+use Rattle.aat_map.specs.inside.CompiledSpans.{all_flags_for, compiled_lists, ranges_with}
 use Rattle.aat_map.specs.inside.Firsts.{AreGroupsOf, present}
 use Rattle.aat_map.specs.inside.Walked.{ends_by}
+use Rattle.aat_map.specs.declared.feature.feature_info_t.{feature_info_t}
 use Rattle.aat_map.proofs.KeptFirsts.{live_present}
 use Rattle.aat_map.proofs.SpanLemmas.{length-spans, take_read, next_of_spans, next_of_lists, compiled_more, some_start, live_of, ranges_over, ranges_of_settings}
 use Rattle.aat_map.proofs.Truth.{true_not_false}
@@ -111,3 +112,50 @@ returns-clause-kept g c =
     let some : 0 < length starts = some_start starts c.requires.starts.zero in
     let here : c.loop-i.i ≡ length starts = omega (arith, c.loop-i-test.false, c.loop-i.auto.i-end) in
     rw here at (c.loop-i.invariant.kept (omega (arith, some, here)))
+
+pub placed_in-requires : goal.placed_in-requires
+placed_in-requires g c = rw c.deref.ensures.value c.requires.rising
+
+pub go_on-requires-clause-firsts : goal.go_on-requires-clause-firsts
+go_on-requires-clause-firsts g c = c.loop-i.invariant.firsts
+
+pub go_on-requires-clause-walked : goal.go_on-requires-clause-walked
+go_on-requires-clause-walked g c = c.requires.walked
+
+pub go_on-requires-clause-begun : goal.go_on-requires-clause-begun
+go_on-requires-clause-begun g c = c.loop-i.invariant.begun
+
+pub go_on-requires-clause-ended : goal.go_on-requires-clause-ended
+go_on-requires-clause-ended g c = c.loop-i.invariant.ended
+
+pub renew-requires-clause-each : goal.renew-requires-clause-each
+renew-requires-clause-each g c = ap length c.deref_mut.ensures.value ∙ c.loop-i.invariant.each
+
+pub renew-requires-clause-valid : goal.renew-requires-clause-valid
+renew-requires-clause-valid g c = λ off.
+    let same = c.in_ok-passed.ensures.changed off in
+    c.deref_mut.ensures.value
+    ∙ c.loop-i.invariant.valid same.0
+    ∙ ap (λ (firsts : List (Option feature_info_t)). all_flags_for (present firsts) c.args.chains.now) (sym same.1)
+
+pub renew-requires-clause-apart : goal.renew-requires-clause-apart
+renew-requires-clause-apart g c = rw c.in_ok-passed.ensures.groups c.loop-i.invariant.groups.apart
+
+pub renew-requires-clause-firsts : goal.renew-requires-clause-firsts
+renew-requires-clause-firsts g c = c.in_ok-passed.ensures.firsts
+
+pub renew-requires-clause-placed : goal.renew-requires-clause-placed
+renew-requires-clause-placed g c = rw c.in_ok-passed.ensures.groups c.loop-i.invariant.placed
+
+pub push_flags-requires-clause-span : goal.push_flags-requires-clause-span
+push_flags-requires-clause-span g c = c.span_at-span.ensures.ordered
+
+pub push_flags-requires-clause-lists : goal.push_flags-requires-clause-lists
+push_flags-requires-clause-lists g c =
+    let chains = c.args.chains.now in
+    let written =
+    with_items_is c.loop-i.flags c.renew.new.flags
+    (ap length c.renew.ensures ∙ length-map chains _ ∙ sym c.loop-i.invariant.each ∙ sym c.loop-i.flags.ok.0) in
+    let many : length c.deref-in-loop-i.result.now ≡ length chains =
+    ap length (c.deref-in-loop-i.ensures.value ∙ written ∙ c.renew.ensures) ∙ length-map chains _ in
+    ap length c.loop-i.invariant.lists ∙ length-map chains _ ∙ sym many

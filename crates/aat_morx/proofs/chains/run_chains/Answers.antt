@@ -1,4 +1,4 @@
-use Rattle.std.proofs.Common.{length}
+use Rattle.std.proofs.Common.{arith, length, refl}
 use Rattle.std.specs.Option.{option_copied}
 use Rattle.std.proofs.lemmas.Result.{err_from_is_err_and}
 use Rattle.aat_font.proofs.Numbered.{number_behind, number_is_few, wakers_of_chain}
@@ -7,12 +7,22 @@ use Rattle.aat_kinds.specs.Kinds.{sizes_of}
 use Rattle.aat_map.specs.Map.{lists_for}
 use Rattle.aat_map.proofs.DefaultLists.{list_for}
 use Rattle.aat_morx.proofs.Chained.{all_chains_ran, chain_ran, chain_refused, stays_with_more}
+use Rattle.aat_morx.proofs.LineBits.{nothing_tells}
+use Rattle.aat_run.specs.facts.Settings.{settings_stay}
 use Rattle.aat_morx.proofs.chains.run_chains.Goals as goal
+
+pub loop-i-init : goal.loop-i-init
+loop-i-init g c = record {
+  same = refl;
+  first = refl;
+  tells = nothing_tells c.unknown-known.result c.wakers-words.result.now c.args.buffer.now.line c.unknown-known.ensures;
+  within = record { ids = c.requires.ids; counted = omega arith; extent = omega arith; settings = settings_stay c.args.buffer.now };
+}
 
 pub run_chain-requires-clause-wakers : goal.run_chain-requires-clause-wakers
 run_chain-requires-clause-wakers g c =
     let l = c.loop-i in
-    wakers_of_chain (chains_of c.args.morx.now) c.args.chains.now c.wakers-words.result.now l.i c.index-chains-i.result c.deref.result.now l.first
+    wakers_of_chain (chains_of c.args.morx.now) c.args.chains.now c.wakers-words.result.now.blocks.items l.i c.index-chains-i.result c.deref.result.now l.first
     c.wakers-words.ensures c.requires.chains c.loop-i-test.true c.index-chains-i.is c.deref.ensures.value l.invariant.first
 
 pub run_chain-requires-clause-start : goal.run_chain-requires-clause-start

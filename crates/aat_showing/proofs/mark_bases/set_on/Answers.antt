@@ -1,7 +1,7 @@
 use Rattle.std.proofs.Common.{◌≡◌, ◌∙◌, ℤ, ap, ap₂, of_z, rules, sym, to_z, w32}
 use Rattle.std.specs.Prelude.{Option}
-use Rattle.aat_characters.specs.Lengths.{plus}
-use Rattle.aat_characters.specs.MarkPlaces.{beside, over}
+use Rattle.aat_showing.specs.Lengths.{plus}
+use Rattle.aat_showing.specs.MarkPlaces.{beside, over}
 use Rattle.aat_read_metrics.specs.declared.glyph_metrics.GlyphBox.{GlyphBox}
 use Rattle.aat_showing.specs.MarkBoxes.{drawn_at, set_on, stack_for}
 use Rattle.aat_showing.proofs.mark_bases.set_on.Goals as goal

@@ -1,6 +1,6 @@
 use Rattle.std.proofs.Common.{refl}
-use Rattle.aat_characters.specs.Lengths.{half, minus, plus, signed}
-use Rattle.aat_characters.specs.MarkPlaces.{above, at_far_edge, below, in_middle}
+use Rattle.aat_showing.specs.Lengths.{half, minus, plus, signed}
+use Rattle.aat_showing.specs.MarkPlaces.{above, at_far_edge, below, in_middle}
 use Rattle.aat_showing.proofs.worked.placed.Goals as goal
 
 pub returns-clause-stacked : goal.returns-clause-stacked

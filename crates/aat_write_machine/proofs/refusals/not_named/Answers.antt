@@ -1,9 +1,10 @@
-use Rattle.std.proofs.Common.{◌≡◌, ℕ, suc, ◌+◌, ◌-◌, ◌<◌, Bool, true, false, cond, Option, Some, find, subst, arith}
+use Rattle.std.proofs.Common.{◌≡◌, ℕ, suc, ◌+◌, ◌-◌, ◌<◌, ◌≤◌, Bool, true, false, cond, Option, Some, find, length, subst, arith}
 use Rattle.std.specs.List.{range_with_len}
 use Rattle.std.specs.Prelude.{nat_lt}
 use Rattle.std.proofs.lemmas.Bool.{le-ltb, lt-ltb}
+use Rattle.std.proofs.Math.Nat.{mul-le-mul_left}
 use Rattle.aat_write_machine.specs.MachineRefusals.{highest_named}
-use Rattle.aat_write_machine.proofs.Rows.{row_is_read}
+use Rattle.aat_write_machine.proofs.Rows.{row_is_read, row_within}
 use Rattle.aat_write_machine.proofs.refusals.not_named.Goals as goal
 
 module _ (p : ℕ → Bool) (i n : ℕ) (result : Option ℕ) (left : find p (range_with_len i (n - i)) ≡ result) where
@@ -45,3 +46,17 @@ loop-state-preserved g c =
       found = passed (λ s. nat_lt (highest_named w c.args.rules.now s) s) state _ _ c.loop-state.invariant.found c.loop-state-test.true fails;
       highest = rw same highest;
     }
+
+pub overflow_mul-state : goal.overflow_mul-state
+overflow_mul-state g c =
+    let within = row_within c.args.class_count (c.loop-state.state - 1) (length c.args.rules.now) c.requires (omega arith) in
+    omega (arith, within)
+
+pub offset_bounds-rules-state : goal.offset_bounds-rules-state
+offset_bounds-rules-state g c =
+    row_within c.args.class_count (c.loop-state.state - 1) (length c.args.rules.now) c.requires (omega arith)
+
+pub slice_bounds-highest_from-count : goal.slice_bounds-highest_from-count
+slice_bounds-highest_from-count g c =
+    let before : c.loop-state.state - 1 ≤ c.loop-state.state = omega arith in
+    omega (arith, mul-le-mul_left c.args.class_count before)

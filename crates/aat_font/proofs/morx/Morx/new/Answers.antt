@@ -5,4 +5,4 @@ use Rattle.aat_font.proofs.morx.Morx.new.Goals as goal
 
 pub invariant_of-result-clause-awake : goal.invariant_of-result-clause-awake
 invariant_of-result-clause-awake c =
-    subst (λ (chains : List Chain). AreChainWakers chains c.words_where_memory-wakers.result.items) c.deref.ensures.value c.words_where_memory-wakers.ensures
+    subst (λ (chains : List Chain). AreChainWakers chains c.words_where_memory-wakers.result.blocks.items) c.deref.ensures.value c.words_where_memory-wakers.ensures
